@@ -1,0 +1,17 @@
+use Rattle.std.proofs.Common.{◌≡◌, ◌≤◌, false, length, vec_capacity}
+use Rattle.sqlite.specs.Held.{state}
+use Rattle.sqlite.specs.State.{HasCleanDisk, Survives}
+use Rattle.zeb_register.specs.Calls.{ChangesNothing}
+use Rattle.zeb_engine.proofs.find.show.Given as goal
+
+abbrev pub invariant-loop-number : goal.invariant-loop-number
+invariant-loop-number g l =
+    let old = state g.S.Store l.fn.connection in
+    let now = state g.S.Store l.connection in
+    record {
+      idle : l.connection.in_transaction ≡ false;
+      count : length l.shown.items ≡ l.number-index;
+      room : length l.numbers ≤ vec_capacity l.shown;
+      crash : Survives old now (λ _. ⊥);
+      same : HasCleanDisk now → ChangesNothing old now;
+    }

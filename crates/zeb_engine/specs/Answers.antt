@@ -1,0 +1,65 @@
+-- What a command answers.
+use Rattle.std.specs.Prelude.{◌≡◌, ◌⊎◌, ℕ, List, map, Result, Ok, Err, string_bytes}
+use Rattle.zeb_engine.specs.declared.faults.RecordFault.{RecordFault}
+use Rattle.zeb_engine.specs.declared.refusals.Refusal.{Refusal}
+use Rattle.zeb_engine.specs.declared.refusals.Refusal.TheVariants as refusal
+use Rattle.zeb_engine.specs.declared.replies.Reply.{Reply}
+use Rattle.zeb_engine.specs.declared.replies.Reply.TheVariants as reply
+
+-- why a command is refused
+pub data Why : Type 0 where
+  not_initialised : Why
+  old_format : Why
+  profile_changed : Why
+  -- number, place, addinfo
+  diagnostic : ℕ → ℕ → List ℕ → Why
+  exists : Why
+  -- file and place in it, both from 1
+  faulty : ℕ → ℕ → RecordFault → Why
+  unknown : ℕ → ℕ → Why
+  database_full : Why
+  too_many_records : Why
+  damaged : Why
+  rule_changed : Why
+  read_fault : ℕ → Why
+  store_failed : Why
+  out_of_memory : Why
+  unsupported : Why
+
+pub data Answer : Type 0 where
+  done : Answer
+  -- records inserted, updated and deleted
+  changed : ℕ → ℕ → ℕ → Answer
+  -- how many records are found, and the numbers and identifiers of those that are shown
+  found : ℕ → List (ℕ × List ℕ) → Answer
+  refused : Why → Answer
+
+abbrev pub why_of : Refusal → Why
+why_of refusal.NotInitialised = not_initialised
+why_of refusal.OldFormat = old_format
+why_of refusal.ProfileChanged = profile_changed
+why_of (refusal.Diagnostic number place addinfo) = diagnostic number place (string_bytes addinfo)
+why_of refusal.Exists = exists
+why_of (refusal.Record file nth fault) = faulty file nth fault
+why_of (refusal.Unknown file nth) = unknown file nth
+why_of refusal.DatabaseFull = database_full
+why_of refusal.TooManyRecords = too_many_records
+why_of refusal.Damaged = damaged
+why_of refusal.IdentifierRuleChanged = rule_changed
+why_of (refusal.ReadFault file) = read_fault file
+why_of refusal.Store = store_failed
+why_of refusal.Memory = out_of_memory
+why_of refusal.Unsupported = unsupported
+
+abbrev pub reply_answer : Reply → Answer
+reply_answer reply.Done = done
+reply_answer (reply.Changed inserted updated deleted) = changed inserted updated deleted
+reply_answer (reply.Found hits shown) = found hits (map (λ hit. (hit.sysno, string_bytes hit.ident)) shown.items)
+
+abbrev pub answer_of : Result Reply Refusal → Answer
+answer_of (Ok reply) = reply_answer reply
+answer_of (Err refusal) = refused (why_of refusal)
+
+-- the store or the memory failed
+abbrev pub IsFailure : Answer → Type 0
+IsFailure answer = (answer ≡ refused store_failed) ⊎ (answer ≡ refused out_of_memory)

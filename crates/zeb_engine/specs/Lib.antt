@@ -1,0 +1,16 @@
+pub mod Names
+pub mod NameOf
+pub mod Faults
+pub mod Replies
+pub mod Refusals
+pub mod Outcomes
+pub mod KeyRuns
+pub mod Transactions
+pub mod Holdings
+pub mod Answers
+pub mod Rules
+pub mod Folding
+pub mod Finding
+pub mod Steps
+pub mod Image
+pub mod Headline

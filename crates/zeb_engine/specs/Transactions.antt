@@ -1,0 +1,28 @@
+-- What the engine's work does to a connection, whatever it does to rows.
+use Rattle.std.specs.Prelude.{◌≡◌, ◌≢◌, IsTrue, Result, MatchResult}
+use Rattle.sqlite.specs.State.{State, KeepsCommit}
+use Rattle.sqlite.specs.Tree.{Trees}
+use Rattle.zeb_engine.specs.declared.refusals.Refusal.{Refusal}
+use Rattle.zeb_engine.specs.declared.refusals.Refusal.TheVariants.{Store}
+
+-- Inside a transaction: nothing is committed, the transaction goes on, and an open connection stays open.
+pub record Continues (old new : State) : Type 0 where
+  pub kept : KeepsCommit old new
+  pub mode : IsTrue new.in_transaction
+  pub stays_open : IsTrue old.is_open → IsTrue new.is_open
+
+-- Inside a transaction, what work did that was done or refused: a refusal leaves nothing committed.
+abbrev pub Stays : {T E : Type 0} → State → State → Result T E → Type 0
+Stays old new result = MatchResult result (λ _. Continues old new) (λ _. KeepsCommit old new)
+
+-- Outside a transaction, while the connection is open: a crash leaves the rows that are shown, and no others.
+abbrev pub IsDurable : State → Type 0
+IsDurable s = IsTrue s.is_open → (db : Trees) → s.may_leave db → db ≡ s.now.trees
+
+-- A crash leaves nothing that it did not leave before.
+abbrev pub LeavesNoMore : State → State → Type 0
+LeavesNoMore old new = (db : Trees) → new.may_leave db → old.may_leave db
+
+-- A refusal lets a crash leave nothing more, but for one of the store: a commit that failed may still have reached the disk.
+abbrev pub EnduresRefusal : State → State → Refusal → Type 0
+EnduresRefusal old new refusal = refusal ≢ Store → LeavesNoMore old new

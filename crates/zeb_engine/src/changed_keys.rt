@@ -1,0 +1,79 @@
+//! The keys whose places differ between two lists of occurrences.
+
+ghost use Rattle.std.specs.Prelude.{◌≡◌, ◌+◌, ◌≤◌, ◌<◌, ◌⊎◌, length, IfOk, IfSome, IfNone, []};
+ghost use Rattle.zeb_engine.specs.KeyRuns.{BeginsWith};
+
+use std::alloc::{AllocError, Global};
+use std::cmp::Ordering;
+use zeb_extract::{Key, Occurrence};
+use zeb_register::Place;
+
+/// A key with its places in the elder record and in the newer one.
+#[derive(Drop)]
+pub(crate) struct ChangedKey<'a> {
+    pub key: &'a Key,
+    pub old: Vec<Place>,
+    pub new: Vec<Place>,
+}
+
+/// How many of the first occurrences are of this key.
+fn run_length(occurrences: &[Occurrence], key: &Key) -> usize
+    ensures within { result ≤ length occurrences.now }
+    ensures some { BeginsWith key.now occurrences.now → 1 ≤ result }
+{
+    for (index, occurrence) in occurrences.iter().enumerate() {
+        if occurrence.key != *key {
+            return index;
+        }
+    }
+    occurrences.len()
+}
+
+/// The places of some occurrences, in their order.
+fn places_of(alloc: Global, occurrences: &[Occurrence]) -> Result<Vec<Place>, AllocError> {
+    occurrences
+        .iter()
+        .map(|occurrence| Place {
+            seq: occurrence.seq,
+            pos: occurrence.pos,
+        })
+        .collect(alloc)
+}
+
+/// The lesser of the keys that two lists begin with.
+fn lesser_key<'a>(old: &'a [Occurrence], new: &'a [Occurrence]) -> Option<&'a Key>
+    ensures { IfSome result (λ key. BeginsWith key.now old.now ⊎ BeginsWith key.now new.now) }
+{
+    match (old.first(), new.first()) {
+        (Some(elder), Some(newer)) => match elder.key.cmp(&newer.key) {
+            Ordering::Greater => Some(&newer.key),
+            Ordering::Less | Ordering::Equal => Some(&elder.key),
+        },
+        (Some(elder), None) => Some(&elder.key),
+        (None, Some(newer)) => Some(&newer.key),
+        (None, None) => None,
+    }
+}
+
+/// The keys, in their order, whose places differ between two rising lists of occurrences.
+pub(crate) fn changed_keys<'a>(
+    alloc: Global,
+    elder: &'a [Occurrence],
+    newer: &'a [Occurrence],
+) -> Result<Vec<ChangedKey<'a>>, AllocError> {
+    let mut changed = Vec::new(alloc);
+    let mut elder = elder;
+    let mut newer = newer;
+    while let Some(key) = lesser_key(elder, newer) {
+        let (in_elder, elder_rest) = elder.split_at(run_length(elder, key));
+        let (in_newer, newer_rest) = newer.split_at(run_length(newer, key));
+        let old = places_of(alloc, in_elder)?;
+        let new = places_of(alloc, in_newer)?;
+        if old != new {
+            changed.push(ChangedKey { key, old, new })?;
+        }
+        elder = elder_rest;
+        newer = newer_rest;
+    }
+    Ok(changed)
+}

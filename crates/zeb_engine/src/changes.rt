@@ -1,0 +1,194 @@
+//! Updates and deletes: the records of files, folded into a database in one transaction.
+
+ghost use Rattle.std.specs.Prelude.{◌≡◌, false, IsTrue, OnErr, IfErr, ⊤};
+ghost use Rattle.sqlite.specs.Held.{state};
+ghost use Rattle.sqlite.specs.State.{HasCleanDisk, Survives};
+ghost use Rattle.zeb_register.specs.Calls.{ChangesNothing};
+ghost use Rattle.zeb_engine.specs.Transactions.{EnduresRefusal, Stays};
+
+use crate::commands::Kind;
+use crate::names::DbName;
+use crate::readiness::existing_database;
+use crate::records::{Incoming, Progress, Setting, change_record};
+use crate::refusals::Refusal;
+use crate::replies::Reply;
+use crate::tally::Tally;
+use sqlite::{Alter, Connection, Transaction};
+use zeb_marc::{RecordBuf, Source, next_record};
+use zeb_register::{Database, Layout, Work, database_of, database_put};
+
+/// Reads a file's next record into the buffer, and says whether there is one.
+fn read_record<R: Source>(
+    reader: &mut R,
+    buffer: &mut RecordBuf,
+    file: u64,
+    nth: u64,
+) -> Result<bool, Refusal> {
+    if reader.has_failed() {
+        return Err(Refusal::ReadFault { file });
+    }
+    match next_record(reader, buffer) {
+        Ok(found) => Ok(found.is_some()),
+        Err(fault) => Err(Refusal::of_marc(file, nth, fault)),
+    }
+}
+
+/// A change on its way: how far it has come, and what became of its records.
+#[derive(Clone, Copy, Debug)]
+struct Fold {
+    progress: Progress,
+    tally: Tally,
+}
+
+/// Folds in one record, which is one of those that the limits allow.
+fn take_record<S: Alter, L: Layout>(
+    tx: &mut Transaction<'_, S>,
+    setting: &Setting<'_>,
+    fold: &mut Fold,
+    incoming: Incoming<'_>,
+) -> Result<(), Refusal>
+    ensures same { tx.new.conn.ghost_name ≡ tx.old.conn.ghost_name }
+    ensures stays { HasCleanDisk (state S.Store tx.new.conn.now) → IsTrue (state S.Store tx.old.conn.now).in_transaction → Stays (state S.Store tx.old.conn.now) (state S.Store tx.new.conn.now) result }
+    ensures crash { Survives (state S.Store tx.old.conn.now) (state S.Store tx.new.conn.now) (λ _. ⊥) }
+{
+    if fold.tally.records >= setting.limits.records {
+        return Err(Refusal::TooManyRecords);
+    }
+    let fate = change_record::<S, L>(tx, setting, &mut fold.progress, incoming)?;
+    fold.tally.count(fate);
+    Ok(())
+}
+
+/// Folds in the records of one file, each before the next is read.
+fn fold_file<S: Alter, L: Layout, R: Source>(
+    tx: &mut Transaction<'_, S>,
+    setting: &Setting<'_>,
+    fold: &mut Fold,
+    buffer: &mut RecordBuf,
+    reader: &mut R,
+    file: u64,
+) -> Result<(), Refusal>
+    ensures same { tx.new.conn.ghost_name ≡ tx.old.conn.ghost_name }
+    ensures stays { HasCleanDisk (state S.Store tx.new.conn.now) → IsTrue (state S.Store tx.old.conn.now).in_transaction → Stays (state S.Store tx.old.conn.now) (state S.Store tx.new.conn.now) result }
+    ensures crash { Survives (state S.Store tx.old.conn.now) (state S.Store tx.new.conn.now) (λ _. ⊥) }
+{
+    for nth in 1..u64::MAX {
+        if !read_record(reader, buffer, file, nth)? {
+            return Ok(());
+        }
+        let incoming = Incoming {
+            bytes: buffer.bytes(),
+            file,
+            nth,
+        };
+        take_record::<S, L>(tx, setting, fold, incoming)?;
+    }
+    Ok(())
+}
+
+/// Folds in the records of all files, in their order.
+fn fold_files<S: Alter, L: Layout, R: Source>(
+    tx: &mut Transaction<'_, S>,
+    setting: &Setting<'_>,
+    fold: &mut Fold,
+    buffer: &mut RecordBuf,
+    readers: &mut [R],
+) -> Result<(), Refusal>
+    ensures same { tx.new.conn.ghost_name ≡ tx.old.conn.ghost_name }
+    ensures stays { HasCleanDisk (state S.Store tx.new.conn.now) → IsTrue (state S.Store tx.old.conn.now).in_transaction → Stays (state S.Store tx.old.conn.now) (state S.Store tx.new.conn.now) result }
+    ensures crash { Survives (state S.Store tx.old.conn.now) (state S.Store tx.new.conn.now) (λ _. ⊥) }
+{
+    for (index, reader) in readers.iter_mut().enumerate() {
+        let file = index as u64 + 1;
+        fold_file::<S, L, R>(tx, setting, fold, buffer, reader, file)?;
+    }
+    Ok(())
+}
+
+/// A change of one database, which is made where it is absent.
+#[derive(Clone, Copy)]
+struct Change<'a> {
+    setting: Setting<'a>,
+    name: &'a DbName,
+    found: Option<Database>,
+}
+
+/// Makes the database where it is absent, folds in the records, and keeps the last number.
+fn apply<S: Alter, L: Layout, R: Source>(
+    tx: &mut Transaction<'_, S>,
+    work: &mut Work,
+    change: &Change<'_>,
+    buffer: &mut RecordBuf,
+    readers: &mut [R],
+) -> Result<Reply, Refusal>
+    ensures same { tx.new.conn.ghost_name ≡ tx.old.conn.ghost_name }
+    ensures stays { HasCleanDisk (state S.Store tx.new.conn.now) → IsTrue (state S.Store tx.old.conn.now).in_transaction → Stays (state S.Store tx.old.conn.now) (state S.Store tx.new.conn.now) result }
+    ensures crash { Survives (state S.Store tx.old.conn.now) (state S.Store tx.new.conn.now) (λ _. ⊥) }
+{
+    let name = change.name.as_str();
+    let last = change.found.map_or(0, |database| database.last);
+    let database = database_put(tx, name, last)?;
+    let mut fold = Fold {
+        progress: Progress {
+            database,
+            last,
+            work: *work,
+        },
+        tally: Tally::new(),
+    };
+    fold_files::<S, L, R>(tx, &change.setting, &mut fold, buffer, readers)?;
+    database_put(tx, name, fold.progress.last)?;
+    *work = fold.progress.work;
+    Ok(fold.tally.reply())
+}
+
+/// The reply is there before the commit, which is the last that the store is asked.
+fn transact<S: Alter, L: Layout, R: Source>(
+    connection: &mut Connection<S>,
+    work: &mut Work,
+    change: &Change<'_>,
+    buffer: &mut RecordBuf,
+    readers: &mut [R],
+) -> Result<Reply, Refusal>
+    requires idle { connection.old.in_transaction ≡ false }
+    ensures idle { connection.new.in_transaction ≡ false }
+    ensures refused { HasCleanDisk (state S.Store connection.new) → OnErr result (ChangesNothing (state S.Store connection.old) (state S.Store connection.new)) }
+    ensures endures { HasCleanDisk (state S.Store connection.new) → IfErr result (EnduresRefusal (state S.Store connection.old) (state S.Store connection.new)) }
+    ensures survives { Survives (state S.Store connection.old) (state S.Store connection.new) (λ _. ⊤) }
+{
+    let _settled = connection.is_autocommit();
+    let mut tx = connection.transaction();
+    let reply = apply::<S, L, R>(&mut tx, work, change, buffer, readers)?;
+    tx.commit()?;
+    Ok(reply)
+}
+
+/// Changes a database by the records of files. An update makes the database where it is absent; a delete of an
+/// absent one is diagnostic 235.
+pub(crate) fn change_database<S: Alter, L: Layout, R: Source>(
+    connection: &mut Connection<S>,
+    work: &mut Work,
+    setting: Setting<'_>,
+    name: &DbName,
+    readers: &mut [R],
+) -> Result<Reply, Refusal>
+    requires idle { connection.old.in_transaction ≡ false }
+    ensures idle { connection.new.in_transaction ≡ false }
+    ensures refused { HasCleanDisk (state S.Store connection.new) → OnErr result (ChangesNothing (state S.Store connection.old) (state S.Store connection.new)) }
+    ensures endures { HasCleanDisk (state S.Store connection.new) → IfErr result (EnduresRefusal (state S.Store connection.old) (state S.Store connection.new)) }
+    ensures survives { Survives (state S.Store connection.old) (state S.Store connection.new) (λ _. ⊤) }
+{
+    let found = match setting.kind {
+        Kind::Update => database_of(connection, name.as_str())?,
+        Kind::Delete | Kind::Adelete => {
+            Some(existing_database(setting.alloc, connection, name)?)
+        }
+    };
+    let mut buffer = RecordBuf::new(setting.alloc)?;
+    let change = Change {
+        setting,
+        name,
+        found,
+    };
+    transact::<S, L, R>(connection, work, &change, &mut buffer, readers)
+}

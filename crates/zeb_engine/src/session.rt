@@ -1,0 +1,242 @@
+//! A register that commands are given to.
+
+ghost use Rattle.std.specs.Prelude.{◌≡◌, false, IfOk, IfErr, OnOk, OnErr, length, ⊤};
+ghost use Rattle.sqlite.specs.Held.{state};
+ghost use Rattle.sqlite.specs.State.{HasCleanDisk, Survives};
+ghost use Rattle.zeb_engine.specs.Transactions.{EnduresRefusal, IsDurable};
+ghost use Rattle.zeb_register.specs.Calls.{ChangesNothing};
+
+use crate::changes::change_database;
+use crate::commands::{Command, Kind, Limits};
+use crate::find::{Question, find};
+use crate::names::DbName;
+use crate::readiness::check_ready;
+use crate::records::Setting;
+use crate::refusals::Refusal;
+use crate::replies::Reply;
+use crate::tables::make_absent_tables;
+use crate::writes::{create_database, init_register};
+use sqlite::{Alter, Connection};
+use std::alloc::Global;
+use std::marker::PhantomData;
+use zeb_marc::{Slice, Source};
+use zeb_profile::Profile;
+use zeb_register::{Layout, Work};
+
+/// A register under a profile. No transaction is open between two commands.
+pub struct Session<S: Alter, L: Layout> {
+    connection: Connection<S>,
+    profile: Profile,
+    limits: Limits,
+    alloc: Global,
+    work: Work,
+    layout: PhantomData<L>,
+    ghost idle: { connection.in_transaction ≡ false },
+}
+
+impl<S: Alter + Drop, L: Layout> Drop for Session<S, L> {
+    fn drop(self) {
+        let Session {
+            connection: _,
+            profile: _,
+            limits: _,
+            alloc: _,
+            work: _,
+            layout: _,
+        } = self;
+    }
+}
+
+impl<S: Alter, L: Layout> Session<S, L> {
+    /// Takes a store over: the tables that are absent are made, and no row changes. Refused (`Store`, `Memory`), it
+    /// gives the connection back, and the tables are as before.
+    pub fn adopt(
+        alloc: Global,
+        connection: Connection<S>,
+        profile: Profile,
+        limits: Limits,
+    ) -> Result<Session<S, L>, (Connection<S>, Refusal)>
+        requires idle { connection.in_transaction ≡ false }
+        ensures idle { IfErr result (λ back. back.0.in_transaction ≡ false) }
+        ensures refused { IfErr result (λ back. HasCleanDisk (state S.Store back.0) → ChangesNothing (state S.Store connection) (state S.Store back.0)) }
+        ensures endures { IfErr result (λ back. HasCleanDisk (state S.Store back.0) → EnduresRefusal (state S.Store connection) (state S.Store back.0) back.1) }
+    {
+        let mut connection = connection;
+        match make_absent_tables(&mut connection) {
+            Ok(()) => Ok(Session {
+                connection,
+                profile,
+                limits,
+                alloc,
+                work: Work::default(),
+                layout: PhantomData,
+            }),
+            Err(refusal) => Err((connection, refusal)),
+        }
+    }
+
+    /// Gives the connection back.
+    pub fn release(self) -> Connection<S>
+        ensures same { result ≡ self.connection }
+        ensures idle { result.in_transaction ≡ false }
+    {
+        let Session {
+            connection,
+            profile: _,
+            limits: _,
+            alloc: _,
+            work: _,
+            layout: _,
+        } = self;
+        connection
+    }
+
+    /// How many rows of the registers the last command read and wrote.
+    pub fn work(&self) -> Work
+        ensures { result ≡ self.now.work }
+    {
+        self.work
+    }
+
+    /// Carries out one command. A command that writes is one transaction; refused, it changes nothing.
+    pub fn command(&mut self, command: &Command) -> Result<Reply, Refusal>
+        ensures durable { HasCleanDisk (state S.Store self.new.connection) → IsDurable (state S.Store self.new.connection) }
+        ensures refused { HasCleanDisk (state S.Store self.new.connection) → OnErr result (ChangesNothing (state S.Store self.old.connection) (state S.Store self.new.connection)) }
+        ensures endures { HasCleanDisk (state S.Store self.new.connection) → IfErr result (EnduresRefusal (state S.Store self.old.connection) (state S.Store self.new.connection)) }
+        ensures survives { Survives (state S.Store self.old.connection) (state S.Store self.new.connection) (λ _. ⊤) }
+    {
+        let answer = self.carry_out(command);
+        // What is shown is what was committed.
+        let _settled = self.connection.is_autocommit();
+        answer
+    }
+
+    fn carry_out(&mut self, command: &Command) -> Result<Reply, Refusal>
+        ensures refused { HasCleanDisk (state S.Store self.new.connection) → OnErr result (ChangesNothing (state S.Store self.old.connection) (state S.Store self.new.connection)) }
+        ensures endures { HasCleanDisk (state S.Store self.new.connection) → IfErr result (EnduresRefusal (state S.Store self.old.connection) (state S.Store self.new.connection)) }
+        ensures survives { Survives (state S.Store self.old.connection) (state S.Store self.new.connection) (λ _. ⊤) }
+    {
+        self.work = Work::default();
+        match command {
+            Command::Init => {
+                init_register::<S, L>(self.alloc, &mut self.connection, &self.profile)
+            }
+            Command::Analyse { .. } => Err(Refusal::Unsupported),
+            Command::Change {
+                kind,
+                database,
+                files,
+            } => self.change(*kind, database, files),
+            asked => {
+                check_ready::<S, L>(&mut self.connection, &self.profile)?;
+                self.answer(asked)
+            }
+        }
+    }
+
+    /// Carries out a command that reads no records, over a register that is ready.
+    fn answer(&mut self, command: &Command) -> Result<Reply, Refusal>
+        ensures refused { HasCleanDisk (state S.Store self.new.connection) → OnErr result (ChangesNothing (state S.Store self.old.connection) (state S.Store self.new.connection)) }
+        ensures endures { HasCleanDisk (state S.Store self.new.connection) → IfErr result (EnduresRefusal (state S.Store self.old.connection) (state S.Store self.new.connection)) }
+        ensures survives { Survives (state S.Store self.old.connection) (state S.Store self.new.connection) (λ _. ⊤) }
+    {
+        match command {
+            Command::Create(name) => create_database::<S, L>(&mut self.connection, name),
+            Command::Find {
+                database,
+                query,
+                first,
+                count,
+            } => find::<S, L>(
+                self.alloc,
+                &mut self.connection,
+                &mut self.work,
+                &self.profile,
+                database,
+                Question {
+                    query: query.as_str(),
+                    first: *first,
+                    count: *count,
+                },
+            ),
+            _ => Err(Refusal::Unsupported),
+        }
+    }
+
+    /// Changes a database by files that are given as their bytes.
+    fn change(&mut self, kind: Kind, database: &DbName, files: &[Vec<u8>]) -> Result<Reply, Refusal>
+        ensures refused { HasCleanDisk (state S.Store self.new.connection) → OnErr result (ChangesNothing (state S.Store self.old.connection) (state S.Store self.new.connection)) }
+        ensures endures { HasCleanDisk (state S.Store self.new.connection) → IfErr result (EnduresRefusal (state S.Store self.old.connection) (state S.Store self.new.connection)) }
+        ensures survives { Survives (state S.Store self.old.connection) (state S.Store self.new.connection) (λ _. ⊤) }
+    {
+        let mut readers = Vec::with_capacity(self.alloc, files.len())?;
+        for file in files {
+            readers.push_reserved(Slice::new(file));
+        }
+        self.change_from(database, kind, &mut readers)
+    }
+
+    /// Changes a database by the records that the readers give, one held at a time. Refused, it changes nothing, and
+    /// nothing is said of what the readers have left.
+    pub fn update_from<R: Source>(
+        &mut self,
+        database: &DbName,
+        kind: Kind,
+        readers: &mut [R],
+    ) -> Result<Reply, Refusal>
+        ensures durable { HasCleanDisk (state S.Store self.new.connection) → IsDurable (state S.Store self.new.connection) }
+        ensures refused { HasCleanDisk (state S.Store self.new.connection) → OnErr result (ChangesNothing (state S.Store self.old.connection) (state S.Store self.new.connection)) }
+        ensures endures { HasCleanDisk (state S.Store self.new.connection) → IfErr result (EnduresRefusal (state S.Store self.old.connection) (state S.Store self.new.connection)) }
+        ensures survives { Survives (state S.Store self.old.connection) (state S.Store self.new.connection) (λ _. ⊤) }
+    {
+        let answer = self.change_from(database, kind, readers);
+        // What is shown is what was committed.
+        let _settled = self.connection.is_autocommit();
+        answer
+    }
+
+    fn change_from<R: Source>(
+        &mut self,
+        database: &DbName,
+        kind: Kind,
+        readers: &mut [R],
+    ) -> Result<Reply, Refusal>
+        ensures refused { HasCleanDisk (state S.Store self.new.connection) → OnErr result (ChangesNothing (state S.Store self.old.connection) (state S.Store self.new.connection)) }
+        ensures endures { HasCleanDisk (state S.Store self.new.connection) → IfErr result (EnduresRefusal (state S.Store self.old.connection) (state S.Store self.new.connection)) }
+        ensures survives { Survives (state S.Store self.old.connection) (state S.Store self.new.connection) (λ _. ⊤) }
+    {
+        self.work = Work::default();
+        check_ready::<S, L>(&mut self.connection, &self.profile)?;
+        let setting = Setting {
+            alloc: self.alloc,
+            profile: &self.profile,
+            limits: self.limits,
+            kind,
+        };
+        change_database::<S, L, R>(
+            &mut self.connection,
+            &mut self.work,
+            setting,
+            database,
+            readers,
+        )
+    }
+
+    /// Carries out commands in turn, also after a refusal, and answers one for each. `Memory` where there is no room
+    /// for the answers: nothing was carried out then.
+    pub fn run_all(&mut self, commands: &[Command]) -> Result<Vec<Result<Reply, Refusal>>, Refusal>
+        ensures durable { HasCleanDisk (state S.Store self.new.connection) → OnOk result (IsDurable (state S.Store self.new.connection)) }
+        ensures count { IfOk result (λ answers. length answers.items ≡ length commands.now) }
+        ensures memory { IfErr result (λ refusal. (refusal ≡ Refusal.Memory) × (self.new.connection ≡ self.old.connection)) }
+    {
+        let Ok(mut answers) = Vec::with_capacity(self.alloc, commands.len()) else {
+            return Err(Refusal::Memory);
+        };
+        for command in commands {
+            answers.push_reserved(self.command(command));
+        }
+        // What is shown is what was committed.
+        let _settled = self.connection.is_autocommit();
+        Ok(answers)
+    }
+}

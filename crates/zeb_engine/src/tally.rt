@@ -1,0 +1,61 @@
+//! What a change has done so far.
+
+ghost use Rattle.std.specs.Prelude.{◌≡◌, ◌+◌, ◌≤◌, ◌<◌};
+
+use crate::replies::Reply;
+
+/// What became of one record of a change.
+#[derive(Clone, Copy, Debug, PartialEq, Eq)]
+pub(crate) enum Fate {
+    Inserted,
+    Updated,
+    Deleted,
+    PassedOver,
+}
+
+/// How many records a change has taken, and what became of them.
+#[derive(Clone, Copy, Debug)]
+pub(crate) struct Tally {
+    pub records: u64,
+    pub inserted: u64,
+    pub updated: u64,
+    pub deleted: u64,
+    ghost each_once: { inserted + updated + deleted ≤ records },
+    ghost few: { records ≤ 1_000_000 },
+}
+
+impl Tally {
+    /// Nothing was taken yet.
+    pub(crate) fn new() -> Tally {
+        Tally {
+            records: 0,
+            inserted: 0,
+            updated: 0,
+            deleted: 0,
+        }
+    }
+
+    /// One more record is taken.
+    pub(crate) fn count(&mut self, fate: Fate)
+        requires { self.old.records < 1_000_000 }
+    {
+        self.records += 1;
+        match fate {
+            Fate::Inserted => self.inserted += 1,
+            Fate::Updated => self.updated += 1,
+            Fate::Deleted => self.deleted += 1,
+            Fate::PassedOver => {}
+        }
+    }
+
+    /// What the change answers.
+    pub(crate) fn reply(&self) -> Reply
+        ensures { result ≡ Reply.Changed self.now.inserted self.now.updated self.now.deleted }
+    {
+        Reply::Changed {
+            inserted: self.inserted,
+            updated: self.updated,
+            deleted: self.deleted,
+        }
+    }
+}

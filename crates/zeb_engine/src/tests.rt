@@ -1,0 +1,297 @@
+//! Commands over a register in memory.
+
+ghost use Rattle.std.specs.Prelude.{◌≤◌, length};
+
+use crate::{Command, DbName, Kind, Limits, Refusal, Reply, Session, refusal_line, render, status};
+use sqlite::{Connection, MemStore};
+use std::alloc::{AllocError, Global};
+use std::test::Fail;
+use zeb_marc::{ReadFailed, Slice, Source};
+use zeb_profile::Profile;
+use zeb_register::Rows;
+
+/// Titles by their words, records named by their control number.
+const TITLES: &str = "store books.db\nidentifier 001\natt 4 Title\nmelm 245 Title\n";
+
+/// `a1`, titled `Moby Dick : or, the whale /`, of 1851.
+const MOBY: &[u8] =
+    b"00109nam a2200061 a 4500001000300000245003300003260001100036\x1ea1\x1e10\x1faMoby Dick :\x1fbor, the whale /\x1e  \x1fcc1851.\x1e\x1d";
+
+/// The same, titled `Moby Dock`.
+const DOCK: &[u8] =
+    b"00109nam a2200061 a 4500001000300000245003300003260001100036\x1ea1\x1e10\x1faMoby Dock :\x1fbor, the whale /\x1e  \x1fcc1851.\x1e\x1d";
+
+/// `b2`, titled `Cafe` with an acute accent as a character of its own.
+const CAFE: &[u8] =
+    b"00064nam a2200049 a 4500001000300000245001100003\x1eb2\x1e00\x1faCafe\xcc\x81\x1e\x1d";
+
+type Memory = Session<MemStore, Rows>;
+
+fn opened(alloc: Global, profile: &str, limits: Limits) -> Result<Memory, Fail> {
+    let connection = Connection::open_in_memory(alloc)?;
+    let profile = Profile::read(alloc, profile)?;
+    let session = Memory::adopt(alloc, connection, profile, limits).map_err(|back| back.1)?;
+    Ok(session)
+}
+
+fn name(text: &str) -> Result<DbName, Fail> {
+    let name = DbName::read(text).ok_or("no name")?;
+    Ok(name)
+}
+
+/// The files, each the slices one after the other.
+fn files(alloc: Global, all: &[&[&[u8]]]) -> Result<Vec<Vec<u8>>, AllocError> {
+    let mut files = Vec::new(alloc);
+    for slices in all {
+        let mut file = Vec::new(alloc);
+        for slice in *slices {
+            file.extend_from_slice(slice)?;
+        }
+        files.push(file)?;
+    }
+    Ok(files)
+}
+
+fn change(alloc: Global, kind: Kind, all: &[&[&[u8]]]) -> Result<Command, Fail> {
+    Ok(Command::Change {
+        kind,
+        database: name("Default")?,
+        files: files(alloc, all)?,
+    })
+}
+
+fn find(alloc: Global, query: &str) -> Result<Command, Fail> {
+    Ok(Command::Find {
+        database: name("Default")?,
+        query: String::from_str(alloc, query)?,
+        first: 1,
+        count: 20,
+    })
+}
+
+/// What is printed for a command's answer.
+fn told(alloc: Global, answer: &Result<Reply, Refusal>) -> Result<String, Fail> {
+    match answer {
+        Ok(reply) => Ok(String::from_utf8(render(alloc, reply)?)?),
+        Err(refusal) => Ok(refusal_line(alloc, refusal)?),
+    }
+}
+
+/// Asserts what is printed for each command in turn.
+macro_rules! tells {
+    ($rt:expr, $session:expr, $($command:expr => $text:expr),+ $(,)?) => {
+        $(
+            let answer = $session.command(&$command);
+            assert_eq!($rt; told($rt.alloc(), &answer)?.as_str(), $text);
+        )+
+    };
+}
+
+#[test]
+fn a_record_is_found_by_a_word(rt: HostRuntime) -> Result<(), Fail> {
+    let alloc = rt.alloc();
+    let mut session = opened(alloc, TITLES, Limits::GREATEST)?;
+    tells!(rt, session,
+        find(alloc, "@attr 1=4 whale")? => "zebraidx: register not initialised",
+        Command::Init => "ok\n",
+        change(alloc, Kind::Update, &[&[MOBY]])? => "inserted 1 updated 0 deleted 0\n",
+        find(alloc, "@attr 1=4 whale")? => "hits 1\n1 a1\n",
+        find(alloc, "@attr 1=4 dock")? => "hits 0\n",
+        find(alloc, "whale")? => "zebraidx: diagnostic 116 at 0",
+        find(alloc, "@attr 1=5 whale")? => "zebraidx: diagnostic 114 at 10: 5",
+    );
+    Ok(())
+}
+
+#[test]
+fn a_replacement_keeps_its_number(rt: HostRuntime) -> Result<(), Fail> {
+    let alloc = rt.alloc();
+    let mut session = opened(alloc, TITLES, Limits::GREATEST)?;
+    tells!(rt, session,
+        Command::Init => "ok\n",
+        change(alloc, Kind::Update, &[&[MOBY], &[CAFE]])? => "inserted 2 updated 0 deleted 0\n",
+        change(alloc, Kind::Update, &[&[DOCK, DOCK]])? => "inserted 0 updated 2 deleted 0\n",
+        find(alloc, "@attr 1=4 dick")? => "hits 0\n",
+        find(alloc, "@attr 1=4 dock")? => "hits 1\n1 a1\n",
+        change(alloc, Kind::Update, &[&[MOBY, DOCK, MOBY]])? => "inserted 0 updated 3 deleted 0\n",
+        find(alloc, "@attr 1=4 dock")? => "hits 0\n",
+        find(alloc, "@attr 1=4 dick")? => "hits 1\n1 a1\n",
+    );
+    Ok(())
+}
+
+#[test]
+fn a_number_is_not_used_again(rt: HostRuntime) -> Result<(), Fail> {
+    let alloc = rt.alloc();
+    let mut session = opened(alloc, TITLES, Limits::GREATEST)?;
+    tells!(rt, session,
+        Command::Init => "ok\n",
+        change(alloc, Kind::Update, &[&[MOBY]])? => "inserted 1 updated 0 deleted 0\n",
+        change(alloc, Kind::Delete, &[&[MOBY]])? => "inserted 0 updated 0 deleted 1\n",
+        find(alloc, "@attr 1=4 moby")? => "hits 0\n",
+        change(alloc, Kind::Delete, &[&[MOBY]])? => "zebraidx: file 1 record 1: unknown identifier",
+        change(alloc, Kind::Adelete, &[&[MOBY]])? => "inserted 0 updated 0 deleted 0\n",
+        change(alloc, Kind::Update, &[&[MOBY]])? => "inserted 1 updated 0 deleted 0\n",
+        find(alloc, "@attr 1=4 moby")? => "hits 1\n2 a1\n",
+        change(alloc, Kind::Update, &[&[CAFE]])? => "inserted 1 updated 0 deleted 0\n",
+        change(alloc, Kind::Delete, &[&[MOBY, MOBY]])? => "zebraidx: file 1 record 2: unknown identifier",
+        find(alloc, "@attr 1=4 moby")? => "hits 1\n2 a1\n",
+    );
+    Ok(())
+}
+
+#[test]
+fn a_refused_change_leaves_nothing(rt: HostRuntime) -> Result<(), Fail> {
+    let alloc = rt.alloc();
+    let mut session = opened(alloc, TITLES, Limits::GREATEST)?;
+    tells!(rt, session,
+        Command::Init => "ok\n",
+        change(alloc, Kind::Update, &[&[MOBY]])? => "inserted 1 updated 0 deleted 0\n",
+        change(alloc, Kind::Update, &[&[DOCK, b"\r\n", &MOBY[..60]]])? => "zebraidx: file 1 record 2: Truncated",
+        find(alloc, "@attr 1=4 dick")? => "hits 1\n1 a1\n",
+        change(alloc, Kind::Update, &[&[CAFE], &[b"00026nam a2200025 a 4500\x1e\x1d"]])? => "zebraidx: file 2 record 1: NoIdentifier",
+        find(alloc, "@attr 1=4 cafe")? => "hits 0\n",
+        change(alloc, Kind::Update, &[&[CAFE]])? => "inserted 1 updated 0 deleted 0\n",
+        find(alloc, "@attr 1=4 cafe")? => "hits 1\n2 b2\n",
+    );
+    Ok(())
+}
+
+#[test]
+fn a_database_is_made_where_it_is_absent(rt: HostRuntime) -> Result<(), Fail> {
+    let alloc = rt.alloc();
+    let mut session = opened(alloc, TITLES, Limits::GREATEST)?;
+    tells!(rt, session,
+        Command::Init => "ok\n",
+        find(alloc, "@attr 1=4 moby")? => "zebraidx: diagnostic 235 at 0: Default",
+        change(alloc, Kind::Delete, &[&[MOBY]])? => "zebraidx: diagnostic 235 at 0: Default",
+        change(alloc, Kind::Update, &[&[]])? => "inserted 0 updated 0 deleted 0\n",
+        find(alloc, "@attr 1=4 moby")? => "hits 0\n",
+        Command::Create(name("Default")?) => "zebraidx: database exists",
+        Command::Create(name("Y")?) => "ok\n",
+        Command::Create(name("Y")?) => "zebraidx: database exists",
+        Command::Check => "zebraidx: not supported",
+    );
+    Ok(())
+}
+
+#[test]
+fn limits_are_kept(rt: HostRuntime) -> Result<(), Fail> {
+    let alloc = rt.alloc();
+    let mut session = opened(alloc, TITLES, Limits::new(1, 1))?;
+    tells!(rt, session,
+        Command::Init => "ok\n",
+        change(alloc, Kind::Update, &[&[MOBY]])? => "inserted 1 updated 0 deleted 0\n",
+        change(alloc, Kind::Update, &[&[MOBY, MOBY]])? => "zebraidx: too many records",
+        change(alloc, Kind::Update, &[&[CAFE]])? => "zebraidx: database full",
+        change(alloc, Kind::Update, &[&[MOBY]])? => "inserted 0 updated 1 deleted 0\n",
+    );
+    Ok(())
+}
+
+#[test]
+fn another_profile_is_refused(rt: HostRuntime) -> Result<(), Fail> {
+    let alloc = rt.alloc();
+    let mut session = opened(alloc, TITLES, Limits::GREATEST)?;
+    tells!(rt, session, Command::Init => "ok\n");
+    let connection = session.release();
+    let other = Profile::read(
+        alloc,
+        "store x\nidentifier 001\natt 21 Title\nmelm 245 Title\n",
+    )?;
+    let mut session = Memory::adopt(alloc, connection, other, Limits::GREATEST).map_err(
+        |back| back.1,
+    )?;
+    tells!(rt, session,
+        find(alloc, "@attr 1=21 moby")? => "zebraidx: profile differs from the register's",
+        Command::Init => "ok\n",
+        find(alloc, "@attr 1=21 moby")? => "zebraidx: diagnostic 235 at 0: Default",
+    );
+    Ok(())
+}
+
+#[test]
+fn commands_run_on_after_a_refusal(rt: HostRuntime) -> Result<(), Fail> {
+    let alloc = rt.alloc();
+    let mut session = opened(alloc, TITLES, Limits::GREATEST)?;
+    let commands = vec![in alloc;
+        Command::Init,
+        find(alloc, "@attr 1=4 moby")?,
+        change(alloc, Kind::Update, &[&[MOBY]])?,
+    ]?;
+    let answers = session.run_all(&commands)?;
+    assert_eq!(rt; answers.len(), 3);
+    assert_eq!(rt; told(alloc, &answers[0])?.as_str(), "ok\n");
+    assert!(rt; matches!(&answers[1], Err(refusal) if status(refusal) == 1));
+    assert_eq!(rt;
+        told(alloc, &answers[2])?.as_str(),
+        "inserted 1 updated 0 deleted 0\n"
+    );
+    Ok(())
+}
+
+/// Gives bytes up to a place, and fails there.
+#[derive(Drop)]
+struct Failing<'a> {
+    bytes: &'a [u8],
+    failed: bool,
+}
+
+impl Source for Failing<'_> {
+    ghost use Rattle.std.specs.Prelude.{None};
+
+    ghost remaining = { λ _. None };
+
+    ghost has_failed = { λ s. s.failed };
+
+    fn read(&mut self, buffer: &mut [u8]) -> Result<usize, ReadFailed> {
+        if self.bytes.is_empty() || buffer.is_empty() {
+            self.failed = true;
+            return Err(ReadFailed);
+        }
+        buffer[0] = self.bytes[0];
+        self.bytes = &self.bytes[1..];
+        Ok(1)
+    }
+
+    fn has_failed(&self) -> bool {
+        self.failed
+    }
+}
+
+#[test]
+fn a_reader_that_fails_is_named(rt: HostRuntime) -> Result<(), Fail> {
+    let alloc = rt.alloc();
+    let mut session = opened(alloc, TITLES, Limits::GREATEST)?;
+    tells!(rt, session, Command::Init => "ok\n");
+    for place in 0..=MOBY.len() {
+        let mut readers = [Failing {
+            bytes: &MOBY[..place],
+            failed: false,
+        }];
+        let answer = session.update_from(&name("Default")?, Kind::Update, &mut readers);
+        assert_eq!(rt;
+            told(alloc, &answer)?.as_str(),
+            "zebraidx: file 1: read fault"
+        );
+        assert!(rt; matches!(&answer, Err(refusal) if status(refusal) == 3));
+    }
+    let mut readers = [Slice::new(MOBY)];
+    let answer = session.update_from(&name("Default")?, Kind::Update, &mut readers);
+    assert_eq!(rt;
+        told(alloc, &answer)?.as_str(),
+        "inserted 1 updated 0 deleted 0\n"
+    );
+    Ok(())
+}
+
+#[test]
+fn names_have_1_to_64_bytes(rt: HostRuntime) -> Result<(), Fail> {
+    for text in ["", "a b", "caf\u{e9}", "/"] {
+        assert!(rt; DbName::read(text).is_none(), "{text}");
+    }
+    for text in ["a", "Default", "A-1_b.c"] {
+        assert_eq!(rt; name(text)?.as_str(), text);
+    }
+    Ok(())
+}

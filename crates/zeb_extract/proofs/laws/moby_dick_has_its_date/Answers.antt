@@ -1,0 +1,5 @@
+use Rattle.zeb_extract.proofs.Example.{date_found, no_other}
+use Rattle.zeb_extract.proofs.laws.moby_dick_has_its_date.Goals as goal
+
+pub returns : goal.returns
+returns c = record { found = date_found; no_other = no_other }

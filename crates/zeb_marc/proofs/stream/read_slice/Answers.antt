@@ -1,0 +1,108 @@
+-- The first byte, four more, and then as many as these five say.
+use Rattle.std.proofs.Common.{◌≡◌, ◌≤◌, ◌+◌, ◌-◌, ◌∷◌, ◌++◌, ◌∙◌, sym, ap, List, ℕ, Some, length, set, take, drop, length-take, length-drop, length-set, arith}
+use Rattle.std.proofs.lemmas.Result.{err_from_is_err_and}
+use Rattle.std.proofs.lemmas.List.{take-take, drop-drop}
+use Rattle.std.proofs.lemmas.Slice.{take-put_mid, take-put_mid_below}
+use borrow.Rule.Slice.PartMut.{put_mid}
+use Rattle.zeb_marc.specs.Leader.{first_failing}
+use Rattle.zeb_marc.proofs.RecordChecks.{slice_cut, slice_passes}
+use Rattle.zeb_marc.proofs.Runs.{take-add, length-put_mid}
+use Rattle.zeb_marc.proofs.ReadingLemmas.{announced_checks-five, record_length-five, five_are, fill_err, slice_short, slice_err, IsSlice-from_five}
+use Rattle.zeb_marc.proofs.stream.read_slice.Goals as goal
+
+-- the room once five bytes are in it
+abbrev with_five : List ℕ → ℕ → List ℕ → List ℕ
+with_five room first part = put_mid 1 4 (set room 0 first) part
+
+length-with_five : (room part : List ℕ) (first : ℕ) → length room ≡ 99999 → length part ≡ 4 → length (with_five room first part) ≡ 99999
+length-with_five room part first e len = length-put_mid (set room 0 first) part 1 4 (omega (arith, length-set room 0 first)) len ∙ length-set room 0 first ∙ e
+
+-- they are the record's first five
+same_five : (room part text : List ℕ) (first : ℕ) → length room ≡ 99999 → length part ≡ 4 → part ≡ take (length part) text → take 5 (with_five room first part) ≡ take 5 (first ∷ text)
+same_five room part text first e len same = five_are room part first (omega arith) len ∙ ap (λ (bytes : List ℕ). first ∷ bytes) (same ∙ ap (λ (k : ℕ). take k text) len)
+
+-- the room once the record is in it
+same_record : (room part text : List ℕ) (first n : ℕ) → length room ≡ 99999 → n ≡ 5 + length part → take 5 room ≡ take 5 (first ∷ text) → part ≡ take (length part) (drop 4 text) → take n (put_mid 5 (n - 5) room part) ≡ take n (first ∷ text)
+same_record room part text first n e len five same =
+    let split : 5 + length part ≡ n = omega arith in
+    take-put_mid 5 (n - 5) room part n len (omega arith)
+    ∙ ap (λ (front : List ℕ). front ++ part) five
+    ∙ ap (λ (back : List ℕ). take 5 (first ∷ text) ++ back) same
+    ∙ sym (take-add (first ∷ text) 5 (length part))
+    ∙ ap (λ (k : ℕ). take k (first ∷ text)) split
+
+pub returns-in_err-fill-clause-told : goal.returns-in_err-fill-clause-told
+returns-in_err-fill-clause-told g c = λ text told.
+    let p = err_from_is_err_and c.from_residual.result c.from_residual.ensures.1 in
+    let part = c.fill.new.part in
+    let len : length part ≡ 4 = omega arith in
+    let first = c.args.first in
+    let after = g.R.Source.remaining c.fill.new.source in
+    rw (p.1, p.2) (fill_err text part (first ∷ text) _ c.in_err-fill.field-0.0 after after (c.in_err-fill.ensures.told text told) (λ short. slice_short (first ∷ text) (omega arith)))
+
+pub returns-in_err-length-clause-told : goal.returns-in_err-length-clause-told
+returns-in_err-length-clause-told g c = λ text told.
+    let p = err_from_is_err_and c.from_residual-in_err-length.result c.from_residual-in_err-length.ensures.1 in
+    let part = c.fill.new.part in
+    let len : length part ≡ 4 = omega arith in
+    let first = c.args.first in
+    let filled = c.in_ok-fill.ensures.told text told in
+    let long : 5 ≤ length (first ∷ text) = omega (arith, filled.0) in
+    let five = same_five c.args.room.now part text first c.requires len filled.1 in
+    let checks = announced_checks-five (first ∷ text) _ five long in
+    rw (p.1, p.2) (slice_err (first ∷ text) _ c.in_err-length.field-0.0 _ (ap first_failing (sym checks) ∙ c.in_err-length.ensures.checked))
+
+pub returns-in_err-fill-2-clause-told : goal.returns-in_err-fill-2-clause-told
+returns-in_err-fill-2-clause-told g c = λ text told.
+    let p = err_from_is_err_and c.from_residual-in_err-fill-2.result c.from_residual-in_err-fill-2.ensures.1 in
+    let part = c.fill.new.part in
+    let len : length part ≡ 4 = omega arith in
+    let first = c.args.first in
+    let filled = c.in_ok-fill.ensures.told text told in
+    let long : 5 ≤ length (first ∷ text) = omega (arith, filled.0) in
+    let five = same_five c.args.room.now part text first c.requires len filled.1 in
+    let checks = announced_checks-five (first ∷ text) _ five long in
+    let value = c.in_ok-length.ensures.value in
+    let same_length = record_length-five (first ∷ text) _ five in
+    let left = filled.2 ∙ ap (λ (k : ℕ). Some (drop k text)) len in
+    let after = g.R.Source.remaining c.fill-2.new.source in
+    let rest_len : length c.fill-2.new.part ≡ c.in_ok-length.length - 5 = omega arith in
+    rw (p.1, p.2) (fill_err (drop 4 text) c.fill-2.new.part (first ∷ text) _ c.in_err-fill-2.field-0.0 after after (c.in_err-fill-2.ensures.told (drop 4 text) left)
+    (λ short. slice_cut (first ∷ text) (ap first_failing (sym checks) ∙ c.in_ok-length.ensures.checked) (omega (arith, value.0, value.1, same_length, length-drop 4 text, rest_len))))
+
+pub returns-clause-told : goal.returns-clause-told
+returns-clause-told g c = λ text told.
+    let part = c.fill.new.part in
+    let len : length part ≡ 4 = omega arith in
+    let first = c.args.first in
+    let filled = c.in_ok-fill.ensures.told text told in
+    let long : 5 ≤ length (first ∷ text) = omega (arith, filled.0) in
+    let five = same_five c.args.room.now part text first c.requires len filled.1 in
+    let checks = announced_checks-five (first ∷ text) _ five long in
+    let value = c.in_ok-length.ensures.value in
+    let same_length = record_length-five (first ∷ text) _ five in
+    let left = filled.2 ∙ ap (λ (k : ℕ). Some (drop k text)) len in
+    let rest = c.fill-2.new.part in
+    let rest_len : c.in_ok-length.length ≡ 5 + length rest = omega (arith, value.1) in
+    let others = c.in_ok-fill-2.ensures.told (drop 4 text) left in
+    let room_len = length-with_five c.args.room.now part first c.requires len in (
+      slice_passes (first ∷ text) (ap first_failing (sym checks) ∙ c.in_ok-length.ensures.checked) (omega (arith, value.0, same_length, others.0, length-drop 4 text)),
+      value.0 ∙ same_length,
+      same_record (with_five c.args.room.now first part) rest text first c.in_ok-length.length room_len rest_len five others.1,
+      others.2 ∙ ap (λ (r : List ℕ). Some r) (drop-drop (length rest) 5 (first ∷ text) ∙ ap (λ (k : ℕ). drop k (first ∷ text)) (sym rest_len)),
+    )
+
+pub returns-clause-sound : goal.returns-clause-sound
+returns-clause-sound g c =
+    let part = c.fill.new.part in
+    let len : length part ≡ 4 = omega arith in
+    let room = with_five c.args.room.now c.args.first part in
+    let room_len = length-with_five c.args.room.now part c.args.first c.requires len in
+    let value = c.in_ok-length.ensures.value in
+    let n = c.in_ok-length.length in
+    let rest = c.fill-2.new.part in
+    let rest_len : length rest ≡ n - 5 = omega arith in
+    let whole = put_mid 5 (n - 5) room rest in
+    let whole_len : length whole ≡ 99999 = length-put_mid room rest 5 (n - 5) (omega (arith, room_len, value.1, value.2)) rest_len ∙ room_len in
+    let same = take-take 5 n whole (omega (arith, value.1)) ∙ take-put_mid_below 5 (n - 5) room rest 5 (omega arith) (omega (arith, room_len)) in
+    (omega (arith, value.2), IsSlice-from_five (take n whole) (take 5 room) n same c.in_ok-length.ensures.checked value.0 value.1 (omega (arith, length-take n whole, whole_len, value.2)))

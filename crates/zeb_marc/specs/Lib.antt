@@ -1,0 +1,12 @@
+pub mod Names
+pub mod Leader
+pub mod Directory
+pub mod Fields
+pub mod Records
+pub mod Contents
+pub mod Splits
+pub mod Reading
+pub mod Units
+pub mod Worked
+pub mod Parts
+pub mod Sources

@@ -1,0 +1,30 @@
+-- A record, by ISO 2709 ("Structure of a record") and the MARC 21 Specifications for Record Structure: a leader, a
+-- directory ended by a field terminator, the data area, and a record terminator. A text is a record where each check
+-- passes, those of the leader first and then those of each directory entry in order; its fields are then those that the
+-- entries name. Of every other text the first check that fails gives the fault.
+use Rattle.std.specs.Prelude.{◌≡◌, ℕ, ◌-◌, List, ◌++◌, length, Option, None, slice_range}
+use Rattle.zeb_marc.specs.declared.faults.MarcFault.{MarcFault}
+use Rattle.zeb_marc.specs.Leader.{Check, first_failing, leader_checks, base_address}
+use Rattle.zeb_marc.specs.Directory.{FieldText, directory_checks, fields_in}
+
+-- what stands between the leader and the directory's field terminator
+abbrev pub directory_of : List ℕ → List ℕ
+directory_of text = slice_range text 24 (base_address text - 1)
+
+-- what stands between the base address of data and the record terminator
+abbrev pub data_area : List ℕ → List ℕ
+data_area text = slice_range text (base_address text) (length text - 1)
+
+abbrev pub record_checks : List ℕ → List Check
+record_checks text = leader_checks text ++ directory_checks (data_area text) (directory_of text)
+
+unfoldable pub first_fault : List ℕ → Option MarcFault
+first_fault text = first_failing (record_checks text)
+
+unfoldable pub fields_of : List ℕ → List FieldText
+fields_of text = fields_in (data_area text) (directory_of text)
+
+-- the text is a record, and these are its fields
+pub record IsRecord (text : List ℕ) (fields : List FieldText) : Type 0 where
+  pub sound : first_fault text ≡ None
+  pub fields_are : fields ≡ fields_of text

@@ -1,0 +1,26 @@
+-- A worked record of ISO 2709: a leader, three directory entries, a control field with an identifier, a title of two
+-- subfields and a date; its fields and units, read off by hand.
+use Rattle.std.specs.Prelude.{ℕ, List, [], ◌∷◌, ◌++◌, Some, None, codes}
+use Rattle.zeb_marc.specs.Directory.{FieldText}
+use Rattle.zeb_marc.specs.Contents.{UnitText}
+
+-- the record with these ten bytes of its leader (from its length to its second count), and this last byte
+abbrev pub record_with : List ℕ → ℕ → List ℕ
+record_with head last = head ++ codes "22" ++ codes "00061 a 4500" ++ codes "001000300000245003300003260001100036" ++ (30 ∷ codes "a1")
+    ++ (30 ∷ codes "10") ++ (31 ∷ codes "aMoby Dick :") ++ (31 ∷ codes "bor, the whale /") ++ (30 ∷ codes "  ") ++ (31 ∷ codes "cc1851.") ++ (30 ∷ last ∷ [])
+
+abbrev pub worked_record : List ℕ
+worked_record = record_with (codes "00109nam a") 29
+
+abbrev pub worked_fields : List FieldText
+worked_fields = record { tag = codes "001"; text = codes "a1" }
+    ∷ record { tag = codes "245"; text = codes "10" ++ (31 ∷ codes "aMoby Dick :") ++ (31 ∷ codes "bor, the whale /") }
+    ∷ record { tag = codes "260"; text = codes "  " ++ (31 ∷ codes "cc1851.") }
+    ∷ []
+
+abbrev pub worked_units : List UnitText
+worked_units = record { seq = 1; tag = codes "001"; code = None; text = codes "a1" }
+    ∷ record { seq = 2; tag = codes "245"; code = Some 97; text = codes "Moby Dick :" }
+    ∷ record { seq = 3; tag = codes "245"; code = Some 98; text = codes "or, the whale /" }
+    ∷ record { seq = 4; tag = codes "260"; code = Some 99; text = codes "c1851." }
+    ∷ []

@@ -1,0 +1,23 @@
+//! ISO 2709, the exchange format of MARC 21 records: a record, its fields and units, and a stream of records.
+#![tactic(auto)]
+
+mod digits;
+mod directory;
+mod faults;
+mod laws;
+mod leader;
+mod records;
+mod sources;
+mod stream;
+mod units;
+
+pub use directory::{Field, Fields};
+pub use faults::MarcFault;
+pub use laws::{record_laws, split_laws, worked_examples};
+pub use records::Marc;
+pub use sources::{FromRead, ReadFailed, Slice, Source};
+pub use stream::{RecordBuf, next_record};
+pub use units::{Unit, Units};
+
+#[cfg(test)]
+mod tests;

@@ -1,0 +1,113 @@
+// Where records are read from.
+ghost use Rattle.std.specs.Prelude.{◌≡◌, List, ℕ, Option, Bool, true, false, Some, is_ok, if◌then◌else◌};
+ghost use Rattle.std.specs.Io.{ReadsAtMost};
+ghost use Rattle.zeb_marc.specs.Sources.{ReadTakes};
+
+use std::io::Read;
+use std::marker::Model;
+
+/// A read failed.
+#[derive(Clone, Copy, Debug, PartialEq, Eq)]
+pub struct ReadFailed;
+
+/// A source of bytes, which may fail.
+pub trait Source {
+    /// The bytes that are left, where the source tells them.
+    ghost remaining: { Self → Option (List ℕ) };
+
+    /// Whether a read has failed.
+    ghost has_failed: { Self → Bool };
+
+    /// Reads some bytes into the front of the buffer and says how many; 0 into a buffer with room is the end.
+    ///
+    /// An error, an interruption too, is for good: the source has failed then.
+    fn read(&mut self, buffer: &mut [u8]) -> Result<usize, ReadFailed>
+        ensures bound { ReadsAtMost result buffer.new }
+        ensures bytes { ReadTakes (remaining self.old) (remaining self.new) result buffer.new }
+        ensures failed { has_failed self.new ≡ (if is_ok result then has_failed self.old else true) };
+
+    /// Whether a read has failed.
+    fn has_failed(&self) -> bool
+        ensures { result ≡ has_failed self.now };
+}
+
+/// The bytes of a slice, as a source that never fails: contracts see the bytes that are left.
+#[derive(Debug, Drop)]
+pub struct Slice<'a> {
+    bytes: &'a [u8],
+}
+
+impl<'a> Model for Slice<'a> {
+    ghost use Rattle.std.specs.Prelude.{List, ℕ};
+
+    ghost Value = { List ℕ };
+
+    ghost view = { λ s. s.bytes.now };
+}
+
+impl<'a> Slice<'a> {
+    /// A source of these bytes.
+    pub fn new(bytes: &'a [u8]) -> Slice<'a>
+        ensures { result ≡ bytes.now }
+    {
+        Slice { bytes }
+    }
+}
+
+impl<'a> Source for Slice<'a> {
+    ghost remaining = { λ s. Some s };
+
+    ghost has_failed = { λ _. false };
+
+    fn read(&mut self, buffer: &mut [u8]) -> Result<usize, ReadFailed> {
+        let count = buffer.len().min(self.bytes.len());
+        let (front, rest) = self.bytes.split_at(count);
+        buffer[..count].copy_from_slice(front);
+        self.bytes = rest;
+        Ok(count)
+    }
+
+    fn has_failed(&self) -> bool {
+        false
+    }
+}
+
+/// A reader, as a source: its bytes are the reader's. The source has failed once a read has.
+#[derive(Drop)]
+pub struct FromRead<R: Read> {
+    reader: R,
+    failed: bool,
+}
+
+impl<R: Read> FromRead<R> {
+    /// A source of what a reader gives.
+    pub fn new(reader: R) -> FromRead<R>
+        ensures bytes { ⟦<FromRead<R> as Source>⟧.remaining result ≡ R.remaining reader }
+        ensures sound { ⟦<FromRead<R> as Source>⟧.has_failed result ≡ false }
+    {
+        FromRead {
+            reader,
+            failed: false,
+        }
+    }
+}
+
+impl<R: Read> Source for FromRead<R> {
+    ghost remaining = { λ s. R.remaining s.reader };
+
+    ghost has_failed = { λ s. s.failed };
+
+    fn read(&mut self, buffer: &mut [u8]) -> Result<usize, ReadFailed> {
+        match self.reader.read(buffer) {
+            Ok(count) => Ok(count),
+            Err(_) => {
+                self.failed = true;
+                Err(ReadFailed)
+            }
+        }
+    }
+
+    fn has_failed(&self) -> bool {
+        self.failed
+    }
+}

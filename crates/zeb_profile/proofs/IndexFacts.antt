@@ -1,0 +1,57 @@
+-- Places and first finds in a list.
+use Rattle.std.proofs.Common.{◌≡◌, ℕ, ◌+◌, ◌<◌, ◌≤◌, List, [], ◌∷◌, ◌++◌, length, drop, get_or, map, suc, add-one, drop-cons, true, false, Bool, Option, Some, None, unwrap_or, nat_lt, cond, refl, arith, ap, sym, ◌∙◌, inl, inr, not}
+use Rattle.std.specs.List.{position, position_or_len, find, flat_map}
+use Rattle.std.proofs.lemmas.List.Sums.{position_or_len_is, prefix_len-le-length}
+use Rattle.std.proofs.lemmas.Bool.{cases_lt, cases_Bool, lt-ltb, le-ltb}
+use Rattle.zeb_profile.specs.declared.directives.Placed.{Placed}
+use Rattle.zeb_profile.specs.Indexes.{names_in}
+use Rattle.zeb_profile.specs.Profiles.{directives_in}
+
+pub position_at : {X : Type 0} (p : X → Bool) (xs : List X) (i : ℕ) (d : X) → i < length xs → ((k : ℕ) → k < i → p (get_or xs k d) ≡ false) → p (get_or xs i d) ≡ true → Some i ≡ position p xs
+position_at p xs i d within before at =
+    let e : position_or_len p xs ≡ i = position_or_len_is p xs i d (omega arith) before (λ _. at) in
+    rw (e, lt-ltb i (length xs) within) refl
+
+pub position_none : {X : Type 0} (p : X → Bool) (xs : List X) (d : X) → ((k : ℕ) → k < length xs → p (get_or xs k d) ≡ false) → None ≡ position p xs
+position_none p xs d before =
+    let e : position_or_len p xs ≡ length xs = position_or_len_is p xs (length xs) d (omega arith) before (λ h. absurd (omega arith)) in
+    rw (e, le-ltb (length xs) (length xs) (omega arith)) refl
+
+pub unwrap_position : {X : Type 0} (p : X → Bool) (xs : List X) → unwrap_or (position p xs) (length xs) ≡ position_or_len p xs
+unwrap_position p xs =
+    elim (cases_lt (position_or_len p xs) (length xs)) [
+      | inl h ↦ rw (lt-ltb (position_or_len p xs) (length xs) h) refl
+      | inr h ↦
+          let whole : length xs ≡ position_or_len p xs = omega (arith, prefix_len-le-length (λ x. not (p x)) xs) in
+          rw (le-ltb (position_or_len p xs) (length xs) h) whole
+    ]
+
+find-append_some : {X : Type 0} (p : X → Bool) (xs ys : List X) (x : X) → find p xs ≡ Some x → find p (xs ++ ys) ≡ Some x
+find-append_some p [] ys x h = absurd (cc)
+find-append_some p (y ∷ xs) ys x h =
+    elim (cases_Bool (p y)) [
+      | inl e ↦ rw e (rw e at h)
+      | inr e ↦ rw e (find-append_some p xs ys x (rw e at h))
+    ]
+
+find-append_none : {X : Type 0} (p : X → Bool) (xs ys : List X) → find p xs ≡ None → find p (xs ++ ys) ≡ find p ys
+find-append_none p [] ys h = refl
+find-append_none p (y ∷ xs) ys h =
+    elim (cases_Bool (p y)) [
+      | inl e ↦ let bad : Some y ≡ None = rw e at h in absurd (cc)
+      | inr e ↦ rw e (find-append_none p xs ys (rw e at h))
+    ]
+
+-- the names of the lines from the i-th on
+abbrev pub names_from : ℕ → List Placed → List (List ℕ)
+names_from i placed = flat_map names_in (directives_in (drop i placed))
+
+pub find_name_here : (p : List ℕ → Bool) (placed : List Placed) (i : ℕ) (d : Placed) (x : List ℕ) → i < length placed
+    → find p (names_in (get_or placed i d).directive) ≡ Some x → find p (names_from i placed) ≡ Some x
+find_name_here p placed i d x within h = rw (drop-cons placed i d) (find-append_some p (names_in (get_or placed i d).directive) (flat_map names_in (directives_in (drop (suc i) placed))) x h)
+
+pub find_name_later : (p : List ℕ → Bool) (placed : List Placed) (i : ℕ) (d : Placed) → i < length placed
+    → find p (names_in (get_or placed i d).directive) ≡ None → find p (names_from (i + 1) placed) ≡ find p (names_from i placed)
+find_name_later p placed i d within h =
+    let e : i + 1 ≡ suc i = add-one i in
+    rw (e, drop-cons placed i d) (sym (find-append_none p (names_in (get_or placed i d).directive) (flat_map names_in (directives_in (drop (suc i) placed))) h))

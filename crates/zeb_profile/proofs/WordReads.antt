@@ -1,0 +1,25 @@
+-- Reading words one after another.
+use Rattle.std.proofs.Common.{◌≡◌, ℕ, ◌+◌, ◌<◌, ◌≤◌, ◌^◌, List, [], ◌∷◌, ◌++◌, length, drop, get_or, map, suc, true, false, refl, arith, rules, add-one, drop-cons, Result, Ok, Err, Bor, if◌then◌else◌}
+use Rattle.std.specs.List.{list_all, list_any}
+use Rattle.std.specs.Char.{is_ascii_digit}
+use Rattle.std.specs.Str.Parse.{digits_value, ParsesUnsigned}
+use Rattle.std.proofs.lemmas.Str.Parse.{IsNumeralModel, numerals_by_value, parse_gives, digits_value_short}
+use Rattle.zeb_profile.specs.declared.directives.Target.{Target}
+use Rattle.zeb_profile.specs.declared.faults.ProfileFaultKind.{ProfileFaultKind}
+use Rattle.zeb_profile.specs.declared.faults.ProfileFaultKind.TheVariants.{DuplicateTarget}
+use Rattle.zeb_profile.specs.Outcomes.{◌>>=◌}
+use Rattle.zeb_profile.specs.Words.{target_of, same_target, targets_after}
+
+-- the texts of ASCII digits, and their values
+pub numerals : IsNumeralModel (λ ds. list_all is_ascii_digit ds ≡ true) (digits_value 10)
+numerals = numerals_by_value _ (search rules)
+
+-- one to nine digits are a number below 2 ^ 32
+pub number_parsed : {E : Type 0} (word : List ℕ) (r : Result ℕ E) → ParsesUnsigned 32 10 word r → list_all is_ascii_digit word ≡ true → 0 < length word → length word ≤ 9 → r ≡ Ok (digits_value 10 word)
+number_parsed word r h digits some short = parse_gives numerals 32 word r h digits some (omega (arith, digits_value_short numerals word 9 digits short))
+
+-- the next of the parts between commas
+pub targets_after-drop : (left : List Target) (parts : List (Bor (List ℕ))) (i : ℕ) (d : Bor (List ℕ)) → i < length parts
+    → targets_after left (map (λ part. part.now) (drop i parts))
+    ≡ (target_of (get_or parts i d).now >>= λ target. if list_any (same_target target) left then Err DuplicateTarget else targets_after (left ++ target ∷ []) (map (λ part. part.now) (drop (i + 1) parts)))
+targets_after-drop left parts i d h = let e : i + 1 ≡ suc i = add-one i in rw (drop-cons parts i d, e) refl

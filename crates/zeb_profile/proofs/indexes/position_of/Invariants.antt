@@ -1,0 +1,6 @@
+use Rattle.std.proofs.Common.{◌≡◌, ◌<◌, ℕ, get_or, false, List}
+use Rattle.zeb_profile.specs.Words.{same_name}
+use Rattle.zeb_profile.proofs.indexes.position_of.Given as goal
+
+abbrev pub invariant-loop-index : goal.invariant-loop-index
+invariant-loop-index l = (k : ℕ) (d : List ℕ) → k < l.index → same_name l.name (get_or l.names k d) ≡ false

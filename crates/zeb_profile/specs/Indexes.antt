@@ -1,0 +1,127 @@
+-- Zebra manual, "Abstract syntaxes": what the directives `att`, `melm` and `all` say of indexes and of units.
+use Rattle.std.specs.Prelude.{ℕ, Bool, true, false, not, ◌&&◌, ◌||◌, List, [], ◌∷◌, ◌++◌, length, ◌==◌, map, filter, Option, Some, None, unwrap_or, slice_index, slice_get, if◌then◌else◌}
+use Rattle.std.specs.List.{find, list_any, flat_map, position, position_or_len}
+use Rattle.std.specs.Option.{option_and_then}
+use Rattle.std.specs.Str.{bytes_eq}
+use Rattle.zeb_profile.specs.declared.directives.Directive.{Directive}
+use Rattle.zeb_profile.specs.declared.directives.Directive.TheVariants.{Store, Identifier, Att, Melm, All}
+use Rattle.zeb_profile.specs.declared.directives.Target.{Target}
+use Rattle.zeb_profile.specs.declared.patterns.UnitPattern.{UnitPattern}
+use Rattle.zeb_profile.specs.declared.registers.Register.{Register}
+use Rattle.zeb_profile.specs.declared.registers.Register.TheVariants.{Word, Phrase, Number}
+use Rattle.zeb_profile.specs.Profiles.{targets_in, all_targets}
+use Rattle.zeb_profile.specs.Words.{same_name, same_register}
+
+-- each name once, where it first comes
+abbrev pub distinct_names : List (List ℕ) → List (List ℕ)
+distinct_names [] = []
+distinct_names (name ∷ names) = name ∷ filter (λ other. not (same_name name other)) (distinct_names names)
+
+abbrev pub names_in : Directive → List (List ℕ)
+names_in (Att number name) = name ∷ []
+names_in directive = map (λ target. target.name) (targets_in directive)
+
+-- a name as the first line that has it spells it
+abbrev pub first_spelling : List Directive → List ℕ → List ℕ
+first_spelling directives name = unwrap_or (find (same_name name) (flat_map names_in directives)) name
+
+-- the names with one more, unless it is among them
+abbrev pub numbered : (List ℕ → List ℕ) → List (List ℕ) → List ℕ → List (List ℕ)
+numbered spell names name = if list_any (same_name name) names then names else (names ++ spell name ∷ [])
+
+-- the indexes are the names of targets, numbered from 0 in the order in which they first come
+abbrev pub index_names : List Directive → List (List ℕ)
+index_names directives = map (first_spelling directives) (distinct_names (map (λ target. target.name) (all_targets directives)))
+
+abbrev pub index_by_name : List Directive → List ℕ → Option ℕ
+index_by_name directives name = position (same_name name) (index_names directives)
+
+-- the name that a use attribute is tied to
+abbrev pub use_name : ℕ → List Directive → Option (List ℕ)
+use_name number [] = None
+use_name number (Att tied name ∷ others) = if tied == number then Some name else use_name number others
+use_name number (Melm pattern targets ∷ others) = use_name number others
+use_name number (All targets ∷ others) = use_name number others
+use_name number (Identifier pattern ∷ others) = use_name number others
+use_name number (Store path ∷ others) = use_name number others
+
+abbrev pub index_by_use : List Directive → ℕ → Option ℕ
+index_by_use directives number = option_and_then (index_by_name directives) (use_name number directives)
+
+-- a target's index and register
+abbrev pub pair_of : List (List ℕ) → Target → ℕ × Register
+pair_of names target = (position_or_len (same_name target.name) names, target.register)
+
+abbrev pub same_pair : ℕ × Register → ℕ × Register → Bool
+same_pair one other = (one.0 == other.0) && same_register one.1 other.1
+
+abbrev pub all_pairs : List Directive → List (ℕ × Register)
+all_pairs directives = map (pair_of (index_names directives)) (all_targets directives)
+
+abbrev pub has_pair : List Directive → ℕ × Register → Bool
+has_pair directives pair = list_any (same_pair pair) (all_pairs directives)
+
+-- a pattern fits a unit that has its tag and, where the pattern has a code, that code
+abbrev pub code_fits : Option ℕ → Option ℕ → Bool
+code_fits None code = true
+code_fits (Some wanted) None = false
+code_fits (Some wanted) (Some found) = wanted == found
+
+abbrev pub fits : UnitPattern → List ℕ → Option ℕ → Bool
+fits pattern tag code = bytes_eq pattern.tag tag && code_fits pattern.code code
+
+-- the targets of the first `melm` line that fits
+abbrev pub melm_targets : List ℕ → Option ℕ → List Directive → List Target
+melm_targets tag code [] = []
+melm_targets tag code (Melm pattern targets ∷ others) = if fits pattern tag code then targets else melm_targets tag code others
+melm_targets tag code (Att number name ∷ others) = melm_targets tag code others
+melm_targets tag code (All targets ∷ others) = melm_targets tag code others
+melm_targets tag code (Identifier pattern ∷ others) = melm_targets tag code others
+melm_targets tag code (Store path ∷ others) = melm_targets tag code others
+
+-- the targets of the `all` line
+abbrev pub all_line_targets : List Directive → List Target
+all_line_targets [] = []
+all_line_targets (All targets ∷ others) = targets
+all_line_targets (Melm pattern targets ∷ others) = all_line_targets others
+all_line_targets (Att number name ∷ others) = all_line_targets others
+all_line_targets (Identifier pattern ∷ others) = all_line_targets others
+all_line_targets (Store path ∷ others) = all_line_targets others
+
+-- the tag of a control field begins with two zeros (48)
+abbrev pub is_control_tag : List ℕ → Bool
+is_control_tag tag = (slice_index tag 0 == 48) && (slice_index tag 1 == 48)
+
+-- the pairs of the second list that the first lacks
+abbrev pub further_pairs : List (ℕ × Register) → List (ℕ × Register) → List (ℕ × Register)
+further_pairs first second = filter (λ pair. not (list_any (same_pair pair) first)) second
+
+-- the targets of a unit: those of the first `melm` line that fits, and for a data field those of `all` that are not among them
+abbrev pub unit_targets : List Directive → List ℕ → Option ℕ → List (ℕ × Register)
+unit_targets directives tag code =
+    let pair = pair_of (index_names directives) in
+    let first = map pair (melm_targets tag code directives) in
+    let further = map pair (if is_control_tag tag then [] else all_line_targets directives) in
+    first ++ further_pairs first further
+
+abbrev pub identifier_pattern : List Directive → Option UnitPattern
+identifier_pattern [] = None
+identifier_pattern (Identifier pattern ∷ others) = Some pattern
+identifier_pattern (Melm pattern targets ∷ others) = identifier_pattern others
+identifier_pattern (Att number name ∷ others) = identifier_pattern others
+identifier_pattern (All targets ∷ others) = identifier_pattern others
+identifier_pattern (Store path ∷ others) = identifier_pattern others
+
+abbrev pub store_path : List Directive → Option (List ℕ)
+store_path [] = None
+store_path (Store path ∷ others) = Some path
+store_path (Melm pattern targets ∷ others) = store_path others
+store_path (Att number name ∷ others) = store_path others
+store_path (All targets ∷ others) = store_path others
+store_path (Identifier pattern ∷ others) = store_path others
+
+-- the numbers by which the tables know the registers
+abbrev pub register_code : Register → ℕ
+register_code Word = 0
+register_code Phrase = 1
+register_code Number = 2

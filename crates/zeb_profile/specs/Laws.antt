@@ -1,0 +1,22 @@
+-- Laws of profiles and their canonical texts.
+use Rattle.std.specs.Prelude.{◌≡◌, ℕ, List, not, filter, Option}
+use Rattle.zeb_profile.specs.declared.directives.Directive.{Directive}
+use Rattle.zeb_profile.specs.Canonical.{canonical_text}
+use Rattle.zeb_profile.specs.Indexes.{identifier_pattern, index_by_use, index_names, all_pairs, unit_targets}
+use Rattle.zeb_profile.specs.Profiles.{is_store}
+
+abbrev pub without_store : List Directive → List Directive
+without_store directives = filter (λ directive. not (is_store directive)) directives
+
+-- the two say the same of indexes, units and identifiers
+pub record SaysTheSame (one other : List Directive) : Type 0 where
+  pub names : index_names one ≡ index_names other
+  pub uses : (number : ℕ) → index_by_use one number ≡ index_by_use other number
+  pub pairs : all_pairs one ≡ all_pairs other
+  pub targets : (tag : List ℕ) (code : Option ℕ) → unit_targets one tag code ≡ unit_targets other tag code
+  pub identifier : identifier_pattern one ≡ identifier_pattern other
+
+-- the canonical text says nothing of the store, nor does anything that it settles
+abbrev pub StoreSaysNothingElse : Type 0
+StoreSaysNothingElse = (directives : List Directive)
+    → (canonical_text (without_store directives) ≡ canonical_text directives) × SaysTheSame (without_store directives) directives

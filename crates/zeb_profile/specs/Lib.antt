@@ -1,0 +1,10 @@
+pub mod Canonical
+pub mod Directives
+pub mod Examples
+pub mod Indexes
+pub mod Laws
+pub mod Lines
+pub mod Outcomes
+pub mod Profiles
+pub mod TargetsLeft
+pub mod Words

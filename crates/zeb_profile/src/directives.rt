@@ -1,0 +1,275 @@
+ghost use Rattle.std.specs.Prelude.{◌≡◌, ◌∷◌, [], List, ℕ, map, Ok, Err, IfOk, option_map, Option};
+ghost use Rattle.std.specs.List.{list_any, list_all, slice_split};
+ghost use Rattle.std.specs.Char.{is_ascii_digit};
+ghost use Rattle.zeb_profile.specs.Outcomes.{Gives};
+ghost use Rattle.zeb_profile.specs.Lines.{words_of, trimmed};
+ghost use Rattle.zeb_profile.specs.Words.{target_of, targets_of as targets_in_word, number_of, same_target, is_comma};
+ghost use Rattle.zeb_profile.specs.Directives.{one_word, two_words, store_of, identifier_of, att_of, melm_of, all_of, directive_of};
+ghost use Rattle.zeb_profile.specs.Profiles.{targets_in, clash as clash_of, is_identifier as identifier_test, is_store as store_test};
+
+use crate::lines::{first_word, trim};
+use crate::names::Name;
+use crate::{ProfileFaultKind, Register, UnitPattern};
+use std::alloc::{AllocError, Global};
+use std::marker::Model;
+
+/// One target of a `melm` or `all` line: an index by its name, and a register.
+#[derive(Debug, Drop)]
+pub struct Target {
+    pub name: Name,
+    pub register: Register,
+}
+
+/// The targets of a line, none twice.
+#[derive(Debug, Drop)]
+pub struct TargetList {
+    items: Vec<Target>,
+}
+
+impl Model for TargetList {
+    ghost use Rattle.std.specs.Prelude.{List};
+    ghost use Rattle.zeb_profile.specs.declared.directives.Target.{Target};
+
+    ghost Value = { List Target };
+
+    ghost view = { λ list. list.items.items };
+}
+
+/// The path of the register's file.
+#[derive(Debug, Drop)]
+pub struct StorePath {
+    text: String,
+}
+
+impl Model for StorePath {
+    ghost use Rattle.std.specs.Prelude.{List, ℕ, string_bytes};
+
+    ghost Value = { List ℕ };
+
+    ghost view = { λ path. string_bytes path.text };
+}
+
+/// What one line of a profile says.
+#[derive(Debug, Drop)]
+pub enum Directive {
+    /// `store PATH`: the register's file.
+    Store(StorePath),
+    /// `identifier PATTERN`: where a record's identifier stands.
+    Identifier(UnitPattern),
+    /// `att NUMBER NAME`: ties a use attribute to an index.
+    Att(u32, Name),
+    /// `melm PATTERN TARGETS`: the targets of a field or subfield.
+    Melm(UnitPattern, TargetList),
+    /// `all TARGETS`: further targets of every unit of a data field.
+    All(TargetList),
+}
+
+/// A directive and the number of its line, counted from 1.
+#[derive(Debug, Drop)]
+pub struct Placed {
+    pub line: u64,
+    pub directive: Directive,
+}
+
+impl StorePath {
+    pub fn as_str(&self) -> &str
+        ensures { result.now ≡ self.now }
+    {
+        &self.text
+    }
+}
+
+impl TargetList {
+    pub fn as_slice(&self) -> &[Target]
+        ensures { result.now ≡ self.now }
+    {
+        &self.items
+    }
+
+    fn read(alloc: Global, word: &str) -> Result<TargetList, ProfileFaultKind>
+        ensures { Gives (λ list. list) result (targets_in_word word.now) }
+    {
+        let parts = split_commas(alloc, word)?;
+        let mut items: Vec<Target> = Vec::new(alloc);
+        for part in &parts {
+            let target = Target::read(alloc, part)?;
+            if contains_target(&items, &target) {
+                return Err(ProfileFaultKind::DuplicateTarget);
+            }
+            items.push(target)?;
+        }
+        Ok(TargetList { items })
+    }
+}
+
+fn split_commas(alloc: Global, word: &str) -> Result<Vec<&str>, AllocError>
+    ensures { IfOk result (λ parts. map (λ part. part.now) parts.items ≡ slice_split is_comma word.now) }
+{
+    word.split(',').collect(alloc)
+}
+
+fn contains_target(targets: &[Target], target: &Target) -> bool
+    ensures { result ≡ list_any (same_target target.now) targets.now }
+{
+    targets.iter().any(|other| target.is_same(other))
+}
+
+impl Target {
+    /// Whether the two are one index and register.
+    pub fn is_same(&self, other: &Target) -> bool
+        ensures { result ≡ same_target self.now other.now }
+    {
+        self.name.is_same(other.name.as_str()) && self.register.is_same(other.register)
+    }
+
+    /// Reads a target, `NAME` or `NAME:REGISTER`; without a register it is that of words.
+    fn read(alloc: Global, part: &str) -> Result<Target, ProfileFaultKind>
+        ensures { Gives (λ target. target) result (target_of part.now) }
+    {
+        match part.split_once(':') {
+            None => Ok(Target {
+                name: Name::read(alloc, part)?,
+                register: Register::Word,
+            }),
+            Some((name, register)) => Ok(Target {
+                name: Name::read(alloc, name)?,
+                register: Register::read(register)?,
+            }),
+        }
+    }
+}
+
+impl Directive {
+    /// Reads a line without the blanks at its ends.
+    pub fn read(alloc: Global, line: &str) -> Result<Directive, ProfileFaultKind>
+        ensures { Gives (λ directive. directive) result (directive_of line.now) }
+    {
+        let (keyword, rest) = first_word(line).ok_or(ProfileFaultKind::Directive)?;
+        match keyword {
+            "store" => read_store(alloc, rest),
+            "identifier" => read_identifier(rest),
+            "att" => read_att(alloc, rest),
+            "melm" => read_melm(alloc, rest),
+            "all" => read_all(alloc, rest),
+            _ => Err(ProfileFaultKind::Directive),
+        }
+    }
+
+    /// The targets that the line names.
+    pub fn targets(&self) -> &[Target]
+        ensures { result.now ≡ targets_in self.now }
+    {
+        match self {
+            Directive::Melm(_, targets) => targets.as_slice(),
+            Directive::All(targets) => targets.as_slice(),
+            _ => &[],
+        }
+    }
+
+    pub fn is_identifier(&self) -> bool
+        ensures { result ≡ identifier_test self.now }
+    {
+        matches!(self, Directive::Identifier(_))
+    }
+
+    pub fn is_store(&self) -> bool
+        ensures { result ≡ store_test self.now }
+    {
+        matches!(self, Directive::Store(_))
+    }
+
+    /// The fault of this directive behind an earlier one that it may not repeat.
+    pub fn clash(&self, earlier: &Directive) -> Option<ProfileFaultKind>
+        ensures { result ≡ clash_of earlier.now self.now }
+    {
+        match (earlier, self) {
+            (Directive::Store(_), Directive::Store(_)) => Some(ProfileFaultKind::TwoStores),
+            (Directive::Identifier(_), Directive::Identifier(_)) => {
+                Some(ProfileFaultKind::TwoIdentifiers)
+            }
+            (Directive::Att(one, _), Directive::Att(other, _)) if *one == *other => {
+                Some(ProfileFaultKind::DuplicateUse)
+            }
+            (Directive::All(_), Directive::All(_)) => Some(ProfileFaultKind::TwoAlls),
+            _ => None,
+        }
+    }
+}
+
+/// The only word of a text.
+fn only_word(text: &str) -> Option<&str>
+    ensures { option_map (λ word. word.now) result ≡ one_word (words_of text.now) }
+{
+    let (word, rest) = first_word(text)?;
+    if first_word(rest).is_some() {
+        return None;
+    }
+    Some(word)
+}
+
+/// The words of a text that has just two.
+fn only_two_words(text: &str) -> Option<(&str, &str)>
+    ensures { option_map (λ both. (both.0.now, both.1.now)) result ≡ two_words (words_of text.now) }
+{
+    let (first, rest) = first_word(text)?;
+    let second = only_word(rest)?;
+    Some((first, second))
+}
+
+/// Reads a use attribute's number: one to nine digits that do not stand for 0.
+fn read_number(word: &str) -> Result<u32, ProfileFaultKind>
+    ensures { result ≡ number_of word.now }
+{
+    if !are_digits(word.as_bytes()) || word.is_empty() || word.len() > 9 {
+        return Err(ProfileFaultKind::Directive);
+    }
+    match word.parse::<u32>() {
+        Ok(number) if number > 0 => Ok(number),
+        _ => Err(ProfileFaultKind::Directive),
+    }
+}
+
+fn are_digits(word: &[u8]) -> bool
+    ensures { result ≡ list_all is_ascii_digit word.now }
+{
+    word.iter().all(|byte| byte.is_ascii_digit())
+}
+
+fn read_store(alloc: Global, rest: &str) -> Result<Directive, ProfileFaultKind>
+    ensures { Gives (λ directive. directive) result (store_of (words_of rest.now) (trimmed rest.now)) }
+{
+    first_word(rest).ok_or(ProfileFaultKind::Directive)?;
+    Ok(Directive::Store(StorePath {
+        text: String::from_str(alloc, trim(rest))?,
+    }))
+}
+
+fn read_identifier(rest: &str) -> Result<Directive, ProfileFaultKind>
+    ensures { Gives (λ directive. directive) result (identifier_of (words_of rest.now)) }
+{
+    let pattern = only_word(rest).ok_or(ProfileFaultKind::Directive)?;
+    Ok(Directive::Identifier(UnitPattern::read(pattern)?))
+}
+
+fn read_att(alloc: Global, rest: &str) -> Result<Directive, ProfileFaultKind>
+    ensures { Gives (λ directive. directive) result (att_of (words_of rest.now)) }
+{
+    let (number, name) = only_two_words(rest).ok_or(ProfileFaultKind::Directive)?;
+    let number = read_number(number)?;
+    Ok(Directive::Att(number, Name::read(alloc, name)?))
+}
+
+fn read_melm(alloc: Global, rest: &str) -> Result<Directive, ProfileFaultKind>
+    ensures { Gives (λ directive. directive) result (melm_of (words_of rest.now)) }
+{
+    let (pattern, targets) = only_two_words(rest).ok_or(ProfileFaultKind::Directive)?;
+    let pattern = UnitPattern::read(pattern)?;
+    Ok(Directive::Melm(pattern, TargetList::read(alloc, targets)?))
+}
+
+fn read_all(alloc: Global, rest: &str) -> Result<Directive, ProfileFaultKind>
+    ensures { Gives (λ directive. directive) result (all_of (words_of rest.now)) }
+{
+    let targets = only_word(rest).ok_or(ProfileFaultKind::Directive)?;
+    Ok(Directive::All(TargetList::read(alloc, targets)?))
+}

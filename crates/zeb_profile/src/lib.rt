@@ -1,0 +1,29 @@
+//! The indexing profile: the text that says which subfields of a record go into which index
+//! (Zebra manual, "Abstract syntaxes", the directives `melm` and `att`).
+//!
+//! A profile is read line by line, and [`Profile`] answers what its directives say of indexes and of units.
+#![tactic(auto)]
+
+mod canonical;
+mod directives;
+mod faults;
+mod indexes;
+mod laws;
+mod lines;
+mod lookups;
+mod names;
+mod patterns;
+mod reading;
+mod registers;
+mod searches;
+mod unit_targets;
+
+pub use faults::{ProfileFault, ProfileFaultKind};
+pub use laws::{examples, store_says_nothing_else};
+pub use lookups::Profile;
+pub use patterns::UnitPattern;
+pub use registers::Register;
+pub use unit_targets::Targets;
+
+#[cfg(test)]
+mod tests;

@@ -1,0 +1,145 @@
+ghost use Rattle.std.specs.Prelude.{◌≡◌, ◌<◌, ◌^◌, List, ℕ, length, map, Option, Some, slice_get, IfOk, IfErr, MatchResult, option_map};
+ghost use Rattle.std.specs.List.{list_any, position};
+ghost use Rattle.zeb_profile.specs.Indexes as indexes;
+ghost use Rattle.zeb_profile.specs.Canonical.{canonical_text};
+ghost use Rattle.zeb_profile.specs.Outcomes.{GivesPlaced};
+ghost use Rattle.zeb_profile.specs.Profiles.{profile_of, directives_in};
+ghost use Rattle.zeb_profile.specs.TargetsLeft.{targets_left};
+
+use crate::canonical::canonical;
+use crate::directives::{Directive, Placed};
+use crate::indexes::{index_names, position_of};
+use crate::names::Name;
+use crate::reading::{lack_of, read_lines};
+use crate::searches::{
+    further_targets, has_pair, identifier_pattern, melm_targets, store_path, use_name,
+};
+use crate::unit_targets::Targets;
+use crate::{ProfileFault, Register, UnitPattern};
+use std::alloc::{AllocError, Global};
+use std::marker::Model;
+
+/// An indexing profile: where the register is kept, where a record's identifier stands, and which units go into
+/// which indexes. Contracts see it as the list of its directives.
+#[derive(Debug, Drop)]
+pub struct Profile {
+    directives: Vec<Directive>,
+    names: Vec<Name>,
+    text: String,
+}
+
+impl Model for Profile {
+    ghost use Rattle.std.specs.Prelude.{List};
+    ghost use Rattle.zeb_profile.specs.declared.directives.Directive.{Directive};
+
+    ghost Value = { List Directive };
+
+    ghost use Rattle.std.specs.Prelude.{◌≡◌, ◌<◌, ◌^◌, length, string_bytes, IsSome};
+    ghost use Rattle.zeb_profile.specs.Indexes as indexes;
+    ghost use Rattle.zeb_profile.specs.Canonical.{canonical_text};
+
+    ghost view = { λ profile. profile.directives.items };
+
+    ghost invariant = { λ profile.
+        (profile.names.items ≡ indexes.index_names profile.directives.items)
+        × (length profile.names.items < 2 ^ 32)
+        × (string_bytes profile.text ≡ canonical_text profile.directives.items)
+        × IsSome (indexes.identifier_pattern profile.directives.items)
+        × IsSome (indexes.store_path profile.directives.items) };
+}
+
+impl Profile {
+    /// Reads a profile's text. A fault is that of the first faulty line, lines counted from 1; of what all lines
+    /// together lack, an unknown index has the line of its `att`, and a missing identifier or store line 0. `Memory`,
+    /// with line 0, comes where memory ran out.
+    pub fn read(alloc: Global, text: &str) -> Result<Profile, ProfileFault>
+        ensures { GivesPlaced (λ profile. profile) result (profile_of text.now) }
+    {
+        let placed = read_lines(alloc, text)?;
+        if let Some(fault) = lack_of(&placed) {
+            return Err(fault);
+        }
+        let names = index_names(alloc, &placed)?;
+        let text = canonical(alloc, &placed)?;
+        let directives = directives_of(alloc, placed)?;
+        Ok(Profile {
+            directives,
+            names,
+            text,
+        })
+    }
+
+    /// The number of the index with this name, ASCII letters compared without regard to their case.
+    pub fn index_by_name(&self, name: &str) -> Option<u32>
+        ensures { result ≡ indexes.index_by_name self.now name.now }
+    {
+        position_of(&self.names, name)
+    }
+
+    /// The number of the index that this use attribute is tied to.
+    pub fn index_by_use(&self, number: u32) -> Option<u32>
+        ensures { result ≡ indexes.index_by_use self.now number }
+    {
+        let name = use_name(&self.directives, number)?;
+        position_of(&self.names, name.as_str())
+    }
+
+    /// The name of an index as the first line that has it spells it.
+    pub fn index_name(&self, index: u32) -> Option<&str>
+        ensures { option_map (λ name. name.now) result ≡ slice_get (indexes.index_names self.now) index }
+    {
+        Some(self.names.get(index as usize)?.as_str())
+    }
+
+    /// How many indexes there are; they are numbered from 0.
+    pub fn index_count(&self) -> u32
+        ensures { result ≡ length (indexes.index_names self.now) }
+    {
+        self.names.len() as u32
+    }
+
+    /// Whether some line has this index and register as a target.
+    pub fn has(&self, index: u32, register: Register) -> bool
+        ensures { result ≡ indexes.has_pair self.now (index, register) }
+    {
+        has_pair(&self.directives, &self.names, index, register)
+    }
+
+    /// Where a record's identifier stands.
+    pub fn identifier_rule(&self) -> &UnitPattern
+        ensures { indexes.identifier_pattern self.now ≡ Some result.now }
+    {
+        identifier_pattern(&self.directives).unwrap()
+    }
+
+    /// The path of the register's file, without blanks at its ends.
+    pub fn store_path(&self) -> &str
+        ensures { indexes.store_path self.now ≡ Some result.now }
+    {
+        store_path(&self.directives).unwrap()
+    }
+
+    /// The canonical text: each directive but `store` on a line of its own, with one space between words, registers
+    /// written, names as their line spells them and numbers without leading zeros.
+    pub fn text(&self) -> &str
+        ensures { result.now ≡ canonical_text self.now }
+    {
+        &self.text
+    }
+
+    /// The targets of a unit with this tag and code: those of the first `melm` line that fits, and for a data field
+    /// those of `all` that are not among them.
+    pub fn targets(&self, tag: &[u8; 3], code: Option<u8>) -> Targets<'_>
+        ensures { targets_left result ≡ indexes.unit_targets self.now tag.now code }
+    {
+        let first = melm_targets(&self.directives, tag, code);
+        let all = further_targets(&self.directives, tag);
+        Targets::new(&self.names, first, all)
+    }
+}
+
+fn directives_of(alloc: Global, placed: Vec<Placed>) -> Result<Vec<Directive>, AllocError>
+    ensures { IfOk result (λ directives. directives.items ≡ directives_in placed.items) }
+{
+    placed.into_iter().map(|line| line.directive).collect(alloc)
+}

@@ -1,0 +1,341 @@
+-- Steps of a reader of queries, in the words of the grammar.
+use Rattle.std.proofs.Common.{◌≡◌, ◌≢◌, ℕ, suc, ◌+◌, ◌-◌, ◌<◌, Bool, true, false, List, [], ◌∷◌, ◌++◌, Option, Some, None, length, cond, eqb, ltb, refl, ap, sym, subst, ◌∙◌, arith, rules, append_assoc}
+use Rattle.std.specs.Prelude.{option_and_then, nat_lt, map, string_bytes}
+use Rattle.std.specs.List.{list_all, before_first, after_first, position_or_len}
+use Rattle.std.proofs.lemmas.Bool.Decides.{nat_tests}
+use Rattle.std.proofs.lemmas.List.{length_push, map-append, nil_from_length}
+use Rattle.std.proofs.lemmas.List.{length-map}
+use Rattle.zeb_query.proofs.DigitLemmas.{and_parts}
+use Rattle.zeb_query.specs.declared.grammar.Rest.{Rest}
+use Rattle.zeb_query.specs.declared.faults.QueryFault.{QueryFault}
+use Rattle.zeb_query.specs.declared.words.Spelling.{Spelling}
+use Rattle.zeb_query.specs.declared.words.Spelling.TheVariants.{Plain, Quoted, Bad}
+use Rattle.zeb_query.specs.declared.queries.Connective.{Connective}
+use Rattle.zeb_query.specs.declared.keywords.Keyword.{Keyword}
+use Rattle.zeb_query.specs.declared.keywords.Keyword.TheVariants.{AttributeSet, Attribute, TermType, ResultSet, Operator}
+use Rattle.zeb_query.specs.Digits.{number_of}
+use Rattle.zeb_query.specs.Words.{Word}
+use Rattle.zeb_query.specs.Cutting.{word_of}
+use Rattle.zeb_query.specs.Keywords.{keyword_of, keyword_by}
+use Rattle.zeb_query.specs.Queries.{AttributeValue, HeadValue, TreeValue, TermValue, NamedValue, PairValue}
+use Rattle.zeb_query.specs.Grammar.{kind_and_value, if_any, is_equals, has_equals, is_good, is_good_spelling, IsStructure, is_attribute, is_attribute_of_set, is_typed, under, heads, no_head, inner_type, with_type, text_of, is_term, is_named, is_pair, parameter_count, IsQuery, is_structure, is_structure_of_set}
+use Rattle.zeb_query.specs.Following.{Due, Start, Structures, SetOrSpec, Spec, MoreWords, words_then, fault, Step, Allowed, Refused, step, structure_step, operator_step, start_step}
+use Rattle.zeb_query.specs.Parsing.{left, fault_of, first_keyword, IsAfterFirst, ReadsFirst, ReadsWord, IsFault, SpellsSpec, SpellsAttribute, SpellsHead, SpellsParameters, SpellsOperator, SpellsSet, Spells, first_place}
+
+-- the type and value of a word without `=`, and of one with it
+pub kind_and_value-none : (text : List ℕ) → position_or_len is_equals text ≡ length text → kind_and_value text ≡ None
+unfolding kind_and_value
+kind_and_value-none text e =
+    let f : nat_lt (position_or_len is_equals text) (length text) ≡ false = grind (arith, nat_tests) in
+    rw f refl
+
+pub kind_and_value-some : (text front rest : List ℕ) (n : Option ℕ) → (position_or_len is_equals text < length text) × (front ≡ before_first is_equals text) × (rest ≡ after_first is_equals text) → n ≡ number_of 9 front → kind_and_value text ≡ option_and_then (λ kind. if_any kind rest) n
+unfolding kind_and_value
+kind_and_value-some text front rest n h e =
+    let t : nat_lt (position_or_len is_equals text) (length text) ≡ true = grind (arith, nat_tests) in
+    rw (e, h.1, h.2, t) refl
+
+zero_from_test : (n : ℕ) → true ≡ eqb n 0 → n ≡ 0
+zero_from_test n e = grind (arith, nat_tests)
+
+pub if_any-empty : (kind : ℕ) (rest : List ℕ) → true ≡ eqb (length rest) 0 → if_any kind rest ≡ None
+if_any-empty kind [] e = refl
+if_any-empty kind (b ∷ bs) e = let z : length (b ∷ bs) ≡ 0 = zero_from_test (length (b ∷ bs)) e in absurd (omega arith)
+
+pub if_any-more : (kind : ℕ) (rest : List ℕ) → false ≡ eqb (length rest) 0 → if_any kind rest ≡ Some (kind, rest)
+if_any-more kind [] e = cc
+if_any-more kind (b ∷ bs) e = refl
+
+-- an attribute without a set, and one with it
+pub spells_attribute : (rest after : Rest) (a : AttributeValue) → SpellsSpec rest after None a → SpellsAttribute rest after a
+spells_attribute rest after a s = record {
+  words = s.word ∷ [];
+  is = s.is;
+  spells = λ attr more tree keyword spelled.
+      subst (λ set. IsStructure (attr ∷ s.word ∷ more) (under (record { attributes = record { set = set; kind = a.kind; value = a.value } ∷ []; term_type = None }) tree)) (sym s.set_is)
+      (is_attribute attr s.word more tree (a.kind, a.value) keyword s.good s.read spelled);
+}
+
+pub spells_attribute_of_set : (rest middle after : Rest) (a : AttributeValue) (set : Word) (text : List ℕ) → left rest ≡ set ∷ left middle → is_good set ≡ true → has_equals set.text ≡ false → text ≡ set.text → SpellsSpec middle after (Some text) a → SpellsAttribute rest after a
+spells_attribute_of_set rest middle after a set text is good plain same s = record {
+  words = set ∷ s.word ∷ [];
+  is = is ∙ ap (λ ws. set ∷ ws) s.is;
+  spells = λ attr more tree keyword spelled.
+      subst (λ named. IsStructure (attr ∷ set ∷ s.word ∷ more) (under (record { attributes = record { set = named; kind = a.kind; value = a.value } ∷ []; term_type = None }) tree)) (sym (s.set_is ∙ ap (λ t. Some t) same))
+      (is_attribute_of_set attr set s.word more tree (a.kind, a.value) keyword good plain s.good s.read spelled);
+}
+
+-- what follows a step
+abbrev pub after_step : ℕ → ℕ → Step → List Word → Option (ℕ × ℕ)
+after_step end place (Allowed room due) words = fault end room due words
+after_step end place (Refused number) words = Some (number, place)
+
+pub fault-step : (end room : ℕ) (due : Due) (word : Word) (words : List Word) (s : Step) → step room word due ≡ s → fault end room due (word ∷ words) ≡ after_step end word.place s words
+fault-step end room due word words s e =
+    ap (λ t. elim t as (λ _. Option (ℕ × ℕ)) [ Allowed r d ↦ fault end r d words | Refused number ↦ Some (number, word.place) ]) e
+    ∙ after_step_is s
+  where
+    after_step_is : (t : Step) → elim t as (λ _. Option (ℕ × ℕ)) [ Allowed r d ↦ fault end r d words | Refused number ↦ Some (number, word.place) ] ≡ after_step end word.place t words
+    after_step_is (Allowed r d) = refl
+    after_step_is (Refused number) = refl
+
+-- a word with `=` is a SPEC
+step-spec : (room : ℕ) (word : Word) (n : ℕ) → true ≡ has_equals word.text → step room word (SetOrSpec n) ≡ step room word (Spec n)
+step-spec room word n has = rw (← has) refl
+
+pub fault_of-spec : (rest : Rest) (word : Word) (words : List Word) → left rest ≡ word ∷ words → true ≡ has_equals word.text → (n : ℕ) → fault_of rest (SetOrSpec n) ≡ fault_of rest (Spec n)
+fault_of-spec rest word words is has n =
+    ap (λ ws. fault rest.end rest.room (SetOrSpec n) ws) is
+    ∙ fault-step rest.end rest.room (SetOrSpec n) word words _ (step-spec rest.room word n has)
+    ∙ sym (fault-step rest.end rest.room (Spec n) word words _ refl)
+    ∙ sym (ap (λ ws. fault rest.end rest.room (Spec n) ws) is)
+
+-- an error that has the same fault
+pub IsFault-same : (e : QueryFault) (x y : Option (ℕ × ℕ)) → y ≡ x → IsFault e x → IsFault e y
+IsFault-same e x y same is = subst (λ z. IsFault e z) (sym same) is
+
+-- the first word, by its keyword
+pub first_is : (k : Keyword) (words after : List Word) → IsAfterFirst words after → first_keyword words ≡ Some k → (w : Word) × (words ≡ w ∷ after) × (keyword_of w ≡ Some k)
+first_is k [] after is e = absurd is
+first_is k (w ∷ ws) after is e = (w, ap (λ xs. w ∷ xs) (sym is), e)
+
+good_by : (s : Spelling) (text : List ℕ) (k : Keyword) → keyword_by s text ≡ Some k → is_good_spelling s ≡ true
+good_by Plain text k e = refl
+good_by Quoted text k e = refl
+good_by Bad text k e = cc
+
+pub good_from_keyword : (w : Word) (k : Keyword) → keyword_of w ≡ Some k → is_good w ≡ true
+good_from_keyword w k e = good_by w.spelling w.text k e
+
+pub step-structure : (room n : ℕ) (w : Word) → is_good w ≡ true → step room w (Structures (suc n)) ≡ structure_step room (keyword_of w) n
+step-structure room n w good = rw good refl
+
+-- a keyword at the front of a structure
+pub fault_of-keyword : (k : Keyword) (rest middle : Rest) → first_keyword (left rest) ≡ Some k → ReadsFirst rest middle → (n : ℕ) (due : Due) → structure_step rest.room (Some k) n ≡ Allowed rest.room due → fault_of rest (Structures (suc n)) ≡ fault_of middle due
+fault_of-keyword k rest middle found reads n due allowed =
+    let f = first_is k (left rest) (left middle) reads.is found in
+    ap (λ ws. fault rest.end rest.room (Structures (suc n)) ws) f.1
+    ∙ fault-step rest.end rest.room (Structures (suc n)) f.0 (left middle) (Allowed rest.room due)
+    (step-structure rest.room n f.0 (good_from_keyword f.0 k f.2) ∙ ap (λ key. structure_step rest.room key n) f.2 ∙ allowed)
+    ∙ ap (λ end. fault end rest.room due (left middle)) (sym reads.end)
+    ∙ ap (λ room. fault middle.end room due (left middle)) (sym reads.room)
+
+-- a word of any kind where words are due
+pub fault_of-word : (rest middle : Rest) (w : Word) → ReadsWord rest middle w → is_good w ≡ true → (k n : ℕ) → fault_of rest (MoreWords k n) ≡ fault_of middle (words_then k n)
+fault_of-word rest middle w reads good k n =
+    ap (λ ws. fault rest.end rest.room (MoreWords k n) ws) reads.is
+    ∙ fault-step rest.end rest.room (MoreWords k n) w (left middle) (Allowed rest.room (words_then k n)) (rw good refl)
+    ∙ ap (λ end. fault end rest.room (words_then k n) (left middle)) (sym reads.end)
+    ∙ ap (λ room. fault middle.end room (words_then k n) (left middle)) (sym reads.room)
+
+-- heads one after another
+pub append-nil : {A : Type 0} (xs : List A) → xs ++ [] ≡ xs
+append-nil [] = refl
+append-nil (x ∷ xs) = ap (λ ys. x ∷ ys) (append-nil xs)
+
+inner_type-assoc : (a b c : Option (List ℕ)) → inner_type (inner_type a b) c ≡ inner_type a (inner_type b c)
+inner_type-assoc a b (Some t) = refl
+inner_type-assoc a b None = refl
+
+heads-assoc : (a b c : HeadValue) → heads (heads a b) c ≡ heads a (heads b c)
+heads-assoc a b c =
+    ap (λ attributes. record { attributes = attributes; term_type = inner_type (inner_type a.term_type b.term_type) c.term_type }) (append_assoc a.attributes b.attributes c.attributes)
+    ∙ ap (λ type. record { attributes = a.attributes ++ (b.attributes ++ c.attributes); term_type = type }) (inner_type-assoc a.term_type b.term_type c.term_type)
+
+pub under-under : (a b : HeadValue) (tree : TreeValue) → under a (under b tree) ≡ under (heads a b) tree
+under-under a b (TermValue place head text) = ap (λ h. TermValue place h text) (sym (heads-assoc a b head))
+under-under a b (NamedValue place head name) = ap (λ h. NamedValue place h name) (sym (heads-assoc a b head))
+under-under a b (PairValue place head connective parameters left right) = ap (λ h. PairValue place h connective parameters left right) (sym (heads-assoc a b head))
+
+inner_type-none : (t : Option (List ℕ)) → inner_type None t ≡ t
+inner_type-none (Some t) = refl
+inner_type-none None = refl
+
+heads-no_head : (h : HeadValue) → heads no_head h ≡ h
+heads-no_head h = ap (λ type. record { attributes = h.attributes; term_type = type }) (inner_type-none h.term_type)
+
+pub under-no_head : (tree : TreeValue) → under no_head tree ≡ tree
+under-no_head (TermValue place head text) = ap (λ h. TermValue place h text) (heads-no_head head)
+under-no_head (NamedValue place head name) = ap (λ h. NamedValue place h name) (heads-no_head head)
+under-no_head (PairValue place head connective parameters left right) = ap (λ h. PairValue place h connective parameters left right) (heads-no_head head)
+
+-- nothing is read yet
+pub spells_no_head : (rest : Rest) → SpellsHead rest rest no_head
+spells_no_head rest = record {
+  words = [];
+  is = refl;
+  spells = λ more tree spelled. subst (λ t. IsStructure more t) (sym (under-no_head tree)) spelled;
+}
+
+-- one more piece of a head: its words are the keyword and what follows
+spells_more : (start rest after : Rest) (head piece : HeadValue) (words : List Word) → left rest ≡ words ++ left after → ((more : List Word) (tree : TreeValue) → IsStructure more tree → IsStructure (words ++ more) (under piece tree)) → SpellsHead start rest head → SpellsHead start after (heads head piece)
+spells_more start rest after head piece words is spells s = record {
+  words = s.words ++ words;
+  is = s.is ∙ ap (λ ws. s.words ++ ws) is ∙ sym (append_assoc s.words words (left after));
+  spells = λ more tree spelled.
+      subst (λ ws. IsStructure ws (under (heads head piece) tree)) (sym (append_assoc s.words words more))
+      (subst (λ t. IsStructure (s.words ++ (words ++ more)) t) (under-under head piece tree)
+      (s.spells (words ++ more) (under piece tree) (spells more tree spelled)));
+}
+
+pub spells_more_attribute : (start rest middle after : Rest) (head : HeadValue) (a : AttributeValue) → first_keyword (left rest) ≡ Some Attribute → ReadsFirst rest middle → SpellsAttribute middle after a → SpellsHead start rest head → SpellsHead start after (heads head (record { attributes = a ∷ []; term_type = None }))
+spells_more_attribute start rest middle after head a found reads at s =
+    let f = first_is Attribute (left rest) (left middle) reads.is found in
+    spells_more start rest after head (record { attributes = a ∷ []; term_type = None }) (f.0 ∷ at.words)
+    (f.1 ∙ ap (λ ws. f.0 ∷ ws) at.is) (λ more tree spelled. at.spells f.0 more tree f.2 spelled) s
+
+pub spells_more_type : (start rest middle after : Rest) (head : HeadValue) (w : Word) → first_keyword (left rest) ≡ Some TermType → ReadsFirst rest middle → ReadsWord middle after w → is_good w ≡ true → SpellsHead start rest head → SpellsHead start after (heads head (with_type w.text))
+spells_more_type start rest middle after head w found reads word good s =
+    let f = first_is TermType (left rest) (left middle) reads.is found in
+    spells_more start rest after head (with_type w.text) (f.0 ∷ w ∷ [])
+    (f.1 ∙ ap (λ ws. f.0 ∷ ws) word.is) (λ more tree spelled. is_typed f.0 w more tree f.2 good spelled) s
+
+pub heads-with_type : (h : HeadValue) (t : List ℕ) → record { attributes = h.attributes; term_type = Some t } ≡ heads h (with_type t)
+heads-with_type h t = ap (λ attributes. record { attributes = attributes; term_type = Some t }) (sym (append-nil h.attributes))
+
+-- parameters: none yet, and one more
+pub spells_no_parameters : (rest : Rest) → SpellsParameters rest rest 0 []
+spells_no_parameters rest = record { words = []; is = refl; count_is = refl; good = refl; texts_are = refl }
+
+all_good_more : (xs : List Word) (w : Word) → list_all is_good xs ≡ true → is_good w ≡ true → list_all is_good (xs ++ w ∷ []) ≡ true
+all_good_more [] w e good = rw good refl
+all_good_more (x ∷ xs) w e good =
+    let p = and_parts (is_good x) (list_all is_good xs) e in
+    rw (p.0) (all_good_more xs w p.1 good)
+
+pub spells_more_parameters : (start rest after : Rest) (count more : ℕ) (texts : List (List ℕ)) (w : Word) → ReadsWord rest after w → is_good w ≡ true → more ≡ count + 1 → SpellsParameters start rest count texts → SpellsParameters start after more (texts ++ w.text ∷ [])
+spells_more_parameters start rest after count more texts w reads good next s = record {
+  words = s.words ++ w ∷ [];
+  is = s.is ∙ ap (λ ws. s.words ++ ws) reads.is ∙ sym (append_assoc s.words (w ∷ []) (left after));
+  count_is = length_push s.words w ∙ ap (λ n. n + 1) s.count_is ∙ sym next;
+  good = all_good_more s.words w s.good good;
+  texts_are = map-append text_of s.words (w ∷ []) ∙ ap (λ ts. ts ++ w.text ∷ []) s.texts_are;
+}
+
+-- words due count down
+pub words_then-more : (start rest after : Rest) (w : Word) (count i j : ℕ) → i < count → j ≡ i + 1 → ReadsWord rest after w → is_good w ≡ true → ((n : ℕ) → fault_of start (words_then count n) ≡ fault_of rest (words_then (count - i) n)) → (n : ℕ) → fault_of start (words_then count n) ≡ fault_of after (words_then (count - j) n)
+words_then-more start rest after w count i j lt next reads good goes n =
+    let down : count - i ≡ suc (count - j) = omega arith in
+    goes n ∙ ap (λ k. fault_of rest (words_then k n)) down ∙ fault_of-word rest after w reads good (count - j) n
+
+-- an operator at the front of a structure, where there is room for it
+pub fault_of-operator : (rest after : Rest) (w : Word) (connective : Connective) (room : ℕ) → ReadsWord rest after w → is_good w ≡ true → keyword_of w ≡ Some (Operator connective) → after.room ≡ suc room → (n : ℕ) → fault_of rest (Structures (suc n)) ≡ fault_of (record { words = after.words; end = after.end; room = room }) (words_then (parameter_count connective) (suc (suc n)))
+fault_of-operator rest after w connective room reads good key has n =
+    let due = words_then (parameter_count connective) (suc (suc n)) in
+    ap (λ ws. fault rest.end rest.room (Structures (suc n)) ws) reads.is
+    ∙ fault-step rest.end rest.room (Structures (suc n)) w (left after) (Allowed room due)
+    (step-structure rest.room n w good ∙ ap (λ k. structure_step rest.room k n) key ∙ ap (λ r. operator_step r connective n) (sym reads.room ∙ has))
+    ∙ ap (λ end. fault end room due (left after)) (sym reads.end)
+
+heads-to_no_head : (h : HeadValue) → heads h no_head ≡ h
+heads-to_no_head h = ap (λ attributes. record { attributes = attributes; term_type = h.term_type }) (append-nil h.attributes)
+
+-- a structure after its head
+spells_under : (start rest after : Rest) (head : HeadValue) (words : List Word) (tree : TreeValue) → SpellsHead start rest head → left rest ≡ words ++ left after → IsStructure words tree → Spells start after (under head tree)
+spells_under start rest after head words tree s is spelled = record {
+  words = s.words ++ words;
+  is = s.is ∙ ap (λ ws. s.words ++ ws) is ∙ sym (append_assoc s.words words (left after));
+  spells = s.spells words tree spelled;
+}
+
+pub spells_term : (start rest after : Rest) (head : HeadValue) (w : Word) (text : List ℕ) → SpellsHead start rest head → ReadsWord rest after w → is_good w ≡ true → None ≡ keyword_of w → text ≡ w.text → Spells start after (TermValue w.place head text)
+spells_term start rest after head w text s reads good key same =
+    subst (λ h. Spells start after (TermValue w.place h text)) (heads-to_no_head head)
+    (subst (λ t. Spells start after (TermValue w.place (heads head no_head) t)) (sym same)
+    (spells_under start rest after head (w ∷ []) (TermValue w.place no_head w.text) s reads.is (is_term w good (sym key))))
+
+pub spells_named : (start rest middle after : Rest) (head : HeadValue) (set name : Word) (text : List ℕ) → SpellsHead start rest head → ReadsWord rest middle set → Some ResultSet ≡ keyword_of set → ReadsWord middle after name → is_good name ≡ true → text ≡ name.text → Spells start after (NamedValue set.place head text)
+spells_named start rest middle after head set name text s reads key named good same =
+    subst (λ h. Spells start after (NamedValue set.place h text)) (heads-to_no_head head)
+    (subst (λ t. Spells start after (NamedValue set.place (heads head no_head) t)) (sym same)
+    (spells_under start rest after head (set ∷ name ∷ []) (NamedValue set.place no_head name.text) s (reads.is ∙ ap (λ ws. set ∷ ws) named.is) (is_named set name (sym key) good)))
+
+pub spells_operator : (rest after last : Rest) (w : Word) (connective : Connective) (texts : List (List ℕ)) (room : ℕ) → ReadsWord rest after w → keyword_of w ≡ Some (Operator connective) → SpellsParameters (record { words = after.words; end = after.end; room = room }) last (parameter_count connective) texts → SpellsOperator rest last connective texts
+spells_operator rest after last w connective texts room reads key s = record {
+  operator = w;
+  words = s.words;
+  is = reads.is ∙ ap (λ ws. w ∷ ws) s.is;
+  keyword = key;
+  count_is = s.count_is;
+  good = s.good;
+  texts_are = s.texts_are;
+}
+
+pub spells_pair : (start rest first second after : Rest) (head : HeadValue) (w : Word) (place : ℕ) (connective : Connective) (texts : List (List ℕ)) (x y : TreeValue) → SpellsHead start rest head → ReadsWord rest second w → place ≡ w.place → SpellsOperator rest first connective texts → (middle : Rest) → Spells first middle x → Spells middle after y → Spells start after (PairValue place head connective texts x y)
+spells_pair start rest first second after head w place connective texts x y s reads at o middle l r =
+    let same : w ≡ o.operator = head_same (sym reads.is ∙ o.is) in
+    subst (λ p. Spells start after (PairValue p head connective texts x y)) (sym (at ∙ ap (λ v. v.place) same))
+    (subst (λ h. Spells start after (PairValue o.operator.place h connective texts x y)) (heads-to_no_head head)
+    (subst (λ t. Spells start after (PairValue o.operator.place (heads head no_head) connective t x y)) o.texts_are
+    (spells_under start rest after head (o.operator ∷ (o.words ++ (l.words ++ r.words))) (PairValue o.operator.place no_head connective (map text_of o.words) x y) s
+    (o.is ∙ ap (λ ws. o.operator ∷ ws) (ap (λ ws. o.words ++ ws) (l.is ∙ ap (λ ws. l.words ++ ws) r.is ∙ sym (append_assoc l.words r.words (left after))) ∙ sym (append_assoc o.words (l.words ++ r.words) (left after))))
+    (is_pair o.operator connective o.words l.words r.words x y o.keyword o.count_is o.good l.spells r.spells))))
+  where
+    head_same : {v w : Word} {vs ws : List Word} → v ∷ vs ≡ w ∷ ws → v ≡ w
+    head_same e = cc
+
+-- the start of a query without an attribute set is that of a structure
+pub start_step-structure : (room : ℕ) (k : Option Keyword) → k ≢ Some AttributeSet → start_step room k ≡ structure_step room k 0
+start_step-structure room None ne = refl
+start_step-structure room (Some AttributeSet) ne = absurd (ne refl)
+start_step-structure room (Some Attribute) ne = refl
+start_step-structure room (Some TermType) ne = refl
+start_step-structure room (Some ResultSet) ne = refl
+start_step-structure room (Some (Operator connective)) ne = refl
+
+pub step-start : (room : ℕ) (w : Word) → keyword_of w ≢ Some AttributeSet → step room w Start ≡ step room w (Structures 1)
+step-start room w ne = ap (λ s. cond (is_good w) s (Refused 108)) (start_step-structure room (keyword_of w) ne)
+
+pub fault-start : (end room : ℕ) (words : List Word) → first_keyword words ≢ Some AttributeSet → fault end room Start words ≡ fault end room (Structures 1) words
+fault-start end room [] ne = refl
+fault-start end room (w ∷ ws) ne =
+    fault-step end room Start w ws _ (step-start room w ne) ∙ sym (fault-step end room (Structures 1) w ws _ refl)
+
+pub fault_of-start : (rest : Rest) → first_keyword (left rest) ≢ Some AttributeSet → fault_of rest Start ≡ fault_of rest (Structures 1)
+fault_of-start rest ne = fault-start rest.end rest.room (left rest) ne
+
+pub spells_no_set : (rest : Rest) → SpellsSet rest rest None
+spells_no_set rest = record { words = []; is = refl; spells = λ more tree spelled. is_structure more tree spelled }
+
+pub fault_of-set : (rest middle after : Rest) (w : Word) → first_keyword (left rest) ≡ Some AttributeSet → ReadsFirst rest middle → ReadsWord middle after w → is_good w ≡ true → fault_of rest Start ≡ fault_of after (Structures 1)
+fault_of-set rest middle after w found reads word good =
+    let f = first_is AttributeSet (left rest) (left middle) reads.is found in
+    ap (λ ws. fault rest.end rest.room Start ws) f.1
+    ∙ fault-step rest.end rest.room Start f.0 (left middle) (Allowed rest.room (MoreWords 0 1))
+    (rw (good_from_keyword f.0 AttributeSet f.2) (ap (λ k. start_step rest.room k) f.2))
+    ∙ ap (λ end. fault end rest.room (MoreWords 0 1) (left middle)) (sym reads.end)
+    ∙ ap (λ room. fault middle.end room (MoreWords 0 1) (left middle)) (sym reads.room)
+    ∙ fault_of-word middle after w word good 0 1
+
+pub spells_set : (rest middle after : Rest) (w : Word) (text : List ℕ) → first_keyword (left rest) ≡ Some AttributeSet → ReadsFirst rest middle → ReadsWord middle after w → is_good w ≡ true → text ≡ w.text → SpellsSet rest after (Some text)
+spells_set rest middle after w text found reads word good same =
+    let f = first_is AttributeSet (left rest) (left middle) reads.is found in
+    subst (λ t. SpellsSet rest after (Some t)) (sym same)
+    (record {
+      words = f.0 ∷ w ∷ [];
+      is = f.1 ∙ ap (λ ws. f.0 ∷ ws) word.is;
+      spells = λ more tree spelled. is_structure_of_set f.0 w more tree f.2 good spelled;
+    })
+
+-- the end of a query
+pub fault_of-end : (rest : Rest) → true ≡ eqb (length rest.words.now) 0 → fault_of rest (Structures 0) ≡ None
+fault_of-end rest e = ap (λ ws. fault rest.end rest.room (Structures 0) (map word_of ws)) (nil_from_length rest.words.now (zero_from_test (length rest.words.now) e))
+
+fault-past : (end room : ℕ) (words : List Word) → 0 < length words → fault end room (Structures 0) words ≡ Some (108, first_place end words)
+fault-past end room [] more = absurd (omega arith)
+fault-past end room (w ∷ ws) more = fault-step end room (Structures 0) w ws (Refused 108) (past (is_good w))
+  where
+    past : (good : Bool) → cond good (Refused 108) (Refused 108) ≡ Refused 108
+    past true = refl
+    past false = refl
+
+pub fault_of-past : (rest : Rest) → false ≡ eqb (length rest.words.now) 0 → fault_of rest (Structures 0) ≡ Some (108, first_place rest.end (left rest))
+fault_of-past rest e =
+    let some : 0 < length rest.words.now = grind (arith, nat_tests) in
+    fault-past rest.end rest.room (left rest) (rw (length-map) some)
+
+pub spells_query : (rest middle last : Rest) (set : Option (List ℕ)) (tree : TreeValue) → SpellsSet rest middle set → Spells middle last tree → true ≡ eqb (length last.words.now) 0 → IsQuery (left rest) (record { attribute_set = set; tree = tree })
+spells_query rest middle last set tree s t e =
+    let nothing : left last ≡ [] = ap (λ ws. map word_of ws) (nil_from_length last.words.now (zero_from_test (length last.words.now) e)) in
+    let whole : left rest ≡ s.words ++ t.words = s.is ∙ ap (λ ws. s.words ++ ws) (t.is ∙ ap (λ ws. t.words ++ ws) nothing ∙ append-nil t.words) in
+    subst (λ ws. IsQuery ws (record { attribute_set = set; tree = tree })) (sym whole) (s.spells t.words tree t.spells)

@@ -1,0 +1,92 @@
+-- The attributes that hold, one attribute after another.
+use Rattle.std.proofs.Common.{◌≡◌, ℕ, ◌+◌, ◌<◌, Bool, true, false, List, [], ◌∷◌, ◌++◌, Option, Some, None, length, get_or, take, cond, eqb, arith, ◌≤◌, refl, ap, sym, subst, ◌∙◌, append_assoc}
+use Rattle.std.specs.Prelude.{map, not}
+use Rattle.std.specs.Option.{option_to_list, option_map}
+use Rattle.std.specs.List.{find}
+use Rattle.std.proofs.lemmas.List.{map-append, take_more}
+use Rattle.std.proofs.lemmas.Grind.{common_steps}
+use Rattle.zeb_query.specs.declared.queries.Attribute.{Attribute}
+use Rattle.zeb_query.specs.Queries.{AttributeValue, HeadValue, attribute_value}
+use Rattle.zeb_query.specs.Grammar.{no_head}
+use Rattle.zeb_query.specs.Holding.{HoldingValue, holding_of, held_with, first_set, first_set_of, is_bib1, is_other_set, is_other_kind, sets_in, kind_of, or_else, value_held}
+use Rattle.zeb_query.proofs.GrammarLemmas.{append-nil}
+
+same_holding : {a a' : Option (List ℕ)} {b b' : Option ℕ} {c c' d d' e e' f f' g g' h h' i i' : Option (List ℕ)} → a ≡ a' → b ≡ b' → c ≡ c' → d ≡ d' → e ≡ e' → f ≡ f' → g ≡ g' → h ≡ h' → i ≡ i' →
+    ◌≡◌ {A = HoldingValue}
+    (record { other_set = a; other_kind = b; term_type = c; use_attribute = d; relation = e; position = f; structure = g; truncation = h; completeness = i })
+    (record { other_set = a'; other_kind = b'; term_type = c'; use_attribute = d'; relation = e'; position = f'; structure = g'; truncation = h'; completeness = i' })
+same_holding p q r s t u v w x = cc
+
+or_else-cond : {A : Type 0} (b : Bool) (x : A) (front later : Option A) → or_else (cond b (Some x) front) later ≡ cond b (Some x) (or_else front later)
+or_else-cond true x front later = refl
+or_else-cond false x front later = refl
+
+find-append : {A : Type 0} (p : A → Bool) (xs ys : List A) → find p (xs ++ ys) ≡ or_else (find p xs) (find p ys)
+find-append p [] ys = refl
+find-append p (x ∷ xs) ys = ap (λ r. cond (p x) (Some x) r) (find-append p xs ys) ∙ sym (or_else-cond (p x) x (find p xs) (find p ys))
+
+sets_in-append : (attrs bs : List AttributeValue) → sets_in (attrs ++ bs) ≡ sets_in attrs ++ sets_in bs
+sets_in-append [] bs = refl
+sets_in-append (a ∷ attrs) bs = ap (λ ss. option_to_list a.set ++ ss) (sets_in-append attrs bs) ∙ sym (append_assoc (option_to_list a.set) (sets_in attrs) (sets_in bs))
+
+first_by : (found set : Option (List ℕ)) → first_set_of found set ≡ or_else found (find is_other_set (option_to_list set ++ []))
+first_by (Some x) (Some set) = refl
+first_by (Some x) None = refl
+first_by None None = refl
+first_by None (Some set) = at (is_bib1 set)
+  where
+    at : (b : Bool) → cond b None (Some set) ≡ cond (not b) (Some set) None
+    at true = refl
+    at false = refl
+
+value_held-push : (k : ℕ) (attrs : List AttributeValue) (a : AttributeValue) → value_held k (attrs ++ a ∷ []) ≡ cond (eqb a.kind k) (Some a.value) (value_held k attrs)
+value_held-push k [] a = refl
+value_held-push k (b ∷ bs) a = ap (λ v. or_else v (cond (eqb b.kind k) (Some b.value) None)) (value_held-push k bs a) ∙ at (eqb a.kind k)
+  where
+    at : (t : Bool) → or_else (cond t (Some a.value) (value_held k bs)) (cond (eqb b.kind k) (Some b.value) None) ≡ cond t (Some a.value) (or_else (value_held k bs) (cond (eqb b.kind k) (Some b.value) None))
+    at true = refl
+    at false = refl
+
+-- a head with one more attribute inside
+abbrev pub with_more : HeadValue → List AttributeValue → HeadValue
+with_more head attributes = record { attributes = head.attributes ++ attributes; term_type = head.term_type }
+
+pub holding_of-push : (set : Option (List ℕ)) (head : HeadValue) (a : AttributeValue) → held_with (holding_of set head) a ≡ holding_of set (with_more head (a ∷ []))
+unfolding holding_of
+holding_of-push set head a =
+    let attrs = head.attributes in
+    same_holding
+    (first_by (find is_other_set (option_to_list set ++ sets_in attrs)) a.set
+    ∙ sym (find-append is_other_set (option_to_list set ++ sets_in attrs) (option_to_list a.set ++ []))
+    ∙ ap (λ ss. find is_other_set ss) (append_assoc (option_to_list set) (sets_in attrs) (option_to_list a.set ++ []) ∙ ap (λ ss. option_to_list set ++ ss) (sym (sets_in-append attrs (a ∷ [])))))
+    (sym (ap (λ ks. find is_other_kind ks) (map-append kind_of attrs (a ∷ [])) ∙ find-append is_other_kind (map kind_of attrs) (a.kind ∷ [])))
+    refl
+    (sym (value_held-push 1 attrs a)) (sym (value_held-push 2 attrs a)) (sym (value_held-push 3 attrs a)) (sym (value_held-push 4 attrs a)) (sym (value_held-push 5 attrs a)) (sym (value_held-push 6 attrs a))
+
+-- one more attribute of a head's own
+pub holding_of-more : (set : Option (List ℕ)) (head : HeadValue) (items : List Attribute) (i : ℕ) (d : Attribute) (before after : HoldingValue) → i < length items → after ≡ held_with before (attribute_value (get_or items i d)) → before ≡ holding_of set (with_more head (map attribute_value (take i items))) → after ≡ holding_of set (with_more head (map attribute_value (take (i + 1) items)))
+holding_of-more set head items i d before after lt step so_far =
+    let a = attribute_value (get_or items i d) in
+    let front = map attribute_value (take i items) in
+    step ∙ ap (λ h. held_with h a) so_far ∙ holding_of-push set (with_more head front) a
+    ∙ ap (λ attrs. holding_of set (record { attributes = attrs; term_type = head.term_type }))
+    (append_assoc head.attributes front (a ∷ []) ∙ ap (λ attrs. head.attributes ++ attrs) (sym (map-append attribute_value (take i items) (get_or items i d ∷ [])) ∙ ap (λ xs. map attribute_value xs) (sym (take_more items i d lt))))
+
+pub holding_of-none : (set : Option (List ℕ)) (head : HeadValue) (h : HoldingValue) → h ≡ holding_of set head → h ≡ holding_of set (with_more head [])
+holding_of-none set head h e = e ∙ ap (λ attrs. holding_of set (record { attributes = attrs; term_type = head.term_type })) (sym (append-nil head.attributes))
+
+-- a term type inside of all others
+pub holding_of-type : (set : Option (List ℕ)) (attrs : List AttributeValue) (outer : Option (List ℕ)) (type : List ℕ) (h : HoldingValue) → h ≡ holding_of set (record { attributes = attrs; term_type = outer }) → record h { term_type = Some type } ≡ holding_of set (record { attributes = attrs; term_type = Some type })
+unfolding holding_of
+holding_of-type set attrs outer type h e = ap {A = HoldingValue} (λ g. record g { term_type = Some type }) e
+
+pub holding_of-nothing : holding_of None no_head ≡ record { other_set = None; other_kind = None; term_type = None; use_attribute = None; relation = None; position = None; structure = None; truncation = None; completeness = None }
+unfolding holding_of
+holding_of-nothing = refl
+
+pub holding_of-set : (s : List ℕ) → holding_of (Some s) no_head ≡ record { other_set = first_set None s; other_kind = None; term_type = None; use_attribute = None; relation = None; position = None; structure = None; truncation = None; completeness = None }
+unfolding holding_of
+holding_of-set s = same_holding (sym (first_by None (Some s))) refl refl refl refl refl refl refl refl
+
+pub take_whole : {A : Type 0} (xs : List A) (i : ℕ) → length xs ≤ i → take i xs ≡ xs
+take_whole xs i h = grind (arith, common_steps)

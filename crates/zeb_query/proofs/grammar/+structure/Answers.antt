@@ -1,0 +1,25 @@
+use Rattle.std.proofs.Common.{◌≡◌, ℕ, suc, ◌-◌, ◌∷◌, Some, None, map, ◌∙◌, refl, ap, subst, sym, arith}
+use Rattle.std.specs.Prelude.{string_bytes}
+use Rattle.std.proofs.lemmas.Result.{err_from_is_err_and}
+use Rattle.zeb_query.specs.Cutting.{word_of}
+use Rattle.zeb_query.specs.Queries.{head_value, tree_value}
+use Rattle.zeb_query.specs.Parsing.{Spells}
+use Rattle.zeb_query.proofs.GrammarLemmas.{spells_term, spells_named, spells_pair, IsFault-same}
+use Rattle.zeb_query.proofs.grammar.+structure.Goals as goal
+
+pub returns-in_ok-text-in-None-clause-spelled : goal.returns-in_ok-text-in-None-clause-spelled
+returns-in_ok-text-in-None-clause-spelled t c =
+    spells_term c.args.rest c.in_ok-head.rest c.in_ok-word.after (head_value c.in_ok-head.head) (word_of c.in_ok-word.word.now) _ c.in_ok-head.ensures.spelled c.in_ok-word.ensures.reads c.in_ok-word.ensures.good c.in-None.ensures c.in_ok-text-in-None.ensures.cases
+
+pub returns-in_ok-text-in-Some-ResultSet-clause-spelled : goal.returns-in_ok-text-in-Some-ResultSet-clause-spelled
+returns-in_ok-text-in-Some-ResultSet-clause-spelled t c =
+    spells_named c.args.rest c.in_ok-head.rest c.in_ok-word.after c.in_ok-name-in-Some-ResultSet.after (head_value c.in_ok-head.head) (word_of c.in_ok-word.word.now) (word_of c.in_ok-name-in-Some-ResultSet.name.now) _ c.in_ok-head.ensures.spelled c.in_ok-word.ensures.reads
+    (ap (λ k. Some k) (sym c.in-Some-ResultSet.field-0-is) ∙ c.in-Some-ResultSet.ensures) c.in_ok-name-in-Some-ResultSet.ensures.reads c.in_ok-name-in-Some-ResultSet.ensures.good c.in_ok-text-in-Some-ResultSet.ensures.cases
+
+pub returns-in_ok-tree-in-Some-Operator-clause-spelled : goal.returns-in_ok-tree-in-Some-Operator-clause-spelled
+returns-in_ok-tree-in-Some-Operator-clause-spelled t c =
+    subst (λ tree. Spells c.args.rest c.in_ok-right-in-Some-Operator.after tree) (sym c.in_ok-tree-in-Some-Operator.ensures)
+    (spells_pair c.args.rest c.in_ok-head.rest c.in_ok-parameters-in-Some-Operator.after c.in_ok-word.after c.in_ok-right-in-Some-Operator.after
+    (head_value c.in_ok-head.head) (word_of c.in_ok-word.word.now) c.in_ok-word.word.now.place _ _ _ _
+    c.in_ok-head.ensures.spelled c.in_ok-word.ensures.reads refl c.in_ok-parameters-in-Some-Operator.ensures.spelled
+    c.in_ok-left-in-Some-Operator.after c.in_ok-left-in-Some-Operator.ensures.spelled c.in_ok-right-in-Some-Operator.ensures.spelled)

@@ -1,0 +1,5 @@
+use Rattle.std.proofs.Common.{length}
+use Rattle.zeb_query.proofs.grammar.+structure.Given as goal
+
+abbrev pub decreases-structure : goal.decreases-structure
+decreases-structure l = length l.rest.words.now

@@ -1,0 +1,11 @@
+use Rattle.std.proofs.Common.{◌≡◌, ◌+◌, length, drop}
+use Rattle.std.specs.Str.{chars}
+use Rattle.zeb_query.specs.Words.{words_at}
+use Rattle.zeb_query.specs.Cutting.{words_with}
+use Rattle.zeb_query.proofs.words.words_of.Given as goal
+
+abbrev pub invariant-loop-c : goal.invariant-loop-c
+invariant-loop-c l = record {
+  in_text : l.place + length l.c-iterator.rest.now ≡ length l.text;
+  words_so_far : words_with l.cutter l.place (drop (length l.yielded) (chars l.text)) ≡ words_at 0 (chars l.text);
+}

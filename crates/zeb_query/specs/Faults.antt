@@ -1,0 +1,34 @@
+-- The diagnostics by which a query is refused (ANSI/NISO Z39.50-2003, Appendix ERR, the list Bib-1), as values, and what
+-- it means that a call gives what a definition says.
+use Rattle.std.specs.Prelude.{◌≡◌, ℕ, List, Result, Ok, Err, string_bytes}
+use Rattle.zeb_query.specs.declared.faults.QueryFault.{QueryFault}
+use Rattle.zeb_query.specs.declared.faults.QueryFault.TheVariants.{Diagnostic, Memory}
+
+-- a diagnostic's number, place and addinfo
+pub record Refusal : Type 0 where
+  pub number : ℕ
+  pub place : ℕ
+  pub addinfo : List ℕ
+
+-- the fault is this diagnostic, or want of memory
+abbrev pub IsDiagnostic : QueryFault → ℕ → ℕ → List ℕ → Type 0
+IsDiagnostic Memory number place addinfo = Unit {0}
+IsDiagnostic (Diagnostic n p a) number place addinfo = (n ≡ number) × (p ≡ place) × (string_bytes a ≡ addinfo)
+
+-- the definition refuses by the fault, or memory ran out
+abbrev pub Fails : {Y : Type 0} → QueryFault → Result Y Refusal → Type 0
+Fails Memory expected = Unit {0}
+Fails (Diagnostic n p a) expected = expected ≡ Err (record { number = n; place = p; addinfo = string_bytes a })
+
+-- what a call returned, seen by `view`, is what the definition says, unless memory ran out
+abbrev pub Gives : {X Y : Type 0} → (X → Y) → Result X QueryFault → Result Y Refusal → Type 0
+Gives view (Ok x) expected = expected ≡ Ok (view x)
+Gives view (Err e) expected = Fails e expected
+
+infixl 10 ◌>>=◌
+abbrev pub ◌>>=◌ : {A B : Type 0} → Result A Refusal → (A → Result B Refusal) → Result B Refusal
+(Ok x) >>= f = f x
+(Err e) >>= f = Err e
+
+abbrev pub refused : {A : Type 0} → ℕ → ℕ → List ℕ → Result A Refusal
+refused number place addinfo = Err (record { number = number; place = place; addinfo = addinfo })

@@ -1,0 +1,74 @@
+-- What may follow the words of a query read so far (YAZ manual, Prefix Query Format), and so where a text stops being the
+-- beginning of a query. The grammar needs no look ahead: each word is allowed or not by what is due at it. A fault is a
+-- diagnostic's number and place: 108 at the first word that isn't allowed, or at the text's end where something is still
+-- due; 6 at an operator beyond those that there is room for, where a structure is due.
+use Rattle.std.specs.Prelude.{ℕ, zero, suc, ◌+◌, Bool, true, false, List, [], ◌∷◌, Option, Some, None, if◌then◌else◌}
+use Rattle.std.specs.Option.{is_some}
+use Rattle.zeb_query.specs.declared.queries.Connective.{Connective}
+use Rattle.zeb_query.specs.declared.keywords.Keyword.{Keyword}
+use Rattle.zeb_query.specs.declared.keywords.Keyword.TheVariants.{AttributeSet, Attribute, TermType, ResultSet, Operator}
+use Rattle.zeb_query.specs.Words.{Word}
+use Rattle.zeb_query.specs.Keywords.{keyword_of}
+use Rattle.zeb_query.specs.Grammar.{is_good, has_equals, kind_and_value, parameter_count}
+
+-- what is due: a query; so many structures; a SET or a SPEC, or a SPEC, then a structure and n more; k + 1 words and then so
+-- many structures
+pub data Due : Type 0 where
+  Start : Due
+  Structures : ℕ → Due
+  SetOrSpec : ℕ → Due
+  Spec : ℕ → Due
+  MoreWords : ℕ → ℕ → Due
+
+-- a word is allowed, and then there is room for so many operators and this is due; or it is refused by a diagnostic
+pub data Step : Type 0 where
+  Allowed : ℕ → Due → Step
+  Refused : ℕ → Step
+
+abbrev pub words_then : ℕ → ℕ → Due
+words_then zero n = Structures n
+words_then (suc k) n = MoreWords k n
+
+abbrev pub operator_step : ℕ → Connective → ℕ → Step
+operator_step zero connective n = Refused 6
+operator_step (suc room) connective n = Allowed room (words_then (parameter_count connective) (suc (suc n)))
+
+-- the first word of a structure, n of which are due after it
+abbrev pub structure_step : ℕ → Option Keyword → ℕ → Step
+structure_step room None n = Allowed room (Structures n)
+structure_step room (Some AttributeSet) n = Refused 108
+structure_step room (Some Attribute) n = Allowed room (SetOrSpec n)
+structure_step room (Some TermType) n = Allowed room (MoreWords 0 (suc n))
+structure_step room (Some ResultSet) n = Allowed room (MoreWords 0 n)
+structure_step room (Some (Operator connective)) n = operator_step room connective n
+
+abbrev pub start_step : ℕ → Option Keyword → Step
+start_step room (Some AttributeSet) = Allowed room (MoreWords 0 1)
+start_step room keyword = structure_step room keyword 0
+
+abbrev pub spec_step : ℕ → List ℕ → ℕ → Step
+spec_step room text n = if is_some (kind_and_value text) then Allowed room (Structures (suc n)) else Refused 108
+
+abbrev pub good_step : ℕ → Word → Due → Step
+good_step room word Start = start_step room (keyword_of word)
+good_step room word (Structures zero) = Refused 108
+good_step room word (Structures (suc n)) = structure_step room (keyword_of word) n
+good_step room word (SetOrSpec n) = if has_equals word.text then spec_step room word.text n else Allowed room (Spec n)
+good_step room word (Spec n) = spec_step room word.text n
+good_step room word (MoreWords k n) = Allowed room (words_then k n)
+
+abbrev pub step : ℕ → Word → Due → Step
+step room word due = if is_good word then good_step room word due else Refused 108
+
+abbrev pub fault_at_end : ℕ → Due → Option (ℕ × ℕ)
+fault_at_end end (Structures zero) = None
+fault_at_end end due = Some (108, end)
+
+-- the fault of the words, where there is room for so many operators and this is due, in a text of `end` bytes
+abbrev pub fault : ℕ → ℕ → Due → List Word → Option (ℕ × ℕ)
+fault end room due [] = fault_at_end end due
+fault end room due (word ∷ words) =
+    elim (step room word due) [
+      | Allowed room_left due_next ↦ fault end room_left due_next words
+      | Refused number ↦ Some (number, word.place)
+    ]

@@ -1,0 +1,114 @@
+-- The grammar of the Prefix Query Format (YAZ manual):
+--     query     = [ @attrset SET ] structure
+--     structure = @attr [ SET ] SPEC structure | @term TYPE structure
+--               | @and structure structure | @or structure structure | @not structure structure
+--               | @prox W W W W W W structure structure | @set NAME | TERM
+-- SET, TYPE, NAME and W are any words but bad ones; after @attr a word without `=` is the SET. SPEC is 1 to 9 digits, the
+-- type, then `=`, then a value of at least one character. TERM is a word that is no keyword. @attr and @term hold for all
+-- of the structure that follows; of several types the innermost holds.
+use Rattle.std.specs.Prelude.{◌≡◌, ℕ, ◌==◌, Bool, true, false, List, [], ◌∷◌, ◌++◌, Option, Some, None, length, map, nat_lt, if◌then◌else◌, option_and_then}
+use Rattle.std.specs.List.{list_any, list_all, before_first, after_first, position_or_len}
+use Rattle.zeb_query.specs.declared.queries.Connective.{Connective}
+use Rattle.zeb_query.specs.declared.queries.Connective.TheVariants.{And, Or, Not, Proximity}
+use Rattle.zeb_query.specs.declared.words.Spelling.{Spelling}
+use Rattle.zeb_query.specs.declared.words.Spelling.TheVariants.{Plain, Quoted, Bad}
+use Rattle.zeb_query.specs.declared.keywords.Keyword.TheVariants.{AttributeSet, Attribute, TermType, ResultSet, Operator}
+use Rattle.zeb_query.specs.Digits.{number_of}
+use Rattle.zeb_query.specs.Words.{Word}
+use Rattle.zeb_query.specs.Keywords.{keyword_of}
+use Rattle.zeb_query.specs.Queries.{AttributeValue, HeadValue, TreeValue, TermValue, NamedValue, PairValue, QueryValue}
+
+abbrev pub is_good_spelling : Spelling → Bool
+is_good_spelling Plain = true
+is_good_spelling Quoted = true
+is_good_spelling Bad = false
+
+-- a word that isn't bad
+abbrev pub is_good : Word → Bool
+is_good word = is_good_spelling word.spelling
+
+-- 61 is `=`
+abbrev pub is_equals : ℕ → Bool
+is_equals b = b == 61
+
+abbrev pub has_equals : List ℕ → Bool
+has_equals text = list_any is_equals text
+
+-- the type and the value of a SPEC
+abbrev pub if_any : ℕ → List ℕ → Option (ℕ × List ℕ)
+if_any kind [] = None
+if_any kind (b ∷ bs) = Some (kind, b ∷ bs)
+
+unfoldable pub kind_and_value : List ℕ → Option (ℕ × List ℕ)
+kind_and_value text =
+    if nat_lt (position_or_len is_equals text) (length text)
+    then option_and_then (λ kind. if_any kind (after_first is_equals text)) (number_of 9 (before_first is_equals text))
+    else None
+
+abbrev pub no_head : HeadValue
+no_head = record { attributes = []; term_type = None }
+
+-- the inner term type, if there is one
+abbrev pub inner_type : Option (List ℕ) → Option (List ℕ) → Option (List ℕ)
+inner_type outer (Some type) = Some type
+inner_type outer None = outer
+
+-- a head right before another
+abbrev pub heads : HeadValue → HeadValue → HeadValue
+heads outer inner = record { attributes = outer.attributes ++ inner.attributes; term_type = inner_type outer.term_type inner.term_type }
+
+-- a structure with more in front
+abbrev pub under : HeadValue → TreeValue → TreeValue
+under head (TermValue place inner text) = TermValue place (heads head inner) text
+under head (NamedValue place inner name) = NamedValue place (heads head inner) name
+under head (PairValue place inner connective parameters left right) = PairValue place (heads head inner) connective parameters left right
+
+abbrev pub with_attribute : Option (List ℕ) → ℕ × List ℕ → HeadValue
+with_attribute set spec = record { attributes = record { set = set; kind = spec.0; value = spec.1 } ∷ []; term_type = None }
+
+abbrev pub with_type : List ℕ → HeadValue
+with_type type = record { attributes = []; term_type = Some type }
+
+-- how many parameters an operator has
+abbrev pub parameter_count : Connective → ℕ
+parameter_count And = 0
+parameter_count Or = 0
+parameter_count Not = 0
+parameter_count Proximity = 6
+
+abbrev pub text_of : Word → List ℕ
+text_of word = word.text
+
+-- the words spell the structure
+pub data IsStructure : List Word → TreeValue → Type 0 where
+  is_term : (term : Word) → is_good term ≡ true → keyword_of term ≡ None
+      → IsStructure (term ∷ []) (TermValue term.place no_head term.text)
+  is_named : (set name : Word) → keyword_of set ≡ Some ResultSet → is_good name ≡ true
+      → IsStructure (set ∷ name ∷ []) (NamedValue set.place no_head name.text)
+  is_attribute : (attr spec : Word) (words : List Word) (tree : TreeValue) (read : ℕ × List ℕ)
+      → keyword_of attr ≡ Some Attribute → is_good spec ≡ true → kind_and_value spec.text ≡ Some read
+      → IsStructure words tree
+      → IsStructure (attr ∷ spec ∷ words) (under (with_attribute None read) tree)
+  is_attribute_of_set : (attr set spec : Word) (words : List Word) (tree : TreeValue) (read : ℕ × List ℕ)
+      → keyword_of attr ≡ Some Attribute → is_good set ≡ true → has_equals set.text ≡ false
+      → is_good spec ≡ true → kind_and_value spec.text ≡ Some read
+      → IsStructure words tree
+      → IsStructure (attr ∷ set ∷ spec ∷ words) (under (with_attribute (Some set.text) read) tree)
+  is_typed : (keyword type : Word) (words : List Word) (tree : TreeValue)
+      → keyword_of keyword ≡ Some TermType → is_good type ≡ true
+      → IsStructure words tree
+      → IsStructure (keyword ∷ type ∷ words) (under (with_type type.text) tree)
+  is_pair : (operator : Word) (connective : Connective) (parameters left right : List Word) (x y : TreeValue)
+      → keyword_of operator ≡ Some (Operator connective)
+      → length parameters ≡ parameter_count connective → list_all is_good parameters ≡ true
+      → IsStructure left x → IsStructure right y
+      → IsStructure (operator ∷ (parameters ++ (left ++ right)))
+      (PairValue operator.place no_head connective (map text_of parameters) x y)
+
+-- the words spell the query
+pub data IsQuery : List Word → QueryValue → Type 0 where
+  is_structure : (words : List Word) (tree : TreeValue) → IsStructure words tree
+      → IsQuery words (record { attribute_set = None; tree = tree })
+  is_structure_of_set : (keyword set : Word) (words : List Word) (tree : TreeValue)
+      → keyword_of keyword ≡ Some AttributeSet → is_good set ≡ true → IsStructure words tree
+      → IsQuery (keyword ∷ set ∷ words) (record { attribute_set = Some set.text; tree = tree })

@@ -1,0 +1,99 @@
+-- The attributes that hold for a term (YAZ manual, PQF; ANSI/NISO Z39.50-2003, attribute sets). For each type the innermost
+-- attribute holds. All attributes over a term count for two faults: a set other than Bib-1, and a type outside 1 to 6,
+-- of which the leftmost is told.
+use Rattle.std.specs.Prelude.{ℕ, ◌==◌, ◌||◌, ◌&&◌, Bool, true, false, not, List, [], ◌∷◌, ◌++◌, Option, Some, None, map, nat_lt, if◌then◌else◌, codes}
+use Rattle.std.specs.Option.{option_map, option_to_list}
+use Rattle.std.specs.List.{find}
+use Rattle.std.specs.Char.{to_ascii_lowercase}
+use Rattle.std.specs.Str.{bytes_eq}
+use Rattle.zeb_query.specs.declared.holding.Holding.{Holding}
+use Rattle.zeb_query.specs.Queries.{AttributeValue, HeadValue}
+
+-- the attribute set Bib-1, by its name or its object identifier
+abbrev pub is_bib1 : List ℕ → Bool
+is_bib1 set = bytes_eq (map to_ascii_lowercase set) (codes "bib-1") || bytes_eq set (codes "1.2.840.10003.3.1")
+
+abbrev pub is_other_set : List ℕ → Bool
+is_other_set set = not (is_bib1 set)
+
+abbrev pub is_other_kind : ℕ → Bool
+is_other_kind kind = not (nat_lt 0 kind && nat_lt kind 7)
+
+-- the names of sets in attributes, from the left
+abbrev pub sets_in : List AttributeValue → List (List ℕ)
+sets_in [] = []
+sets_in (attribute ∷ attributes) = option_to_list attribute.set ++ sets_in attributes
+
+abbrev pub kind_of : AttributeValue → ℕ
+kind_of attribute = attribute.kind
+
+abbrev pub or_else : {A : Type 0} → Option A → Option A → Option A
+or_else (Some x) other = Some x
+or_else None other = other
+
+-- the value of the innermost attribute of a type
+abbrev pub value_held : ℕ → List AttributeValue → Option (List ℕ)
+value_held kind [] = None
+value_held kind (attribute ∷ attributes) =
+    or_else (value_held kind attributes) (if attribute.kind == kind then Some attribute.value else None)
+
+pub record HoldingValue : Type 0 where
+  pub other_set : Option (List ℕ)
+  pub other_kind : Option ℕ
+  pub term_type : Option (List ℕ)
+  pub use_attribute : Option (List ℕ)
+  pub relation : Option (List ℕ)
+  pub position : Option (List ℕ)
+  pub structure : Option (List ℕ)
+  pub truncation : Option (List ℕ)
+  pub completeness : Option (List ℕ)
+
+-- what holds where a query names this set and the head stands over a term
+unfoldable pub holding_of : Option (List ℕ) → HeadValue → HoldingValue
+holding_of set head = record {
+  other_set = find is_other_set (option_to_list set ++ sets_in head.attributes);
+  other_kind = find is_other_kind (map kind_of head.attributes);
+  term_type = head.term_type;
+  use_attribute = value_held 1 head.attributes;
+  relation = value_held 2 head.attributes;
+  position = value_held 3 head.attributes;
+  structure = value_held 4 head.attributes;
+  truncation = value_held 5 head.attributes;
+  completeness = value_held 6 head.attributes;
+}
+
+-- what a program keeps of it, without where the texts lie in memory
+abbrev pub holding_value : Holding → HoldingValue
+holding_value holding = record {
+  other_set = option_map (λ text. text.now) holding.other_set;
+  other_kind = holding.other_kind;
+  term_type = option_map (λ text. text.now) holding.term_type;
+  use_attribute = option_map (λ text. text.now) holding.use_attribute;
+  relation = option_map (λ text. text.now) holding.relation;
+  position = option_map (λ text. text.now) holding.position;
+  structure = option_map (λ text. text.now) holding.structure;
+  truncation = option_map (λ text. text.now) holding.truncation;
+  completeness = option_map (λ text. text.now) holding.completeness;
+}
+
+-- one more attribute inside of all others
+abbrev pub first_set : Option (List ℕ) → List ℕ → Option (List ℕ)
+first_set (Some set) other = Some set
+first_set None other = if is_bib1 other then None else Some other
+
+abbrev pub first_set_of : Option (List ℕ) → Option (List ℕ) → Option (List ℕ)
+first_set_of found None = found
+first_set_of found (Some set) = first_set found set
+
+abbrev pub held_with : HoldingValue → AttributeValue → HoldingValue
+held_with holding a = record {
+  other_set = first_set_of holding.other_set a.set;
+  other_kind = or_else holding.other_kind (if is_other_kind a.kind then Some a.kind else None);
+  term_type = holding.term_type;
+  use_attribute = if a.kind == 1 then Some a.value else holding.use_attribute;
+  relation = if a.kind == 2 then Some a.value else holding.relation;
+  position = if a.kind == 3 then Some a.value else holding.position;
+  structure = if a.kind == 4 then Some a.value else holding.structure;
+  truncation = if a.kind == 5 then Some a.value else holding.truncation;
+  completeness = if a.kind == 6 then Some a.value else holding.completeness;
+}

@@ -1,0 +1,15 @@
+pub mod Digits
+pub mod Words
+pub mod Cutting
+pub mod Keywords
+pub mod Queries
+pub mod Grammar
+pub mod Following
+pub mod Faults
+pub mod Parsing
+pub mod Reading
+pub mod Laws
+pub mod Attributes
+pub mod Holding
+pub mod Terms
+pub mod Plans

@@ -1,0 +1,124 @@
+ghost use Rattle.std.specs.Prelude.{◌≡◌, IfSome, ◌<◌, ◌^◌};
+ghost use Rattle.std.specs.Option.{option_map};
+ghost use Rattle.zeb_query.specs.Attributes.{relations, positions, structures, truncations, completenesses, number_or, value_of};
+
+use crate::Relation;
+use crate::digits::number_of;
+use zeb_text::Cut;
+
+/// What a relation attribute asks for (Bib-1, attribute type 2).
+#[derive(Clone, Copy, Debug, PartialEq, Eq)]
+pub(crate) enum Asked {
+    /// Values 1 to 5.
+    Compared(Relation),
+    /// 103, always matches.
+    Always,
+}
+
+/// Where in a field a term stands (Bib-1, attribute type 3).
+#[derive(Clone, Copy, Debug, PartialEq, Eq)]
+pub(crate) enum Position {
+    /// 1, first in field, and 2, first in subfield, which are treated alike.
+    First,
+    /// 3, any position.
+    Any,
+}
+
+/// How a term is read (Bib-1, attribute type 4).
+#[derive(Clone, Copy, Debug, PartialEq, Eq)]
+pub(crate) enum Structure {
+    /// 1, phrase, and 2, word, which are treated alike.
+    Phrase,
+    /// 6, word list.
+    WordList,
+    /// 105, free-form text.
+    FreeForm,
+    /// 107, local number: a record's system number.
+    LocalNumber,
+    /// 109, numeric string.
+    Numeric,
+}
+
+/// How much of a field a term stands for (Bib-1, attribute type 6).
+#[derive(Clone, Copy, Debug, PartialEq, Eq)]
+pub(crate) enum Completeness {
+    /// 1, incomplete subfield.
+    Incomplete,
+    /// 2, complete subfield, and 3, complete field, which are treated alike.
+    Complete,
+}
+
+/// The number that an attribute's value spells, or the default where there is no attribute of the type.
+fn number_or(value: Option<&str>, default: u64) -> Option<u64>
+    ensures { result ≡ number_or default (option_map (λ text. text.now) value.entry) }
+{
+    match value {
+        None => Some(default),
+        Some(text) => number_of(text, 9),
+    }
+}
+
+/// The relation, equal where there is no attribute; nothing for a value that isn't kept.
+pub(crate) fn relation_of(value: Option<&str>) -> Option<Asked>
+    ensures { result ≡ value_of relations 3 (option_map (λ text. text.now) value.entry) }
+{
+    match number_or(value, 3)? {
+        1 => Some(Asked::Compared(Relation::Less)),
+        2 => Some(Asked::Compared(Relation::LessOrEqual)),
+        3 => Some(Asked::Compared(Relation::Equal)),
+        4 => Some(Asked::Compared(Relation::GreaterOrEqual)),
+        5 => Some(Asked::Compared(Relation::Greater)),
+        103 => Some(Asked::Always),
+        _ => None,
+    }
+}
+
+/// The position, any where there is no attribute; nothing for a value that isn't kept.
+pub(crate) fn position_of(value: Option<&str>) -> Option<Position>
+    ensures { result ≡ value_of positions 3 (option_map (λ text. text.now) value.entry) }
+{
+    match number_or(value, 3)? {
+        1 | 2 => Some(Position::First),
+        3 => Some(Position::Any),
+        _ => None,
+    }
+}
+
+/// The structure, a phrase where there is no attribute; nothing for a value that isn't kept.
+pub(crate) fn structure_of(value: Option<&str>) -> Option<Structure>
+    ensures { result ≡ value_of structures 1 (option_map (λ text. text.now) value.entry) }
+{
+    match number_or(value, 1)? {
+        1 | 2 => Some(Structure::Phrase),
+        6 => Some(Structure::WordList),
+        105 => Some(Structure::FreeForm),
+        107 => Some(Structure::LocalNumber),
+        109 => Some(Structure::Numeric),
+        _ => None,
+    }
+}
+
+/// The truncation (Bib-1, attribute type 5), none where there is no attribute; nothing for a value that isn't kept.
+pub(crate) fn truncation_of(value: Option<&str>) -> Option<Cut>
+    ensures { result ≡ value_of truncations 100 (option_map (λ text. text.now) value.entry) }
+{
+    match number_or(value, 100)? {
+        1 => Some(Cut::Right),
+        2 => Some(Cut::Left),
+        3 => Some(Cut::Both),
+        100 => Some(Cut::None),
+        101 => Some(Cut::Hash),
+        _ => None,
+    }
+}
+
+/// The completeness, incomplete where there is no attribute; nothing for a value that isn't kept.
+pub(crate) fn completeness_of(value: Option<&str>) -> Option<Completeness>
+    ensures { result ≡ value_of completenesses 1 (option_map (λ text. text.now) value.entry) }
+{
+    match number_or(value, 1)? {
+        1 => Some(Completeness::Incomplete),
+        2 | 3 => Some(Completeness::Complete),
+        _ => None,
+    }
+}

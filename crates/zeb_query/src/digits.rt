@@ -1,0 +1,31 @@
+ghost use Rattle.std.specs.Prelude.{◌≡◌, ◌^◌, ◌<◌, ◌≤◌, IfSome};
+ghost use Rattle.std.specs.List.{list_all};
+ghost use Rattle.std.specs.Char.{is_ascii_digit};
+ghost use Rattle.zeb_query.specs.Digits.{is_number, number_of};
+
+/// Whether the text has ASCII digits alone.
+fn has_digits_alone(text: &str) -> bool
+    ensures { result ≡ list_all is_ascii_digit text.now }
+{
+    text.bytes().all(|byte| byte.is_ascii_digit())
+}
+
+/// Whether the text has 1 to `most` ASCII digits and nothing else.
+fn is_number(text: &str, most: usize) -> bool
+    ensures { result ≡ is_number most text.now }
+{
+    !text.is_empty() && text.len() <= most && has_digits_alone(text)
+}
+
+/// The number that a text of 1 to `most` ASCII digits spells, leading zeros included.
+pub(crate) fn number_of(text: &str, most: usize) -> Option<u64>
+    requires { most ≤ 18 }
+    ensures value { result ≡ number_of most text.now }
+    ensures small { IfSome result (λ number. number < 10 ^ most) }
+{
+    if is_number(text, most) {
+        text.parse().ok()
+    } else {
+        None
+    }
+}

@@ -1,0 +1,72 @@
+use std::alloc::{AllocError, AllocFailed, Global};
+use thiserror::Error;
+
+/// Why a text is no query, or a query has no plan.
+#[derive(Debug, Drop, Error)]
+pub enum QueryFault {
+    /// A diagnostic by its number in the list of Bib-1 (ANSI/NISO Z39.50-2003, Appendix ERR).
+    #[error("diagnostic {number} at {place}: {addinfo}")]
+    Diagnostic {
+        /// The diagnostic's number.
+        number: u32,
+        /// The position, in bytes from the start of the query's text, of the word at fault.
+        place: usize,
+        /// What the diagnostic is about; empty where the number and the place say it all.
+        addinfo: String,
+    },
+    /// Memory ran out.
+    #[error("out of memory")]
+    Memory,
+}
+
+impl QueryFault {
+    ghost use Rattle.std.specs.Prelude.{[]};
+    ghost use Rattle.zeb_query.specs.Faults.{IsDiagnostic};
+
+    /// A diagnostic without an addinfo.
+    pub(crate) fn diagnostic(alloc: Global, number: u32, place: usize) -> QueryFault
+        ensures { IsDiagnostic result number place [] }
+    {
+        QueryFault::Diagnostic {
+            number,
+            place,
+            addinfo: String::new(alloc),
+        }
+    }
+
+    /// A diagnostic about a text. Where there is no memory for that, the fault is `Memory`.
+    pub(crate) fn about(alloc: Global, number: u32, place: usize, text: &str) -> QueryFault
+        ensures { IsDiagnostic result number place text.now }
+    {
+        match String::from_str(alloc, text) {
+            Ok(addinfo) => QueryFault::Diagnostic {
+                number,
+                place,
+                addinfo,
+            },
+            Err(_) => QueryFault::Memory,
+        }
+    }
+}
+
+impl From<AllocError> for QueryFault {
+    ghost use Rattle.std.specs.Prelude.{◌≡◌};
+    ghost use Rattle.zeb_query.specs.declared.faults.QueryFault.TheVariants.{Memory};
+
+    ghost from_gives = { λ _ e. e ≡ Memory };
+
+    fn from(_error: AllocError) -> QueryFault {
+        QueryFault::Memory
+    }
+}
+
+impl<T: Drop> From<AllocFailed<T>> for QueryFault {
+    ghost use Rattle.std.specs.Prelude.{◌≡◌};
+    ghost use Rattle.zeb_query.specs.declared.faults.QueryFault.TheVariants.{Memory};
+
+    ghost from_gives = { λ _ e. e ≡ Memory };
+
+    fn from(_error: AllocFailed<T>) -> QueryFault {
+        QueryFault::Memory
+    }
+}

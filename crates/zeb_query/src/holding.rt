@@ -1,0 +1,116 @@
+ghost use Rattle.std.specs.Prelude.{◌≡◌};
+ghost use Rattle.zeb_query.specs.Holding.{is_bib1};
+
+use crate::{Attribute, Head, Query};
+
+/// What the attributes and term types over a structure come to.
+///
+/// For each type the innermost attribute holds. One that an inner one replaces still counts for the faults of its set
+/// and of its type, of which the leftmost is told.
+#[derive(Clone, Copy)]
+pub(crate) struct Holding<'a> {
+    /// The leftmost name of an attribute set other than Bib-1.
+    pub other_set: Option<&'a str>,
+    /// The leftmost attribute type outside 1 to 6.
+    pub other_kind: Option<u64>,
+    /// The innermost term type.
+    pub term_type: Option<&'a str>,
+    /// The values that hold, as written.
+    pub use_attribute: Option<&'a str>,
+    pub relation: Option<&'a str>,
+    pub position: Option<&'a str>,
+    pub structure: Option<&'a str>,
+    pub truncation: Option<&'a str>,
+    pub completeness: Option<&'a str>,
+}
+
+impl<'a> Holding<'a> {
+    ghost use Rattle.std.specs.Prelude.{◌≡◌, ◌∷◌, ◌++◌, [], List, ℕ, Option, None, Some};
+    ghost use Rattle.std.specs.Option.{option_map};
+    ghost use Rattle.zeb_query.specs.Queries.{attribute_value, head_value, query_value, HeadValue};
+    ghost use Rattle.zeb_query.specs.Grammar.{heads, no_head};
+    ghost use Rattle.zeb_query.specs.Holding.{holding_value, holding_of, held_with, first_set};
+
+    /// What holds over the whole of a query.
+    pub(crate) fn over(query: &'a Query) -> Holding<'a>
+        ensures { holding_value result ≡ holding_of (query_value query.now).attribute_set no_head }
+    {
+        let mut holding = Holding {
+            other_set: None,
+            other_kind: None,
+            term_type: None,
+            use_attribute: None,
+            relation: None,
+            position: None,
+            structure: None,
+            truncation: None,
+            completeness: None,
+        };
+        if let Some(set) = &query.attribute_set {
+            holding.name_set(set.as_str());
+        }
+        holding
+    }
+
+    /// What holds where also the head stands.
+    pub(crate) fn within(self, head: &'a Head) -> Holding<'a>
+        ensures { (set : Option (List ℕ)) (outer : HeadValue) → holding_value self.entry ≡ holding_of set outer
+            → holding_value result ≡ holding_of set (heads outer (head_value head.now)) }
+    {
+        let mut holding = self;
+        for attribute in &head.attributes {
+            holding.add(attribute);
+        }
+        if let Some(term_type) = &head.term_type {
+            holding.set_type(term_type.as_str());
+        }
+        holding
+    }
+
+    /// Sets a term type inside of all others.
+    fn set_type(&mut self, term_type: &'a str)
+        ensures { holding_value self.new ≡ record (holding_value self.old) { term_type = Some term_type.now } }
+    {
+        self.term_type = Some(term_type);
+    }
+
+    /// Adds an attribute inside of all others.
+    fn add(&mut self, attribute: &'a Attribute)
+        ensures { holding_value self.new ≡ held_with (holding_value self.old) (attribute_value attribute.now) }
+    {
+        if let Some(set) = &attribute.set {
+            self.name_set(set.as_str());
+        }
+        let value = Some(attribute.value.as_str());
+        match attribute.kind {
+            1 => self.use_attribute = value,
+            2 => self.relation = value,
+            3 => self.position = value,
+            4 => self.structure = value,
+            5 => self.truncation = value,
+            6 => self.completeness = value,
+            kind => {
+                if self.other_kind.is_none() {
+                    self.other_kind = Some(kind);
+                }
+            }
+        }
+    }
+
+    /// Notes the name of an attribute set.
+    fn name_set(&mut self, set: &'a str)
+        ensures { holding_value self.new
+            ≡ record (holding_value self.old) { other_set = first_set (holding_value self.old).other_set set.now } }
+    {
+        if self.other_set.is_none() && !is_bib1(set) {
+            self.other_set = Some(set);
+        }
+    }
+}
+
+/// Whether a text names the attribute set Bib-1: `bib-1`, letters of either case, or its object identifier.
+fn is_bib1(set: &str) -> bool
+    ensures { result ≡ is_bib1 set.now }
+{
+    set.eq_ignore_ascii_case("bib-1") || set == "1.2.840.10003.3.1"
+}

@@ -1,0 +1,32 @@
+//! Queries in the Prefix Query Format (YAZ manual, "Prefix Query Format") with attributes of the set Bib-1
+//! (ANSI/NISO Z39.50-2003, attribute set Bib-1): a text is one query or one diagnostic with its place, and a
+//! query over an indexing profile is a plan or its first diagnostic.
+#![tactic(auto)]
+
+mod attributes;
+mod digits;
+mod faults;
+mod grammar;
+mod holding;
+mod keywords;
+mod laws;
+mod planning;
+mod plans;
+mod queries;
+mod reading;
+mod scanning;
+mod terms;
+mod words;
+
+pub use faults::QueryFault;
+pub use laws::{
+    a_query_has_no_fault, no_text_spells_two_queries, words_are_unspelled_where_no_query_goes_on,
+};
+pub use planning::plan;
+pub use plans::{Operator, PairPlan, Plan, Relation, ScanPlan, TermPlan};
+pub use queries::{Attribute, Connective, Head, Leaf, Query, Tree};
+pub use reading::read_pqf;
+pub use scanning::plan_scan;
+
+#[cfg(test)]
+mod tests;

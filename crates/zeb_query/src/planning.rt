@@ -1,0 +1,216 @@
+ghost use Rattle.std.specs.Prelude.{◌≡◌, List, ℕ, Option, ◌≤◌, ◌<◌, ◌^◌, IfOk, string_bytes};
+ghost use Rattle.zeb_query.specs.Queries.{HeadValue, tree_value, query_value, head_value};
+ghost use Rattle.zeb_query.specs.Grammar.{heads};
+ghost use Rattle.zeb_query.specs.Faults.{Gives};
+ghost use Rattle.zeb_query.specs.Holding.{holding_of, holding_value};
+ghost use Rattle.zeb_query.specs.Terms.{term_of};
+ghost use Rattle.zeb_query.specs.Plans as plans;
+
+use crate::attributes::{Asked, Completeness, Position, Structure};
+use crate::digits::number_of;
+use crate::holding::Holding;
+use crate::terms::{Values, read_term};
+use crate::{
+    Connective, Leaf, Operator, PairPlan, Plan, Query, QueryFault, Relation, TermPlan, Tree,
+};
+use std::alloc::{AllocError, Global};
+use zeb_profile::Profile;
+use zeb_text::{Pattern, join, join_patterns, words};
+
+/// The plan of a query over a profile (ANSI/NISO Z39.50-2003, attribute set Bib-1).
+///
+/// The query is walked from left to right, an operator before its operands, and the first fault is answered, with the
+/// place of the word that it stands at:
+/// - 18 at a named result set, about its name; 110 at `@prox`, about that word;
+/// - at a term, 229 about a term type other than `general` and `string`; 121 about the leftmost attribute set other
+///   than Bib-1 over the term; 113 about the leftmost attribute type outside 1 to 6;
+/// - 114, 117, 119, 118, 120, 122 about the value of an attribute of type 1 to 6 that isn't kept, in the order of the
+///   types; 116 where no use attribute is given and 1016 isn't tied to an index;
+/// - 5 for a term of more than 64 words;
+/// - 123 for values that aren't kept together, and for an index that has no target with the searched register;
+/// - 126 about a term that had to be a number, of 1 to 9 digits for a local number, of 1 to 18 otherwise.
+pub fn plan(alloc: Global, query: &Query, profile: &Profile) -> Result<Plan, QueryFault>
+    ensures { Gives plans.plan_value result (plans.plan_of profile.now (query_value query.now)) }
+{
+    plan_tree(alloc, &query.tree, Holding::over(query), profile)
+}
+
+fn plan_tree(
+    alloc: Global,
+    tree: &Tree,
+    over: Holding<'_>,
+    profile: &Profile,
+) -> Result<Plan, QueryFault>
+    ensures { (set : Option (List ℕ)) (outer : HeadValue) → holding_value over.entry ≡ holding_of set outer
+        → Gives plans.plan_value result (plans.tree_plan profile.now set outer (tree_value tree.now)) }
+{
+    match tree {
+        Tree::Term(leaf) => Ok(Plan::Term(plan_leaf(alloc, leaf, over, profile)?)),
+        Tree::Named(leaf) => Err(QueryFault::about(alloc, 18, leaf.place, leaf.text.as_str())),
+        Tree::Pair {
+            place,
+            head,
+            connective,
+            left,
+            right,
+            ..
+        } => {
+            let operator = operator_of(alloc, *connective, *place)?;
+            let holding = over.within(head);
+            let left = plan_tree(alloc, left, holding, profile)?;
+            let right = plan_tree(alloc, right, holding, profile)?;
+            Ok(pair_of(alloc, operator, left, right)?)
+        }
+    }
+}
+
+fn pair_of(alloc: Global, operator: Operator, left: Plan, right: Plan) -> Result<Plan, AllocError>
+    ensures { IfOk result (λ plan. plans.plan_value plan
+        ≡ plans.PairOf operator (plans.plan_value left) (plans.plan_value right)) }
+{
+    let pair = PairPlan {
+        operator,
+        left,
+        right,
+    };
+    Ok(Plan::Pair(Box::new(alloc, pair)?))
+}
+
+/// The operator on sets of records; `@prox` is none.
+fn operator_of(alloc: Global, connective: Connective, place: usize) -> Result<Operator, QueryFault>
+    ensures { Gives (λ x. x) result (plans.operator_of place connective) }
+{
+    match connective {
+        Connective::And => Ok(Operator::And),
+        Connective::Or => Ok(Operator::Or),
+        Connective::Not => Ok(Operator::Not),
+        Connective::Proximity => Err(QueryFault::about(alloc, 110, place, "@prox")),
+    }
+}
+
+#[tactic(auto, unfolding(crate::specs::Plans::leaf_plan))]
+fn plan_leaf(
+    alloc: Global,
+    leaf: &Leaf,
+    over: Holding<'_>,
+    profile: &Profile,
+) -> Result<TermPlan, QueryFault>
+    ensures { (set : Option (List ℕ)) (outer : HeadValue) → holding_value over.entry ≡ holding_of set outer
+        → Gives plans.term_plan_value result (plans.leaf_plan profile.now set (heads outer (head_value leaf.now.head))
+        leaf.now.place (string_bytes leaf.now.text)) }
+{
+    let holding = over.within(&leaf.head);
+    let (values, patterns) = read_term(alloc, leaf, &holding, profile)?;
+    plan_term(alloc, leaf, values, patterns, profile)
+}
+
+#[tactic(auto, unfolding(crate::specs::Plans::term_plan))]
+fn plan_term(
+    alloc: Global,
+    leaf: &Leaf,
+    values: Values,
+    patterns: Vec<Pattern>,
+    profile: &Profile,
+) -> Result<TermPlan, QueryFault>
+    ensures { Gives plans.term_plan_value result
+        (plans.term_plan profile.now leaf.now.place (string_bytes leaf.now.text) (values, patterns.items)) }
+{
+    if values.clashes() {
+        return Err(QueryFault::diagnostic(alloc, 123, leaf.place));
+    }
+    let Some(index) = values.index else {
+        return Ok(TermPlan::RecordNumber(number_in(alloc, leaf, 9)?));
+    };
+    if !profile.has(index, values.register()) {
+        return Err(QueryFault::diagnostic(alloc, 123, leaf.place));
+    }
+    match values.relation {
+        Asked::Always => Ok(TermPlan::Always {
+            index,
+            register: values.register(),
+        }),
+        Asked::Compared(relation) => compared(alloc, leaf, &values, index, relation, patterns),
+    }
+}
+
+/// The number that a term has to be, of at most so many digits.
+pub(crate) fn number_in(alloc: Global, leaf: &Leaf, most: usize) -> Result<u64, QueryFault>
+    requires { most ≤ 18 }
+    ensures gives { Gives (λ x. x) result (plans.number_in most leaf.now.place (string_bytes leaf.now.text)) }
+    ensures small { IfOk result (λ number. number < 10 ^ most) }
+{
+    let text = leaf.text.as_str();
+    match number_of(text, most) {
+        Some(number) => Ok(number),
+        None => Err(QueryFault::about(alloc, 126, leaf.place, text)),
+    }
+}
+
+/// The term's words with a space between.
+pub(crate) fn joined_words(alloc: Global, leaf: &Leaf) -> Result<String, AllocError>
+    ensures { IfOk result (λ joined. string_bytes joined ≡ plans.joined_words (string_bytes leaf.now.text)) }
+{
+    join(alloc, &words(alloc, leaf.text.as_str())?)
+}
+
+/// The plan of a term that is compared with the entries of an index.
+#[tactic(auto, unfolding(crate::specs::Plans::compared_plan))]
+fn compared(
+    alloc: Global,
+    leaf: &Leaf,
+    values: &Values,
+    index: u32,
+    relation: Relation,
+    patterns: Vec<Pattern>,
+) -> Result<TermPlan, QueryFault>
+    ensures { Gives plans.term_plan_value result
+        (plans.compared_plan leaf.now.place (string_bytes leaf.now.text) values.now index patterns.items relation) }
+{
+    if values.is_numeric() {
+        let number = number_in(alloc, leaf, 18)?;
+        return Ok(TermPlan::Number {
+            index,
+            relation,
+            number,
+        });
+    }
+    if relation != Relation::Equal {
+        let start = joined_words(alloc, leaf)?;
+        return Ok(TermPlan::Ordered {
+            index,
+            register: values.register(),
+            relation,
+            start,
+        });
+    }
+    if values.completeness == Completeness::Complete {
+        let pattern = joined_if_any(alloc, &patterns)?;
+        return Ok(TermPlan::Complete { index, pattern });
+    }
+    Ok(words_plan(values, index, patterns))
+}
+
+/// The pattern of all words, if there is a word.
+fn joined_if_any(alloc: Global, patterns: &[Pattern]) -> Result<Option<Pattern>, AllocError>
+    ensures { IfOk result (λ pattern. pattern ≡ plans.joined_if_any patterns.now) }
+{
+    if patterns.is_empty() {
+        Ok(None)
+    } else {
+        Ok(Some(join_patterns(alloc, patterns)?))
+    }
+}
+
+fn words_plan(values: &Values, index: u32, patterns: Vec<Pattern>) -> TermPlan
+    ensures { plans.term_plan_value result ≡ plans.words_plan values.now index patterns.items values.now.structure }
+{
+    match values.structure {
+        Structure::WordList => TermPlan::AllWords { index, patterns },
+        Structure::FreeForm => TermPlan::AnyWord { index, patterns },
+        Structure::Phrase | Structure::LocalNumber | Structure::Numeric => TermPlan::Phrase {
+            index,
+            patterns,
+            first: values.position == Position::First,
+        },
+    }
+}

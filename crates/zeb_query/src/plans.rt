@@ -1,0 +1,97 @@
+use zeb_profile::Register;
+use zeb_text::Pattern;
+
+/// An operator over two sets of records.
+#[derive(Clone, Copy, Debug, PartialEq, Eq)]
+pub enum Operator {
+    /// The records of both.
+    And,
+    /// The records of either.
+    Or,
+    /// The records of the left one that aren't in the right one.
+    Not,
+}
+
+/// How an entry stands to a term (Bib-1, relation attributes 1 to 5).
+#[derive(Clone, Copy, Debug, PartialEq, Eq)]
+pub enum Relation {
+    Less,
+    LessOrEqual,
+    Equal,
+    GreaterOrEqual,
+    Greater,
+}
+
+/// What a term asks for, with indexes by their number in the profile.
+#[derive(Debug, Drop)]
+pub enum TermPlan {
+    /// The record with this system number.
+    RecordNumber(u64),
+    /// The records that have any entry in the register of the index.
+    Always {
+        index: u32,
+        register: Register,
+    },
+    /// The records with a number, in the register of numbers, that stands in the relation to this one.
+    Number {
+        index: u32,
+        relation: Relation,
+        number: u64,
+    },
+    /// The records with an entry that stands in the relation to the term's words, joined by one space, in the
+    /// order of their bytes. No record where `start` is empty.
+    Ordered {
+        index: u32,
+        register: Register,
+        relation: Relation,
+        start: String,
+    },
+    /// The records with a whole phrase that matches the pattern. No record where there is none.
+    Complete {
+        index: u32,
+        pattern: Option<Pattern>,
+    },
+    /// The records with words, one after another in one unit, that match the patterns in order; `first` asks that
+    /// they begin with the unit's first word. No record where there is no pattern.
+    Phrase {
+        index: u32,
+        patterns: Vec<Pattern>,
+        first: bool,
+    },
+    /// The records in which each pattern matches some word. No record where there is no pattern.
+    AllWords {
+        index: u32,
+        patterns: Vec<Pattern>,
+    },
+    /// The records in which some pattern matches some word.
+    AnyWord {
+        index: u32,
+        patterns: Vec<Pattern>,
+    },
+}
+
+/// A query over a profile, ready to be evaluated.
+#[derive(Debug, Drop)]
+#[cycle(plan)]
+pub enum Plan {
+    Term(TermPlan),
+    Pair(Box<PairPlan>),
+}
+
+/// An operator and the plans of its two operands.
+#[derive(Debug, Drop)]
+#[cycle(plan)]
+pub struct PairPlan {
+    pub operator: Operator,
+    pub left: Plan,
+    pub right: Plan,
+}
+
+/// Where a scan of a register begins.
+#[derive(Debug, Drop)]
+pub struct ScanPlan {
+    pub index: u32,
+    pub register: Register,
+    /// The entry to begin with, which need not be there; empty for the first one.
+    pub start: String,
+}

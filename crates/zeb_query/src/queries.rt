@@ -1,0 +1,72 @@
+/// An attribute as it stands in a query: `@attr SET TYPE=VALUE` (YAZ manual, PQF).
+#[derive(Debug, Drop)]
+pub struct Attribute {
+    /// The name of the attribute set, where the query gives one.
+    pub set: Option<String>,
+    /// The attribute's type, 0 to 999,999,999.
+    pub kind: u64,
+    /// The value as written; never empty.
+    pub value: String,
+}
+
+/// What stands right before a term, a named result set or an operator, and holds for all of it.
+#[derive(Debug, Drop)]
+pub struct Head {
+    /// The attributes, the outermost first.
+    pub attributes: Vec<Attribute>,
+    /// The innermost term type, given by `@term`.
+    pub term_type: Option<String>,
+}
+
+/// A term, or the name of a result set.
+#[derive(Debug, Drop)]
+pub struct Leaf {
+    /// The position of its word, in bytes from the start of the text: of the term itself, or of `@set`.
+    pub place: usize,
+    /// What stands right before it.
+    pub head: Head,
+    /// The term or the name, without quotes and with escapes taken.
+    pub text: String,
+}
+
+/// The operators of PQF.
+#[derive(Clone, Copy, Debug, PartialEq, Eq)]
+pub enum Connective {
+    /// `@and`
+    And,
+    /// `@or`
+    Or,
+    /// `@not`, which is and-not.
+    Not,
+    /// `@prox`
+    Proximity,
+}
+
+/// The structure of a query (YAZ manual, PQF): a term, a named result set, or an operator over two structures.
+#[derive(Debug, Drop)]
+pub enum Tree {
+    /// A term.
+    Term(Leaf),
+    /// A result set, named after `@set`.
+    Named(Leaf),
+    /// An operator and its two operands.
+    Pair {
+        /// The position of the operator's word, in bytes from the start of the text.
+        place: usize,
+        /// What stands right before the operator.
+        head: Head,
+        connective: Connective,
+        /// The six parameters of `@prox` in their order; empty for the other operators.
+        parameters: Vec<String>,
+        left: Box<Tree>,
+        right: Box<Tree>,
+    },
+}
+
+/// A query in the Prefix Query Format.
+#[derive(Debug, Drop)]
+pub struct Query {
+    /// The attribute set named after `@attrset`.
+    pub attribute_set: Option<String>,
+    pub tree: Tree,
+}

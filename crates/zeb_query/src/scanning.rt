@@ -1,0 +1,101 @@
+ghost use Rattle.std.specs.Prelude.{◌≡◌, string_bytes};
+ghost use Rattle.zeb_query.specs.Queries.{query_value, head_value};
+ghost use Rattle.zeb_query.specs.Grammar.{heads, no_head};
+ghost use Rattle.zeb_query.specs.Faults.{Gives};
+ghost use Rattle.zeb_query.specs.Plans as plans;
+
+use crate::holding::Holding;
+use crate::planning::{joined_words, number_in};
+use crate::terms::{Values, read_term};
+use crate::{Connective, Leaf, Query, QueryFault, ScanPlan, Tree};
+use std::alloc::Global;
+use zeb_profile::Profile;
+use zeb_text::key_of_number;
+
+/// The plan of a scan that begins at a query's term.
+///
+/// The faults are those of [`plan`](crate::plan), but an operator is 110 about its word, and 123 is answered also for
+/// a relation other than equal, a position other than any, a truncation, and a structure other than phrase, word and
+/// numeric string. The start is the term's words joined by one space, or the key of its number.
+pub fn plan_scan(alloc: Global, query: &Query, profile: &Profile) -> Result<ScanPlan, QueryFault>
+    ensures { Gives plans.scan_value result (plans.scan_of profile.now (query_value query.now)) }
+{
+    match &query.tree {
+        Tree::Term(leaf) => scan_leaf(alloc, leaf, query, profile),
+        Tree::Named(leaf) => Err(QueryFault::about(alloc, 18, leaf.place, leaf.text.as_str())),
+        Tree::Pair {
+            place,
+            connective,
+            ..
+        } => Err(QueryFault::about(alloc, 110, *place, word_of(*connective))),
+    }
+}
+
+#[tactic(auto, unfolding(crate::specs::Plans::leaf_scan))]
+fn scan_leaf(
+    alloc: Global,
+    leaf: &Leaf,
+    query: &Query,
+    profile: &Profile,
+) -> Result<ScanPlan, QueryFault>
+    ensures { Gives plans.scan_value result (plans.leaf_scan profile.now (query_value query.now).attribute_set
+        (heads no_head (head_value leaf.now.head)) leaf.now.place (string_bytes leaf.now.text)) }
+{
+    let holding = Holding::over(query).within(&leaf.head);
+    let (values, _) = read_term(alloc, leaf, &holding, profile)?;
+    scan_term(alloc, leaf, values, profile)
+}
+
+#[tactic(auto, unfolding(crate::specs::Plans::term_scan))]
+fn scan_term(
+    alloc: Global,
+    leaf: &Leaf,
+    values: Values,
+    profile: &Profile,
+) -> Result<ScanPlan, QueryFault>
+    ensures { Gives plans.scan_value result
+        (plans.term_scan profile.now leaf.now.place (string_bytes leaf.now.text) values) }
+{
+    if values.clashes_in_scan() {
+        return Err(QueryFault::diagnostic(alloc, 123, leaf.place));
+    }
+    let Some(index) = values.index else {
+        return Err(QueryFault::diagnostic(alloc, 123, leaf.place));
+    };
+    let register = values.register();
+    if !profile.has(index, register) {
+        return Err(QueryFault::diagnostic(alloc, 123, leaf.place));
+    }
+    let start = start_of(alloc, leaf, &values)?;
+    Ok(ScanPlan {
+        index,
+        register,
+        start,
+    })
+}
+
+/// The entry to begin with.
+#[tactic(auto, unfolding(crate::specs::Plans::scan_start))]
+fn start_of(alloc: Global, leaf: &Leaf, values: &Values) -> Result<String, QueryFault>
+    ensures { Gives (λ start. string_bytes start) result
+        (plans.scan_start leaf.now.place (string_bytes leaf.now.text) values.now) }
+{
+    if values.is_numeric() {
+        let number = number_in(alloc, leaf, 18)?;
+        Ok(key_of_number(alloc, number)?)
+    } else {
+        Ok(joined_words(alloc, leaf)?)
+    }
+}
+
+/// The word of an operator.
+fn word_of(connective: Connective) -> &'static str
+    ensures { result.now ≡ plans.operator_word connective }
+{
+    match connective {
+        Connective::And => "@and",
+        Connective::Or => "@or",
+        Connective::Not => "@not",
+        Connective::Proximity => "@prox",
+    }
+}

@@ -1,0 +1,198 @@
+-- What each call on the tables does to a connection, whatever its text is.
+use Rattle.std.proofs.Common.{◌≡◌, ◌⊎◌, ◌+◌, ℕ, List, true, false, not, Bool, IsTrue, None, Some, IsSome, Result, Ok, Err, OnOk, OnErr, IfOk, IfErr, inl, inr, refl, sym, ap, subst, ◌∙◌}
+use Rattle.sqlite.specs.Order.{Row}
+use Rattle.sqlite.specs.Tree.{Trees}
+use Rattle.sqlite.specs.Schema.{Schema}
+use Rattle.sqlite.specs.Command.{Command}
+use Rattle.sqlite.specs.Compile.{compiled, first, returning, planned, meaning, command, with_command, small, timed as timed_in}
+use Rattle.sqlite.specs.Listing.{understood, reads_listing, listing_schema, is_select, if_select}
+use Rattle.sqlite.specs.declared.error.Error.{Error}
+use Rattle.sqlite.specs.State.{State, IsUnchanged, IsRolledBack, KeepsCommit, Survives, Executes, ExecutesInside, Shown, ShowsRows, FailsToQuery, FailsToShow, IsNotRun, CommitsShowing, IsTooLate, HasCleanDisk}
+use Rattle.sqlite.specs.Clock.{timed}
+use Rattle.sqlite.proofs.StateLemmas.{survives_weaker}
+use Rattle.sqlite_resolve.specs.Lowering.{and_then}
+use Rattle.sqlite_resolve.specs.declared.compiled.Compiled.{Compiled}
+use Rattle.sqlite_resolve.specs.declared.error.CompileError.{CompileError}
+use Rattle.std.proofs.lemmas.Bool.{cases_Bool}
+use Rattle.zeb_register.proofs.Parts.{same_value}
+use Rattle.zeb_register.proofs.Chains.{inside_keeps}
+use Rattle.std.specs.List.{AllByRecursion}
+use Rattle.sqlite.specs.Effect.{Database, IsDatabase}
+use Rattle.zeb_register.specs.Tables.{store_schema}
+use Rattle.zeb_register.specs.Sql.{IsListOf, IsKeyed, KeepsOthers}
+use Rattle.zeb_register.specs.Store.{IsStore, Changes}
+use Rattle.zeb_register.specs.Calls.{GoesOn, OnlyReads, ChangesNothing, Alters, Lists, ListsInside, Stays}
+
+-- ---- a text that is a query under every schema
+
+abbrev pub IsSilent : List ℕ → Type 0
+IsSilent text = (schema : Schema) (base : ℕ) → and_then (first text) (λ p. returning schema base p.statement) ≡ Ok None
+
+got : {A B : Type 0} (r : Result A CompileError) (f : A → Result B CompileError) (b : B) → and_then r f ≡ Ok b → (a : A) × (r ≡ Ok a) × (f a ≡ Ok b)
+got (Ok a) f b h = (a, refl, h)
+got (Err e) f b h = absurd (cc)
+
+silent_compiled : (schema : Schema) (text : List ℕ) → IsSilent text → (c : Compiled) → compiled schema text ≡ Ok c → c.returning ≡ None
+unfolding compiled planned meaning
+silent_compiled schema text silent c =
+    elim (first text) as (λ r. ((base : ℕ) → and_then r (λ p. returning schema base p.statement) ≡ Ok None) → and_then r (λ p. and_then (planned schema p) (λ plan. Ok (with_command p plan))) ≡ Ok c → c.returning ≡ None) [
+      | Err e ↦ λ quiet is. absurd (let h = quiet 0 in cc)
+      | Ok p ↦ λ quiet is.
+          let plan = got (planned schema p) _ c is in
+          let found = got _ _ plan.0 plan.1 in
+          let shown = got _ _ found.0 found.1 in
+          let last = got {A = Command} (command schema p.formats (small p.names + small (timed_in schema p.formats p.statement)) p.statement) _ found.0 shown.2 in
+          let none = same_value (sym shown.1 ∙ quiet _) in
+          ap (λ (k : Compiled). k.returning) (sym (same_value plan.2)) ∙ ap (λ k. k.1.1) (sym (same_value found.2)) ∙ ap (λ k. k.1) (sym (same_value last.2)) ∙ none
+    ] (silent schema)
+
+silent_selected : (schema : Schema) (text : List ℕ) → IsSilent text → (c : Compiled) → if_select (compiled schema text) ≡ Ok c → c.returning ≡ None
+silent_selected schema text silent c is = from (compiled schema text) refl is
+  where
+    from : (r : Result Compiled CompileError) → compiled schema text ≡ r → if_select r ≡ Ok c → c.returning ≡ None
+    from (Err e) same h = absurd (cc)
+    from (Ok k) same h = elim (cases_Bool (is_select k.command)) [
+      | inl yes' ↦ let it : k ≡ c = same_value (rw yes' at h) in ap (λ (x : Compiled). x.returning) (sym it) ∙ silent_compiled schema text silent k same
+      | inr no' ↦ absurd (let e = rw no' at h in cc)
+    ]
+
+pub never_returns : (schema : Schema) (text : List ℕ) → IsSilent text → (c : Compiled) → understood schema text ≡ Ok c → c.returning ≡ None
+unfolding understood
+never_returns schema text silent c is = elim (cases_Bool (reads_listing schema text)) [
+  | inl listing ↦ silent_selected listing_schema text silent c (rw listing at is)
+  | inr plain ↦ silent_compiled schema text silent c (rw plain at is)
+]
+
+-- ---- queries
+
+pub shown_alone : (sql : List ℕ) (params : Row) (old new : State) (rows : List Row) → IsSilent sql → Shown sql params old new rows → IsUnchanged old new
+unfolding Shown
+shown_alone sql params old new rows silent h = (subst (ShowsRows old new sql h.0 (timed params h.0.formats h.1.now) rows) (never_returns old.now.schema sql silent h.0 h.1.is) h.2).3
+
+rolled_back : (old new : State) (sql : List ℕ) (params : Row) (e : Error) → IsNotRun old new sql params e → IsUnchanged old new ⊎ IsRolledBack old new
+unfolding IsNotRun
+rolled_back old new sql params e (inl kept) = inl kept.1
+rolled_back old new sql params e (inr failed) = inr failed.3
+
+pub fails_alone : (sql : List ℕ) (params : Row) (old new : State) (e : Error) → IsSilent sql → FailsToQuery sql params old new e → IsUnchanged old new ⊎ IsRolledBack old new
+unfolding FailsToQuery
+fails_alone sql params old new e silent (inl kept) = rolled_back old new sql params e kept
+fails_alone sql params old new e silent (inr h) = inl (subst (FailsToShow old new sql h.0 (timed params h.0.formats h.1.now) e) (never_returns old.now.schema sql silent h.0 h.1.is) h.2).3
+
+-- a query commits nothing
+pub quiet : (sql : List ℕ) (params : Row) (old new : State) → IsSilent sql → Survives old new (CommitsShowing sql params old) → Survives old new (λ _. ⊥)
+unfolding CommitsShowing
+quiet sql params old new silent = survives_weaker old new _ _ (λ clean db h. let none = subst IsSome (never_returns old.now.schema sql silent h.0 h.1.is) h.2 in absurd (let n : false ≡ true = none in cc))
+
+-- ---- queries outside a transaction
+
+pub lists : {A : Type 0} (rows : A → List Row) (P : Trees → Row → Type 0) (sql : List ℕ) (params : Row) (old new : State) (r : Result A Error) → IsSilent sql → IfOk r (λ x. Shown sql params old new (rows x))
+    → ((all : List Row) → IsStore old → Shown sql params old new all → IsListOf (P old.now.trees) all) → IfOk r (λ x. Lists P old new (rows x))
+lists rows P sql params old new (Ok x) silent shown means = (shown_alone sql params old new (rows x) silent shown, λ store. means (rows x) store shown)
+lists rows P sql params old new (Err e) silent shown means = tt
+
+same_nothing : (old new : State) → IsUnchanged old new → ChangesNothing old new
+same_nothing old new same open' = (same.0.was_open, same.0.now_is, same.0.committed_is)
+
+-- what is seen outside a transaction is what was committed, and so what a refused query goes back to
+pub nothing : {A : Type 0} (rows : A → List Row) (sql : List ℕ) (params : Row) (old new : State) (r : Result A Error) (auto : Bool) → IsSilent sql → auto ≡ not old.in_transaction
+    → (IsTrue auto → IsTrue old.is_open → old.now ≡ old.committed) → IfOk r (λ x. Shown sql params old new (rows x)) → IfErr r (FailsToQuery sql params old new) → old.in_transaction ≡ false → ChangesNothing old new
+nothing rows sql params old new (Ok x) auto silent is settled shown failed idle = same_nothing old new (shown_alone sql params old new (rows x) silent shown)
+nothing rows sql params old new (Err e) auto silent is settled shown failed idle = elim (fails_alone sql params old new e silent failed) [
+  | inl same ↦ same_nothing old new same
+  | inr back ↦ λ open'.
+      let was = back.was_open open' in
+      let undone = back.undone open' in
+      (was, undone.0 ∙ sym (settled (is ∙ ap not idle) was), undone.1)
+]
+
+-- ---- queries inside a transaction
+
+pub lists_inside : {A : Type 0} (rows : A → List Row) (P : Trees → Row → Type 0) (sql : List ℕ) (params : Row) (old new : State) (r : Result A Error) → IsSilent sql → IfOk r (λ x. Shown sql params old new (rows x))
+    → ((all : List Row) → IsStore old → Shown sql params old new all → IsListOf (P old.now.trees) all) → IsTrue old.in_transaction → IfOk r (λ x. ListsInside P old new (rows x))
+lists_inside rows P sql params old new (Ok x) silent shown means inside =
+    let same = shown_alone sql params old new (rows x) silent shown in
+    (record { was_open = same.0.was_open; is_open = same.0.is_open; now_is = same.0.now_is; committed_is = same.0.committed_is; mode = same.0.mode ∙ inside }, λ store. means (rows x) store shown)
+lists_inside rows P sql params old new (Err e) silent shown means inside = tt
+
+unchanged_keeps : (old new : State) → IsUnchanged old new → KeepsCommit old new
+unchanged_keeps old new same = record { was_open = λ _. same.0.was_open; committed = λ _. same.0.committed_is }
+
+pub query_keeps : {A : Type 0} (sql : List ℕ) (params : Row) (old new : State) (r : Result A Error) → IsSilent sql → IfErr r (λ e. FailsToQuery sql params old new e ⊎ IsTooLate sql params old new e) → OnErr r (KeepsCommit old new)
+query_keeps sql params old new (Ok x) silent failed = tt
+query_keeps sql params old new (Err e) silent (inl failed) = elim (fails_alone sql params old new e silent failed) [
+  | inl same ↦ unchanged_keeps old new same
+  | inr back ↦ record { was_open = back.was_open; committed = λ open'. (back.undone open').1 }
+]
+query_keeps sql params old new (Err e) silent (inr late) = unchanged_keeps old new late.5
+
+-- ---- writes
+
+pub alters : (tree : ℕ) (Rows : ℕ → Trees → Trees → Type 0) (sql : List ℕ) (params : Row) (old new : State) (r : Result ℕ Error) → ExecutesInside 0 sql params old new r
+    → ((count : ℕ) → IsStore old → Executes sql params old new (Ok count) → Changes tree Rows old new) → OnOk r (Alters tree Rows old new)
+alters tree Rows sql params old new (Ok count) ran means = record { on = ran.1; rows = λ store. means count store ran.0 }
+alters tree Rows sql params old new (Err e) ran means = tt
+
+pub refused_keeps : (sql : List ℕ) (params : Row) (old new : State) (r : Result ℕ Error) → ExecutesInside 0 sql params old new r → OnErr r (KeepsCommit old new)
+refused_keeps sql params old new (Ok count) ran = tt
+refused_keeps sql params old new (Err e) ran = inside_keeps sql params old new (Err e) ran
+
+-- ---- one call after the other
+
+pub stays_still : (s : State) → IsTrue s.in_transaction → Stays s s
+stays_still s inside = record { kept = record { was_open = λ o. o; committed = λ _. refl }; open_still = λ o. o; inside = inside }
+
+pub stays_then : (a b c : State) → Stays a b → GoesOn b c → Stays a c
+stays_then a b c before next = record {
+  kept = record { was_open = λ _. before.kept.was_open next.was_open; committed = λ _. next.committed_is ∙ before.kept.committed next.was_open };
+  open_still = λ _. next.is_open;
+  inside = next.mode;
+}
+
+pub stays_keeps : (a b c : State) → Stays a b → KeepsCommit b c → KeepsCommit a c
+stays_keeps a b c before next = record {
+  was_open = λ o. before.kept.was_open (next.was_open o);
+  committed = λ o. next.committed o ∙ before.kept.committed (next.was_open o);
+}
+
+pub stays_goes : (a b : State) → Stays a b → IsTrue a.is_open → GoesOn a b
+stays_goes a b stays was = record { was_open = was; is_open = stays.open_still was; now_is = refl; committed_is = stays.kept.committed (stays.open_still was); mode = stays.inside }
+
+pub nothing_still : (s : State) → ChangesNothing s s
+nothing_still s o = (o, refl, refl)
+
+pub nothing_then : (a b c : State) → ChangesNothing a b → ChangesNothing b c → ChangesNothing a c
+nothing_then a b c before next o =
+    let later = next o in
+    let first = before later.0 in
+    (first.0, later.1 ∙ first.1, later.2 ∙ first.2)
+
+pub goes_then : (a b c : State) → GoesOn a b → GoesOn b c → GoesOn a c
+goes_then a b c before next = record { was_open = before.was_open; is_open = next.is_open; now_is = refl; committed_is = next.committed_is ∙ before.committed_is; mode = next.mode }
+
+pub goes_keeps : (a b c : State) → GoesOn a b → KeepsCommit b c → KeepsCommit a c
+goes_keeps a b c before next = record { was_open = λ _. before.was_open; committed = λ o. next.committed o ∙ before.committed_is }
+
+pub on_err : {A E : Type 0} (r : Result A E) (P : Type 0) → P → OnErr r P
+on_err (Ok x) P p = tt
+on_err (Err e) P p = p
+
+-- ---- the same tables after a call that changes nothing
+
+pub store_same : (a b : State) → b.now ≡ a.now → IsStore a → IsStore b
+store_same a b same store = record {
+  is = ap (λ (d : Database). d.schema) same ∙ store.is;
+  sound = subst IsDatabase (sym same) store.sound;
+  keyed = subst (λ (d : Database). AllByRecursion (λ t. IsKeyed (d.trees t.tree)) store_schema.tables) (sym same) store.keyed;
+}
+
+pub changes_after : (tree : ℕ) (Rows : ℕ → Trees → Trees → Type 0) (a b c : State) → OnlyReads a b → IsTrue a.in_transaction → Changes tree Rows b c → Changes tree Rows a c
+changes_after tree Rows a b c reads inside done = record {
+  layout = done.layout;
+  mode = done.mode ∙ reads.mode ∙ sym inside;
+  rows = subst (λ (d : Database). Rows tree d.trees c.now.trees) reads.now_is done.rows;
+  others = subst (λ (d : Database). KeepsOthers store_schema tree d.trees c.now.trees) reads.now_is done.others;
+}
+
+pub changes_so : (tree : ℕ) (P Q : ℕ → Trees → Trees → Type 0) (a b : State) → (P tree a.now.trees b.now.trees → Q tree a.now.trees b.now.trees) → Changes tree P a b → Changes tree Q a b
+changes_so tree P Q a b so done = record { layout = done.layout; mode = done.mode; rows = so done.rows; others = done.others }

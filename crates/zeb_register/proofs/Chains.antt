@@ -1,0 +1,33 @@
+-- From one statement to the next.
+use Rattle.std.proofs.Common.{◌≡◌, ℕ, ◌≤◌, ◌∙◌, sym, ap, subst, inl, inr, List, IsTrue, Result, Ok, Err, OnOk, arith}
+use Rattle.std.specs.List.{AllByRecursion}
+use Rattle.sqlite_trees.specs.View.{doubt}
+use Rattle.sqlite.specs.Order.{Row}
+use Rattle.sqlite.specs.Tree.{Trees}
+use Rattle.sqlite.specs.Effect.{Database, IsDatabase}
+use Rattle.sqlite.specs.declared.error.Error.{Error}
+use Rattle.sqlite.specs.State.{State, HasCleanDisk, IsUnchanged, Survives, KeepsCommit, ExecutesInside}
+use Rattle.sqlite.proofs.StateLemmas.{survives_then}
+use Rattle.sqlite.proofs.Callers.{unchanged_then}
+use Rattle.zeb_register.specs.Tables.{store_schema}
+use Rattle.zeb_register.specs.Sql.{IsMade, IsKeyed}
+use Rattle.zeb_register.specs.Store.{IsEmptyStore}
+use Rattle.zeb_register.proofs.Creates.{made_layout}
+
+pub quiet_then : (a b c : State) → Survives a b (λ _. ⊥) → Survives b c (λ _. ⊥) → Survives a c (λ _. ⊥)
+quiet_then a b c p q = survives_then a b c (λ _. ⊥) (λ _. ⊥) (λ _. ⊥) (λ _ db none. none) (λ _ db none. none) p q
+
+pub still_unchanged : (a b c : State) → IsTrue a.in_transaction → a.now.schema ≡ store_schema → IsUnchanged a b → (b.now.schema ≡ store_schema → IsTrue b.in_transaction → IsUnchanged b c) → IsUnchanged a c
+still_unchanged a b c inside has first next = unchanged_then a b c first (next (ap (λ (d : Database). d.schema) first.0.now_is ∙ has) (first.0.mode ∙ inside))
+
+pub made_store : (s : State) → IsMade store_schema s → IsEmptyStore s
+made_store s made = (made_layout store_schema s made, made.inside, made.empty)
+
+-- a statement inside a transaction commits nothing
+pub inside_keeps : (sql : List ℕ) (params : Row) (old new : State) (r : Result ℕ Error) → ExecutesInside 0 sql params old new r → KeepsCommit old new
+inside_keeps sql params old new (Ok count) h = record { was_open = λ _. h.1.was_open; committed = λ _. h.1.committed_is }
+inside_keeps sql params old new (Err e) (inl h) = elim h.1 [
+  | inl same ↦ record { was_open = λ _. same.0.was_open; committed = λ _. same.0.committed_is }
+  | inr back ↦ record { was_open = back.was_open; committed = λ now. (back.undone now).1 }
+]
+inside_keeps sql params old new (Err e) (inr h) = record { was_open = λ _. h.2.0.was_open; committed = λ _. h.2.0.committed_is }

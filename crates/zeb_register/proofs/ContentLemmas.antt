@@ -1,0 +1,170 @@
+-- Rows of postings as the postings of a content.
+use Rattle.std.proofs.Common.{int_cmp, zero, suc, get_or, length, ◌<◌, ◌≡◌, ◌↔◌, ◌⊎◌, ◌∙◌, ℕ, ℤ, pos, List, [], ◌∷◌, ◌++◌, map, drop, inl, inr, refl, sym, ap, ap₂, subst, Ordering, Less, Equal, Greater, arith}
+use Rattle.std.specs.List.Sorted.{IsStrictlySortedBy}
+use Rattle.std.specs.List.{AllByRecursion}
+use Rattle.std.proofs.lemmas.Bool.Decides.{nat_tests}
+use Rattle.std.specs.Ordering.{nat_cmp, ordering_then, ordering_reverse}
+use Rattle.sqlite.specs.declared.types.Value.TheVariants.{Int, Text}
+use Rattle.sqlite.specs.Order.{Row, column, row_cmp}
+use Rattle.sqlite.specs.Tree.{Trees}
+use Rattle.sqlite_rules.specs.Lists.{Has}
+use Rattle.sqlite_rules.proofs.ListLemmas.{all_has}
+use Rattle.sqlite_rules.proofs.ProbeLemmas.{has_mapped, mapped_has}
+use Rattle.sqlite_value.proofs.OrderLemmas.{row_cmp_total, value_cmp-Int}
+use Rattle.std.proofs.lemmas.Cmp.{tied_itself}
+use Rattle.zeb_extract.specs.declared.keys.Key.{Key}
+use Rattle.zeb_profile.specs.declared.Register.{Register}
+use Rattle.zeb_profile.specs.declared.Register.TheVariants.{Word, Phrase, Number}
+use Rattle.zeb_register.specs.declared.registers.Posting.{Posting}
+use Rattle.zeb_register.specs.Sql.{HasRow, IsListOf}
+use Rattle.zeb_register.specs.Store.{postings_tree, key_of, IsRest}
+use Rattle.zeb_register.specs.Content.{Content, posting_cmp, IsRising, code_of_register, key_row, posting_row, IsPostingRow, HoldsRows, first_three, IsThreeNumbers}
+
+lower_then : (x y z : Ordering) → ordering_then x (ordering_then y z) ≡ Less → ordering_then x (ordering_then y (ordering_then z Equal)) ≡ Less
+lower_then Less y z h = refl
+lower_then Greater y z h = absurd (cc)
+lower_then Equal Less z h = refl
+lower_then Equal Greater z h = absurd (cc)
+lower_then Equal Equal Less h = refl
+lower_then Equal Equal Equal h = absurd (cc)
+lower_then Equal Equal Greater h = absurd (cc)
+
+pub ints_order : (a b : ℕ) → int_cmp (pos a) (pos b) ≡ nat_cmp a b
+ints_order a b = grind (arith, nat_tests)
+
+row_order : (p q : Posting) → posting_cmp p q ≡ Less → row_cmp (posting_row p) (posting_row q) ≡ Less
+row_order p q h =
+    rw (value_cmp-Int (pos p.sysno) (pos q.sysno), value_cmp-Int (pos p.seq) (pos q.seq), value_cmp-Int (pos p.pos) (pos q.pos), ints_order p.sysno q.sysno, ints_order p.seq q.seq, ints_order p.pos q.pos)
+    (lower_then (nat_cmp p.sysno q.sysno) (nat_cmp p.seq q.seq) (nat_cmp p.pos q.pos) h)
+
+never_itself : (r : Row) → row_cmp r r ≡ Less → ⊥
+never_itself r h = let e : Less ≡ Equal = sym h ∙ tied_itself row_cmp_total r in cc
+
+never_back : (r s : Row) → row_cmp r s ≡ Less → row_cmp s r ≡ Less → ⊥
+never_back r s p q = let e : Less ≡ Greater = sym p ∙ row_cmp_total.antisymm r s ∙ ap ordering_reverse q in cc
+
+-- a list that rises is told by its members
+same_list : (xs ys : List Row) → IsStrictlySortedBy row_cmp xs → IsStrictlySortedBy row_cmp ys → ((r : Row) → Has xs r → Has ys r) → ((r : Row) → Has ys r → Has xs r) → xs ≡ ys
+unfolding IsStrictlySortedBy
+same_list [] [] up down there back = refl
+same_list [] (y ∷ ys) up down there back = absurd (back y (inl refl))
+same_list (x ∷ xs) [] up down there back = absurd (there x (inl refl))
+same_list (x ∷ xs) (y ∷ ys) up down there back =
+    let first : x ≡ y = elim (there x (inl refl)) [
+      | inl same ↦ same
+      | inr deep ↦ elim (back y (inl refl)) [ inl same ↦ sym same | inr other ↦ absurd (never_back x y (all_has _ xs y up.0 other) (all_has _ ys x down.0 deep)) ]
+    ] in
+    ap₂ (λ a as'. a ∷ as') first (same_list xs ys up.1 down.1 (λ r h. elim (there r (inr h)) [
+      | inl same ↦ absurd (never_itself x (subst (λ t. row_cmp x t ≡ Less) (same ∙ sym first) (all_has _ xs r up.0 h)))
+      | inr deep ↦ deep
+    ]) (λ r h. elim (back r (inr h)) [
+      | inl same ↦ absurd (never_itself y (subst (λ t. row_cmp y t ≡ Less) (same ∙ first) (all_has _ ys r down.0 h)))
+      | inr deep ↦ deep
+    ]))
+
+pub one_list : (P : Row → Type 0) (xs ys : List Row) → IsListOf P xs → IsListOf P ys → xs ≡ ys
+one_list P xs ys left right = same_list xs ys left.rising right.rising (λ r h. (right.each r).1 ((left.each r).0 h)) (λ r h. (left.each r).1 ((right.each r).0 h))
+
+-- ---- keys and postings as rows
+
+same_register : (r s : Register) → code_of_register r ≡ code_of_register s → r ≡ s
+same_register Word Word h = refl
+same_register Word Phrase h = absurd (omega (arith, h))
+same_register Word Number h = absurd (omega (arith, h))
+same_register Phrase Word h = absurd (omega (arith, h))
+same_register Phrase Phrase h = refl
+same_register Phrase Number h = absurd (omega (arith, h))
+same_register Number Word h = absurd (omega (arith, h))
+same_register Number Phrase h = absurd (omega (arith, h))
+same_register Number Number h = refl
+
+abbrev key_by : ℕ → Register → List ℕ → Key
+key_by index register term = record { index = index; register = register; term = term }
+
+pub same_key : (k l : Key) → k.index ≡ l.index → code_of_register k.register ≡ code_of_register l.register → k.term ≡ l.term → k ≡ l
+same_key k l index register term = ap₂ (λ i r. key_by i r k.term) index (same_register k.register l.register register) ∙ ap (λ t. key_by l.index l.register t) term
+
+abbrev posting_by : ℕ → ℕ → ℕ → Posting
+posting_by sysno seq place = record { sysno = sysno; seq = seq; pos = place }
+
+pub same_posting : (p q : Posting) → posting_row p ≡ posting_row q → p ≡ q
+same_posting p q h =
+    let one : Int (pos p.sysno) ≡ Int (pos q.sysno) = ap (λ (r : Row). column r 0) h in
+    let two : Int (pos p.seq) ≡ Int (pos q.seq) = ap (λ (r : Row). column r 1) h in
+    let three : Int (pos p.pos) ≡ Int (pos q.pos) = ap (λ (r : Row). column r 2) h in
+    let a : p.sysno ≡ q.sysno = cc in
+    let b : p.seq ≡ q.seq = cc in
+    let d : p.pos ≡ q.pos = cc in
+    ap₂ (λ i j. posting_by i j p.pos) a b ∙ ap (λ k. posting_by q.sysno q.seq k) d
+
+pub same_postings : (ps qs : List Posting) → map posting_row ps ≡ map posting_row qs → ps ≡ qs
+same_postings [] [] h = refl
+same_postings [] (q ∷ qs) h = absurd (cc)
+same_postings (p ∷ ps) [] h = absurd (cc)
+same_postings (p ∷ ps) (q ∷ qs) h =
+    let first : posting_row p ≡ posting_row q = cc in
+    let rest : map posting_row ps ≡ map posting_row qs = cc in
+    ap₂ (λ a as'. a ∷ as') (same_posting p q first) (same_postings ps qs rest)
+
+-- the two rows stand for one key of one database
+pub told_apart : (d db : ℤ) (k key : Key) (x y : Row) → key_row db key ++ x ≡ key_row d k ++ y → (d ≡ db) × (k ≡ key) × (x ≡ y)
+told_apart d db k key x y h =
+    let one : Int db ≡ Int d = ap (λ (r : Row). column r 0) h in
+    let two : Int (pos key.index) ≡ Int (pos k.index) = ap (λ (r : Row). column r 1) h in
+    let three : Int (pos (code_of_register key.register)) ≡ Int (pos (code_of_register k.register)) = ap (λ (r : Row). column r 2) h in
+    let four : Text key.term ≡ Text k.term = ap (λ (r : Row). column r 3) h in
+    ((let e : d ≡ db = cc in e), same_key k key (cc) (cc) (cc), ap (drop 4) h)
+
+all_rise : (p : Posting) (ps : List Posting) → AllByRecursion (λ q. posting_cmp p q ≡ Less) ps → AllByRecursion (λ r. row_cmp (posting_row p) r ≡ Less) (map posting_row ps)
+all_rise p [] h = tt
+all_rise p (q ∷ ps) h = (row_order p q h.0, all_rise p ps h.1)
+
+pub rows_rise : (ps : List Posting) → IsStrictlySortedBy posting_cmp ps → IsStrictlySortedBy row_cmp (map posting_row ps)
+unfolding IsStrictlySortedBy
+rows_rise [] h = tt
+rows_rise (p ∷ ps) h = (all_rise p ps h.0, rows_rise ps h.1)
+
+-- the rows of a key are those of its list
+pub list_held : (trees : Trees) (content : Content) (db : ℤ) (key : Key) → HoldsRows trees content → IsListOf (IsRest postings_tree (key_row db key) trees) (map posting_row (content db key))
+list_held trees content db key holds = record {
+  each = λ x. (
+    λ h. let p = has_mapped posting_row (content db key) x h in (holds.each (key_row db key ++ x)).1 (db, key, p.0, p.1, ap (λ y. key_row db key ++ y) p.2),
+    λ there.
+        let p = (holds.each (key_row db key ++ x)).0 there in
+        let same = told_apart p.0 db p.1 key x (posting_row p.2) p.4 in
+        let here : Has (content db key) p.2 = subst (λ k. Has (content db k) p.2) same.1 (subst (λ d. Has (content d p.1) p.2) same.0 p.3) in
+        subst (Has (map posting_row (content db key))) (sym same.2) (mapped_has posting_row (content db key) p.2 here),
+  );
+  rising = rows_rise (content db key) (holds.rising db key);
+}
+
+-- ---- what is read of rows
+
+first_three_same : (rows : List Row) → ((r : Row) → Has rows r → (p : Posting) × (r ≡ posting_row p)) → map first_three rows ≡ rows
+first_three_same [] known = refl
+first_three_same (r ∷ rows) known =
+    let p = known r (inl refl) in
+    ap₂ (λ a as'. a ∷ as') (ap first_three p.1 ∙ sym p.1) (first_three_same rows (λ s h. known s (inr h)))
+
+pub rows_known : (trees : Trees) (content : Content) (db : ℤ) (key : Key) (rows : List Row) → HoldsRows trees content → IsListOf (IsRest postings_tree (key_row db key) trees) rows → (r : Row) → Has rows r → (p : Posting) × (r ≡ posting_row p)
+rows_known trees content db key rows holds list r here =
+    let p = (holds.each (key_row db key ++ r)).0 ((list.each r).0 here) in
+    (p.2, (told_apart p.0 db p.1 key r (posting_row p.2) p.4).2)
+
+-- the list that is read is that of the content
+pub list_read : (trees : Trees) (content : Content) (db : ℤ) (key : Key) (rows : List Row) (list : List Posting) → HoldsRows trees content → IsListOf (IsRest postings_tree (key_row db key) trees) rows
+    → map posting_row list ≡ map first_three rows → list ≡ content db key
+list_read trees content db key rows list holds are shown =
+    same_postings list (content db key) (shown ∙ first_three_same rows (rows_known trees content db key rows holds are) ∙ one_list _ rows (map posting_row (content db key)) are (list_held trees content db key holds))
+
+pub has_at : (xs : List Row) (i : ℕ) (x : Row) → x ≡ get_or xs i x → i < length xs → Has xs x
+has_at [] i x is below = absurd (omega arith)
+has_at (y ∷ ys) zero x is below = inl is
+has_at (y ∷ ys) (suc i) x is below = inr (has_at ys i x is (omega arith))
+
+pub rows_numbered : (trees : Trees) (content : Content) (db : ℤ) (key : Key) (rows : List Row) → HoldsRows trees content → IsListOf (IsRest postings_tree (key_row db key) trees) rows → (r : Row) → Has rows r → IsThreeNumbers r
+rows_numbered trees content db key rows holds list r here = let p = rows_known trees content db key rows holds list r here in (p.0.sysno, p.0.seq, p.0.pos, p.1)
+
+-- the tables tell the content
+pub one_content : (trees : Trees) (one two : Content) (db : ℤ) (key : Key) → HoldsRows trees one → HoldsRows trees two → one db key ≡ two db key
+one_content trees one two db key left right = same_postings (one db key) (two db key) (one_list _ (map posting_row (one db key)) (map posting_row (two db key)) (list_held trees one db key left) (list_held trees two db key right))

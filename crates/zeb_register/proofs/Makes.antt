@@ -1,0 +1,113 @@
+-- The statements that make the tables.
+use Rattle.std.proofs.Common.{◌≡◌, ℕ, List, [], codes, Ok, refl, false, IsTrue}
+use Rattle.sqlite_tied.specs.Compute.{everything}
+use Rattle.sqlite.specs.Compile.{table_defined_by}
+use Rattle.sqlite.specs.Table.{Table}
+use Rattle.sqlite.specs.Schema.{Schema}
+use Rattle.sqlite.specs.Change.{created}
+use Rattle.sqlite.specs.Command.TheVariants.{CreateTable, Nothing}
+use Rattle.sqlite.specs.Does.{lacks_sequence}
+use Rattle.sqlite.specs.Listing.{understood}
+use Rattle.sqlite.specs.State.{State, Executes, IsUnchanged}
+use Rattle.sqlite.proofs.Callers.{IsPlain, command_of, statement_of}
+use Rattle.zeb_register.specs.Tables.{no_schema, with_meta, with_databases, with_records, with_postings, with_blocks, store_schema, meta_table, databases_table, records_table, postings_table, blocks_table, dict_table}
+use Rattle.zeb_register.specs.Sql.{IsMade}
+use Rattle.zeb_register.proofs.Creates.{creates, spares}
+
+-- what the text makes of a schema, and that it does nothing where the tables are there
+record Makes (before : Schema) (table : Table) (sql : List ℕ) : Type 0 where
+  is : command_of (understood before sql) ≡ CreateTable
+  text : statement_of sql (understood before sql) ≡ sql
+  defined : table_defined_by sql ≡ Ok table
+  plain : IsPlain (understood before sql)
+  uncounted : lacks_sequence (created before table) ≡ false
+  there : command_of (understood store_schema sql) ≡ Nothing
+  plain_there : IsPlain (understood store_schema sql)
+
+abbrev pub meta_text : List ℕ
+meta_text = codes "CREATE TABLE IF NOT EXISTS meta (name TEXT NOT NULL, value TEXT NOT NULL, PRIMARY KEY (name)) STRICT"
+
+makes_meta : Makes no_schema meta_table meta_text
+unfolding understood everything
+makes_meta = record { is = refl; text = refl; defined = refl; plain = (refl, refl); uncounted = refl; there = refl; plain_there = (refl, refl) }
+
+abbrev pub databases_text : List ℕ
+databases_text = codes "CREATE TABLE IF NOT EXISTS databases (id INTEGER PRIMARY KEY, name TEXT NOT NULL UNIQUE, last INTEGER NOT NULL) STRICT"
+
+makes_databases : Makes with_meta databases_table databases_text
+unfolding understood everything
+makes_databases = record { is = refl; text = refl; defined = refl; plain = (refl, refl); uncounted = refl; there = refl; plain_there = (refl, refl) }
+
+abbrev pub records_text : List ℕ
+records_text = codes "CREATE TABLE IF NOT EXISTS records (db INTEGER NOT NULL, sysno INTEGER NOT NULL, ident TEXT NOT NULL, bytes BLOB NOT NULL, PRIMARY KEY (db, sysno), UNIQUE (db, ident)) STRICT"
+
+makes_records : Makes with_databases records_table records_text
+unfolding understood everything
+makes_records = record { is = refl; text = refl; defined = refl; plain = (refl, refl); uncounted = refl; there = refl; plain_there = (refl, refl) }
+
+abbrev pub postings_text : List ℕ
+postings_text = codes "CREATE TABLE IF NOT EXISTS postings (db INTEGER NOT NULL, idx INTEGER NOT NULL, reg INTEGER NOT NULL, term TEXT NOT NULL, sysno INTEGER NOT NULL, seq INTEGER NOT NULL, pos INTEGER NOT NULL, PRIMARY KEY (db, idx, reg, term, sysno, seq, pos)) STRICT"
+
+makes_postings : Makes with_records postings_table postings_text
+unfolding understood everything
+makes_postings = record { is = refl; text = refl; defined = refl; plain = (refl, refl); uncounted = refl; there = refl; plain_there = (refl, refl) }
+
+abbrev pub blocks_text : List ℕ
+blocks_text = codes "CREATE TABLE IF NOT EXISTS blocks (db INTEGER NOT NULL, idx INTEGER NOT NULL, reg INTEGER NOT NULL, term TEXT NOT NULL, block INTEGER NOT NULL, data BLOB NOT NULL, PRIMARY KEY (db, idx, reg, term, block)) STRICT"
+
+makes_blocks : Makes with_postings blocks_table blocks_text
+unfolding understood everything
+makes_blocks = record { is = refl; text = refl; defined = refl; plain = (refl, refl); uncounted = refl; there = refl; plain_there = (refl, refl) }
+
+abbrev pub dict_text : List ℕ
+dict_text = codes "CREATE TABLE IF NOT EXISTS dict (db INTEGER NOT NULL, idx INTEGER NOT NULL, reg INTEGER NOT NULL, term TEXT NOT NULL, records INTEGER NOT NULL, PRIMARY KEY (db, idx, reg, term)) STRICT"
+
+makes_dict : Makes with_blocks dict_table dict_text
+unfolding understood everything
+makes_dict = record { is = refl; text = refl; defined = refl; plain = (refl, refl); uncounted = refl; there = refl; plain_there = (refl, refl) }
+
+module _ (before : Schema) (table : Table) (sql : List ℕ) (makes : Makes before table sql) (old new : State) (count : ℕ) (ran : Executes sql [] old new (Ok count)) where
+  next_made : IsMade before old → IsMade (created before table) new
+  next_made was = creates before table sql makes.is makes.text makes.defined makes.plain makes.uncounted old new count was.is was.empty was.inside ran
+
+  still_there : old.now.schema ≡ store_schema → IsUnchanged old new
+  still_there has = spares store_schema sql makes.there makes.plain_there old new count has ran
+
+-- ---- each statement in turn
+
+pub meta_made : (old new : State) (count : ℕ) → Executes meta_text [] old new (Ok count) → old.now.schema ≡ no_schema → IsTrue old.in_transaction → IsMade with_meta new
+meta_made old new count ran has inside =
+    let m = makes_meta in creates no_schema meta_table meta_text m.is m.text m.defined m.plain m.uncounted old new count has tt inside ran
+
+pub meta_there : (old new : State) (count : ℕ) → Executes meta_text [] old new (Ok count) → old.now.schema ≡ store_schema → IsUnchanged old new
+meta_there = still_there no_schema meta_table meta_text makes_meta
+
+pub databases_made : (old new : State) (count : ℕ) → Executes databases_text [] old new (Ok count) → IsMade with_meta old → IsMade with_databases new
+databases_made = next_made with_meta databases_table databases_text makes_databases
+
+pub databases_there : (old new : State) (count : ℕ) → Executes databases_text [] old new (Ok count) → old.now.schema ≡ store_schema → IsUnchanged old new
+databases_there = still_there with_meta databases_table databases_text makes_databases
+
+pub records_made : (old new : State) (count : ℕ) → Executes records_text [] old new (Ok count) → IsMade with_databases old → IsMade with_records new
+records_made = next_made with_databases records_table records_text makes_records
+
+pub records_there : (old new : State) (count : ℕ) → Executes records_text [] old new (Ok count) → old.now.schema ≡ store_schema → IsUnchanged old new
+records_there = still_there with_databases records_table records_text makes_records
+
+pub postings_made : (old new : State) (count : ℕ) → Executes postings_text [] old new (Ok count) → IsMade with_records old → IsMade with_postings new
+postings_made = next_made with_records postings_table postings_text makes_postings
+
+pub postings_there : (old new : State) (count : ℕ) → Executes postings_text [] old new (Ok count) → old.now.schema ≡ store_schema → IsUnchanged old new
+postings_there = still_there with_records postings_table postings_text makes_postings
+
+pub blocks_made : (old new : State) (count : ℕ) → Executes blocks_text [] old new (Ok count) → IsMade with_postings old → IsMade with_blocks new
+blocks_made = next_made with_postings blocks_table blocks_text makes_blocks
+
+pub blocks_there : (old new : State) (count : ℕ) → Executes blocks_text [] old new (Ok count) → old.now.schema ≡ store_schema → IsUnchanged old new
+blocks_there = still_there with_postings blocks_table blocks_text makes_blocks
+
+pub dict_made : (old new : State) (count : ℕ) → Executes dict_text [] old new (Ok count) → IsMade with_blocks old → IsMade store_schema new
+dict_made = next_made with_blocks dict_table dict_text makes_dict
+
+pub dict_there : (old new : State) (count : ℕ) → Executes dict_text [] old new (Ok count) → old.now.schema ≡ store_schema → IsUnchanged old new
+dict_there = still_there with_blocks dict_table dict_text makes_dict

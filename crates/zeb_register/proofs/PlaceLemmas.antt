@@ -1,0 +1,290 @@
+-- Rows of one record's places.
+use Rattle.std.proofs.Common.{true, ◌≡◌, ◌≢◌, ◌↔◌, ◌⊎◌, ◌∙◌, ◌<◌, ◌+◌, zero, suc, ℕ, ℤ, pos, List, [], ◌∷◌, ◌++◌, map, take, drop, Ordering, Less, Equal, Greater, length, get_or, inl, inr, refl, sym, ap, ap₂, subst, arith}
+use Rattle.std.proofs.lemmas.List.{take_more, map-append}
+use Rattle.sqlite.specs.declared.types.Value.TheVariants.{Null, Int, Text}
+use Rattle.sqlite.specs.Order.{Row, column}
+use Rattle.std.specs.List.Sorted.{IsStrictlySortedBy}
+use Rattle.std.specs.List.{AllByRecursion}
+use Rattle.std.specs.Ordering.{nat_cmp, ordering_then}
+use Rattle.sqlite.specs.Order.{row_cmp}
+use Rattle.sqlite.specs.Tree.{Trees}
+use Rattle.sqlite_rules.specs.Lists.{Has}
+use Rattle.sqlite_rules.proofs.ProbeLemmas.{has_mapped, mapped_has}
+use Rattle.sqlite_value.proofs.OrderLemmas.{value_cmp-Int}
+use Rattle.zeb_extract.specs.declared.keys.Key.{Key}
+use Rattle.zeb_register.specs.declared.registers.Place.{Place}
+use Rattle.zeb_register.specs.declared.registers.Posting.{Posting}
+use Rattle.zeb_register.specs.Sql.{HasRow, IsListOf}
+use Rattle.zeb_register.specs.Store.{postings_tree, IsRest}
+use Rattle.zeb_register.specs.Content.{Content, HoldsRows, ArePlacesOf, posting_at, place_cmp, posting_row, place_front, IsTwoNumbers, place_row, first_two}
+use Rattle.sqlite.specs.declared.types.Value.{Value}
+use Rattle.sqlite.specs.Order.{value_cmp}
+use Rattle.sqlite.specs.State.{State}
+use Rattle.sqlite_value.proofs.OrderLemmas.{value_cmp_total}
+use Rattle.std.proofs.lemmas.Cmp.{tied_itself}
+use Rattle.zeb_register.specs.Tables.{store_schema}
+use Rattle.zeb_register.specs.Sql.{KeepsOthers, Gains, Loses}
+use Rattle.zeb_register.specs.Store.{Changes, databases_tree, records_tree, TakesDatabase, IsRecordIn, IsPostingIn}
+use Rattle.zeb_register.specs.Kinds.{code, is_exact}
+use Rattle.zeb_register.proofs.RowLemmas.{tied_is}
+use Rattle.zeb_register.specs.Content.{IsWithout, TakesWhole, IsChangedAt, KeepsBesidePostings, GainsPlaces, Puts, posting_columns, IsPlaceIn, code_of_register, key_row}
+use Rattle.zeb_register.proofs.ContentLemmas.{told_apart, one_list, ints_order, same_key}
+
+pub both_more : (xs : List Row) (ys : List Place) (i : ℕ) (x : Row) (d : Place) → x ≡ get_or xs i x → i < length xs → i < length ys → map first_two (take i xs) ≡ map place_row (take i ys) → first_two x ≡ place_row (get_or ys i d)
+    → map first_two (take (i + 1) xs) ≡ map place_row (take (i + 1) ys)
+both_more xs ys i x d is left right before same =
+    ap (map first_two) (take_more xs i x left) ∙ map-append first_two (take i xs) (get_or xs i x ∷ []) ∙ ap₂ (λ a b. a ++ b ∷ []) before (ap first_two (sym is) ∙ same)
+    ∙ sym (ap (map place_row) (take_more ys i d right) ∙ map-append place_row (take i ys) (get_or ys i d ∷ []))
+
+pub same_at : (xs : List Row) (ys : List Place) (i : ℕ) (x : Row) (d : Place) → i < length xs → i < length ys → map first_two xs ≡ map place_row ys → first_two (get_or xs i x) ≡ place_row (get_or ys i d)
+same_at [] ys i x d left right same = absurd (omega arith)
+same_at (a ∷ xs) [] i x d left right same = absurd (omega arith)
+same_at (a ∷ xs) (b ∷ ys) zero x d left right same = let e : first_two a ≡ place_row b = cc in e
+same_at (a ∷ xs) (b ∷ ys) (suc i) x d left right same = same_at xs ys i x d (omega arith) (omega arith) (let e : map first_two xs ≡ map place_row ys = cc in e)
+
+-- ---- the places of a record in a list
+
+abbrev place_by : ℕ → ℕ → Place
+place_by seq place = record { seq = seq; pos = place }
+
+abbrev place_of : Posting → Place
+place_of p = place_by p.seq p.pos
+
+same_place : (p q : Place) → place_row p ≡ place_row q → p ≡ q
+same_place p q h =
+    let one : Int (pos p.seq) ≡ Int (pos q.seq) = ap (λ (r : Row). column r 0) h in
+    let two : Int (pos p.pos) ≡ Int (pos q.pos) = ap (λ (r : Row). column r 1) h in
+    let a : p.seq ≡ q.seq = cc in
+    let b : p.pos ≡ q.pos = cc in
+    ap₂ place_by a b
+
+at_place : (p : Posting) (sysno : ℕ) → p.sysno ≡ sysno → p ≡ posting_at sysno (place_of p)
+at_place p sysno same = ap (λ n. posting_at n (place_of p)) same
+
+lower_two : (x y : Ordering) → ordering_then x y ≡ Less → ordering_then x (ordering_then y Equal) ≡ Less
+lower_two Less y h = refl
+lower_two Greater y h = absurd (cc)
+lower_two Equal Less h = refl
+lower_two Equal Equal h = absurd (cc)
+lower_two Equal Greater h = absurd (cc)
+
+place_order : (p q : Place) → place_cmp p q ≡ Less → row_cmp (place_row p) (place_row q) ≡ Less
+place_order p q h =
+    rw (value_cmp-Int (pos p.seq) (pos q.seq), value_cmp-Int (pos p.pos) (pos q.pos), ints_order p.seq q.seq, ints_order p.pos q.pos) (lower_two (nat_cmp p.seq q.seq) (nat_cmp p.pos q.pos) h)
+
+all_places_rise : (p : Place) (ps : List Place) → AllByRecursion (λ q. place_cmp p q ≡ Less) ps → AllByRecursion (λ r. row_cmp (place_row p) r ≡ Less) (map place_row ps)
+all_places_rise p [] h = tt
+all_places_rise p (q ∷ ps) h = (place_order p q h.0, all_places_rise p ps h.1)
+
+places_rise : (ps : List Place) → IsStrictlySortedBy place_cmp ps → IsStrictlySortedBy row_cmp (map place_row ps)
+unfolding IsStrictlySortedBy
+places_rise [] h = tt
+places_rise (p ∷ ps) h = (all_places_rise p ps h.0, places_rise ps h.1)
+
+module _ (trees : Trees) (content : Content) (db : ℤ) (key : Key) (sysno : ℕ) (holds : HoldsRows trees content) where
+  -- a row of the key in the record, by its posting
+  placed : (x : Row) → HasRow trees postings_tree (place_front db key sysno ++ x) → (q : Place) × Has (content db key) (posting_at sysno q) × (x ≡ place_row q)
+  placed x there =
+      let p = (holds.each (place_front db key sysno ++ x)).0 there in
+      let same = told_apart p.0 db p.1 key (Int (pos sysno) ∷ x) (posting_row p.2) p.4 in
+      let here : Has (content db key) p.2 = subst (λ k. Has (content db k) p.2) same.1 (subst (λ d. Has (content d p.1) p.2) same.0 p.3) in
+      let first : Int (pos sysno) ≡ Int (pos p.2.sysno) = ap (λ (r : Row). column r 0) same.2 in
+      let number : p.2.sysno ≡ sysno = cc in
+      (place_of p.2, subst (Has (content db key)) (at_place p.2 sysno number) here, ap (drop 1) same.2)
+
+  put_there : (q : Place) → Has (content db key) (posting_at sysno q) → HasRow trees postings_tree (place_front db key sysno ++ place_row q)
+  put_there q here = (holds.each (place_front db key sysno ++ place_row q)).1 (db, key, posting_at sysno q, here, refl)
+
+  pub two_numbers : (rows : List Row) → IsListOf (IsRest postings_tree (place_front db key sysno) trees) rows → (r : Row) → Has rows r → IsTwoNumbers r
+  two_numbers rows list r here = let q = placed r ((list.each r).0 here) in (q.0.seq, q.0.pos, q.2)
+
+  first_two_same : (rows : List Row) → ((r : Row) → Has rows r → IsTwoNumbers r) → map first_two rows ≡ rows
+  first_two_same [] known = refl
+  first_two_same (r ∷ rows) known =
+      let p = known r (inl refl) in
+      ap₂ (λ a as'. a ∷ as') (ap first_two p.2 ∙ sym p.2) (first_two_same rows (λ s h. known s (inr h)))
+
+  pub places_held : (rows : List Row) (places : List Place) → IsListOf (IsRest postings_tree (place_front db key sysno) trees) rows → map first_two rows ≡ map place_row places → ArePlacesOf sysno places (content db key)
+  places_held rows places list shown q =
+      let same : rows ≡ map place_row places = sym (first_two_same rows (two_numbers rows list)) ∙ shown in (
+        λ h.
+            let r = placed (place_row q) ((list.each (place_row q)).0 (subst (λ l. Has l (place_row q)) (sym same) (mapped_has place_row places q h))) in
+            subst (λ p. Has (content db key) (posting_at sysno p)) (sym (same_place q r.0 r.2)) r.1,
+        λ h.
+            let r = has_mapped place_row places (place_row q) (subst (λ l. Has l (place_row q)) same ((list.each (place_row q)).1 (put_there q h))) in
+            subst (Has places) (sym (same_place q r.0 r.2)) r.1,
+      )
+
+  pub places_lost : (rows : List Row) (places : List Place) → IsListOf (IsRest postings_tree (place_front db key sysno) trees) rows → IsStrictlySortedBy place_cmp places → map first_two rows ≢ map place_row places
+      → ¬ ArePlacesOf sysno places (content db key)
+  places_lost rows places list rises differ are =
+      let other : IsListOf (IsRest postings_tree (place_front db key sysno) trees) (map place_row places) = record {
+        each = λ x. (
+          λ h. let q = has_mapped place_row places x h in subst (λ y. HasRow trees postings_tree (place_front db key sysno ++ y)) (sym q.2) (put_there q.0 ((are q.0).0 q.1)),
+          λ there. let q = placed x there in subst (Has (map place_row places)) (sym q.2) (mapped_has place_row places q.0 ((are q.0).1 q.1)),
+        );
+        rising = places_rise places rises;
+      } in
+      differ (first_two_same rows (two_numbers rows list) ∙ one_list _ rows (map place_row places) list other)
+
+-- ---- putting places one after the other
+
+has_last : (xs : List Place) (y z : Place) → Has (xs ++ y ∷ []) z ↔ (Has xs z ⊎ (z ≡ y))
+has_last [] y z = (λ h. elim h [ inl same ↦ inr same | inr none ↦ absurd none ], λ h. elim h [ inl none ↦ absurd none | inr same ↦ inl same ])
+has_last (x ∷ xs) y z =
+    let rest = has_last xs y z in (
+      λ h. elim h [ inl same ↦ inl (inl same) | inr more ↦ elim (rest.0 more) [ inl there ↦ inl (inr there) | inr last ↦ inr last ] ],
+      λ h. elim h [ inl before ↦ elim before [ inl same ↦ inl same | inr there ↦ inr (rest.1 (inl there)) ] | inr last ↦ inr (rest.1 (inr last)) ],
+    )
+
+pub beside : (old new : Trees) → KeepsOthers store_schema postings_tree old new → KeepsBesidePostings old new
+beside old new kept = (
+  (kept.0 (λ e. absurd (omega (arith, e))), kept.1.0 (λ e. absurd (omega (arith, e))), kept.1.1.0 (λ e. absurd (omega (arith, e)))),
+  kept.1.1.1.1.0 (λ e. absurd (omega (arith, e))),
+  kept.1.1.1.1.1.0 (λ e. absurd (omega (arith, e))),
+)
+
+pub beside_then : (a b c : Trees) → KeepsBesidePostings a b → KeepsBesidePostings b c → KeepsBesidePostings a c
+beside_then a b c p q = ((q.0.0 ∙ p.0.0, q.0.1 ∙ p.0.1, q.0.2 ∙ p.0.2), q.1 ∙ p.1, q.2 ∙ p.2)
+
+pub puts_more : (db : ℤ) (key : Key) (sysno : ℕ) (places : List Place) (i : ℕ) (d : Place) (a b c : State) → i < length places → Puts db key sysno (take i places) a b
+    → Changes postings_tree (Gains (posting_columns db key sysno (get_or places i d))) b c → Puts db key sysno (take (i + 1) places) a c
+puts_more db key sysno places i d a b c within before done =
+    let last = get_or places i d in
+    let more : take (i + 1) places ≡ take i places ++ last ∷ [] = take_more places i d within in
+    record {
+      store = done.layout;
+      rows = λ row. (
+        λ h. elim ((done.rows row).0 h) [
+          | inl was ↦ elim ((before.rows row).0 was) [ inl first ↦ inl first | inr q ↦ inr (q.0, subst (λ l. Has l q.0) (sym more) ((has_last (take i places) last q.0).1 (inl q.1)), q.2) ]
+          | inr same ↦ inr (last, subst (λ l. Has l last) (sym more) ((has_last (take i places) last last).1 (inr refl)), same)
+        ],
+        λ h. (done.rows row).1 (elim h [
+          | inl first ↦ inl ((before.rows row).1 (inl first))
+          | inr q ↦ elim ((has_last (take i places) last q.0).0 (subst (λ l. Has l q.0) more q.1)) [
+            | inl there ↦ inl ((before.rows row).1 (inr (q.0, there, q.2)))
+            | inr same ↦ inr (q.2 ∙ ap (posting_columns db key sysno) same)
+          ]
+        ]),
+      );
+      others = beside_then a.now.trees b.now.trees c.now.trees before.others (beside b.now.trees c.now.trees done.others);
+    }
+
+-- ---- one record's part of one list, taken out and put anew
+
+same_or_not : (a b : Value) → is_exact (code a) ≡ true → code a ≡ code b → (a ≡ b) ⊎ (a ≢ b)
+same_or_not a b exact alike = from (value_cmp a b) refl
+  where
+    from : (o : Ordering) → value_cmp a b ≡ o → (a ≡ b) ⊎ (a ≢ b)
+    from Equal is = inl (tied_is a b exact alike is)
+    from Less is = inr (λ same. let e : Less ≡ Equal = sym is ∙ ap (λ v. value_cmp v b) same ∙ tied_itself value_cmp_total b in absurd (cc))
+    from Greater is = inr (λ same. let e : Greater ≡ Equal = sym is ∙ ap (λ v. value_cmp v b) same ∙ tied_itself value_cmp_total b in absurd (cc))
+
+told : (d db : ℤ) (k key : Key) (m n : ℕ) → ((d ≡ db) × (k ≡ key) × (m ≡ n)) ⊎ ¬ ((d ≡ db) × (k ≡ key) × (m ≡ n))
+told d db k key m n = elim (same_or_not (Int d) (Int db) refl refl) [
+  | inr no' ↦ inr (λ h. no' (ap Int h.0))
+  | inl one ↦ elim (same_or_not (Int (pos k.index)) (Int (pos key.index)) refl refl) [
+    | inr no' ↦ inr (λ h. no' (ap (λ (x : Key). Int (pos x.index)) h.1))
+    | inl two ↦ elim (same_or_not (Int (pos (code_of_register k.register))) (Int (pos (code_of_register key.register))) refl refl) [
+      | inr no' ↦ inr (λ h. no' (ap (λ (x : Key). Int (pos (code_of_register x.register))) h.1))
+      | inl three ↦ elim (same_or_not (Text k.term) (Text key.term) refl refl) [
+        | inr no' ↦ inr (λ h. no' (ap (λ (x : Key). Text x.term) h.1))
+        | inl four ↦ elim (same_or_not (Int (pos m)) (Int (pos n)) refl refl) [
+          | inr no' ↦ inr (λ h. no' (ap (λ (x : ℕ). Int (pos x)) h.2))
+          | inl five ↦ inl ((let e : d ≡ db = cc in e), same_key k key (cc) (cc) (cc), (let e : m ≡ n = cc in e))
+        ]
+      ]
+    ]
+  ]
+]
+
+pub rows_changed : (old mid new : Trees) (db : ℤ) (key : Key) (sysno : ℕ) (places : List Place) (before after : Content) → HoldsRows old before → Loses (IsPlaceIn db key sysno) postings_tree old mid → KeepsBesidePostings old mid
+    → GainsPlaces db key sysno places mid new → KeepsBesidePostings mid new → IsChangedAt db key sysno places before after → HoldsRows new after
+rows_changed old mid new db key sysno places before after holds lost left gained kept changed' = record {
+  rising = changed'.rising;
+  each = λ row. (
+    λ h. elim ((gained row).0 h) [
+      | inl there ↦
+          let was = (lost row).0 there in
+          let p = (holds.each row).0 was.0 in (
+            p.0,
+            p.1,
+            p.2,
+            (changed'.others p.0 p.1 p.2 (λ same. was.1 (subst (IsPlaceIn db key sysno) (sym p.4) (
+              ap Int same.0,
+              ap (λ (x : Key). Int (pos x.index)) same.1,
+              ap (λ (x : Key). Int (pos (code_of_register x.register))) same.1,
+              ap (λ (x : Key). Text x.term) same.1,
+              ap (λ (x : ℕ). Int (pos x)) same.2,
+            )))).1 p.3,
+            p.4,
+          )
+      | inr q ↦ (db, key, posting_at sysno q.0, (changed'.part q.0).0 q.1, q.2)
+    ],
+    λ p. (gained row).1 (elim (told p.0 db p.1 key p.2.sysno sysno) [
+      | inl same ↦
+          let here : Has (after db key) p.2 = subst (λ k. Has (after db k) p.2) same.1 (subst (λ d. Has (after d p.1) p.2) same.0 p.3) in
+          let at = at_place p.2 sysno same.2 in
+          inr (place_of p.2, (changed'.part (place_of p.2)).1 (subst (Has (after db key)) at here), p.4 ∙ ap₂ (λ d k. key_row d k ++ posting_row p.2) same.0 same.1 ∙ ap (λ x. key_row db key ++ posting_row x) at)
+      | inr differs' ↦
+          let was = (changed'.others p.0 p.1 p.2 differs').0 p.3 in
+          inl ((lost row).1 (
+            (holds.each row).1 (p.0, p.1, p.2, was, p.4),
+            λ in_it.
+                let at = subst (IsPlaceIn db key sysno) p.4 in_it in
+                let one : Int p.0 ≡ Int db = at.0 in
+                let two : Int (pos p.1.index) ≡ Int (pos key.index) = at.1 in
+                let three : Int (pos (code_of_register p.1.register)) ≡ Int (pos (code_of_register key.register)) = at.2 in
+                let four : Text p.1.term ≡ Text key.term = at.3 in
+                let five : Int (pos p.2.sysno) ≡ Int (pos sysno) = at.4 in
+                differs' ((let e : p.0 ≡ db = cc in e), same_key p.1 key (cc) (cc) (cc), (let e : p.2.sysno ≡ sysno = cc in e)),
+          ))
+    ]),
+  );
+  alone = (kept.1 ∙ left.1 ∙ holds.alone.0, kept.2 ∙ left.2 ∙ holds.alone.1);
+}
+
+-- ---- a database taken
+
+module _ (db : ℤ) (a b c d : State) (one : Changes postings_tree (Loses (IsPostingIn db)) a b) (two : Changes records_tree (Loses (IsRecordIn db)) b c) (three : Changes databases_tree (TakesDatabase db) c d) where
+  pub taken_whole : TakesWhole db a d
+  taken_whole =
+      let same2 : c.now.trees 2 ≡ a.now.trees 2 = two.others.1.0 (λ e. absurd (omega (arith, e))) ∙ one.others.1.0 (λ e. absurd (omega (arith, e))) in
+      let before4 : b.now.trees 4 ≡ a.now.trees 4 = one.others.1.1.0 (λ e. absurd (omega (arith, e))) in
+      let after4 : d.now.trees 4 ≡ c.now.trees 4 = three.others.1.1.0 (λ e. absurd (omega (arith, e))) in
+      record {
+        store = three.layout;
+        databases = λ i name last. (
+          λ h. let was = (three.rows i name last).0 h in (subst (λ rows. Has rows (Int i ∷ Null ∷ Text name ∷ Int last ∷ [])) same2 was.0, was.1),
+          λ h. (three.rows i name last).1 (subst (λ rows. Has rows (Int i ∷ Null ∷ Text name ∷ Int last ∷ [])) (sym same2) h.0, h.1),
+        );
+        records = λ columns. (
+          λ h.
+              let was = (two.rows columns).0 (h.0, subst (λ rows. Has rows (Int h.0 ∷ columns)) after4 h.1) in
+              ((was.0.0, subst (λ rows. Has rows (Int was.0.0 ∷ columns)) before4 was.0.1), was.1),
+          λ h.
+              let is = (two.rows columns).1 ((h.0.0, subst (λ rows. Has rows (Int h.0.0 ∷ columns)) (sym before4) h.0.1), h.1) in
+              (is.0, subst (λ rows. Has rows (Int is.0 ∷ columns)) (sym after4) is.1),
+        );
+        texts = three.others.0 (λ e. absurd (omega (arith, e))) ∙ two.others.0 (λ e. absurd (omega (arith, e))) ∙ one.others.0 (λ e. absurd (omega (arith, e)));
+      }
+
+  pub rows_without : (before after : Content) → HoldsRows a.now.trees before → IsWithout db before after → HoldsRows d.now.trees after
+  rows_without before after holds without =
+      let same7 : d.now.trees 7 ≡ b.now.trees 7 = three.others.1.1.1.0 (λ e. absurd (omega (arith, e))) ∙ two.others.1.1.1.0 (λ e. absurd (omega (arith, e))) in
+      let same9 : d.now.trees 9 ≡ a.now.trees 9 = three.others.1.1.1.1.0 (λ e. absurd (omega (arith, e))) ∙ two.others.1.1.1.1.0 (λ e. absurd (omega (arith, e))) ∙ one.others.1.1.1.1.0 (λ e. absurd (omega (arith, e))) in
+      let same11 : d.now.trees 11 ≡ a.now.trees 11 = three.others.1.1.1.1.1.0 (λ e. absurd (omega (arith, e))) ∙ two.others.1.1.1.1.1.0 (λ e. absurd (omega (arith, e))) ∙ one.others.1.1.1.1.1.0 (λ e. absurd (omega (arith, e))) in
+      record {
+        rising = without.rising;
+        each = λ row. (
+          λ h.
+              let was = (one.rows row).0 (h.0, subst (λ rows. Has rows (Int h.0 ∷ row)) same7 h.1) in
+              let p = (holds.each row).0 was.0 in
+              (p.0, p.1, p.2, (without.left p.0 p.1 p.2).1 (p.3, λ same. was.1 (ap (λ (r : Row). column r 0) p.4 ∙ ap Int same)), p.4),
+          λ p.
+              let was = (without.left p.0 p.1 p.2).0 p.3 in
+              let is = (one.rows row).1 ((holds.each row).1 (p.0, p.1, p.2, was.0, p.4), λ in_it. was.1 (let e : Int p.0 ≡ Int db = ap (λ (r : Row). column r 0) (sym p.4) ∙ in_it in cc)) in
+              (is.0, subst (λ rows. Has rows (Int is.0 ∷ row)) (sym same7) is.1),
+        );
+        alone = (same9 ∙ holds.alone.0, same11 ∙ holds.alone.1);
+      }

@@ -1,0 +1,198 @@
+-- The statements on postings, each with what it is compiled to.
+use Rattle.std.proofs.Common.{◌≡◌, ◌≢◌, ◌↔◌, ◌∙◌, sym, ap, ap₂, subst, map, drop, ◌++◌, ℕ, zero, suc, List, [], ◌∷◌, codes, refl, false, true, ℤ, pos, Ok, inl, inr, slice_get, Some, None, Ordering, Less, Equal, Greater}
+use Rattle.std.specs.Ordering.{ordering_then}
+use Rattle.sqlite.specs.declared.types.Value.TheVariants.{Null, Int, Text, Blob}
+use Rattle.sqlite.specs.State.{State, Executes, Shown}
+use Rattle.sqlite.specs.Command.TheVariants.{Update, Select, Delete, Insert, InsertOr}
+use Rattle.sqlite.specs.Source.TheVariants.{Values}
+use Rattle.sqlite.specs.Edit.{next_rowid}
+use Rattle.sqlite.specs.Term.{Term, lit, col}
+use Rattle.sqlite_schema.specs.declared.command.Conflict.TheVariants.{Replace}
+use Rattle.sqlite.specs.Listing.{understood, reads_listing}
+use Rattle.sqlite.proofs.Callers.{IsPlain, command_of}
+use Rattle.sqlite_tied.specs.Compute.{everything}
+use Rattle.zeb_register.specs.Tables.{store_schema, meta_table, databases_table, records_table, postings_table, blocks_table, dict_table}
+use Rattle.zeb_register.specs.Sql.{Condition, equals, at_least, reading, alone, keyed_from, shows, no_limit, Loses, Gains, Replaces, HasRow, IsListOf}
+use Rattle.zeb_register.specs.Kinds.{codes_of, IsPlainTable, HasKeys, code}
+use Rattle.sqlite.specs.Table.{Table}
+use Rattle.zeb_register.specs.Store.{IsStore, Changes, Empties, meta_tree, entry, IsEntryOf, IsValueRow, databases_tree, HasDatabase, AddsDatabase, SetsLast, TakesDatabase, IsDatabaseRow, records_tree, record_row, HasRecord, HasNumber, SharesRecord, IsRecordIn, IsElderRow, IsIdentRow, postings_tree, posting, key_of, place_key, IsPlaceOf, IsPostingIn, IsRest}
+use Rattle.zeb_register.proofs.Writes.{next_free, GainsRow, LosesRows, RemakesRows, updates, changed_so, deletes, inserts, replaces, loses, gains, takes_place, codes_there}
+use Rattle.zeb_register.proofs.RowLemmas.{null_of, spread, code_at, int_of, text_of, blob_of}
+use Rattle.zeb_register.proofs.Selects.{IsSelected, selects, list_so}
+use Rattle.zeb_register.proofs.Prefix.{IsAfter, lists_after}
+use Rattle.zeb_register.proofs.Calls.{IsSilent}
+use Rattle.sqlite.specs.Order.{Row, column}
+use Rattle.sqlite.specs.Tree.{Trees}
+use Rattle.sqlite_rules.specs.Lists.{Has}
+use Rattle.sqlite_rules.proofs.ListLemmas.{has_got}
+
+abbrev pub postings : Table
+postings = record postings_table { tree = 7 }
+
+pub postings_static : IsPlainTable store_schema 3 postings
+postings_static = record { there = refl; whole = refl; free = λ olds news. refl; uncounted = refl; unstamped = refl }
+
+abbrev pub take_text : List ℕ
+take_text = codes "DELETE FROM postings WHERE db = ?1"
+
+pub take_is : command_of (understood store_schema take_text) ≡ Delete 3 (alone (reading 7 (equals 1 0 ∷ []) (shows (0 ∷ [])) [] no_limit))
+unfolding understood everything
+take_is = refl
+
+pub take_plain : IsPlain (understood store_schema take_text)
+unfolding understood everything
+take_plain = (refl, refl)
+
+pub takes : (db : ℤ) (old new : State) (count : ℕ) → IsStore old → Executes take_text (Int db ∷ []) old new (Ok count) → Changes postings_tree (Loses (IsPostingIn db)) old new
+takes db old new count store ran =
+    let wheres = equals 1 0 ∷ [] in
+    loses store_schema 7 old new (Int db ∷ []) wheres (IsPostingIn db) (λ id columns. (λ m. m.0, λ p. (p, tt)))
+    (deletes store_schema 3 postings postings_static take_text (Int db ∷ []) wheres take_is take_plain refl old new count store ran)
+
+-- ---- INSERT
+
+abbrev pub put_text : List ℕ
+put_text = codes "INSERT INTO postings VALUES (?1, ?2, ?3, ?4, ?5, ?6, ?7)"
+
+abbrev put_terms : List Term
+put_terms = lit Null ∷ col 0 0 ∷ col 0 1 ∷ col 0 2 ∷ col 0 3 ∷ col 0 4 ∷ col 0 5 ∷ col 0 6 ∷ []
+
+put_is : command_of (understood store_schema put_text) ≡ Insert 3 (Values put_terms 8)
+unfolding understood everything
+put_is = refl
+
+put_plain : IsPlain (understood store_schema put_text)
+unfolding understood everything
+put_plain = (refl, refl)
+
+pub puts : (db idx reg : ℤ) (term : List ℕ) (sysno seq place : ℤ) (old new : State) (count : ℕ) → IsStore old → Executes put_text (posting db idx reg term sysno seq place) old new (Ok count)
+    → Changes postings_tree (Gains (posting db idx reg term sysno seq place)) old new
+puts db idx reg term sysno seq place old new count store ran =
+    let row = posting db idx reg term sysno seq place in
+    gains store_schema 7 old new row (inserts store_schema 3 postings postings_static put_text row put_terms 8 row put_is put_plain refl refl old new count store ran).0
+
+-- ---- SELECT
+
+postings_keys : HasKeys store_schema postings ((1 ∷ 2 ∷ 3 ∷ 4 ∷ 5 ∷ 6 ∷ 7 ∷ []) ∷ [])
+postings_keys = record { are = λ r new. refl; comparable = refl }
+
+abbrev pub key_text : List ℕ
+key_text = codes "SELECT sysno, seq, pos FROM postings WHERE db = ?1 AND idx = ?2 AND reg = ?3 AND term = ?4 ORDER BY sysno, seq, pos"
+
+abbrev places : List ℕ
+places = 5 ∷ 6 ∷ 7 ∷ []
+
+abbrev key_names : List (List ℕ)
+key_names = codes "sysno" ∷ codes "seq" ∷ codes "pos" ∷ []
+
+key_is : command_of (understood store_schema key_text) ≡ Select (alone (reading 7 (keyed_from 1 0 4) (shows places) places no_limit)) key_names
+unfolding understood everything
+key_is = refl
+
+pub key_plain : IsPlain (understood store_schema key_text) × (reads_listing store_schema key_text ≡ false)
+unfolding understood everything
+key_plain = ((refl, refl), refl)
+
+pub lists_key : (db idx reg : ℤ) (term : List ℕ) (old new : State) (rows : List Row) → IsStore old → Shown key_text (key_of db idx reg term) old new rows
+    → IsListOf (IsRest postings_tree (key_of db idx reg term) old.now.trees) rows
+lists_key db idx reg term old new rows store shown =
+    let key = key_of db idx reg term in
+    let P = IsAfter (old.now.trees 7) key [] [] in
+    let got = lists_after store_schema 3 postings postings_static _ postings_keys key_text key [] [] 3 places no_limit key_names key_is key_plain.0 key_plain.1 refl refl refl refl (λ r s lower. lower) old new rows store shown in
+    list_so P (IsRest 7 key old.now.trees) rows (λ x. (λ h. (h.0, h.1), λ h. (h.0, h.1, tt))) (subst (IsListOf P) (sym got.2) got.1)
+
+pub key_silent : IsSilent key_text
+unfolding everything
+key_silent = λ schema base. refl
+
+abbrev pub spot_text : List ℕ
+spot_text = codes "SELECT seq, pos FROM postings WHERE db = ?1 AND idx = ?2 AND reg = ?3 AND term = ?4 AND sysno = ?5 ORDER BY seq, pos"
+
+abbrev spots : List ℕ
+spots = 6 ∷ 7 ∷ []
+
+spot_is : command_of (understood store_schema spot_text) ≡ Select (alone (reading 7 (keyed_from 1 0 5) (shows spots) spots no_limit)) (codes "seq" ∷ codes "pos" ∷ [])
+unfolding understood everything
+spot_is = refl
+
+spot_plain : IsPlain (understood store_schema spot_text) × (reads_listing store_schema spot_text ≡ false)
+unfolding understood everything
+spot_plain = ((refl, refl), refl)
+
+pub spot_silent : IsSilent spot_text
+unfolding everything
+spot_silent = λ schema base. refl
+
+pub lists_spots : (db idx reg : ℤ) (term : List ℕ) (sysno : ℤ) (old new : State) (rows : List Row) → IsStore old → Shown spot_text (place_key db idx reg term sysno) old new rows
+    → IsListOf (IsRest postings_tree (place_key db idx reg term sysno) old.now.trees) rows
+lists_spots db idx reg term sysno old new rows store shown =
+    let key = place_key db idx reg term sysno in
+    let P = IsAfter (old.now.trees 7) key [] [] in
+    let got = lists_after store_schema 3 postings postings_static _ postings_keys spot_text key [] [] 2 spots no_limit _ spot_is spot_plain.0 spot_plain.1 refl refl refl refl (λ r s lower. lower) old new rows store shown in
+    list_so P (IsRest 7 key old.now.trees) rows (λ x. (λ h. (h.0, h.1), λ h. (h.0, h.1, tt))) (subst (IsListOf P) (sym got.2) got.1)
+
+abbrev pub register_text : List ℕ
+register_text = codes "SELECT term, sysno, seq, pos FROM postings WHERE db = ?1 AND idx = ?2 AND reg = ?3 ORDER BY term, sysno, seq, pos"
+
+abbrev alls : List ℕ
+alls = 4 ∷ 5 ∷ 6 ∷ 7 ∷ []
+
+register_is : command_of (understood store_schema register_text) ≡ Select (alone (reading 7 (keyed_from 1 0 3) (shows alls) alls no_limit)) (codes "term" ∷ codes "sysno" ∷ codes "seq" ∷ codes "pos" ∷ [])
+unfolding understood everything
+register_is = refl
+
+register_plain : IsPlain (understood store_schema register_text) × (reads_listing store_schema register_text ≡ false)
+unfolding understood everything
+register_plain = ((refl, refl), refl)
+
+pub register_silent : IsSilent register_text
+unfolding everything
+register_silent = λ schema base. refl
+
+pub lists_register : (db idx reg : ℤ) (old new : State) (rows : List Row) → IsStore old → Shown register_text (Int db ∷ Int idx ∷ Int reg ∷ []) old new rows
+    → IsListOf (IsRest postings_tree (Int db ∷ Int idx ∷ Int reg ∷ []) old.now.trees) rows
+lists_register db idx reg old new rows store shown =
+    let key = Int db ∷ Int idx ∷ Int reg ∷ [] in
+    let P = IsAfter (old.now.trees 7) key [] [] in
+    let got = lists_after store_schema 3 postings postings_static _ postings_keys register_text key [] [] 4 alls no_limit _ register_is register_plain.0 register_plain.1 refl refl refl refl (λ r s lower. lower) old new rows store shown in
+    list_so P (IsRest 7 key old.now.trees) rows (λ x. (λ h. (h.0, h.1), λ h. (h.0, h.1, tt))) (subst (IsListOf P) (sym got.2) got.1)
+
+-- ---- DELETE of a record's places
+
+abbrev pub lift_text : List ℕ
+lift_text = codes "DELETE FROM postings WHERE db = ?1 AND idx = ?2 AND reg = ?3 AND term = ?4 AND sysno = ?5"
+
+abbrev lift_wheres : List Condition
+lift_wheres = equals 1 0 ∷ equals 2 1 ∷ equals 3 2 ∷ equals 4 3 ∷ equals 5 4 ∷ []
+
+lift_is : command_of (understood store_schema lift_text) ≡ Delete 3 (alone (reading 7 lift_wheres (shows (0 ∷ [])) [] no_limit))
+unfolding understood everything
+lift_is = refl
+
+lift_plain : IsPlain (understood store_schema lift_text)
+unfolding understood everything
+lift_plain = (refl, refl)
+
+pub lifts : (db idx reg : ℤ) (term : List ℕ) (sysno : ℤ) (old new : State) (count : ℕ) → IsStore old → Executes lift_text (place_key db idx reg term sysno) old new (Ok count)
+    → Changes postings_tree (Loses (IsPlaceOf db idx reg term sysno)) old new
+lifts db idx reg term sysno old new count store ran =
+    loses store_schema 7 old new (place_key db idx reg term sysno) lift_wheres (IsPlaceOf db idx reg term sysno) (λ id columns. (
+      λ m. (m.0, m.1.0, m.1.1.0, m.1.1.1.0, m.1.1.1.1.0),
+      λ p. (p.0, (p.1, (p.2, (p.3, (p.4, tt))))),
+    )) (deletes store_schema 3 postings postings_static lift_text (place_key db idx reg term sysno) lift_wheres lift_is lift_plain refl old new count store ran)
+
+-- ---- the terms next to a text
+
+abbrev pub from_text : List ℕ
+from_text = codes "SELECT term, sysno, seq, pos FROM postings WHERE db = ?1 AND idx = ?2 AND reg = ?3 AND term >= ?4 ORDER BY term, sysno, seq, pos LIMIT 1"
+
+pub from_silent : IsSilent from_text
+unfolding everything
+from_silent = λ schema base. refl
+
+abbrev pub before_text : List ℕ
+before_text = codes "SELECT term FROM postings WHERE db = ?1 AND idx = ?2 AND reg = ?3 AND term < ?4 ORDER BY term DESC LIMIT 1"
+
+pub before_silent : IsSilent before_text
+unfolding everything
+before_silent = λ schema base. refl

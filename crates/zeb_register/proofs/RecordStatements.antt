@@ -1,0 +1,211 @@
+-- The statements on records, each with what it is compiled to.
+use Rattle.std.proofs.Common.{◌≡◌, ◌≢◌, ◌↔◌, ◌∙◌, sym, ap, ap₂, subst, map, drop, ◌++◌, ℕ, zero, suc, List, [], ◌∷◌, codes, refl, false, true, ℤ, pos, Ok, inl, inr, slice_get, Some, None, Ordering, Less, Equal, Greater}
+use Rattle.std.specs.Ordering.{ordering_then}
+use Rattle.sqlite.specs.declared.types.Value.TheVariants.{Null, Int, Text, Blob}
+use Rattle.sqlite.specs.State.{State, Executes, Shown}
+use Rattle.sqlite.specs.Command.TheVariants.{Update, Select, Delete, Insert, InsertOr}
+use Rattle.sqlite.specs.Source.TheVariants.{Values}
+use Rattle.sqlite.specs.Edit.{next_rowid}
+use Rattle.sqlite.specs.Term.{Term, lit, col}
+use Rattle.sqlite_schema.specs.declared.command.Conflict.TheVariants.{Replace}
+use Rattle.sqlite.specs.Listing.{understood, reads_listing}
+use Rattle.sqlite.proofs.Callers.{IsPlain, command_of}
+use Rattle.sqlite_tied.specs.Compute.{everything}
+use Rattle.zeb_register.specs.Tables.{store_schema, meta_table, databases_table, records_table, postings_table, blocks_table, dict_table}
+use Rattle.zeb_register.specs.Sql.{Condition, equals, at_least, reading, alone, keyed_from, shows, no_limit, Loses, Gains, Replaces, HasRow, IsListOf}
+use Rattle.zeb_register.specs.Kinds.{codes_of, IsPlainTable, HasKeys, code}
+use Rattle.sqlite.specs.Table.{Table}
+use Rattle.zeb_register.specs.Store.{IsStore, Changes, Empties, meta_tree, entry, IsEntryOf, IsValueRow, databases_tree, HasDatabase, AddsDatabase, SetsLast, TakesDatabase, IsDatabaseRow, records_tree, record_row, HasRecord, HasNumber, SharesRecord, IsRecordIn, IsElderRow, IsIdentRow, postings_tree, posting, key_of, place_key, IsPlaceOf, IsPostingIn, IsRest}
+use Rattle.zeb_register.proofs.Writes.{next_free, GainsRow, LosesRows, RemakesRows, updates, changed_so, deletes, inserts, replaces, loses, gains, takes_place, codes_there}
+use Rattle.zeb_register.proofs.RowLemmas.{null_of, spread, code_at, int_of, text_of, blob_of}
+use Rattle.zeb_register.proofs.Selects.{IsSelected, selects, list_so}
+use Rattle.zeb_register.proofs.Prefix.{IsAfter, lists_after}
+use Rattle.zeb_register.proofs.Calls.{IsSilent}
+use Rattle.sqlite.specs.Order.{Row, column}
+use Rattle.sqlite.specs.Tree.{Trees}
+use Rattle.sqlite_rules.specs.Lists.{Has}
+use Rattle.sqlite_rules.proofs.ListLemmas.{has_got}
+
+abbrev pub records : Table
+records = record records_table { tree = 4 }
+
+records_static : IsPlainTable store_schema 2 records
+records_static = record { there = refl; whole = refl; free = λ olds news. refl; uncounted = refl; unstamped = refl }
+
+records_keys : HasKeys store_schema records ((1 ∷ 2 ∷ []) ∷ (1 ∷ 3 ∷ []) ∷ [])
+records_keys = record { are = λ r new. refl; comparable = refl }
+
+-- a row of the table, whose columns are known
+row_of : (r : Row) → map code r ≡ codes_of records → (id : ℤ) × (db : ℤ) × (sysno : ℤ) × (ident : List ℕ) × (bytes : List ℕ) × (r ≡ Int id ∷ record_row db sysno ident bytes)
+row_of r typed =
+    let id = int_of (column r 0) (code_at r (codes_of records) 0 typed) in
+    let db = int_of (column r 1) (code_at r (codes_of records) 1 typed) in
+    let sysno = int_of (column r 2) (code_at r (codes_of records) 2 typed) in
+    let ident = text_of (column r 3) (code_at r (codes_of records) 3 typed) in
+    let bytes = blob_of (column r 4) (code_at r (codes_of records) 4 typed) in
+    let all : r ≡ column r 0 ∷ column r 1 ∷ column r 2 ∷ column r 3 ∷ column r 4 ∷ [] = spread r (codes_of records) typed in
+    (id.0, db.0, sysno.0, ident.0, bytes.0, all ∙ ap₂ (λ a b. a ∷ b ∷ column r 2 ∷ column r 3 ∷ column r 4 ∷ []) id.1 db.1 ∙ ap₂ (λ c d. Int id.0 ∷ Int db.0 ∷ c ∷ d ∷ column r 4 ∷ []) sysno.1 ident.1 ∙ ap (λ e. Int id.0 ∷ Int db.0 ∷ Int sysno.0 ∷ Text ident.0 ∷ e ∷ []) bytes.1)
+
+-- ---- INSERT OR REPLACE
+
+abbrev pub keep_text : List ℕ
+keep_text = codes "INSERT OR REPLACE INTO records VALUES (?1, ?2, ?3, ?4)"
+
+abbrev keep_terms : List Term
+keep_terms = lit Null ∷ col 0 0 ∷ col 0 1 ∷ col 0 2 ∷ col 0 3 ∷ []
+
+keep_is : command_of (understood store_schema keep_text) ≡ InsertOr 2 Replace (Values keep_terms 5) []
+unfolding understood everything
+keep_is = refl
+
+keep_plain : IsPlain (understood store_schema keep_text)
+unfolding understood everything
+keep_plain = (refl, refl)
+
+pub keeps_record : (db sysno : ℤ) (ident bytes : List ℕ) (old new : State) (count : ℕ) → IsStore old → Executes keep_text (record_row db sysno ident bytes) old new (Ok count)
+    → Changes records_tree (Replaces (SharesRecord db sysno ident) (record_row db sysno ident bytes)) old new
+keeps_record db sysno ident bytes old new count store ran =
+    let row = record_row db sysno ident bytes in
+    let keys = (1 ∷ 2 ∷ []) ∷ (1 ∷ 3 ∷ []) ∷ [] in
+    takes_place store_schema 4 old new keys (SharesRecord db sysno ident) row (λ id other columns. (
+      λ h. elim h [ inl m ↦ inl (m.0, m.1.0) | inr more ↦ elim more [ inl m ↦ inr (m.0, m.1.0) | inr none ↦ absurd none ] ],
+      λ p. elim p [ inl m ↦ inl (m.0, (m.1, tt)) | inr m ↦ inr (inl (m.0, (m.1, tt))) ],
+    )) (replaces store_schema 2 records records_static keep_text row keep_terms 5 row keys keep_is keep_plain refl refl (λ id. refl) records_keys old new count store ran).0
+
+-- ---- DELETE
+
+abbrev pub remove_text : List ℕ
+remove_text = codes "DELETE FROM records WHERE db = ?1 AND sysno = ?2"
+
+abbrev number_wheres : List Condition
+number_wheres = equals 1 0 ∷ equals 2 1 ∷ []
+
+remove_is : command_of (understood store_schema remove_text) ≡ Delete 2 (alone (reading 4 number_wheres (shows (0 ∷ [])) [] no_limit))
+unfolding understood everything
+remove_is = refl
+
+remove_plain : IsPlain (understood store_schema remove_text)
+unfolding understood everything
+remove_plain = (refl, refl)
+
+pub removes : (db sysno : ℤ) (old new : State) (count : ℕ) → IsStore old → Executes remove_text (Int db ∷ Int sysno ∷ []) old new (Ok count) → Changes records_tree (Loses (HasNumber db sysno)) old new
+removes db sysno old new count store ran =
+    loses store_schema 4 old new (Int db ∷ Int sysno ∷ []) number_wheres (HasNumber db sysno) (λ id columns. (λ m. (m.0, m.1.0), λ p. (p.0, (p.1, tt))))
+    (deletes store_schema 2 records records_static remove_text (Int db ∷ Int sysno ∷ []) number_wheres remove_is remove_plain refl old new count store ran)
+
+abbrev pub clear_text : List ℕ
+clear_text = codes "DELETE FROM records WHERE db = ?1"
+
+clear_is : command_of (understood store_schema clear_text) ≡ Delete 2 (alone (reading 4 (equals 1 0 ∷ []) (shows (0 ∷ [])) [] no_limit))
+unfolding understood everything
+clear_is = refl
+
+clear_plain : IsPlain (understood store_schema clear_text)
+unfolding understood everything
+clear_plain = (refl, refl)
+
+pub clears : (db : ℤ) (old new : State) (count : ℕ) → IsStore old → Executes clear_text (Int db ∷ []) old new (Ok count) → Changes records_tree (Loses (IsRecordIn db)) old new
+clears db old new count store ran =
+    let wheres = equals 1 0 ∷ [] in
+    loses store_schema 4 old new (Int db ∷ []) wheres (IsRecordIn db) (λ id columns. (λ m. m.0, λ p. (p, tt)))
+    (deletes store_schema 2 records records_static clear_text (Int db ∷ []) wheres clear_is clear_plain refl old new count store ran)
+
+-- ---- SELECT
+
+abbrev pub elder_text : List ℕ
+elder_text = codes "SELECT sysno, bytes FROM records WHERE db = ?1 AND ident = ?2"
+
+abbrev elder_wheres : List Condition
+elder_wheres = equals 1 0 ∷ equals 3 1 ∷ []
+
+abbrev elder_shows : List ℕ
+elder_shows = 2 ∷ 4 ∷ []
+
+elder_is : command_of (understood store_schema elder_text) ≡ Select (alone (reading 4 elder_wheres (shows elder_shows) [] no_limit)) (codes "sysno" ∷ codes "bytes" ∷ [])
+unfolding understood everything
+elder_is = refl
+
+elder_plain : IsPlain (understood store_schema elder_text) × (reads_listing store_schema elder_text ≡ false)
+unfolding understood everything
+elder_plain = ((refl, refl), refl)
+
+pub elder_silent : IsSilent elder_text
+unfolding everything
+elder_silent = λ schema base. refl
+
+pub lists_elder : (db : ℤ) (ident : List ℕ) (old new : State) (rows : List Row) → IsStore old → Shown elder_text (Int db ∷ Text ident ∷ []) old new rows → IsListOf (IsElderRow db ident old.now.trees) rows
+lists_elder db ident old new rows store shown =
+    let all = old.now.trees 4 in
+    let params = Int db ∷ Text ident ∷ [] in
+    let P = IsSelected all elder_wheres params elder_shows in
+    let got = selects store_schema 2 records records_static _ records_keys elder_text params elder_wheres elder_shows [] no_limit _ elder_is elder_plain.0 elder_plain.1 refl refl refl (λ r s lower. absurd cc) old new rows store shown in
+    list_so P (IsElderRow db ident old.now.trees) rows (λ x. (
+      λ h.
+          let was = row_of h.0 (codes_there store_schema 2 records records_static old h.0 store h.1) in
+          let in_db : was.1 ≡ db = let e : Int was.1 ≡ Int db = ap (λ (r : Row). column r 1) (sym was.5) ∙ h.2.0 in cc in
+          let same : was.3 ≡ ident = let e : Text was.3 ≡ Text ident = ap (λ (r : Row). column r 3) (sym was.5) ∙ h.2.1.0 in cc in
+          (was.2, was.4, h.3 ∙ ap (λ (r : Row). column r 2 ∷ column r 4 ∷ []) was.5, (was.0, subst (Has all) (was.5 ∙ ap₂ (λ d i. Int was.0 ∷ record_row d was.2 i was.4) in_db same) h.1)),
+      λ h. (Int h.3.0 ∷ record_row db h.0 ident h.1, h.3.1, (refl, (refl, tt)), h.2),
+    )) (subst (IsListOf P) (sym got.2) got.1)
+
+abbrev pub ident_text : List ℕ
+ident_text = codes "SELECT ident FROM records WHERE db = ?1 AND sysno = ?2"
+
+ident_is : command_of (understood store_schema ident_text) ≡ Select (alone (reading 4 number_wheres (shows (3 ∷ [])) [] no_limit)) (codes "ident" ∷ [])
+unfolding understood everything
+ident_is = refl
+
+ident_plain : IsPlain (understood store_schema ident_text) × (reads_listing store_schema ident_text ≡ false)
+unfolding understood everything
+ident_plain = ((refl, refl), refl)
+
+pub ident_silent : IsSilent ident_text
+unfolding everything
+ident_silent = λ schema base. refl
+
+pub lists_ident : (db sysno : ℤ) (old new : State) (rows : List Row) → IsStore old → Shown ident_text (Int db ∷ Int sysno ∷ []) old new rows → IsListOf (IsIdentRow db sysno old.now.trees) rows
+lists_ident db sysno old new rows store shown =
+    let all = old.now.trees 4 in
+    let params = Int db ∷ Int sysno ∷ [] in
+    let P = IsSelected all number_wheres params (3 ∷ []) in
+    let got = selects store_schema 2 records records_static _ records_keys ident_text params number_wheres (3 ∷ []) [] no_limit _ ident_is ident_plain.0 ident_plain.1 refl refl refl (λ r s lower. absurd cc) old new rows store shown in
+    list_so P (IsIdentRow db sysno old.now.trees) rows (λ x. (
+      λ h.
+          let was = row_of h.0 (codes_there store_schema 2 records records_static old h.0 store h.1) in
+          let in_db : was.1 ≡ db = let e : Int was.1 ≡ Int db = ap (λ (r : Row). column r 1) (sym was.5) ∙ h.2.0 in cc in
+          let same : was.2 ≡ sysno = let e : Int was.2 ≡ Int sysno = ap (λ (r : Row). column r 2) (sym was.5) ∙ h.2.1.0 in cc in
+          (was.3, was.4, h.3 ∙ ap (λ (r : Row). column r 3 ∷ []) was.5, (was.0, subst (Has all) (was.5 ∙ ap₂ (λ d i. Int was.0 ∷ record_row d i was.3 was.4) in_db same) h.1)),
+      λ h. (Int h.3.0 ∷ record_row db sysno h.0 h.1, h.3.1, (refl, (refl, tt)), h.2),
+    )) (subst (IsListOf P) (sym got.2) got.1)
+
+abbrev pub all_text : List ℕ
+all_text = codes "SELECT sysno, ident, bytes FROM records WHERE db = ?1 ORDER BY sysno"
+
+all_is : command_of (understood store_schema all_text) ≡ Select (alone (reading 4 (keyed_from 1 0 1) (shows (2 ∷ 3 ∷ 4 ∷ [])) (2 ∷ []) no_limit)) (codes "sysno" ∷ codes "ident" ∷ codes "bytes" ∷ [])
+unfolding understood everything
+all_is = refl
+
+all_plain : IsPlain (understood store_schema all_text) × (reads_listing store_schema all_text ≡ false)
+unfolding understood everything
+all_plain = ((refl, refl), refl)
+
+pub all_silent : IsSilent all_text
+unfolding everything
+all_silent = λ schema base. refl
+
+first_lower : (o p : Ordering) → ordering_then o Equal ≡ Less → ordering_then o p ≡ Less
+first_lower Less p h = refl
+first_lower Equal p h = absurd cc
+first_lower Greater p h = absurd cc
+
+pub lists_all : (db : ℤ) (old new : State) (rows : List Row) → IsStore old → Shown all_text (Int db ∷ []) old new rows → IsListOf (IsRest records_tree (Int db ∷ []) old.now.trees) rows
+lists_all db old new rows store shown =
+    let key = Int db ∷ [] in
+    let P = IsAfter (old.now.trees 4) key [] [] in
+    let got = lists_after store_schema 2 records records_static _ records_keys all_text key [] [] 3 (2 ∷ []) no_limit _ all_is all_plain.0 all_plain.1 refl refl refl refl (λ r s lower. first_lower _ _ lower) old new rows store shown in
+    list_so P (IsRest 4 key old.now.trees) rows (λ x. (λ h. (h.0, h.1), λ h. (h.0, h.1, tt))) (subst (IsListOf P) (sym got.2) got.1)
+
+-- what the other columns of a record of the database are
+pub record_rest : (s : State) (db : ℤ) (r : Row) → IsStore s → HasRow s.now.trees records_tree (Int db ∷ r) → (sysno : ℤ) × (ident : List ℕ) × (bytes : List ℕ) × (r ≡ Int sysno ∷ Text ident ∷ Blob bytes ∷ [])
+record_rest s db r store h =
+    let was = row_of (Int h.0 ∷ Int db ∷ r) (codes_there store_schema 2 records records_static s (Int h.0 ∷ Int db ∷ r) store h.1) in (was.2, was.3, was.4, ap (drop 2) was.5)

@@ -1,0 +1,153 @@
+-- What SELECT over one table answers.
+use Rattle.std.proofs.Common.{◌≡◌, ◌↔◌, inl, inr, ℕ, suc, ◌+◌, ◌^◌, get_or, arith, Ordering, Less, Equal, Greater, is_eq, ◌≢◌, Bool, true, false, List, [], ◌∷◌, map, refl, sym, ap, subst, ◌∙◌, leb}
+use Rattle.std.specs.Prelude.{filter, flat_map, IsPermutation, IsSorted}
+use Rattle.std.specs.Cmp.{IsTotalOrder}
+use Rattle.std.specs.Ordering.{is_lt, eq_by_cmp, ordering_reverse}
+use Rattle.std.specs.List.{IsDistinct}
+use Rattle.std.specs.List.Sorted.{IsStrictlySortedBy}
+use Rattle.std.proofs.lemmas.Bool.{cases_Bool}
+use Rattle.std.proofs.lemmas.List.Sorted.{IsPermutation-sym, sorted_far, ranks_by}
+use Rattle.sqlite.specs.declared.types.Value.{Value}
+use Rattle.sqlite.specs.declared.types.Value.TheVariants.{Null}
+use Rattle.sqlite.specs.Order.{Row, column, value_cmp, row_cmp}
+use Rattle.sqlite.specs.Query.{Output, output_cmp, end, IsAnswer, output, matches_as}
+use Rattle.sqlite.specs.Term.{Term, Env, eval_all}
+use Rattle.sqlite.specs.Tree.{Trees, IsTable, IsAscending, rowid}
+use Rattle.sqlite.specs.Program.{overlay}
+use Rattle.sqlite.specs.Effect.{Database, Answers}
+use Rattle.std.proofs.lemmas.Cmp.{eq_by_cmp_equiv}
+use Rattle.std.proofs.lemmas.Map.Keys.{IsDistinct-IsPermutation}
+use Rattle.sqlite_sql.proofs.QueryLemmas.{output_cmp_total}
+use Rattle.sqlite_catalog.proofs.LayoutLemmas.{ascending_filter}
+use Rattle.sqlite_trees.proofs.ListLemmas.{map-map, all-permutation}
+use Rattle.sqlite_rules.specs.Lists.{Has}
+use Rattle.sqlite_rules.proofs.ListLemmas.{all_has, all_from, contains_had, has_filtered, has_kept}
+use Rattle.sqlite_rules.proofs.ProbeLemmas.{has_mapped, mapped_has}
+use Rattle.zeb_register.specs.Sql.{Condition, term_of, passes, reading, alone, rising, ascending, ordering, shown_of, IsReading}
+
+-- ---- sorted lists
+
+sorted_tail : {X : Type 0} (R : X → X → Ordering) (x : X) (xs : List X) → IsSorted R (x ∷ xs) → IsSorted R xs
+sorted_tail R x xs up = λ k d low within. ap (λ n. is_lt (R (get_or (x ∷ xs) n d) (get_or xs k d))) (let e : suc (k + 1) ≡ suc k + 1 = omega arith in e) ∙ up (suc k) d (omega arith) (omega arith)
+
+-- what is sorted and has no ties rises
+strictly : {X : Type 0} (R : X → X → Ordering) (o : IsTotalOrder R) (xs : List X) → IsSorted R xs → IsDistinct (eq_by_cmp R) xs → IsStrictlySortedBy R xs
+unfolding IsStrictlySortedBy IsDistinct
+strictly R o [] up apart = tt
+strictly R o (x ∷ xs) up apart = (
+  all_from (λ y. R x y ≡ Less) xs (λ y h.
+      let k = contains_had xs y h in
+      let far = sorted_far (λ a b. is_lt (R a b)) (ranks_by o (λ z. z)) (x ∷ xs) up 0 (suc k.0) y (omega arith) (omega (arith, k.1)) in
+      below (R x y) (R y x) (o.antisymm y x) (all_has (λ z. eq_by_cmp R x z ≡ false) xs y apart.0 h) (rw k.2 at far)),
+  strictly R o xs (sorted_tail R x xs up) apart.1,
+)
+  where
+    below : (p q : Ordering) → q ≡ ordering_reverse p → is_eq p ≡ false → is_lt q ≡ false → p ≡ Less
+    below Less q back other not_lower = refl
+    below Equal q back other not_lower = absurd cc
+    below Greater q back other not_lower = absurd (let e = rw back at not_lower in cc)
+
+strictly_mapped : {X Y : Type 0} (R : X → X → Ordering) (S : Y → Y → Ordering) (f : X → Y) (xs : List X) → ((a b : X) → Has xs a → Has xs b → R a b ≡ Less → S (f a) (f b) ≡ Less) → IsStrictlySortedBy R xs → IsStrictlySortedBy S (map f xs)
+unfolding IsStrictlySortedBy
+strictly_mapped R S f [] so up = tt
+strictly_mapped R S f (x ∷ xs) so up = (
+  all_from (λ y. S (f x) y ≡ Less) (map f xs) (λ y h. let z = has_mapped f xs y h in rw z.2 (so x z.0 (inl refl) (inr z.1) (all_has (λ b. R x b ≡ Less) xs z.0 up.0 z.1))),
+  strictly_mapped R S f xs (λ a b h k. so a b (inr h) (inr k)) up.1,
+)
+
+distinct_mapped : {X Y : Type 0} (L : X → X → Type 0) (e : Y → Y → Bool) (f : X → Y) (xs : List X) → ((a b : X) → Has xs a → Has xs b → L a b → e (f a) (f b) ≡ false) → IsAscending L xs → IsDistinct e (map f xs)
+unfolding IsDistinct
+distinct_mapped L e f [] so up = tt
+distinct_mapped L e f (x ∷ xs) so up = (
+  all_from (λ y. e (f x) y ≡ false) (map f xs) (λ y h. let z = has_mapped f xs y h in rw z.2 (so x z.0 (inl refl) (inr z.1) (all_has (L x) xs z.0 up.0 z.1))),
+  distinct_mapped L e f xs (λ a b h k. so a b (inr h) (inr k)) up.1,
+)
+
+tied : (o : Ordering) → is_eq o ≡ true → o ≡ Equal
+tied Less h = absurd cc
+tied Equal h = refl
+tied Greater h = absurd cc
+
+keys_by : (order : List ℕ) → map (λ k. k.1) (rising order) ≡ map (λ _. ascending) order
+keys_by [] = refl
+keys_by (place ∷ order) = ap (λ ks. ascending ∷ ks) (keys_by order)
+
+read_by : (params r : Row) (order : List ℕ) → eval_all (map (λ k. k.0) (rising order)) (params ∷ r ∷ []) ≡ map (column r) order
+read_by params r [] = refl
+read_by params r (place ∷ order) = ap (λ vs. column r place ∷ vs) (read_by params r order)
+
+-- ---- answers
+
+-- each row that passes, beside the parameters
+matched : (wheres : List Condition) (params : Row) (lost : Value) (db : Trees) (rows : List Row)
+    → flat_map (λ r. matches_as lost db (map term_of wheres) end (params ∷ r ∷ [])) rows ≡ map (λ r. params ∷ r ∷ []) (filter (passes wheres params) rows)
+matched wheres params lost db [] = refl
+matched wheres params lost db (r ∷ rows) = elim (cases_Bool (passes wheres params r)) [
+  | inl is ↦ rw is (ap (λ (xs : List Env). (params ∷ r ∷ []) ∷ xs) (matched wheres params lost db rows))
+  | inr is_not ↦ rw is_not (matched wheres params lost db rows)
+]
+
+-- with no table of a WITH, a tree is that of the store
+plain : (db : Trees) (tree : ℕ) → overlay db [] tree ≡ db tree
+plain db tree = elim (cases_Bool (leb (2 ^ 31) tree)) [ inl is ↦ rw is | inr is_not ↦ rw is_not ]
+
+pub reads : (schema_db : Database) (tree : ℕ) (wheres : List Condition) (project : List Term) (order : List ℕ) (limit : Term) (params : Row) (rows : List Row)
+    → Answers schema_db (alone (reading tree wheres project order limit)) params rows → IsReading (schema_db.trees tree) wheres project order limit params rows
+reads schema_db tree wheres project order limit params rows h =
+    let db = schema_db.trees in
+    let q = reading tree wheres project order limit in
+    let a : IsAnswer q (overlay db []) params rows = h.answer Null in
+    let staged : a.staged ≡ map (λ r. params ∷ r ∷ []) (filter (passes wheres params) (db tree)) =
+    a.grouped ∙ matched wheres params Null (overlay db []) (overlay db [] tree) ∙ ap (λ rs. map (λ r. params ∷ r ∷ []) (filter (passes wheres params) rs)) (plain db tree) in
+    let kept : a.kept ≡ map (shown_of project order params) (filter (passes wheres params) (db tree)) =
+    a.distinct ∙ ap (map (output q)) staged ∙ map-map (output q) (λ r. params ∷ r ∷ []) _ in
+    record { ordered = a.ordered; same = subst (λ k. IsPermutation k a.ordered) kept a.same; sorted = a.sorted; shown = a.shown }
+
+has_permuted : {X : Type 0} (xs ys : List X) (x : X) → IsPermutation xs ys → Has ys x → Has xs x
+has_permuted xs ys x same = all_has (Has xs) ys x (all-permutation (Has xs) xs ys same (all_from (Has xs) xs (λ e h. h)))
+
+module _ (db : List Row) (wheres : List Condition) (project : List Term) (order : List ℕ) (limit : Term) (params : Row) (rows : List Row) (h : IsReading db wheres project order limit params rows) where
+  abbrev one : Row → Output
+  one = shown_of project order params
+
+  abbrev pub all_shown : List Row
+  all_shown = map (λ (o : Output). o.1) h.ordered
+
+  origin : (o : Output) → Has h.ordered o → (r : Row) × Has db r × (passes wheres params r ≡ true) × (o ≡ one r)
+  origin o there =
+      let r = has_mapped one (filter (passes wheres params) db) o (has_permuted (map one (filter (passes wheres params) db)) h.ordered o h.same there) in
+      let found = has_filtered (passes wheres params) db r.0 r.1 in
+      (r.0, found.0, found.1, r.2)
+
+  -- a row is shown exactly where it passes
+  pub shows_each : (x : Row) → Has all_shown x ↔ ((r : Row) × Has db r × (passes wheres params r ≡ true) × (x ≡ eval_all project (params ∷ r ∷ [])))
+  shows_each x = (
+    λ there. let o = has_mapped (λ (k : Output). k.1) h.ordered x there in let r = origin o.0 o.1 in (r.0, r.1, r.2, o.2 ∙ ap (λ (k : Output). k.1) r.3),
+    λ is.
+        let there = mapped_has one (filter (passes wheres params) db) is.0 (has_kept (passes wheres params) db is.0 is.1 is.2) in
+        let put = has_permuted h.ordered (map one (filter (passes wheres params) db)) (one is.0) (IsPermutation-sym _ _ h.same) there in
+        subst (Has all_shown) (sym is.3) (mapped_has (λ (k : Output). k.1) h.ordered (one is.0) put),
+  )
+
+  ordered_by : (r s : Row) → output_cmp (reading 0 wheres project order limit) (one r) (one s) ≡ ordering order r s
+  ordered_by r s = rw (keys_by order, read_by params r order, read_by params s order)
+
+  -- where no two rows that pass tie in ORDER BY, the rows rise
+  pub shows_rising : IsTable db → ((r s : Row) → Has db r → Has db s → passes wheres params r ≡ true → passes wheres params s ≡ true → value_cmp (rowid r) (rowid s) ≡ Less → ordering order r s ≢ Equal)
+      → ((r s : Row) → ordering order r s ≡ Less → row_cmp (eval_all project (params ∷ r ∷ [])) (eval_all project (params ∷ s ∷ [])) ≡ Less) → IsStrictlySortedBy row_cmp all_shown
+  shows_rising up apart rises =
+      let R = output_cmp (reading 0 wheres project order limit) in
+      let total = output_cmp_total (reading 0 wheres project order limit) in
+      let kept = filter (passes wheres params) db in
+      let distinct = distinct_mapped (λ a b. value_cmp (rowid a) (rowid b) ≡ Less) (eq_by_cmp R) one kept (λ a b here there lower.
+      let r = has_filtered (passes wheres params) db a here in
+      let s = has_filtered (passes wheres params) db b there in
+      elim (cases_Bool (eq_by_cmp R (one a) (one b))) [
+        | inl ties ↦ absurd (apart a b r.0 s.0 r.1 s.1 lower (sym (ordered_by a b) ∙ tied (R (one a) (one b)) ties))
+        | inr other ↦ other
+      ]) (ascending_filter (λ a b. value_cmp (rowid a) (rowid b) ≡ Less) (passes wheres params) db up) in
+      let apart_now = IsDistinct-IsPermutation (eq_by_cmp R) (eq_by_cmp_equiv total).symm (map one kept) h.ordered h.same distinct in
+      strictly_mapped R row_cmp (λ (o : Output). o.1) h.ordered (λ a b here there lower.
+      let r = origin a here in
+      let s = origin b there in
+      rw (r.3, s.3) (rises r.0 s.0 (sym (ordered_by r.0 s.0) ∙ rw (r.3, s.3) at lower))) (strictly R total h.ordered h.sorted apart_now)

@@ -1,0 +1,14 @@
+use Rattle.zeb_register.proofs.Calls.{lists, nothing, quiet}
+use Rattle.zeb_register.proofs.DatabaseStatements.{lists_named, named_silent}
+use Rattle.zeb_register.specs.Store.{IsDatabaseRow}
+use Rattle.zeb_register.proofs.statements.databases.database_rows.Goals as goal
+
+pub returns-clause-ok : goal.returns-clause-ok
+returns-clause-ok g c clean = lists (λ rows. rows.items) (λ trees. IsDatabaseRow trees c.args.name.now) _ _ _ _ c.query_all.result named_silent (c.query_all.ensures.ok clean)
+    (λ rows store shown. lists_named c.args.name.now _ _ rows store (simp (c.params-to_sql.ensures) at shown))
+
+pub returns-clause-same : goal.returns-clause-same
+returns-clause-same g c clean = nothing (λ rows. rows.items) _ _ _ _ c.query_all.result _ named_silent c.is_autocommit-idle.ensures.value c.is_autocommit-idle.ensures.settled (c.query_all.ensures.ok clean) (c.query_all.ensures.err clean)
+
+pub returns-clause-crash : goal.returns-clause-crash
+returns-clause-crash g c = quiet _ _ _ _ named_silent c.query_all.ensures.survives

@@ -1,0 +1,9 @@
+use Rattle.zeb_register.proofs.Calls.{nothing, quiet}
+use Rattle.zeb_register.proofs.PostingStatements.{from_silent}
+use Rattle.zeb_register.proofs.statements.postings.rows_from.Goals as goal
+
+pub returns-clause-same : goal.returns-clause-same
+returns-clause-same g c clean = nothing (λ rows. rows.items) _ _ _ _ c.query_all.result _ from_silent c.is_autocommit-idle.ensures.value c.is_autocommit-idle.ensures.settled (c.query_all.ensures.ok clean) (c.query_all.ensures.err clean)
+
+pub returns-clause-crash : goal.returns-clause-crash
+returns-clause-crash g c = quiet _ _ _ _ from_silent c.query_all.ensures.survives

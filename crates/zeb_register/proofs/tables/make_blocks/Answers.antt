@@ -1,0 +1,29 @@
+use Rattle.std.proofs.Common.{arith}
+use Rattle.zeb_register.proofs.Makes.{blocks_made, blocks_there}
+use Rattle.zeb_register.proofs.Chains.{still_unchanged, quiet_then}
+use Rattle.zeb_register.proofs.Chains.{inside_keeps}
+use Rattle.zeb_register.proofs.Calls.{goes_then, goes_keeps, on_err}
+use Rattle.zeb_register.proofs.tables.make_blocks.Goals as goal
+
+pub returns-clause-made : goal.returns-clause-made
+returns-clause-made g c clean inside has =
+    let was = c.in_ok-make_postings.ensures.made (omega (arith, c.execute.ensures.survives.clean)) inside has in blocks_made _ _ _ (c.in_ok-execute.ensures.runs clean was.inside).0 was
+
+pub returns-clause-there : goal.returns-clause-there
+returns-clause-there g c clean inside has =
+    let was = c.in_ok-make_postings.ensures.there (omega (arith, c.execute.ensures.survives.clean)) inside has in
+    still_unchanged _ _ _ inside has was (λ again mode. blocks_there _ _ _ (c.in_ok-execute.ensures.runs clean mode).0 again)
+
+pub returns-clause-crash : goal.returns-clause-crash
+returns-clause-crash g c = quiet_then _ _ _ c.make_postings.ensures.crash c.execute.ensures.survives
+
+pub returns-in_err-execute-clause-crash : goal.returns-in_err-execute-clause-crash
+returns-in_err-execute-clause-crash g c = quiet_then _ _ _ c.make_postings.ensures.crash c.execute.ensures.survives
+
+pub returns-clause-ok : goal.returns-clause-ok
+returns-clause-ok g c clean inside =
+    let was = c.in_ok-make_postings.ensures.ok (omega (arith, c.execute.ensures.survives.clean)) inside in goes_then _ _ _ was (c.in_ok-execute.ensures.runs clean was.mode).1
+
+pub returns-in_err-execute-clause-err : goal.returns-in_err-execute-clause-err
+returns-in_err-execute-clause-err g c clean inside =
+    let was = c.in_ok-make_postings.ensures.ok (omega (arith, c.execute.ensures.survives.clean)) inside in on_err _ _ (goes_keeps _ _ _ was (inside_keeps _ _ _ _ _ (c.execute.ensures.runs clean was.mode)))

@@ -1,0 +1,13 @@
+use Rattle.zeb_register.proofs.Makes.{meta_made, meta_there}
+use Rattle.zeb_register.proofs.Chains.{inside_keeps}
+use Rattle.zeb_register.proofs.Calls.{on_err}
+use Rattle.zeb_register.proofs.tables.make_meta.Goals as goal
+
+pub returns-clause-made : goal.returns-clause-made
+returns-clause-made g c clean inside has = meta_made _ _ _ (c.in_ok-execute.ensures.runs clean inside).0 has inside
+
+pub returns-clause-there : goal.returns-clause-there
+returns-clause-there g c clean inside has = meta_there _ _ _ (c.in_ok-execute.ensures.runs clean inside).0 has
+
+pub returns-in_err-execute-clause-err : goal.returns-in_err-execute-clause-err
+returns-in_err-execute-clause-err g c clean inside = on_err _ _ (inside_keeps _ _ _ _ _ (c.execute.ensures.runs clean inside))

@@ -1,0 +1,20 @@
+-- The databases that the tables stand for.
+use Rattle.std.specs.Prelude.{◌≡◌, ◌≢◌, ◌↔◌, ◌⊎◌, ℕ, ℤ, pos, List, Option, Some, None}
+use Rattle.sqlite.specs.Tree.{Trees}
+use Rattle.zeb_register.specs.declared.catalog.Database.{Database}
+use Rattle.zeb_register.specs.Store.{HasDatabase}
+
+-- the database of this name, or none where there is none
+abbrev pub IsDatabaseOf : Trees → List ℕ → Option Database → Type 0
+IsDatabaseOf trees name None = (id last : ℤ) → ¬ HasDatabase trees id name last
+IsDatabaseOf trees name (Some found) = HasDatabase trees found.id.0 name (pos found.last)
+
+-- the last number of the database of this name is a number of 0 or more
+abbrev pub AreCountedDatabases : Trees → List ℕ → Type 0
+AreCountedDatabases trees name = (id last : ℤ) → HasDatabase trees id name last → (n : ℕ) × (last ≡ pos n)
+
+-- The database of this name has this last number and this id, which it keeps where it was there, and which was no other's. Each other is as it was.
+pub record PutsDatabase (id : ℤ) (name : List ℕ) (last : ℤ) (tree : ℕ) (old new : Trees) : Type 0 where
+  pub each : (i : ℤ) (n : List ℕ) (l : ℤ) → HasDatabase new i n l ↔ ((HasDatabase old i n l × (n ≢ name)) ⊎ ((i ≡ id) × (n ≡ name) × (l ≡ last)))
+  pub kept : (i l : ℤ) → HasDatabase old i name l → i ≡ id
+  pub own : (n : List ℕ) (l : ℤ) → HasDatabase old id n l → n ≡ name

@@ -1,0 +1,9 @@
+pub mod Tables
+pub mod Sql
+pub mod Kinds
+pub mod Store
+pub mod Faults
+pub mod Calls
+pub mod Catalog
+pub mod Kept
+pub mod Content

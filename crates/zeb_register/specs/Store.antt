@@ -1,0 +1,153 @@
+-- The tables of the store as sets of rows.
+use Rattle.std.specs.Prelude.{◌≡◌, ◌≢◌, ◌↔◌, ◌⊎◌, ◌++◌, ℕ, ℤ, false, pos, IsTrue, List, [], ◌∷◌, take, Option, Some, None, String, string_bytes, IsUtf8}
+use Rattle.std.specs.declared.alloc.Global.{Global}
+use Rattle.std.specs.List.{AllByRecursion}
+use Rattle.std.specs.Ordering.{is_lt, nat_cmp}
+use Rattle.std.specs.Cmp.Lexicographic.{slice_cmp}
+use Rattle.sqlite.specs.declared.types.Value.TheVariants.{Null, Int, Text, Blob}
+use Rattle.sqlite.specs.Order.{Row, column}
+use Rattle.sqlite.specs.Tree.{Trees}
+use Rattle.sqlite.specs.State.{State, HasCleanDisk}
+use Rattle.sqlite_rules.specs.Lists.{Has}
+use Rattle.zeb_register.specs.Tables.{store_schema}
+use Rattle.zeb_register.specs.Sql.{HasRow, HasLayout, Changed, IsListOf}
+
+abbrev pub IsStore : State → Type 0
+IsStore = HasLayout store_schema
+
+-- the tables are there, with no row, inside a transaction
+abbrev pub IsEmptyStore : State → Type 0
+IsEmptyStore s = IsStore s × IsTrue s.in_transaction × AllByRecursion (λ t. s.now.trees t.tree ≡ []) store_schema.tables
+
+-- one table of the store is written
+abbrev pub Changes : ℕ → (ℕ → Trees → Trees → Type 0) → State → State → Type 0
+Changes = Changed store_schema
+
+abbrev pub meta_tree : ℕ
+meta_tree = 0
+
+abbrev pub postings_tree : ℕ
+postings_tree = 7
+
+-- a posting of the database
+abbrev pub IsPostingIn : ℤ → Row → Type 0
+IsPostingIn db columns = column columns 0 ≡ Int db
+
+abbrev pub posting : ℤ → ℤ → ℤ → List ℕ → ℤ → ℤ → ℤ → Row
+posting db idx reg term sysno seq place = Int db ∷ Int idx ∷ Int reg ∷ Text term ∷ Int sysno ∷ Int seq ∷ Int place ∷ []
+
+abbrev pub entry : List ℕ → List ℕ → Row
+entry name value = Text name ∷ Text value ∷ []
+
+-- the entry of meta with this name
+abbrev pub IsEntryOf : List ℕ → Row → Type 0
+IsEntryOf name columns = column columns 0 ≡ Text name
+
+abbrev pub key_of : ℤ → ℤ → ℤ → List ℕ → Row
+key_of db idx reg term = Int db ∷ Int idx ∷ Int reg ∷ Text term ∷ []
+
+-- a row that shows a value of the name
+abbrev pub IsValueRow : Trees → List ℕ → Row → Type 0
+IsValueRow trees name row = (value : List ℕ) × (row ≡ Text value ∷ []) × HasRow trees meta_tree (entry name value)
+
+-- the value of the name, or none where it has none
+abbrev pub IsValueOf : Trees → List ℕ → Option (String Global) → Type 0
+IsValueOf trees name None = (value : List ℕ) → ¬ HasRow trees meta_tree (entry name value)
+IsValueOf trees name (Some value) = HasRow trees meta_tree (entry name (string_bytes value))
+
+-- the text of this name is UTF-8
+abbrev pub AreReadableTexts : Trees → List ℕ → Type 0
+AreReadableTexts trees name = (value : List ℕ) → HasRow trees meta_tree (entry name value) → IsUtf8 value
+
+abbrev pub databases_tree : ℕ
+databases_tree = 2
+
+-- the database has this id, which is the rowid, and so the column of the id is NULL
+abbrev pub HasDatabase : Trees → ℤ → List ℕ → ℤ → Type 0
+HasDatabase trees id name last = Has (trees databases_tree) (Int id ∷ Null ∷ Text name ∷ Int last ∷ [])
+
+-- there is one database more, with an id that none had
+abbrev pub AddsDatabase : ℤ → List ℕ → ℤ → ℕ → Trees → Trees → Type 0
+AddsDatabase id name last tree old new =
+    ((i : ℤ) (n : List ℕ) (l : ℤ) → HasDatabase new i n l ↔ (HasDatabase old i n l ⊎ ((i ≡ id) × (n ≡ name) × (l ≡ last))))
+    × ((n : List ℕ) (l : ℤ) → ¬ HasDatabase old id n l)
+
+-- the database with the id has this last number, and keeps its name, and each other is as it was
+abbrev pub SetsLast : ℤ → ℤ → ℕ → Trees → Trees → Type 0
+SetsLast id last tree old new =
+    (i : ℤ) (name : List ℕ) (n : ℤ) → HasDatabase new i name n
+    ↔ (((i ≢ id) × HasDatabase old i name n) ⊎ ((i ≡ id) × (n ≡ last) × ((before : ℤ) × HasDatabase old i name before)))
+
+-- a row that shows the id and the last number of the database of this name
+abbrev pub IsDatabaseRow : Trees → List ℕ → Row → Type 0
+IsDatabaseRow trees name row = (id : ℤ) × (last : ℤ) × (row ≡ Int id ∷ Int last ∷ []) × HasDatabase trees id name last
+
+-- there is no database of this id any more, and each other is as it was
+abbrev pub TakesDatabase : ℤ → ℕ → Trees → Trees → Type 0
+TakesDatabase id tree old new = (i : ℤ) (name : List ℕ) (last : ℤ) → HasDatabase new i name last ↔ (HasDatabase old i name last × (i ≢ id))
+
+-- no row is left
+abbrev pub Empties : ℕ → Trees → Trees → Type 0
+Empties tree old new = new tree ≡ []
+
+-- ---- records
+
+abbrev pub records_tree : ℕ
+records_tree = 4
+
+abbrev pub record_row : ℤ → ℤ → List ℕ → List ℕ → Row
+record_row db sysno ident bytes = Int db ∷ Int sysno ∷ Text ident ∷ Blob bytes ∷ []
+
+-- the database keeps a record with this number, this identifier and these bytes
+abbrev pub HasRecord : Trees → ℤ → ℤ → List ℕ → List ℕ → Type 0
+HasRecord trees db sysno ident bytes = HasRow trees records_tree (record_row db sysno ident bytes)
+
+-- a record of the database with this number
+abbrev pub HasNumber : ℤ → ℤ → Row → Type 0
+HasNumber db sysno columns = (column columns 0 ≡ Int db) × (column columns 1 ≡ Int sysno)
+
+-- a record of the database with this number or this identifier
+abbrev pub SharesRecord : ℤ → ℤ → List ℕ → Row → Type 0
+SharesRecord db sysno ident columns = HasNumber db sysno columns ⊎ ((column columns 0 ≡ Int db) × (column columns 2 ≡ Text ident))
+
+-- a record of the database
+abbrev pub IsRecordIn : ℤ → Row → Type 0
+IsRecordIn db columns = column columns 0 ≡ Int db
+
+-- a row that shows the number and the bytes of the record with this identifier
+abbrev pub IsElderRow : ℤ → List ℕ → Trees → Row → Type 0
+IsElderRow db ident trees row = (sysno : ℤ) × (bytes : List ℕ) × (row ≡ Int sysno ∷ Blob bytes ∷ []) × HasRecord trees db sysno ident bytes
+
+-- a row that shows the identifier of the record with this number
+abbrev pub IsIdentRow : ℤ → ℤ → Trees → Row → Type 0
+IsIdentRow db sysno trees row = (ident : List ℕ) × (bytes : List ℕ) × (row ≡ Text ident ∷ []) × HasRecord trees db sysno ident bytes
+
+-- ---- postings
+
+abbrev pub place_key : ℤ → ℤ → ℤ → List ℕ → ℤ → Row
+place_key db idx reg term sysno = Int db ∷ Int idx ∷ Int reg ∷ Text term ∷ Int sysno ∷ []
+
+-- a posting of the key in the record
+abbrev pub IsPlaceOf : ℤ → ℤ → ℤ → List ℕ → ℤ → Row → Type 0
+IsPlaceOf db idx reg term sysno columns =
+    (column columns 0 ≡ Int db) × (column columns 1 ≡ Int idx) × (column columns 2 ≡ Int reg) × (column columns 3 ≡ Text term) × (column columns 4 ≡ Int sysno)
+
+-- a row that begins with these columns, shown by the others
+abbrev pub IsRest : ℕ → Row → Trees → Row → Type 0
+IsRest tree front trees row = HasRow trees tree (front ++ row)
+
+-- ---- the tables of the lists, and those of the registers
+
+abbrev pub LacksLists : Trees → Type 0
+LacksLists trees = (trees 0 ≡ []) × (trees 2 ≡ []) × (trees 4 ≡ [])
+
+abbrev pub LacksRegisters : Trees → Type 0
+LacksRegisters trees = (trees 7 ≡ []) × (trees 9 ≡ []) × (trees 11 ≡ [])
+
+-- the lists are as they were
+abbrev pub KeepsLists : Trees → Trees → Type 0
+KeepsLists old new = (new 0 ≡ old 0) × (new 2 ≡ old 2) × (new 4 ≡ old 4)
+
+-- the registers are as they were
+abbrev pub KeepsRegisters : Trees → Trees → Type 0
+KeepsRegisters old new = (new 7 ≡ old 7) × (new 9 ≡ old 9) × (new 11 ≡ old 11)

@@ -1,0 +1,108 @@
+//! The databases of the store.
+
+ghost use Rattle.std.specs.Prelude.{◌≡◌, ◌≢◌, false, pos, IsTrue, OnOk, OnErr, IfOk, FitsSigned};
+ghost use Rattle.std.specs.Int.{w64};
+ghost use Rattle.sqlite.specs.Held.{state};
+ghost use Rattle.sqlite.specs.State.{HasCleanDisk, IsUnchanged, KeepsCommit, Survives};
+ghost use Rattle.zeb_register.specs.Store.{IsStore, Changes, databases_tree, TakesDatabase};
+ghost use Rattle.zeb_register.specs.Catalog.{IsDatabaseOf, AreCountedDatabases, PutsDatabase};
+ghost use Rattle.zeb_register.specs.Calls.{ChangesNothing, GoesOn, Alters};
+
+use crate::RegFault;
+use crate::statements::databases::{
+    database_add, database_cut, database_rows, database_rows_inside, last_set,
+};
+use crate::values::{read, read_integer, stored};
+use sqlite::{Alter, Connection, Transaction};
+
+/// What the tables know a database by. It stays the same as long as the database is there.
+#[derive(Clone, Copy, Debug, PartialEq, Eq)]
+pub struct DatabaseId(i64);
+
+/// A database: what the tables know it by, and the greatest system number that it has given, 0 before the first.
+#[derive(Clone, Copy, Debug, PartialEq, Eq)]
+pub struct Database {
+    pub id: DatabaseId,
+    pub last: u64,
+}
+
+impl DatabaseId {
+    /// The number as a column stores it.
+    pub(crate) fn column(self) -> i64
+        ensures value { result ≡ self.0 }
+        ensures fits { FitsSigned w64 result }
+    {
+        self.0
+    }
+}
+
+/// The database of this name, or `None`. Names are compared byte by byte.
+///
+/// `Damaged` where its last number is below 0. It changes nothing.
+pub fn database_of<S: Alter>(
+    conn: &mut Connection<S>,
+    name: &str,
+) -> Result<Option<Database>, RegFault>
+    ensures idle { conn.old.in_transaction ≡ false → conn.new.in_transaction ≡ false }
+    ensures ok { HasCleanDisk (state S.Store conn.new) → OnOk result (IsUnchanged (state S.Store conn.old) (state S.Store conn.new)) }
+    ensures same { HasCleanDisk (state S.Store conn.new) → conn.old.in_transaction ≡ false → ChangesNothing (state S.Store conn.old) (state S.Store conn.new) }
+    ensures value { HasCleanDisk (state S.Store conn.new) → IsStore (state S.Store conn.old) → IfOk result (IsDatabaseOf (state S.Store conn.old).now.trees name.now) }
+    ensures honest { HasCleanDisk (state S.Store conn.new) → IsStore (state S.Store conn.old) → result ≡ Err RegFault.Damaged → ¬ AreCountedDatabases (state S.Store conn.old).now.trees name.now }
+    ensures crash { Survives (state S.Store conn.old) (state S.Store conn.new) (λ _. ⊥) }
+{
+    let rows = database_rows(conn, name)?;
+    match rows.first() {
+        Some(row) => Ok(Some(Database {
+            id: DatabaseId(read_integer(row, 0)?),
+            last: read(row, 1)?,
+        })),
+        None => Ok(None),
+    }
+}
+
+/// Sets the last number of the database of this name, which is made where it is absent, and answers what the tables know it by.
+///
+/// `Store` also where `last` is above `2^63 - 1`.
+pub fn database_put<S: Alter>(
+    tx: &mut Transaction<'_, S>,
+    name: &str,
+    last: u64,
+) -> Result<DatabaseId, RegFault>
+    ensures same { tx.new.conn.ghost_name ≡ tx.old.conn.ghost_name }
+    ensures ok { HasCleanDisk (state S.Store tx.new.conn.now) → IsTrue (state S.Store tx.old.conn.now).in_transaction
+        → OnOk result (GoesOn (state S.Store tx.old.conn.now) (state S.Store tx.new.conn.now)) }
+    ensures err { HasCleanDisk (state S.Store tx.new.conn.now) → IsTrue (state S.Store tx.old.conn.now).in_transaction → OnErr result (KeepsCommit (state S.Store tx.old.conn.now) (state S.Store tx.new.conn.now)) }
+    ensures put { HasCleanDisk (state S.Store tx.new.conn.now) → IsTrue (state S.Store tx.old.conn.now).in_transaction → IsStore (state S.Store tx.old.conn.now) → IfOk result (λ id. Changes databases_tree (PutsDatabase id.0 name.now (pos last)) (state S.Store tx.old.conn.now) (state S.Store tx.new.conn.now)) }
+    ensures honest { HasCleanDisk (state S.Store tx.new.conn.now) → IsTrue (state S.Store tx.old.conn.now).in_transaction → IsStore (state S.Store tx.old.conn.now) → result ≢ Err RegFault.Damaged }
+    ensures crash { Survives (state S.Store tx.old.conn.now) (state S.Store tx.new.conn.now) (λ _. ⊥) }
+{
+    let last = stored(last)?;
+    let rows = database_rows_inside(tx, name)?;
+    match rows.first() {
+        Some(row) => {
+            let id = read_integer(row, 0)?;
+            last_set(tx, id, last)?;
+            Ok(DatabaseId(id))
+        }
+        None => {
+            database_add(tx, name, last)?;
+            Ok(DatabaseId(tx.last_insert_rowid()))
+        }
+    }
+}
+
+/// Takes the database out of the list of databases.
+pub(crate) fn database_drop<S: Alter>(
+    tx: &mut Transaction<'_, S>,
+    db: DatabaseId,
+) -> Result<(), RegFault>
+    ensures same { tx.new.conn.ghost_name ≡ tx.old.conn.ghost_name }
+    ensures ok { HasCleanDisk (state S.Store tx.new.conn.now) → IsTrue (state S.Store tx.old.conn.now).in_transaction
+        → OnOk result (Alters databases_tree (TakesDatabase db.0) (state S.Store tx.old.conn.now) (state S.Store tx.new.conn.now)) }
+    ensures err { HasCleanDisk (state S.Store tx.new.conn.now) → IsTrue (state S.Store tx.old.conn.now).in_transaction → OnErr result (KeepsCommit (state S.Store tx.old.conn.now) (state S.Store tx.new.conn.now)) }
+    ensures honest { result ≢ Err RegFault.Damaged }
+    ensures crash { Survives (state S.Store tx.old.conn.now) (state S.Store tx.new.conn.now) (λ _. ⊥) }
+{
+    database_cut(tx, db.column())?;
+    Ok(())
+}

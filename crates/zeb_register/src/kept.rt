@@ -1,0 +1,187 @@
+//! The records that a database keeps.
+
+ghost use Rattle.std.specs.Prelude.{◌≡◌, ◌≢◌, false, [], ◌∷◌, pos, map, IsTrue, OnOk, OnErr, IfOk};
+ghost use Rattle.sqlite.specs.Held.{state};
+ghost use Rattle.sqlite.specs.State.{HasCleanDisk, IsUnchanged, KeepsCommit, Survives};
+ghost use Rattle.sqlite.specs.declared.types.Value.TheVariants.{Int};
+ghost use Rattle.zeb_register.specs.Sql.{Loses, Replaces, IsListOf};
+ghost use Rattle.zeb_register.specs.Store.{IsStore, records_tree, record_row, HasNumber, SharesRecord, IsRecordIn, IsRest};
+ghost use Rattle.sqlite_rules.specs.Lists.{Has};
+ghost use Rattle.zeb_register.specs.Content.{first_three};
+ghost use Rattle.zeb_register.specs.Kept.{IsElderOf, IsIdentOf, AreNumbered, AreReadableIdents, AreReadable, IsRecordShown, record_shown};
+ghost use Rattle.zeb_register.specs.Calls.{ChangesNothing, OnlyReads, Alters};
+
+use crate::statements::records::{
+    elder_rows, ident_rows, record_keep, record_remove, record_rows, records_clear,
+};
+use crate::values::{read, stored};
+use crate::{DatabaseId, RegFault};
+use sqlite::{Alter, Connection, Row, Transaction};
+use std::alloc::Global;
+
+/// A kept record: its system number, its identifier and its bytes (ISO 2709).
+#[derive(Debug, PartialEq, Eq, Drop)]
+pub struct Record {
+    pub sysno: u64,
+    pub ident: String,
+    pub bytes: Vec<u8>,
+}
+
+/// The record that is kept under an identifier: its system number and its bytes.
+#[derive(Debug, PartialEq, Eq, Drop)]
+pub struct Elder {
+    pub sysno: u64,
+    pub bytes: Vec<u8>,
+}
+
+/// Keeps a record under a system number, in place of the one that had that number or that identifier.
+///
+/// `Store` also where `sysno` is above `2^63 - 1`.
+pub fn record_put<S: Alter>(
+    tx: &mut Transaction<'_, S>,
+    db: DatabaseId,
+    sysno: u64,
+    ident: &str,
+    bytes: &[u8],
+) -> Result<(), RegFault>
+    ensures same { tx.new.conn.ghost_name ≡ tx.old.conn.ghost_name }
+    ensures ok { HasCleanDisk (state S.Store tx.new.conn.now) → IsTrue (state S.Store tx.old.conn.now).in_transaction
+        → OnOk result (Alters records_tree (Replaces (SharesRecord db.0 (pos sysno) ident.now) (record_row db.0 (pos sysno) ident.now bytes.now)) (state S.Store tx.old.conn.now) (state S.Store tx.new.conn.now)) }
+    ensures err { HasCleanDisk (state S.Store tx.new.conn.now) → IsTrue (state S.Store tx.old.conn.now).in_transaction → OnErr result (KeepsCommit (state S.Store tx.old.conn.now) (state S.Store tx.new.conn.now)) }
+    ensures honest { result ≢ Err RegFault.Damaged }
+    ensures crash { Survives (state S.Store tx.old.conn.now) (state S.Store tx.new.conn.now) (λ _. ⊥) }
+{
+    let sysno = stored(sysno)?;
+    record_keep(tx, db.column(), sysno, ident, bytes)?;
+    Ok(())
+}
+
+/// Takes the record of a system number out. Where there is none, nothing changes.
+///
+/// `Store` also where `sysno` is above `2^63 - 1`.
+pub fn record_take<S: Alter>(
+    tx: &mut Transaction<'_, S>,
+    db: DatabaseId,
+    sysno: u64,
+) -> Result<(), RegFault>
+    ensures same { tx.new.conn.ghost_name ≡ tx.old.conn.ghost_name }
+    ensures ok { HasCleanDisk (state S.Store tx.new.conn.now) → IsTrue (state S.Store tx.old.conn.now).in_transaction
+        → OnOk result (Alters records_tree (Loses (HasNumber db.0 (pos sysno))) (state S.Store tx.old.conn.now) (state S.Store tx.new.conn.now)) }
+    ensures err { HasCleanDisk (state S.Store tx.new.conn.now) → IsTrue (state S.Store tx.old.conn.now).in_transaction → OnErr result (KeepsCommit (state S.Store tx.old.conn.now) (state S.Store tx.new.conn.now)) }
+    ensures honest { result ≢ Err RegFault.Damaged }
+    ensures crash { Survives (state S.Store tx.old.conn.now) (state S.Store tx.new.conn.now) (λ _. ⊥) }
+{
+    let sysno = stored(sysno)?;
+    record_remove(tx, db.column(), sysno)?;
+    Ok(())
+}
+
+/// The number and the bytes of the record that is kept under an identifier, or `None`. Identifiers are compared byte by byte.
+///
+/// `Damaged` where its number is below 0. It changes nothing.
+pub fn record_of_ident<S: Alter>(
+    tx: &mut Transaction<'_, S>,
+    db: DatabaseId,
+    ident: &str,
+) -> Result<Option<Elder>, RegFault>
+    ensures same { tx.new.conn.ghost_name ≡ tx.old.conn.ghost_name }
+    ensures ok { HasCleanDisk (state S.Store tx.new.conn.now) → IsTrue (state S.Store tx.old.conn.now).in_transaction
+        → OnOk result (OnlyReads (state S.Store tx.old.conn.now) (state S.Store tx.new.conn.now)) }
+    ensures err { HasCleanDisk (state S.Store tx.new.conn.now) → IsTrue (state S.Store tx.old.conn.now).in_transaction → OnErr result (KeepsCommit (state S.Store tx.old.conn.now) (state S.Store tx.new.conn.now)) }
+    ensures value { HasCleanDisk (state S.Store tx.new.conn.now) → IsTrue (state S.Store tx.old.conn.now).in_transaction → IsStore (state S.Store tx.old.conn.now) → IfOk result (IsElderOf (state S.Store tx.old.conn.now).now.trees db.0 ident.now) }
+    ensures honest { HasCleanDisk (state S.Store tx.new.conn.now) → IsTrue (state S.Store tx.old.conn.now).in_transaction → IsStore (state S.Store tx.old.conn.now) → result ≡ Err RegFault.Damaged → ¬ AreNumbered (state S.Store tx.old.conn.now).now.trees db.0 ident.now }
+    ensures crash { Survives (state S.Store tx.old.conn.now) (state S.Store tx.new.conn.now) (λ _. ⊥) }
+{
+    let rows = elder_rows(tx, db.column(), ident)?;
+    match rows.first() {
+        Some(row) => Ok(Some(Elder {
+            sysno: read(row, 0)?,
+            bytes: read(row, 1)?,
+        })),
+        None => Ok(None),
+    }
+}
+
+/// The identifier of the record of a system number, or `None`.
+///
+/// `Damaged` where it is no UTF-8, `Store` also where `sysno` is above `2^63 - 1`. It changes nothing.
+pub fn ident_of<S: Alter>(
+    conn: &mut Connection<S>,
+    db: DatabaseId,
+    sysno: u64,
+) -> Result<Option<String>, RegFault>
+    ensures idle { conn.old.in_transaction ≡ false → conn.new.in_transaction ≡ false }
+    ensures ok { HasCleanDisk (state S.Store conn.new) → OnOk result (IsUnchanged (state S.Store conn.old) (state S.Store conn.new)) }
+    ensures same { HasCleanDisk (state S.Store conn.new) → conn.old.in_transaction ≡ false → ChangesNothing (state S.Store conn.old) (state S.Store conn.new) }
+    ensures value { HasCleanDisk (state S.Store conn.new) → IsStore (state S.Store conn.old) → IfOk result (IsIdentOf (state S.Store conn.old).now.trees db.0 (pos sysno)) }
+    ensures honest { HasCleanDisk (state S.Store conn.new) → IsStore (state S.Store conn.old) → result ≡ Err RegFault.Damaged → ¬ AreReadableIdents (state S.Store conn.old).now.trees db.0 (pos sysno) }
+    ensures crash { Survives (state S.Store conn.old) (state S.Store conn.new) (λ _. ⊥) }
+{
+    // What is seen outside a transaction is what was committed.
+    let _idle = conn.is_autocommit();
+    let sysno = stored(sysno)?;
+    let rows = ident_rows(conn, db.column(), sysno)?;
+    match rows.first() {
+        Some(row) => Ok(Some(read(row, 0)?)),
+        None => Ok(None),
+    }
+}
+
+/// The records of a database, in rising order of their system numbers.
+///
+/// `Damaged` where a number is below 0 or an identifier is no UTF-8. It changes nothing.
+pub fn records<S: Alter>(
+    alloc: Global,
+    conn: &mut Connection<S>,
+    db: DatabaseId,
+) -> Result<Vec<Record>, RegFault>
+    ensures idle { conn.old.in_transaction ≡ false → conn.new.in_transaction ≡ false }
+    ensures ok { HasCleanDisk (state S.Store conn.new) → OnOk result (IsUnchanged (state S.Store conn.old) (state S.Store conn.new)) }
+    ensures same { HasCleanDisk (state S.Store conn.new) → conn.old.in_transaction ≡ false → ChangesNothing (state S.Store conn.old) (state S.Store conn.new) }
+    ensures value { HasCleanDisk (state S.Store conn.new) → IsStore (state S.Store conn.old) → IfOk result (λ list. IsListOf (IsRest records_tree (Int db.0 ∷ []) (state S.Store conn.old).now.trees) (map record_shown list.items)) }
+    ensures honest { HasCleanDisk (state S.Store conn.new) → IsStore (state S.Store conn.old) → result ≡ Err RegFault.Damaged → ¬ AreReadable (state S.Store conn.old).now.trees db.0 }
+    ensures crash { Survives (state S.Store conn.old) (state S.Store conn.new) (λ _. ⊥) }
+{
+    let rows = record_rows(conn, db.column())?;
+    records_of(alloc, &rows)
+}
+
+/// The records that rows show.
+fn records_of(alloc: Global, rows: &[Row]) -> Result<Vec<Record>, RegFault>
+    ensures ok { IfOk result (λ list. map record_shown list.items ≡ map first_three rows.now) }
+    ensures honest { result ≡ Err RegFault.Damaged → ¬ ((row : _) → Has rows.now row → IsRecordShown row) }
+{
+    let mut records = Vec::new(alloc);
+    for row in rows {
+        records.push(record_of(row)?)?;
+    }
+    Ok(records)
+}
+
+/// The record that a row shows.
+fn record_of(row: &Row) -> Result<Record, RegFault>
+    ensures ok { IfOk result (λ r. record_shown r ≡ first_three row.now) }
+    ensures honest { result ≡ Err RegFault.Damaged → ¬ IsRecordShown row.now }
+{
+    Ok(Record {
+        sysno: read(row, 0)?,
+        ident: read(row, 1)?,
+        bytes: read(row, 2)?,
+    })
+}
+
+/// Takes every record of the database out.
+pub(crate) fn records_drop<S: Alter>(
+    tx: &mut Transaction<'_, S>,
+    db: DatabaseId,
+) -> Result<(), RegFault>
+    ensures same { tx.new.conn.ghost_name ≡ tx.old.conn.ghost_name }
+    ensures ok { HasCleanDisk (state S.Store tx.new.conn.now) → IsTrue (state S.Store tx.old.conn.now).in_transaction
+        → OnOk result (Alters records_tree (Loses (IsRecordIn db.0)) (state S.Store tx.old.conn.now) (state S.Store tx.new.conn.now)) }
+    ensures err { HasCleanDisk (state S.Store tx.new.conn.now) → IsTrue (state S.Store tx.old.conn.now).in_transaction → OnErr result (KeepsCommit (state S.Store tx.old.conn.now) (state S.Store tx.new.conn.now)) }
+    ensures honest { result ≢ Err RegFault.Damaged }
+    ensures crash { Survives (state S.Store tx.old.conn.now) (state S.Store tx.new.conn.now) (λ _. ⊥) }
+{
+    records_clear(tx, db.column())?;
+    Ok(())
+}

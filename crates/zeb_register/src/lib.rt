@@ -1,0 +1,27 @@
+//! What Zebra keeps on disk, over SQLite tables: the names and texts of the store itself, its databases, their records,
+//! and the registers that say at which places of which records each term stands (Zebra manual, "Record and register
+//! storage").
+//!
+//! A call in a transaction that is refused leaves the transaction to be given up: after that the tables are as they were
+//! before it began.
+#![tactic(auto)]
+
+mod catalog;
+mod faults;
+mod kept;
+mod meta;
+mod plain;
+mod registers;
+mod statements;
+mod tables;
+mod values;
+mod wiping;
+
+pub use catalog::{Database, DatabaseId, database_of, database_put};
+pub use faults::RegFault;
+pub use kept::{Elder, Record, ident_of, record_of_ident, record_put, record_take, records};
+pub use meta::{meta_of, meta_put};
+pub use plain::{Rows, rows_hold_one_content};
+pub use registers::{Layout, Place, Posting, TermCount, Totals, Work};
+pub use tables::make_tables;
+pub use wiping::wipe;

@@ -1,0 +1,178 @@
+//! What a layout of the registers has to do, whatever tables it keeps them in.
+
+ghost use Rattle.std.specs.Prelude.{◌≡◌, ◌≢◌, false, [], IsTrue, OnOk, OnErr, IfOk};
+ghost use Rattle.sqlite.specs.Held.{state};
+ghost use Rattle.sqlite.specs.State.{HasCleanDisk, KeepsCommit, Survives};
+ghost use Rattle.zeb_register.specs.Calls.{ChangesNothing, GoesOn};
+
+use crate::{DatabaseId, RegFault};
+use sqlite::{Alter, Connection, Transaction};
+use std::alloc::Global;
+use zeb_extract::Key;
+use zeb_profile::Register;
+
+/// A place of a record at which a key stands: the number of the unit, and the number of the word or number in it. Both are 1 to `2^63 - 1`.
+#[derive(Clone, Copy, Debug, PartialEq, Eq, PartialOrd, Ord)]
+pub struct Place {
+    pub seq: u64,
+    pub pos: u64,
+}
+
+/// A place of a key in a database: the record's system number, 1 to 999,999,999, and the place in that record.
+#[derive(Clone, Copy, Debug, PartialEq, Eq, PartialOrd, Ord)]
+pub struct Posting {
+    pub sysno: u64,
+    pub seq: u64,
+    pub pos: u64,
+}
+
+/// A term of a register, and the number of records that have it.
+#[derive(Debug, PartialEq, Eq, Drop)]
+pub struct TermCount {
+    pub term: String,
+    pub records: u64,
+}
+
+/// How much a register of a database holds: its distinct terms, and its postings.
+#[derive(Clone, Copy, Debug, Default, PartialEq, Eq)]
+pub struct Totals {
+    pub terms: u64,
+    pub occurrences: u64,
+}
+
+/// How many rows of the packed tables were read and written: of `dict`, one row for each term, and of `blocks`, one for each block of a term's postings. A count stays at its type's greatest value once it is there.
+#[derive(Clone, Copy, Debug, Default, PartialEq, Eq)]
+pub struct Work {
+    pub dict_read: u64,
+    pub dict_written: u64,
+    pub block_read: u64,
+    pub block_written: u64,
+}
+
+/// A way to keep the registers of all databases in tables.
+///
+/// What the registers hold is, for each database and each key, a rising list of postings.
+pub trait Layout {
+    ghost use Rattle.std.specs.List.Sorted.{IsStrictlySortedBy};
+    ghost use Rattle.sqlite.specs.Tree.{Trees};
+    ghost use Rattle.zeb_register.specs.Store.{IsStore, KeepsLists, KeepsRegisters, LacksRegisters};
+    ghost use Rattle.zeb_register.specs.Content.{Content, IsChangedAt, ArePlacesOf, place_cmp, IsWithout, TakesWhole};
+
+    /// The tables of the registers hold this content and nothing else.
+    ghost holds: { Trees → Content → Type 0 };
+
+    /// The text that a store of this layout keeps under the name `version`.
+    const VERSION: &'static str;
+
+    /// Puts the places `new` of a key in a record where `old` stood. Both lists rise.
+    ///
+    /// `Damaged` where the register holds other places there than `old`, `Store` also where a number is above `2^63 - 1`.
+    fn key_change<S: Alter>(
+        tx: &mut Transaction<'_, S>,
+        work: &mut Work,
+        db: DatabaseId,
+        key: &Key,
+        sysno: u64,
+        old: &[Place],
+        new: &[Place],
+    ) -> Result<(), RegFault>
+        ensures same { tx.new.conn.ghost_name ≡ tx.old.conn.ghost_name }
+        ensures ok { HasCleanDisk (state S.Store tx.new.conn.now) → IsTrue (state S.Store tx.old.conn.now).in_transaction → OnOk result (GoesOn (state S.Store tx.old.conn.now) (state S.Store tx.new.conn.now)) }
+        ensures err { HasCleanDisk (state S.Store tx.new.conn.now) → IsTrue (state S.Store tx.old.conn.now).in_transaction → OnErr result (KeepsCommit (state S.Store tx.old.conn.now) (state S.Store tx.new.conn.now)) }
+        ensures change { HasCleanDisk (state S.Store tx.new.conn.now) → IsTrue (state S.Store tx.old.conn.now).in_transaction → IsStore (state S.Store tx.old.conn.now)
+            → OnOk result (IsStore (state S.Store tx.new.conn.now) × KeepsLists (state S.Store tx.old.conn.now).now.trees (state S.Store tx.new.conn.now).now.trees
+            × ((before after : Content) → holds (state S.Store tx.old.conn.now).now.trees before → IsChangedAt db.0 key.now sysno new.now before after → holds (state S.Store tx.new.conn.now).now.trees after)) }
+        ensures found { HasCleanDisk (state S.Store tx.new.conn.now) → IsTrue (state S.Store tx.old.conn.now).in_transaction → IsStore (state S.Store tx.old.conn.now)
+            → OnOk result ((content : Content) → holds (state S.Store tx.old.conn.now).now.trees content → ArePlacesOf sysno old.now (content db.0 key.now)) }
+        ensures damaged { HasCleanDisk (state S.Store tx.new.conn.now) → IsTrue (state S.Store tx.old.conn.now).in_transaction → IsStore (state S.Store tx.old.conn.now)
+            → result ≡ Err RegFault.Damaged → IsStrictlySortedBy place_cmp old.now → (content : Content) → holds (state S.Store tx.old.conn.now).now.trees content → ¬ ArePlacesOf sysno old.now (content db.0 key.now) }
+        ensures crash { Survives (state S.Store tx.old.conn.now) (state S.Store tx.new.conn.now) (λ _. ⊥) };
+
+    /// Takes a database out, with its records and all its postings.
+    fn database_take<S: Alter>(tx: &mut Transaction<'_, S>, db: DatabaseId) -> Result<(), RegFault>
+        ensures same { tx.new.conn.ghost_name ≡ tx.old.conn.ghost_name }
+        ensures ok { HasCleanDisk (state S.Store tx.new.conn.now) → IsTrue (state S.Store tx.old.conn.now).in_transaction → OnOk result (GoesOn (state S.Store tx.old.conn.now) (state S.Store tx.new.conn.now)) }
+        ensures err { HasCleanDisk (state S.Store tx.new.conn.now) → IsTrue (state S.Store tx.old.conn.now).in_transaction → OnErr result (KeepsCommit (state S.Store tx.old.conn.now) (state S.Store tx.new.conn.now)) }
+        ensures taken { HasCleanDisk (state S.Store tx.new.conn.now) → IsTrue (state S.Store tx.old.conn.now).in_transaction → IsStore (state S.Store tx.old.conn.now)
+            → OnOk result (TakesWhole db.0 (state S.Store tx.old.conn.now) (state S.Store tx.new.conn.now)
+            × ((before after : Content) → holds (state S.Store tx.old.conn.now).now.trees before → IsWithout db.0 before after → holds (state S.Store tx.new.conn.now).now.trees after)) }
+        ensures honest { result ≢ Err RegFault.Damaged }
+        ensures crash { Survives (state S.Store tx.old.conn.now) (state S.Store tx.new.conn.now) (λ _. ⊥) };
+
+    /// The postings of a key, rising.
+    fn key_list<S: Alter>(
+        alloc: Global,
+        conn: &mut Connection<S>,
+        work: &mut Work,
+        db: DatabaseId,
+        key: &Key,
+    ) -> Result<Vec<Posting>, RegFault>
+        ensures idle { conn.old.in_transaction ≡ false → conn.new.in_transaction ≡ false }
+        ensures same { HasCleanDisk (state S.Store conn.new) → conn.old.in_transaction ≡ false → ChangesNothing (state S.Store conn.old) (state S.Store conn.new) }
+        ensures value { HasCleanDisk (state S.Store conn.new) → IsStore (state S.Store conn.old)
+            → IfOk result (λ list. (content : Content) → holds (state S.Store conn.old).now.trees content → list.items ≡ content db.0 key.now) }
+        ensures honest { HasCleanDisk (state S.Store conn.new) → IsStore (state S.Store conn.old) → result ≡ Err RegFault.Damaged → (content : Content) → ¬ holds (state S.Store conn.old).now.trees content }
+        ensures crash { Survives (state S.Store conn.old) (state S.Store conn.new) (λ _. ⊥) };
+
+    /// The terms of a register that have a posting, in the order of their bytes.
+    fn terms_of<S: Alter>(
+        alloc: Global,
+        conn: &mut Connection<S>,
+        work: &mut Work,
+        db: DatabaseId,
+        index: u32,
+        register: Register,
+    ) -> Result<Vec<TermCount>, RegFault>
+        ensures idle { conn.old.in_transaction ≡ false → conn.new.in_transaction ≡ false }
+        ensures same { HasCleanDisk (state S.Store conn.new) → conn.old.in_transaction ≡ false → ChangesNothing (state S.Store conn.old) (state S.Store conn.new) }
+        ensures crash { Survives (state S.Store conn.old) (state S.Store conn.new) (λ _. ⊥) };
+
+    /// The first `n` of these terms that are not below `start`, in the order of their bytes.
+    fn terms_from<S: Alter>(
+        alloc: Global,
+        conn: &mut Connection<S>,
+        work: &mut Work,
+        db: DatabaseId,
+        index: u32,
+        register: Register,
+        start: &str,
+        n: u64,
+    ) -> Result<Vec<TermCount>, RegFault>
+        ensures idle { conn.old.in_transaction ≡ false → conn.new.in_transaction ≡ false }
+        ensures same { HasCleanDisk (state S.Store conn.new) → conn.old.in_transaction ≡ false → ChangesNothing (state S.Store conn.old) (state S.Store conn.new) }
+        ensures crash { Survives (state S.Store conn.old) (state S.Store conn.new) (λ _. ⊥) };
+
+    /// The last `n` of these terms that are below `start`, in the order of their bytes.
+    fn terms_before<S: Alter>(
+        alloc: Global,
+        conn: &mut Connection<S>,
+        work: &mut Work,
+        db: DatabaseId,
+        index: u32,
+        register: Register,
+        start: &str,
+        n: u64,
+    ) -> Result<Vec<TermCount>, RegFault>
+        ensures idle { conn.old.in_transaction ≡ false → conn.new.in_transaction ≡ false }
+        ensures same { HasCleanDisk (state S.Store conn.new) → conn.old.in_transaction ≡ false → ChangesNothing (state S.Store conn.old) (state S.Store conn.new) }
+        ensures crash { Survives (state S.Store conn.old) (state S.Store conn.new) (λ _. ⊥) };
+
+    /// How many terms and postings a register holds.
+    fn totals<S: Alter>(
+        alloc: Global,
+        conn: &mut Connection<S>,
+        work: &mut Work,
+        db: DatabaseId,
+        index: u32,
+        register: Register,
+    ) -> Result<Totals, RegFault>
+        ensures idle { conn.old.in_transaction ≡ false → conn.new.in_transaction ≡ false }
+        ensures same { HasCleanDisk (state S.Store conn.new) → conn.old.in_transaction ≡ false → ChangesNothing (state S.Store conn.old) (state S.Store conn.new) }
+        ensures crash { Survives (state S.Store conn.old) (state S.Store conn.new) (λ _. ⊥) };
+
+    /// What the registers hold is told by their tables alone.
+    ghost stays: { (old new : Trees) (content : Content) → KeepsRegisters old new → holds old content → holds new content };
+
+    /// Tables without a row hold no posting.
+    ghost empty: { (trees : Trees) → LacksRegisters trees → holds trees (λ _ _. []) };
+}

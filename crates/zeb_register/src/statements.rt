@@ -1,0 +1,7 @@
+//! The statements on the tables, each in a function of its own.
+
+pub(crate) mod databases;
+pub(crate) mod postings;
+pub(crate) mod records;
+pub(crate) mod texts;
+pub(crate) mod wipes;

@@ -1,0 +1,162 @@
+//! Statements on the table `postings`: a row for each posting.
+
+ghost use Rattle.std.specs.Prelude.{◌≡◌, false, [], ◌∷◌, pos, IsTrue, OnOk, OnErr, IfOk};
+ghost use Rattle.sqlite.specs.Held.{state};
+ghost use Rattle.sqlite.specs.State.{HasCleanDisk, KeepsCommit, Survives};
+ghost use Rattle.sqlite.specs.declared.types.Value.TheVariants.{Int};
+ghost use Rattle.zeb_register.specs.Sql.{Loses, Gains};
+ghost use Rattle.zeb_register.specs.Store.{postings_tree, posting, key_of, place_key, IsPlaceOf, IsPostingIn, IsRest};
+ghost use Rattle.zeb_register.specs.Calls.{ChangesNothing, Alters, Lists, ListsInside};
+
+use sqlite::{Alter, Connection, Error, Row, Transaction, params};
+
+pub(crate) fn posting_rows<S: Alter>(
+    conn: &mut Connection<S>,
+    db: i64,
+    idx: u32,
+    reg: i64,
+    term: &str,
+) -> Result<Vec<Row>, Error>
+    ensures idle { conn.old.in_transaction ≡ false → conn.new.in_transaction ≡ false }
+    ensures ok { HasCleanDisk (state S.Store conn.new) → IfOk result (λ rows. Lists (IsRest postings_tree (key_of db (pos idx) reg term.now)) (state S.Store conn.old) (state S.Store conn.new) rows.items) }
+    ensures same { HasCleanDisk (state S.Store conn.new) → conn.old.in_transaction ≡ false → ChangesNothing (state S.Store conn.old) (state S.Store conn.new) }
+    ensures crash { Survives (state S.Store conn.old) (state S.Store conn.new) (λ _. ⊥) }
+{
+    // What is seen outside a transaction is what was committed.
+    let _idle = conn.is_autocommit();
+    conn.query_all(
+        "SELECT sysno, seq, pos FROM postings WHERE db = ?1 AND idx = ?2 AND reg = ?3 AND term = ?4 ORDER BY sysno, seq, pos",
+        params![db, idx, reg, term],
+    )
+}
+
+pub(crate) fn place_rows<S: Alter>(
+    tx: &mut Transaction<'_, S>,
+    db: i64,
+    idx: u32,
+    reg: i64,
+    term: &str,
+    sysno: i64,
+) -> Result<Vec<Row>, Error>
+    ensures same { tx.new.conn.ghost_name ≡ tx.old.conn.ghost_name }
+    ensures ok { HasCleanDisk (state S.Store tx.new.conn.now) → IsTrue (state S.Store tx.old.conn.now).in_transaction
+        → IfOk result (λ rows. ListsInside (IsRest postings_tree (place_key db (pos idx) reg term.now sysno)) (state S.Store tx.old.conn.now) (state S.Store tx.new.conn.now) rows.items) }
+    ensures err { HasCleanDisk (state S.Store tx.new.conn.now) → IsTrue (state S.Store tx.old.conn.now).in_transaction → OnErr result (KeepsCommit (state S.Store tx.old.conn.now) (state S.Store tx.new.conn.now)) }
+    ensures crash { Survives (state S.Store tx.old.conn.now) (state S.Store tx.new.conn.now) (λ _. ⊥) }
+{
+    tx.query_all(
+        "SELECT seq, pos FROM postings WHERE db = ?1 AND idx = ?2 AND reg = ?3 AND term = ?4 AND sysno = ?5 ORDER BY seq, pos",
+        params![db, idx, reg, term, sysno],
+    )
+}
+
+pub(crate) fn register_rows<S: Alter>(
+    conn: &mut Connection<S>,
+    db: i64,
+    idx: u32,
+    reg: i64,
+) -> Result<Vec<Row>, Error>
+    ensures idle { conn.old.in_transaction ≡ false → conn.new.in_transaction ≡ false }
+    ensures ok { HasCleanDisk (state S.Store conn.new) → IfOk result (λ rows. Lists (IsRest postings_tree (Int db ∷ Int (pos idx) ∷ Int reg ∷ [])) (state S.Store conn.old) (state S.Store conn.new) rows.items) }
+    ensures same { HasCleanDisk (state S.Store conn.new) → conn.old.in_transaction ≡ false → ChangesNothing (state S.Store conn.old) (state S.Store conn.new) }
+    ensures crash { Survives (state S.Store conn.old) (state S.Store conn.new) (λ _. ⊥) }
+{
+    // What is seen outside a transaction is what was committed.
+    let _idle = conn.is_autocommit();
+    conn.query_all(
+        "SELECT term, sysno, seq, pos FROM postings WHERE db = ?1 AND idx = ?2 AND reg = ?3 ORDER BY term, sysno, seq, pos",
+        params![db, idx, reg],
+    )
+}
+
+pub(crate) fn places_lift<S: Alter>(
+    tx: &mut Transaction<'_, S>,
+    db: i64,
+    idx: u32,
+    reg: i64,
+    term: &str,
+    sysno: i64,
+) -> Result<usize, Error>
+    ensures same { tx.new.conn.ghost_name ≡ tx.old.conn.ghost_name }
+    ensures ok { HasCleanDisk (state S.Store tx.new.conn.now) → IsTrue (state S.Store tx.old.conn.now).in_transaction
+        → OnOk result (Alters postings_tree (Loses (IsPlaceOf db (pos idx) reg term.now sysno)) (state S.Store tx.old.conn.now) (state S.Store tx.new.conn.now)) }
+    ensures err { HasCleanDisk (state S.Store tx.new.conn.now) → IsTrue (state S.Store tx.old.conn.now).in_transaction → OnErr result (KeepsCommit (state S.Store tx.old.conn.now) (state S.Store tx.new.conn.now)) }
+    ensures crash { Survives (state S.Store tx.old.conn.now) (state S.Store tx.new.conn.now) (λ _. ⊥) }
+{
+    tx.execute(
+        "DELETE FROM postings WHERE db = ?1 AND idx = ?2 AND reg = ?3 AND term = ?4 AND sysno = ?5",
+        params![db, idx, reg, term, sysno],
+    )
+}
+
+pub(crate) fn posting_put<S: Alter>(
+    tx: &mut Transaction<'_, S>,
+    db: i64,
+    idx: u32,
+    reg: i64,
+    term: &str,
+    sysno: i64,
+    seq: i64,
+    place: i64,
+) -> Result<usize, Error>
+    ensures same { tx.new.conn.ghost_name ≡ tx.old.conn.ghost_name }
+    ensures ok { HasCleanDisk (state S.Store tx.new.conn.now) → IsTrue (state S.Store tx.old.conn.now).in_transaction
+        → OnOk result (Alters postings_tree (Gains (posting db (pos idx) reg term.now sysno seq place)) (state S.Store tx.old.conn.now) (state S.Store tx.new.conn.now)) }
+    ensures err { HasCleanDisk (state S.Store tx.new.conn.now) → IsTrue (state S.Store tx.old.conn.now).in_transaction → OnErr result (KeepsCommit (state S.Store tx.old.conn.now) (state S.Store tx.new.conn.now)) }
+    ensures crash { Survives (state S.Store tx.old.conn.now) (state S.Store tx.new.conn.now) (λ _. ⊥) }
+{
+    tx.execute(
+        "INSERT INTO postings VALUES (?1, ?2, ?3, ?4, ?5, ?6, ?7)",
+        params![db, idx, reg, term, sysno, seq, place],
+    )
+}
+
+pub(crate) fn postings_clear<S: Alter>(tx: &mut Transaction<'_, S>, db: i64) -> Result<usize, Error>
+    ensures same { tx.new.conn.ghost_name ≡ tx.old.conn.ghost_name }
+    ensures ok { HasCleanDisk (state S.Store tx.new.conn.now) → IsTrue (state S.Store tx.old.conn.now).in_transaction
+        → OnOk result (Alters postings_tree (Loses (IsPostingIn db)) (state S.Store tx.old.conn.now) (state S.Store tx.new.conn.now)) }
+    ensures err { HasCleanDisk (state S.Store tx.new.conn.now) → IsTrue (state S.Store tx.old.conn.now).in_transaction → OnErr result (KeepsCommit (state S.Store tx.old.conn.now) (state S.Store tx.new.conn.now)) }
+    ensures crash { Survives (state S.Store tx.old.conn.now) (state S.Store tx.new.conn.now) (λ _. ⊥) }
+{
+    tx.execute("DELETE FROM postings WHERE db = ?1", params![db])
+}
+
+/// The first posting of the register whose term is not below `start`.
+pub(crate) fn rows_from<S: Alter>(
+    conn: &mut Connection<S>,
+    db: i64,
+    idx: u32,
+    reg: i64,
+    start: &str,
+) -> Result<Vec<Row>, Error>
+    ensures idle { conn.old.in_transaction ≡ false → conn.new.in_transaction ≡ false }
+    ensures same { HasCleanDisk (state S.Store conn.new) → conn.old.in_transaction ≡ false → ChangesNothing (state S.Store conn.old) (state S.Store conn.new) }
+    ensures crash { Survives (state S.Store conn.old) (state S.Store conn.new) (λ _. ⊥) }
+{
+    // What is seen outside a transaction is what was committed.
+    let _idle = conn.is_autocommit();
+    conn.query_all(
+        "SELECT term, sysno, seq, pos FROM postings WHERE db = ?1 AND idx = ?2 AND reg = ?3 AND term >= ?4 ORDER BY term, sysno, seq, pos LIMIT 1",
+        params![db, idx, reg, start],
+    )
+}
+
+/// The term of a last posting of the register whose term is below `start`.
+pub(crate) fn rows_before<S: Alter>(
+    conn: &mut Connection<S>,
+    db: i64,
+    idx: u32,
+    reg: i64,
+    start: &str,
+) -> Result<Vec<Row>, Error>
+    ensures idle { conn.old.in_transaction ≡ false → conn.new.in_transaction ≡ false }
+    ensures same { HasCleanDisk (state S.Store conn.new) → conn.old.in_transaction ≡ false → ChangesNothing (state S.Store conn.old) (state S.Store conn.new) }
+    ensures crash { Survives (state S.Store conn.old) (state S.Store conn.new) (λ _. ⊥) }
+{
+    // What is seen outside a transaction is what was committed.
+    let _idle = conn.is_autocommit();
+    conn.query_all(
+        "SELECT term FROM postings WHERE db = ?1 AND idx = ?2 AND reg = ?3 AND term < ?4 ORDER BY term DESC LIMIT 1",
+        params![db, idx, reg, start],
+    )
+}

@@ -1,0 +1,39 @@
+//! Numbers on their way into a row, and values on their way out.
+
+ghost use Rattle.std.specs.Prelude.{◌≡◌, ◌<◌, ◌≤◌, ◌^◌, pos, length, IfOk, IfErr, FitsSigned};
+ghost use Rattle.std.specs.Int.{w64};
+ghost use Rattle.sqlite.specs.declared.types.Value.TheVariants.{Int};
+ghost use Rattle.sqlite.specs.Values.{IsInt};
+ghost use Rattle.sqlite.specs.Order.{column};
+
+use crate::RegFault;
+use sqlite::types::FromSql;
+use sqlite::{Error, ErrorCode, Row};
+
+/// The number as a column stores it. `Store` above `2^63 - 1`, which no column stores.
+pub(crate) fn stored(number: u64) -> Result<i64, RegFault>
+    ensures ok { IfOk result (λ n. (n ≡ pos number) × FitsSigned w64 n) }
+    ensures err { IfErr result (λ e. (e ≡ RegFault.Store) × (2 ^ 63 ≤ number)) }
+{
+    i64::try_from(number).map_err(|_| RegFault::Store)
+}
+
+/// The value at this place of a row. `Damaged` where it is of another type, no number of this range or no UTF-8.
+pub(crate) fn read<T: FromSql>(row: &Row, at: usize) -> Result<T, RegFault>
+    ensures ok { IfOk result (T.FromSql.reads_as (column row.now at)) }
+    ensures honest { result ≡ Err RegFault.Damaged → at < length row.now → ¬ T.FromSql.is_readable (column row.now at) }
+{
+    match row.get(at) {
+        Ok(value) => Ok(value),
+        Err(Error::SqliteFailure(ErrorCode::OutOfMemory)) => Err(RegFault::Memory),
+        Err(_) => Err(RegFault::Damaged),
+    }
+}
+
+/// The integer at this place of a row. `Damaged` where it is of another type.
+pub(crate) fn read_integer(row: &Row, at: usize) -> Result<i64, RegFault>
+    ensures ok { IfOk result (λ n. (column row.now at ≡ Int n) × FitsSigned w64 n) }
+    ensures honest { result ≡ Err RegFault.Damaged → at < length row.now → ¬ IsInt (column row.now at) }
+{
+    read(row, at)
+}

@@ -1,0 +1,11 @@
+pub mod RunLemmas
+pub mod DigitLemmas
+pub mod EncodedLemmas
+pub mod JoinLemmas
+pub mod RunsSoFar
+pub mod SymbolLemmas
+pub mod MatchLemmas
+pub mod TruncationLemmas
+pub mod KeyLemmas
+pub mod MaximalRuns
+pub mod FoldingLemmas

@@ -1,0 +1,6 @@
+use Rattle.std.proofs.Common.{◌≡◌, ℕ, ◌<◌, get_or}
+use Rattle.std.specs.Char.{is_ascii_digit}
+use Rattle.zeb_text.proofs.digits.front_len.Given as goal
+
+abbrev pub invariant-loop-i : goal.invariant-loop-i
+invariant-loop-i l = (k : ℕ) → k < l.i → is_ascii_digit (get_or l.text k 0) ≡ l.are_digits

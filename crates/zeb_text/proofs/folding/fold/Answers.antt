@@ -1,0 +1,14 @@
+use Rattle.std.proofs.Common.{chars, sym, ◌∙◌}
+use Rattle.std.proofs.lemmas.Str.{chars_from_encodes}
+use Rattle.unicode_normalization.specs.Forms.{nfd}
+use Rattle.caseless.specs.Caseless.{default_case_fold}
+use Rattle.zeb_text.specs.Folding.{folded}
+use Rattle.zeb_text.proofs.folding.fold.Goals as goal
+
+pub returns : goal.returns
+unfolding folded
+returns c =
+    let decomposed = chars_from_encodes (nfd (chars c.args.text.now)) c.as_str.result.now c.as_str.utf8 (sym (c.as_str.ensures.value ∙ c.in_ok-decomposed.ensures)) in
+    let caseless = chars_from_encodes (default_case_fold (chars c.as_str.result.now)) c.as_str-2.result.now c.as_str-2.utf8 (sym (c.as_str-2.ensures.value ∙ c.in_ok-caseless.ensures)) in
+    let key = chars_from_encodes (nfd (chars c.as_str-2.result.now)) c.as_str-3.result.now c.as_str-3.utf8 (sym (c.as_str-3.ensures.value ∙ c.in_ok-key.ensures)) in
+    rw (decomposed, caseless, key) c.without_diacritical_marks.ensures

@@ -1,0 +1,21 @@
+use Rattle.std.proofs.Common.{◌≡◌, ℕ, List, [], ◌∷◌, ◌++◌, map, refl, sym, ap, ◌∙◌}
+use Rattle.std.specs.List.{join_with_byte}
+use Rattle.std.proofs.lemmas.List.{map-append}
+use Rattle.zeb_text.specs.Symbols.{Char, literal}
+use Rattle.zeb_text.specs.Words.{words_of}
+use Rattle.zeb_text.specs.Truncation.{joined_patterns, truncated}
+use Rattle.zeb_text.proofs.MatchLemmas.{literal-same, same-literal}
+use Rattle.zeb_text.proofs.laws.plain_patterns_are_texts.Goals as goal
+
+joined-literals : (texts : List (List ℕ)) → joined_patterns (map literal texts) ≡ literal (join_with_byte 32 texts)
+joined-literals [] = refl
+joined-literals (text ∷ []) = refl
+joined-literals (text ∷ next ∷ texts) =
+    ap (λ rest. literal text ++ Char 32 ∷ rest) (joined-literals (next ∷ texts)) ∙ sym (map-append Char text (32 ∷ join_with_byte 32 (next ∷ texts)))
+
+pub returns : goal.returns
+unfolding truncated
+returns c = record {
+  matching = λ text other. (literal-same text other, same-literal text other);
+  joined = λ spread term. joined-literals (words_of term);
+}

@@ -1,0 +1,10 @@
+use Rattle.std.proofs.Common.{◌≡◌, ◌++◌, ◌==◌, chars, drop, map, string_bytes, true}
+use Rattle.zeb_text.specs.Stars.{cuts_left, cuts_right, cuts_each}
+use Rattle.zeb_text.specs.Truncation.{symbol_of}
+use Rattle.zeb_text.proofs.TruncationLemmas.{built}
+use Rattle.zeb_text.proofs.truncation.pattern_words.Given as goal
+
+abbrev pub invariant-loop-at : goal.invariant-loop-at
+invariant-loop-at l =
+    let plain = map (λ word. map (symbol_of l.cut) (chars (string_bytes word))) l.word-items in
+    l.patterns.items ++ built (cuts_left l.cut) (cuts_right l.cut) (cuts_each l.spread) (l.at == 0) (drop l.at plain) ≡ built (cuts_left l.cut) (cuts_right l.cut) (cuts_each l.spread) true plain

@@ -1,0 +1,13 @@
+-- Folding: the key of canonical caseless matching (The Unicode Standard, section 3.13, D145), without the combining
+-- diacritical marks (the block U+0300 to U+036F). Texts are lists of code points.
+use Rattle.std.specs.Prelude.{ℕ, Bool, ◌&&◌, not, List, filter, nat_le}
+use Rattle.unicode_normalization.specs.Forms.{nfd}
+use Rattle.caseless.specs.Caseless.{default_case_fold}
+
+-- a character of the block Combining Diacritical Marks
+abbrev pub is_diacritical_mark : ℕ → Bool
+is_diacritical_mark c = nat_le 0x300 c && nat_le c 0x36F
+
+-- the text decomposed, its case folded, decomposed again, and its diacritical marks dropped
+unfoldable pub folded : List ℕ → List ℕ
+folded text = filter (λ c. not (is_diacritical_mark c)) (nfd (default_case_fold (nfd text)))

@@ -1,0 +1,93 @@
+// The runs of digits of a text, one after the other.
+ghost use Rattle.std.specs.Prelude.{◌≡◌, ◌<◌, ◌≤◌, ℕ, [], ◌∷◌, IfNone, IfSome, chars, length, not, slice_index};
+ghost use Rattle.std.specs.Char.{is_ascii_digit};
+ghost use Rattle.std.specs.List.{AllPass};
+ghost use Rattle.std.specs.Str.Parse.{digits_value};
+ghost use Rattle.zeb_text.specs.Words.{runs_of};
+ghost use Rattle.zeb_text.specs.Numbers.{numbers_of};
+
+/// The longest run of digits that is kept.
+const LONGEST: usize = 18;
+
+/// The numbers of a text, as [`numbers`](crate::numbers) finds them. It takes no memory.
+#[derive(Drop)]
+pub struct Numbers<'a> {
+    rest: &'a [u8],
+}
+
+impl<'a> Numbers<'a> {
+    ghost use Rattle.zeb_text.specs.NumbersLeft.{numbers_left};
+
+    pub(crate) fn new(text: &'a str) -> Self
+        ensures { numbers_left result ≡ numbers_of (chars text.now) }
+    {
+        Numbers {
+            rest: text.as_bytes(),
+        }
+    }
+}
+
+impl<'a> Iterator for Numbers<'a> {
+    ghost use Rattle.std.specs.Iterator.{YieldsFirst, item_count};
+    ghost use Rattle.zeb_text.specs.NumbersLeft.{numbers_left};
+
+    type Item = u64;
+
+    ghost next_gives = { YieldsFirst numbers_left };
+
+    ghost remaining = { item_count numbers_left };
+
+    fn next(&mut self) -> Option<u64> {
+        while let Some((digits, rest)) = first_run(self.rest) {
+            self.rest = rest;
+            if digits.len() <= LONGEST {
+                return Some(value_of(digits));
+            }
+        }
+        None
+    }
+}
+
+/// The first run of digits, and what follows it.
+fn first_run(text: &[u8]) -> Option<(&[u8], &[u8])>
+    ensures found { IfSome result
+        (λ cut. runs_of is_ascii_digit text.now ≡ cut.0.now ∷ runs_of is_ascii_digit cut.1.now) }
+    ensures digits { IfSome result (λ cut. AllPass is_ascii_digit cut.0.now) }
+    ensures shorter { IfSome result (λ cut. length cut.1.now < length text.now) }
+    ensures none { IfNone result (runs_of is_ascii_digit text.now ≡ []) }
+{
+    let start = front_len(text, false);
+    if start == text.len() {
+        return None;
+    }
+    let (_, from) = text.split_at(start);
+    let end = front_len(from, true);
+    let (digits, rest) = from.split_at(end);
+    Some((digits, rest))
+}
+
+/// How many bytes stand before the first that is a digit, or is none, against `are_digits`.
+fn front_len(text: &[u8], are_digits: bool) -> usize
+    ensures within { result ≤ length text.now }
+    ensures front { (k : ℕ) → k < result → is_ascii_digit (slice_index text.now k) ≡ are_digits }
+    ensures next { result < length text.now → is_ascii_digit (slice_index text.now result) ≡ not are_digits }
+{
+    for (i, b) in text.iter().enumerate() {
+        if b.is_ascii_digit() != are_digits {
+            return i;
+        }
+    }
+    text.len()
+}
+
+fn value_of(digits: &[u8]) -> u64
+    requires short { length digits.now ≤ LONGEST }
+    requires digits { AllPass is_ascii_digit digits.now }
+    ensures { result ≡ digits_value 10 digits.now }
+{
+    let mut value = 0;
+    for digit in digits {
+        value = value * 10 + u64::from(*digit - b'0');
+    }
+    value
+}

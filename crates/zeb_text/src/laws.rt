@@ -1,0 +1,66 @@
+// Laws of the definitions that the contracts cite: each is the contract of a function that does nothing.
+ghost use Rattle.std.specs.Prelude.{◌≡◌, ◌↔◌, ◌^◌, ◌<◌, ℕ, All, Bool, List, [], ◌∷◌, codes, length, map};
+ghost use Rattle.std.specs.Char.{is_ascii_digit, to_ascii_lowercase};
+ghost use Rattle.std.specs.Cmp.Lexicographic.{slice_cmp};
+ghost use Rattle.std.specs.List.{AllPass, join_with_byte};
+ghost use Rattle.std.specs.Ordering.{nat_cmp};
+ghost use Rattle.std.specs.Str.Parse.{digits_value};
+ghost use Rattle.unicode_normalization.specs.Forms.{nfd};
+ghost use Rattle.caseless.specs.Caseless.{IsCanonicalMatch, default_case_fold};
+ghost use Rattle.zeb_text.specs.Folding.{folded};
+ghost use Rattle.zeb_text.specs.Words.{AreRuns, is_word_character, runs_of, words_of};
+ghost use Rattle.zeb_text.specs.Numbers.{number_key, numbers_of};
+ghost use Rattle.zeb_text.specs.Symbols.{literal};
+ghost use Rattle.zeb_text.specs.Patterns.{Matches};
+ghost use Rattle.zeb_text.specs.Truncation.{joined_patterns, patterns_of};
+
+use crate::truncation::{Cut, Spread};
+
+/// A text has one list of maximal runs of the characters that pass a test, and [`words`](crate::words) and
+/// [`numbers`](crate::numbers) give it for theirs.
+pub fn runs_are_maximal()
+    ensures { (passes : ℕ → Bool) (text : List ℕ) (runs : List (List ℕ)) →
+        (AreRuns passes text runs) ↔ (runs ≡ runs_of passes text) }
+{}
+
+/// The words of a text, joined with one space between each two, are the runs of word characters of what was joined. They
+/// are not always its words, since folding a text twice is not always folding it once.
+pub fn joined_words_stay()
+    ensures { (text : List ℕ) → runs_of is_word_character (join_with_byte 32 (words_of text)) ≡ words_of text }
+{}
+
+/// What folding makes the same, and where it changes nothing: texts that are a canonical caseless match fold to one text;
+/// ASCII folds to lower case; and a folded text is its own folding where it is still decomposed and its case folded. That
+/// it is not where dropping U+034F, which parts two sequences of marks, leaves marks out of their canonical order.
+pub fn folding_joins_matches()
+    ensures matching { (left right : List ℕ) → IsCanonicalMatch left right → folded left ≡ folded right }
+    ensures ascii { (text : List ℕ) → All (λ c. c < 128) text → folded text ≡ map to_ascii_lowercase text }
+    ensures twice { (text : List ℕ) → nfd (folded text) ≡ folded text → default_case_fold (folded text) ≡ folded text →
+        folded (folded text) ≡ folded text }
+{}
+
+/// A pattern without stars is a text: it matches that text alone; and the patterns of a term that is not truncated, joined,
+/// are the term's joined words.
+pub fn plain_patterns_are_texts()
+    ensures matching { (text other : List ℕ) → (Matches (literal text) other) ↔ (other ≡ text) }
+    ensures joined { (spread : Spread) (term : List ℕ) →
+        joined_patterns (patterns_of Cut.None spread term) ≡ literal (join_with_byte 32 (words_of term)) }
+{}
+
+/// The key of a number has 18 digits and writes that number, and keys compare, byte by byte, as their numbers do.
+pub fn keys_rise_with_numbers()
+    ensures digits { (number : ℕ) → number < 10 ^ 18 →
+        (length (number_key number) ≡ 18) × AllPass is_ascii_digit (number_key number) }
+    ensures value { (number : ℕ) → number < 10 ^ 18 → digits_value 10 (number_key number) ≡ number }
+    ensures order { (left right : ℕ) → left < 10 ^ 18 → right < 10 ^ 18 →
+        slice_cmp nat_cmp (number_key left) (number_key right) ≡ nat_cmp left right }
+{}
+
+/// The definitions at a few texts, as a reader would work them out: an accent and a capital are folded away, a text is
+/// cut into its words, and a run of 19 digits is no number.
+pub fn definitions_at_examples()
+    ensures fold { folded (67 ∷ 65 ∷ 70 ∷ 201 ∷ []) ≡ codes "cafe" }
+    ensures words { words_of (codes "or, the whale /") ≡ codes "or" ∷ codes "the" ∷ codes "whale" ∷ [] }
+    ensures numbers { numbers_of (codes "c1851, 007, 1234567890123456789") ≡ 1851 ∷ 7 ∷ [] }
+    ensures key { number_key 1851 ≡ codes "000000000000001851" }
+{}

@@ -1,0 +1,23 @@
+//! The text layer: folding, words, numbers, and patterns with stars.
+#![tactic(auto)]
+
+mod cutting;
+mod digits;
+mod folding;
+mod laws;
+mod numerals;
+mod patterns;
+#[cfg(test)]
+mod tests;
+mod truncation;
+
+pub use crate::cutting::{join, words};
+pub use crate::digits::Numbers;
+pub use crate::folding::fold;
+pub use crate::laws::{
+    definitions_at_examples, folding_joins_matches, joined_words_stay, keys_rise_with_numbers,
+    plain_patterns_are_texts, runs_are_maximal,
+};
+pub use crate::numerals::{key_of_number, number_of_key, numbers};
+pub use crate::patterns::{Pattern, join_patterns};
+pub use crate::truncation::{Cut, Spread, pattern_words};

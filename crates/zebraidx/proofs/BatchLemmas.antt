@@ -1,0 +1,67 @@
+-- A change that a line names, from what is said of the rest of the line.
+use Rattle.std.proofs.Common.{◌≡◌, ◌≢◌, List, [], ◌∷◌, ℕ, get_or, drop, arith, ap, sym, subst, ◌∙◌, refl}
+use Rattle.std.specs.Prelude.{Result, Ok, Err, Option, Some, None, IfOk, IsOk, MatchOption, codes, map}
+use Rattle.std.specs.declared.alloc.AllocError.{AllocError}
+use Rattle.hex.specs.Hex.{decode_of}
+use Rattle.hex.specs.declared.error.FromHexError.{FromHexError}
+use Rattle.zeb_engine.specs.declared.commands.Command.{Command}
+use Rattle.zeb_engine.specs.declared.commands.Command.TheVariants.{Init, Check, Create, Drop, Stat, Dump, Change, Find, Scan, Analyse}
+use Rattle.zeb_engine.specs.declared.commands.Kind.{Kind}
+use Rattle.zeb_engine.specs.declared.commands.Kind.TheVariants.{Update, Delete, Adelete}
+use Rattle.zebraidx.specs.Batches.{Names, NamesChange, HasChange, IsChange, kind_word}
+use Rattle.zebraidx.specs.Words.{first_word, after_first_word}
+
+-- two texts that begin otherwise differ
+apart : (xs ys : List ℕ) → get_or xs 0 0 ≢ get_or ys 0 0 → xs ≡ ys → ⊥
+apart xs ys other e = other (ap (λ zs. get_or zs 0 0) e)
+
+no_init : (k : Kind) → kind_word k ≡ codes "init" → ⊥
+no_init Update e = apart (codes "update") (codes "init") (λ l. omega (arith, l)) e
+no_init Delete e = apart (codes "delete") (codes "init") (λ l. omega (arith, l)) e
+no_init Adelete e = apart (codes "adelete") (codes "init") (λ l. omega (arith, l)) e
+
+no_create : (k : Kind) → kind_word k ≡ codes "create" → ⊥
+no_create Update e = apart (codes "update") (codes "create") (λ l. omega (arith, l)) e
+no_create Delete e = apart (codes "delete") (codes "create") (λ l. omega (arith, l)) e
+no_create Adelete e = apart (codes "adelete") (codes "create") (λ l. omega (arith, l)) e
+
+no_find : (k : Kind) → kind_word k ≡ codes "find" → ⊥
+no_find Update e = apart (codes "update") (codes "find") (λ l. omega (arith, l)) e
+no_find Delete e = apart (codes "delete") (codes "find") (λ l. omega (arith, l)) e
+no_find Adelete e = apart (codes "adelete") (codes "find") (λ l. omega (arith, l)) e
+
+has_bytes : (r : Result (List ℕ) FromHexError) (files : List (List ℕ)) → r ∷ [] ≡ map Ok files → IsOk r
+has_bytes r [] e = absurd cc
+has_bytes r (file ∷ files) e = let same : r ≡ Ok file = cc in rw same refl
+
+-- where no change is named, no command is, since the first word is a change's
+unnamed : (k : Kind) (t : List ℕ) → first_word t ≡ kind_word k → ¬ HasChange (after_first_word t) → (c : Command) → ¬ Names t c
+unnamed k t word lacks Init names = no_init k (sym word ∙ names.0)
+unnamed k t word lacks Check names = names
+unnamed k t word lacks (Create name) names = no_create k (sym word ∙ names.0)
+unnamed k t word lacks (Drop name) names = names
+unnamed k t word lacks (Stat name) names = names
+unnamed k t word lacks (Dump name) names = names
+unnamed k t word lacks (Change kind database files) names = lacks record { name = names.1.name.0; mark = names.1.mark; bytes = has_bytes (decode_of (drop 4 (after_first_word (after_first_word t)))) (map (λ file. file.items) files.items) names.1.bytes }
+unnamed k t word lacks (Find database query first count) names = no_find k (sym word ∙ names.0)
+unnamed k t word lacks (Scan database query number position) names = names
+unnamed k t word lacks (Analyse files) names = names
+
+named : (k : Kind) (t : List ℕ) → first_word t ≡ kind_word k → (c : Command) → IsChange k (after_first_word t) c → Names t c
+named k t word Init h = absurd h
+named k t word Check h = absurd h
+named k t word (Create name) h = absurd h
+named k t word (Drop name) h = absurd h
+named k t word (Stat name) h = absurd h
+named k t word (Dump name) h = absurd h
+named k t word (Change kind database files) (same, h) = (word ∙ ap kind_word (sym same), h)
+named k t word (Find database query first count) h = absurd h
+named k t word (Scan database query number position) h = absurd h
+named k t word (Analyse files) h = absurd h
+
+pub names_change : (k : Kind) (t rest : List ℕ) (r : Result (Option Command) AllocError) → first_word t ≡ kind_word k → rest ≡ after_first_word t
+    → IfOk r (λ found. MatchOption found (¬ HasChange rest) (IsChange k rest))
+    → IfOk r (λ found. MatchOption found ((c : Command) → ¬ Names t c) (Names t))
+names_change k t rest (Err e) word same h = h
+names_change k t rest (Ok None) word same h = unnamed k t word (subst (λ x. ¬ HasChange x) same h)
+names_change k t rest (Ok (Some c)) word same h = named k t word c (subst (λ x. IsChange k x c) same h)

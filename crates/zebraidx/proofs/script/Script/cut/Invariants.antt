@@ -1,0 +1,12 @@
+use Rattle.std.proofs.Common.{◌≡◌, ◌≤◌, ◌<◌, ◌+◌, ◌++◌, length, ℕ, List}
+use Rattle.zebraidx.specs.Scripts.{after_lines, line_at, IsDivider}
+use Rattle.zebraidx.proofs.ScriptLemmas.{IsReached}
+use denote.Text.{Utf8}
+use denote.Shadow.{shadow}
+use Rattle.zebraidx.proofs.script.Script.cut.Given as goal
+
+abbrev pub invariant-loop-rest : goal.invariant-loop-rest
+invariant-loop-rest l = shadow (Utf8 l.rest) × IsReached l.lines_before l.text l.rest
+
+abbrev pub decreases-loop-rest : goal.decreases-loop-rest
+decreases-loop-rest l = length l.rest

@@ -1,0 +1,61 @@
+-- The lines of a batch (Zebra manual, zebraidx, whose commands they are; the batch itself is this program's own).
+-- Words are separated by blanks.
+use Rattle.std.specs.Prelude.{◌≡◌, ◌≢◌, ℕ, List, [], ◌∷◌, Ok, IsOk, map, take, drop, codes, string_bytes}
+use Rattle.hex.specs.Hex.{decode_of}
+use Rattle.zeb_engine.specs.Names.{IsDatabaseName}
+use Rattle.zeb_engine.specs.NameOf.{name_bytes}
+use Rattle.zeb_engine.specs.declared.names.DbName.{DbName}
+use Rattle.zeb_engine.specs.declared.commands.Command.{Command}
+use Rattle.zeb_engine.specs.declared.commands.Command.TheVariants.{Init, Create, Change, Find}
+use Rattle.zeb_engine.specs.declared.commands.Kind.{Kind}
+use Rattle.zeb_engine.specs.declared.commands.Kind.TheVariants.{Update, Delete, Adelete}
+use Rattle.zebraidx.specs.Words.{first_word, after_first_word}
+
+abbrev pub IsName : List ℕ → DbName → Type 0
+IsName text name = IsDatabaseName text × (name_bytes name ≡ text)
+
+abbrev pub kind_word : Kind → List ℕ
+kind_word Update = codes "update"
+kind_word Delete = codes "delete"
+kind_word Adelete = codes "adelete"
+
+-- a database's name, and `hex:` with the digits of one file's bytes
+pub record NamesChange (text : List ℕ) (database : DbName) (files : List (List ℕ)) : Type 0 where
+  pub name : IsName (first_word text) database
+  pub mark : take 4 (after_first_word text) ≡ codes "hex:"
+  pub bytes : decode_of (drop 4 (after_first_word text)) ∷ [] ≡ map Ok files
+
+-- a database's name, and a query that isn't empty
+pub record NamesFind (text : List ℕ) (database : DbName) (query : List ℕ) : Type 0 where
+  pub name : IsName (first_word text) database
+  pub rest : query ≡ after_first_word text
+  pub some : query ≢ []
+
+-- the text, which begins and ends with no blank, names the command
+abbrev pub Names : List ℕ → Command → Type 0
+Names text Init = (first_word text ≡ codes "init") × (after_first_word text ≡ [])
+Names text (Create name) = (first_word text ≡ codes "create") × IsName (after_first_word text) name
+Names text (Change kind database files) = (first_word text ≡ kind_word kind) × NamesChange (after_first_word text) database (map (λ file. file.items) files.items)
+Names text (Find database query first count) = (first_word text ≡ codes "find") × NamesFind (after_first_word text) database (string_bytes query) × (first ≡ 1) × (count ≡ 20)
+Names text _ = ⊥
+
+-- a change is named, whatever its kind
+pub record HasChange (text : List ℕ) : Type 0 where
+  pub name : IsDatabaseName (first_word text)
+  pub mark : take 4 (after_first_word text) ≡ codes "hex:"
+  pub bytes : IsOk (decode_of (drop 4 (after_first_word text)))
+
+-- the command is a change of that kind, and the text names its database and its file
+abbrev pub IsChange : Kind → List ℕ → Command → Type 0
+IsChange kind text (Change its_kind database files) = (its_kind ≡ kind) × NamesChange text database (map (λ file. file.items) files.items)
+IsChange kind text _ = ⊥
+
+-- a find is named
+pub record HasFind (text : List ℕ) : Type 0 where
+  pub name : IsDatabaseName (first_word text)
+  pub some : after_first_word text ≢ []
+
+-- the command is a find of the first 20 records, and the text names its database and its query
+abbrev pub IsFind : List ℕ → Command → Type 0
+IsFind text (Find database query first count) = NamesFind text database (string_bytes query) × (first ≡ 1) × (count ≡ 20)
+IsFind text _ = ⊥

@@ -1,0 +1,17 @@
+-- What a line of a batch says.
+use Rattle.std.specs.Prelude.{◌≡◌, ◌⊎◌, ℕ, List, [], Some, slice_get}
+use Rattle.zeb_engine.specs.declared.commands.Command.{Command}
+use Rattle.zebraidx.specs.declared.lines.Line.{Line}
+use Rattle.zebraidx.specs.declared.lines.Line.TheVariants.{Remark, Command as Order, Bad}
+use Rattle.zebraidx.specs.Batches.{Names}
+use Rattle.zebraidx.specs.Words.{without_blanks}
+
+-- an empty line, or one that begins with `#`
+abbrev pub IsRemark : List ℕ → Type 0
+IsRemark text = (text ≡ []) ⊎ (slice_get text 0 ≡ Some 35)
+
+-- what a line says
+abbrev pub Says : List ℕ → Line → Type 0
+Says text Remark = IsRemark (without_blanks text)
+Says text (Order command) = ¬ IsRemark (without_blanks text) × Names (without_blanks text) command
+Says text Bad = ¬ IsRemark (without_blanks text) × ((command : Command) → ¬ Names (without_blanks text) command)

@@ -1,0 +1,48 @@
+-- What a script writes, and its status (this program's own).
+use Rattle.std.specs.Prelude.{◌≡◌, ◌⊎◌, ℕ, Option, IsOk, List, [], ◌∷◌, ◌++◌, codes}
+use Rattle.zeb_engine.specs.declared.refusals.Refusal.{Refusal}
+use Rattle.zeb_engine.specs.Refusals.{refusal_text, status_of}
+use Rattle.zeb_profile.specs.declared.faults.ProfileFault.{ProfileFault}
+use Rattle.zeb_profile.specs.declared.faults.ProfileFaultKind.{ProfileFaultKind}
+use Rattle.zeb_profile.specs.declared.faults.ProfileFaultKind.TheVariants.{Memory}
+use Rattle.zeb_profile.specs.Outcomes.{FailsPlaced}
+use Rattle.zeb_profile.specs.Profiles.{profile_of}
+use Rattle.zebraidx.specs.Inputs.{IsInput}
+use Rattle.zebraidx.specs.Scripts.{DividesAt, HasNoDivider}
+use Rattle.zebraidx.specs.Answers.{Writes, AnswersBatch}
+
+abbrev pub refusal_line : Refusal → List ℕ
+refusal_line refusal = refusal_text refusal ++ 10 ∷ []
+
+abbrev pub IsRefusal : List ℕ → ℕ → Type 0
+IsRefusal bytes status = (refusal : Refusal) × (bytes ≡ refusal_line refusal) × (status ≡ status_of refusal)
+
+abbrev pub unreadable_line : List ℕ
+unreadable_line = codes "zebraidx: cannot read input" ++ 10 ∷ []
+
+abbrev pub usage_line : List ℕ
+usage_line = codes "zebraidx: bad usage" ++ 10 ∷ []
+
+-- the status for a profile that is refused
+abbrev pub fault_status : ProfileFaultKind → ℕ
+fault_status Memory = 3
+fault_status _ = 1
+
+-- what the lines of a batch add to a writer's known bytes: their answers, or the refusal of a register that can't be opened
+abbrev pub AnswersOpened : ℕ → List ℕ → Option (List ℕ) → Option (List ℕ) → ℕ → Type 0
+AnswersOpened n batch old new status = Writes old new (λ bytes. AnswersBatch n batch bytes status) ⊎ Writes old new (λ bytes. IsRefusal bytes status)
+
+-- the profile of a script: what stands before its divider, or the whole text
+abbrev pub IsProfileOf : List ℕ → List ℕ → Type 0
+IsProfileOf text profile = (HasNoDivider text × (profile ≡ text)) ⊎ ((n : ℕ) × (batch : List ℕ) × DividesAt n text profile batch)
+
+-- what a script of this text adds to a writer's known bytes, and its status
+pub data AnswersScript : List ℕ → Option (List ℕ) → Option (List ℕ) → ℕ → Type 0 where
+  -- an input that is too long or no text
+  unreadable : {text : List ℕ} {old new : Option (List ℕ)} → ¬ IsInput text → Writes old new (λ bytes. bytes ≡ unreadable_line) → AnswersScript text old new 3
+  -- a profile that is refused: for its first fault, or for want of memory
+  faulty : {text profile : List ℕ} {old new : Option (List ℕ)} → (fault : ProfileFault) → IsProfileOf text profile → FailsPlaced fault (profile_of profile) → AnswersScript text old new (fault_status fault.kind)
+  -- a profile alone
+  alone : {text : List ℕ} {old new : Option (List ℕ)} → HasNoDivider text → IsOk (profile_of text) → Writes old new (λ bytes. bytes ≡ []) → AnswersScript text old new 0
+  -- a profile, and the lines of a batch
+  ran : {text profile batch : List ℕ} {n status : ℕ} {old new : Option (List ℕ)} → DividesAt n text profile batch → IsOk (profile_of profile) → AnswersOpened n batch old new status → AnswersScript text old new status

@@ -1,0 +1,119 @@
+//! A batch: commands in one session, one on a line.
+
+ghost use Rattle.std.specs.Prelude.{◌≡◌, ◌≤◌, ◌++◌, ◌∷◌, [], false, IfOk};
+ghost use Rattle.zeb_engine.specs.Refusals.{refusal_text, status_of};
+ghost use Rattle.zebraidx.specs.ScriptAnswers.{AnswersOpened};
+ghost use Rattle.zebraidx.specs.Answers.{Writes, IsAnswer, AnswersLine, AnswersBatch};
+
+use crate::lines::Line;
+use crate::program::{ANSWERED, FAILED, MISUSED};
+use crate::script::Batch;
+use crate::sinks::Sink;
+use crate::words::cut_line;
+use sqlite::{Alter, Connection};
+use std::alloc::{AllocError, Global};
+use std::io::Write;
+use zeb_engine::{Command, Limits, Refusal, Session, refusal_line, render, status};
+use zeb_profile::Profile;
+use zeb_register::{Layout, Rows};
+
+/// Runs the lines of a batch over a register in memory, and answers the greatest status met.
+pub fn run_batch<W: Write>(
+    alloc: Global,
+    profile: Profile,
+    batch: Batch<'_>,
+    output: &mut Sink<W>,
+) -> Result<u8, AllocError>
+    ensures sound { output.new.failed ≡ false → output.old.failed ≡ false }
+    ensures answer { IfOk result (λ status. output.new.failed ≡ false →
+        AnswersOpened batch.entry.lines_before batch.entry.text.now (W.contents output.old.writer) (W.contents output.new.writer) status) }
+    ensures range { IfOk result (λ status. status ≤ FAILED) }
+{
+    let Ok(connection) = Connection::open_in_memory(alloc) else {
+        return refuse(alloc, &Refusal::Store, output);
+    };
+    match Session::<_, Rows>::adopt(alloc, connection, profile, Limits::GREATEST) {
+        Ok(mut session) => run_lines(alloc, &mut session, batch, output),
+        Err((_, refusal)) => refuse(alloc, &refusal, output),
+    }
+}
+
+fn run_lines<S: Alter, L: Layout, W: Write>(
+    alloc: Global,
+    session: &mut Session<S, L>,
+    batch: Batch<'_>,
+    output: &mut Sink<W>,
+) -> Result<u8, AllocError>
+    ensures sound { output.new.failed ≡ false → output.old.failed ≡ false }
+    ensures answer { IfOk result (λ status. output.new.failed ≡ false →
+        Writes (W.contents output.old.writer) (W.contents output.new.writer) (λ bytes. AnswersBatch batch.entry.lines_before batch.entry.text.now bytes status)) }
+    ensures range { IfOk result (λ status. status ≤ FAILED) }
+{
+    let mut rest = batch.text;
+    let mut number = batch.lines_before;
+    let mut greatest = ANSWERED;
+    while !rest.is_empty() {
+        let (line, after) = cut_line(rest);
+        number += 1;
+        greatest = greatest.max(run_line(alloc, session, line, number, output)?);
+        rest = after;
+    }
+    Ok(greatest)
+}
+
+fn run_line<S: Alter, L: Layout, W: Write>(
+    alloc: Global,
+    session: &mut Session<S, L>,
+    line: &str,
+    number: u64,
+    output: &mut Sink<W>,
+) -> Result<u8, AllocError>
+    ensures sound { output.new.failed ≡ false → output.old.failed ≡ false }
+    ensures answer { IfOk result (λ status. output.new.failed ≡ false →
+        Writes (W.contents output.old.writer) (W.contents output.new.writer) (λ bytes. AnswersLine number line.now bytes status)) }
+    ensures range { IfOk result (λ status. status ≤ FAILED) }
+{
+    match Line::read(alloc, line)? {
+        Line::Remark => Ok(ANSWERED),
+        Line::Command(command) => run_command(alloc, session, &command, output),
+        Line::Bad => {
+            output.write_line(format_args!("zebraidx: bad line {number}"));
+            Ok(MISUSED)
+        }
+    }
+}
+
+fn run_command<S: Alter, L: Layout, W: Write>(
+    alloc: Global,
+    session: &mut Session<S, L>,
+    command: &Command,
+    output: &mut Sink<W>,
+) -> Result<u8, AllocError>
+    ensures sound { output.new.failed ≡ false → output.old.failed ≡ false }
+    ensures answer { IfOk result (λ status. output.new.failed ≡ false →
+        Writes (W.contents output.old.writer) (W.contents output.new.writer) (λ bytes. IsAnswer bytes status)) }
+    ensures range { IfOk result (λ status. status ≤ FAILED) }
+{
+    match session.command(command) {
+        Ok(reply) => {
+            output.write(render(alloc, &reply)?.as_slice());
+            Ok(ANSWERED)
+        }
+        Err(refusal) => refuse(alloc, &refusal, output),
+    }
+}
+
+/// Writes a refusal's line, and answers its status.
+fn refuse<W: Write>(
+    alloc: Global,
+    refusal: &Refusal,
+    output: &mut Sink<W>,
+) -> Result<u8, AllocError>
+    ensures sound { output.new.failed ≡ false → output.old.failed ≡ false }
+    ensures answer { IfOk result (λ status. output.new.failed ≡ false →
+        Writes (W.contents output.old.writer) (W.contents output.new.writer) (λ bytes. (bytes ≡ refusal_text refusal.now ++ 10 ∷ []) × (status ≡ status_of refusal.now))) }
+    ensures range { IfOk result (λ status. status ≤ FAILED) }
+{
+    output.write_line(refusal_line(alloc, refusal)?);
+    Ok(status(refusal))
+}

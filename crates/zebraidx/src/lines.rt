@@ -1,0 +1,105 @@
+//! The lines of a batch, each of which names a command.
+
+ghost use Rattle.std.specs.Prelude.{◌≡◌, IfOk, MatchOption};
+ghost use Rattle.zeb_engine.specs.declared.commands.Command.{Command};
+ghost use Rattle.zebraidx.specs.Batches.{Names, HasChange, IsChange, HasFind, IsFind};
+
+use crate::digits::bytes_of_digits;
+use crate::words::{cut_word, without_blanks};
+use std::alloc::{AllocError, Global};
+use zeb_engine::{Command, DbName, Kind};
+
+/// How many records a `find` line shows at most.
+const SHOWN: u32 = 20;
+
+/// What a line of a batch says.
+#[derive(Debug, Drop)]
+pub enum Line {
+    /// Nothing: it is empty or begins with `#`.
+    Remark,
+    Command(Command),
+    /// Something that is no command.
+    Bad,
+}
+
+impl Line {
+    ghost use Rattle.zebraidx.specs.Says.{Says};
+
+    /// Reads a line, in which words are separated by spaces and tabs:
+    ///
+    /// ```text
+    /// init
+    /// create NAME
+    /// update NAME hex:DIGITS
+    /// delete NAME hex:DIGITS
+    /// adelete NAME hex:DIGITS
+    /// find NAME QUERY
+    /// ```
+    ///
+    /// DIGITS are the hexadecimal digits of one file's bytes. QUERY is the rest of the line, and is not
+    /// empty; of the records that it finds the first 20 are shown.
+    pub fn read(alloc: Global, text: &str) -> Result<Line, AllocError>
+        ensures { IfOk result (Says text.now) }
+    {
+        let text = without_blanks(text);
+        if text.is_empty() || text.starts_with('#') {
+            return Ok(Line::Remark);
+        }
+        let command = read_command(alloc, text)?;
+        Ok(command.map_or(Line::Bad, Line::Command))
+    }
+}
+
+/// The command that a line names which begins and ends with no blank, and is not empty.
+fn read_command(alloc: Global, text: &str) -> Result<Option<Command>, AllocError>
+    ensures { IfOk result (λ found. MatchOption found ((command : Command) → ¬ Names text.now command) (Names text.now)) }
+{
+    let (word, rest) = cut_word(text);
+    match word {
+        "init" => Ok(rest.is_empty().then_some(Command::Init)),
+        "create" => Ok(DbName::read(rest).map(Command::Create)),
+        "update" => read_change(alloc, Kind::Update, rest),
+        "delete" => read_change(alloc, Kind::Delete, rest),
+        "adelete" => read_change(alloc, Kind::Adelete, rest),
+        "find" => read_find(alloc, rest),
+        _ => Ok(None),
+    }
+}
+
+/// `NAME hex:DIGITS`.
+fn read_change(alloc: Global, kind: Kind, text: &str) -> Result<Option<Command>, AllocError>
+    ensures { IfOk result (λ found. MatchOption found (¬ HasChange text.now) (IsChange kind text.now)) }
+{
+    let (name, file) = cut_word(text);
+    let (Some(database), Some(digits)) = (DbName::read(name), file.strip_prefix("hex:")) else {
+        return Ok(None);
+    };
+    let Some(bytes) = bytes_of_digits(alloc, digits)? else {
+        return Ok(None);
+    };
+    let files = vec![in alloc; bytes]?;
+    Ok(Some(Command::Change {
+        kind,
+        database,
+        files,
+    }))
+}
+
+/// `NAME QUERY`.
+fn read_find(alloc: Global, text: &str) -> Result<Option<Command>, AllocError>
+    ensures { IfOk result (λ found. MatchOption found (¬ HasFind text.now) (IsFind text.now)) }
+{
+    let (name, query) = cut_word(text);
+    let Some(database) = DbName::read(name) else {
+        return Ok(None);
+    };
+    if query.is_empty() {
+        return Ok(None);
+    }
+    Ok(Some(Command::Find {
+        database,
+        query: String::from_str(alloc, query)?,
+        first: 1,
+        count: SHOWN,
+    }))
+}

@@ -1,0 +1,42 @@
+//! Indexes MARC 21 records and searches them by queries in Prefix Query Format.
+#![tactic(auto)]
+
+mod batch;
+mod digits;
+mod input;
+mod lines;
+mod program;
+mod script;
+mod sinks;
+#[cfg(test)]
+mod tests;
+mod words;
+
+use program::{FAILED, run};
+use sinks::Sink;
+use std::env;
+use std::io::{self, BufWriter};
+use std::process::ExitCode;
+use zeb_marc::FromRead;
+
+fn main(rt: HostRuntime) -> ExitCode {
+    ExitCode::from(run_outside(&rt).unwrap_or(FAILED))
+}
+
+/// Runs the program on the process's words, input and outputs.
+fn run_outside(rt: &HostRuntime) -> io::Result<u8> {
+    let mut words = Vec::new(rt.alloc());
+    for word in env::args(rt)?.skip(1) {
+        words.push(word)?;
+    }
+    let mut input = FromRead::new(rt.reader());
+    let mut output = Sink::new(BufWriter::new(rt.alloc(), rt.stdout())?);
+    let mut fault_output = Sink::new(rt.stderr());
+    Ok(run(
+        rt.alloc(),
+        words.as_slice(),
+        &mut input,
+        &mut output,
+        &mut fault_output,
+    ))
+}

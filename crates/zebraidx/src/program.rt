@@ -1,0 +1,139 @@
+//! The program without its outside: words and input come in, output and a status go out.
+
+ghost use Rattle.std.specs.Prelude.{◌≡◌, ◌≢◌, ◌≤◌, ◌<◌, [], true, false, IfOk, IfSome};
+ghost use Rattle.std.specs.Io.KnownBytes.{Appends, Keeps};
+ghost use Rattle.zebraidx.specs.ScriptAnswers.{AnswersScript, fault_status, usage_line};
+
+use crate::batch::run_batch;
+use crate::input::{InputFault, read_text};
+use crate::script::Script;
+use crate::sinks::Sink;
+use std::alloc::{AllocError, Global};
+use std::io::Write;
+use zeb_marc::Source;
+use zeb_profile::{Profile, ProfileFault, ProfileFaultKind};
+
+/// The status where all was answered.
+pub const ANSWERED: u8 = 0;
+
+/// The status where something was refused.
+pub const REFUSED: u8 = 1;
+
+/// The status where the words or a line say nothing that the program knows.
+pub const MISUSED: u8 = 2;
+
+/// The status where reading, writing, the store or memory failed.
+pub const FAILED: u8 = 3;
+
+/// Runs the program on these words, its name not among them, and answers its status, 0 to 3.
+///
+/// Without a word the input is a script: the lines of a profile, a line `.`, and the lines of a batch,
+/// which run over a register in memory. What they answer goes to the output, each refusal in its place;
+/// a fault of the input or of the profile goes there too, and then nothing else. A script without a
+/// line `.` is a profile alone, and only its fault is written.
+///
+/// The status is the greatest met: 0 answered, 1 refused, 2 a line that is none or words that aren't
+/// understood, 3 where the input couldn't be read, a write or the store failed or memory ran out.
+/// Where memory runs out between two lines of output, what was written stays, and nothing more comes.
+pub fn run<R: Source, W: Write, V: Write>(
+    alloc: Global,
+    words: &[String],
+    input: &mut R,
+    output: &mut Sink<W>,
+    fault_output: &mut Sink<V>,
+) -> u8
+    requires { R.has_failed input.old ≡ false }
+    ensures range { result ≤ FAILED }
+
+    // A failed read of the input, and a failed write, show in the status.
+    ensures failed_read { words.now ≡ [] → R.has_failed input.new ≡ true → result ≡ FAILED }
+    ensures failed_write { output.new.failed ≡ true → result ≡ FAILED }
+    ensures failed_fault { fault_output.new.failed ≡ true → result ≡ FAILED }
+
+    // Without a word: what is written, where the input tells its bytes and nothing failed.
+    ensures script { words.now ≡ [] → result < FAILED → IfSome (R.remaining input.old) (λ text.
+        AnswersScript text (W.contents output.old.writer) (W.contents output.new.writer) result) }
+    ensures quiet { words.now ≡ [] → result < FAILED →
+        Keeps (V.contents fault_output.old.writer) (V.contents fault_output.new.writer) }
+
+    // With words.
+    ensures misused { words.now ≢ [] → result < FAILED → (result ≡ MISUSED)
+        × Keeps (W.contents output.old.writer) (W.contents output.new.writer)
+        × Appends (V.contents fault_output.old.writer) (V.contents fault_output.new.writer) usage_line }
+{
+    let status = respond(alloc, words, input, output, fault_output);
+    output.flush();
+    fault_output.flush();
+    if output.has_failed() || fault_output.has_failed() {
+        return FAILED;
+    }
+    status
+}
+
+/// What `run` does before the last bytes are passed on.
+fn respond<R: Source, W: Write, V: Write>(
+    alloc: Global,
+    words: &[String],
+    input: &mut R,
+    output: &mut Sink<W>,
+    fault_output: &mut Sink<V>,
+) -> u8
+    requires { R.has_failed input.old ≡ false }
+    ensures range { result ≤ FAILED }
+    ensures failed_read { words.now ≡ [] → R.has_failed input.new ≡ true → result ≡ FAILED }
+    ensures script { words.now ≡ [] → result < FAILED → output.new.failed ≡ false → IfSome (R.remaining input.old) (λ text.
+        AnswersScript text (W.contents output.old.writer) (W.contents output.new.writer) result) }
+    ensures quiet { words.now ≡ [] → fault_output.new ≡ fault_output.old }
+    ensures misused { words.now ≢ [] → (result ≡ MISUSED) × (output.new ≡ output.old) }
+    ensures usage { words.now ≢ [] → fault_output.new.failed ≡ false →
+        Appends (V.contents fault_output.old.writer) (V.contents fault_output.new.writer) usage_line }
+{
+    if words.is_empty() {
+        return run_script(alloc, input, output).unwrap_or(FAILED);
+    }
+    fault_output.write_line("zebraidx: bad usage");
+    MISUSED
+}
+
+fn run_script<R: Source, W: Write>(
+    alloc: Global,
+    input: &mut R,
+    output: &mut Sink<W>,
+) -> Result<u8, AllocError>
+    requires { R.has_failed input.old ≡ false }
+    ensures range { IfOk result (λ status. status ≤ FAILED) }
+    ensures failed_read { R.has_failed input.new ≡ true → IfOk result (λ status. status ≡ FAILED) }
+    ensures sound { output.new.failed ≡ false → output.old.failed ≡ false }
+    ensures answer { IfOk result (λ status. R.has_failed input.new ≡ false → output.new.failed ≡ false →
+        IfSome (R.remaining input.old) (λ text. AnswersScript text (W.contents output.old.writer) (W.contents output.new.writer) status)) }
+{
+    let text = match read_text(alloc, input) {
+        Ok(text) => text,
+        Err(InputFault::Unreadable) => {
+            output.write_line("zebraidx: cannot read input");
+            return Ok(FAILED);
+        }
+        Err(InputFault::Memory) => return Err(AllocError),
+    };
+    let script = Script::cut(text.as_str());
+    match Profile::read(alloc, script.profile) {
+        Ok(profile) => match script.batch {
+            Some(batch) => run_batch(alloc, profile, batch, output),
+            None => Ok(ANSWERED),
+        },
+        Err(fault) => Ok(refuse_profile(fault, output)),
+    }
+}
+
+/// Writes a profile's fault, and answers its status.
+fn refuse_profile<W: Write>(fault: ProfileFault, output: &mut Sink<W>) -> u8
+    ensures range { result ≤ FAILED }
+    ensures status { result ≡ fault_status fault.kind }
+    ensures sound { output.new.failed ≡ false → output.old.failed ≡ false }
+{
+    output.write_line(format_args!("zebraidx: input {fault}"));
+    match fault.kind {
+        ProfileFaultKind::Memory => FAILED,
+        _ => REFUSED,
+    }
+}
