@@ -19,11 +19,11 @@ pub record Base : Type 0 where
   pub last : ℕ
   pub records : List Kept
 
--- nothing, before the first `init`; then databases under a profile, in the byte order of their names. The text is the profile's
--- canonical one.
+-- nothing, before the first `init`; then the version of the tables' layout, the canonical text of the profile, and databases in
+-- the byte order of their names
 pub data Holdings : Type 0 where
   nothing_yet : Holdings
-  under : List ℕ → List Base → Holdings
+  under : List ℕ → List ℕ → List Base → Holdings
 
 -- ---- databases
 
@@ -33,14 +33,20 @@ new_base name = record { name = name; last = 0; records = [] }
 abbrev pub base_named : List ℕ → List Base → Option Base
 base_named name bases = find (λ base. bytes_eq name base.name) bases
 
+-- the database stands before the first of the rest, takes its place, or comes after it
+abbrev pub base_placed : Ordering → Base → Base → List Base → List Base → List Base
+base_placed Less base first rest after = base ∷ first ∷ rest
+base_placed Equal base first rest after = base ∷ rest
+base_placed Greater base first rest after = first ∷ after
+
 -- the database added, or in the place of the one that has its name
 unfoldable pub with_base : Base → List Base → List Base
 with_base base [] = base ∷ []
-with_base base (first ∷ rest) = elim (slice_cmp nat_cmp base.name first.name) [
-  | Less ↦ base ∷ first ∷ rest
-  | Equal ↦ base ∷ rest
-  | Greater ↦ first ∷ with_base base rest
-]
+with_base base (first ∷ rest) = base_placed (slice_cmp nat_cmp base.name first.name) base first rest (with_base base rest)
+
+-- without the database of this name
+abbrev pub without_base : List ℕ → List Base → List Base
+without_base name bases = filter (λ base. not (bytes_eq name base.name)) bases
 
 -- ---- records of a database
 

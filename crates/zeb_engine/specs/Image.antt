@@ -1,42 +1,103 @@
 -- The tables as the image of what a register holds: they have the rows that follow from it, and no others.
-use Rattle.std.specs.Prelude.{◌≡◌, ◌↔◌, ℕ, ℤ, List, [], ◌∷◌, Contains, codes, Option, Some, None}
+use Rattle.std.specs.Prelude.{◌≡◌, ◌≢◌, ◌↔◌, ◌⊎◌, ◌≤◌, ℕ, ℤ, pos, List, codes, Some, None, Ok, IsTrue, IsUtf8}
+use Rattle.std.specs.List.{Contains}
+use Rattle.std.specs.Option.{option_map}
+use Rattle.std.specs.Ordering.{nat_cmp}
+use Rattle.std.specs.Cmp.Lexicographic.{slice_cmp}
+use Rattle.std.specs.List.Sorted.{IsStrictlySortedBy}
+use Rattle.sqlite.specs.Tree.{Trees}
+use Rattle.sqlite.specs.State.{State}
+use Rattle.sqlite_rules.specs.Lists.{Has}
+use Rattle.zeb_marc.specs.Records.{first_fault}
+use Rattle.zeb_profile.specs.declared.directives.Directive.{Directive}
+use Rattle.zeb_profile.specs.Indexes.{identifier_pattern}
+use Rattle.zeb_profile.specs.Canonical.{canonical_text, pattern_text}
 use Rattle.zeb_extract.specs.declared.keys.Key.{Key}
-use Rattle.zeb_engine.specs.Holdings.{Holdings, nothing_yet, under, Base, Kept}
+use Rattle.zeb_register.specs.declared.registers.Posting.{Posting}
+use Rattle.zeb_register.specs.Content.{Content, IsRising}
+use Rattle.zeb_register.specs.Sql.{HasRow}
+use Rattle.zeb_register.specs.Store.{IsStore, HasDatabase, HasRecord, LacksLists, LacksRegisters, entry, meta_tree}
+use Rattle.zeb_engine.specs.Conditions.{Conditions}
 use Rattle.zeb_engine.specs.Finding.{OccursIn}
-use Rattle.zeb_engine.specs.Rules.{Rules}
+use Rattle.zeb_engine.specs.Folding.{ident_in}
+use Rattle.zeb_engine.specs.Holdings.{Holdings, nothing_yet, under, Base, Kept}
 
--- what tables hold: the value of a name; a database by its id, name and last number; a record by its database's id, number,
--- identifier and bytes; a posting of a key by its database's id, number, unit and place
-pub record Tables : Type 1 where
-  pub value_of : List ℕ → Option (List ℕ)
-  pub HasDatabase : ℤ → List ℕ → ℕ → Type 0
-  pub HasRecord : ℤ → ℕ → List ℕ → List ℕ → Type 0
-  pub HasPosting : ℤ → Key → ℕ → ℕ → ℕ → Type 0
+-- ---- what can be held
 
--- no row
-pub record IsBare (tables : Tables) : Type 0 where
-  pub values : (name : List ℕ) → tables.value_of name ≡ None
-  pub databases : (id : ℤ) (name : List ℕ) (last : ℕ) → ¬ tables.HasDatabase id name last
-  pub records : (id : ℤ) (sysno : ℕ) (ident bytes : List ℕ) → ¬ tables.HasRecord id sysno ident bytes
-  pub postings : (id : ℤ) (key : Key) (sysno seq pos : ℕ) → ¬ tables.HasPosting id key sysno seq pos
+-- a record of ISO 2709, kept under the identifier that the profile finds in it
+pub record IsKept (profile : List Directive) (kept : Kept) : Type 0 where
+  pub whole : first_fault kept.bytes ≡ None
+  pub named : ident_in profile kept.bytes ≡ Ok kept.ident
+  pub text : IsUtf8 kept.ident
 
--- a name has this value just where it is one of the three
-abbrev pub ValuesAre : Tables → List ℕ → List ℕ → List ℕ → Type 0
-ValuesAre tables version text pattern =
-    (tables.value_of (codes "version") ≡ Some version) × (tables.value_of (codes "profile") ≡ Some text) × (tables.value_of (codes "identifier") ≡ Some pattern)
-    × ((name value : List ℕ) → tables.value_of name ≡ Some value → Contains (codes "version" ∷ codes "profile" ∷ codes "identifier" ∷ []) name)
+-- system numbers rise from 1 to the last one given, and no identifier is kept twice
+pub record IsBase (profile : List Directive) (base : Base) : Type 0 where
+  pub rising : IsStrictlySortedBy (λ (a b : Kept). nat_cmp a.sysno b.sysno) base.records
+  pub from_one : (kept : Kept) → Contains base.records kept → 1 ≤ kept.sysno
+  pub to_last : (kept : Kept) → Contains base.records kept → kept.sysno ≤ base.last
+  pub few : base.last ≤ 999999999
+  pub single : (a b : Kept) → Contains base.records a → Contains base.records b → a.ident ≡ b.ident → a ≡ b
+  pub sound : (kept : Kept) → Contains base.records kept → IsKept profile kept
 
--- the rows of these databases under some ids, a different one for each name, and the postings of all their records' occurrences
-pub record IsImageOf (rules : Rules) (tables : Tables) (bases : List Base) (id_of : List ℕ → ℤ) : Type 0 where
+pub record AreBases (profile : List Directive) (bases : List Base) : Type 0 where
+  pub rising : IsStrictlySortedBy (λ (a b : Base). slice_cmp nat_cmp a.name b.name) bases
+  pub each : (base : Base) → Contains bases base → IsBase profile base
+
+-- ---- the tables of the lists
+
+-- the texts of the store: three, each of UTF-8
+pub record HasTexts (trees : Trees) (version text pattern : List ℕ) : Type 0 where
+  pub readable : IsUtf8 version × IsUtf8 text × IsUtf8 pattern
+  pub each : (name value : List ℕ) → HasRow trees meta_tree (entry name value)
+      ↔ (((name ≡ codes "version") × (value ≡ version)) ⊎ (((name ≡ codes "profile") × (value ≡ text)) ⊎ ((name ≡ codes "identifier") × (value ≡ pattern))))
+
+-- the rows of databases under some ids
+abbrev pub AreListed : Trees → List Base → (List ℕ → ℤ) → Type 0
+AreListed trees bases id_of = (id : ℤ) (name : List ℕ) (last : ℤ) → HasDatabase trees id name last
+    ↔ ((base : Base) × Contains bases base × (id ≡ id_of base.name) × (name ≡ base.name) × (last ≡ pos base.last))
+
+-- ---- the tables of records and of registers, by the ids of databases
+
+-- the postings are just those of the records' occurrences
+pub record ArePosted (profile : List Directive) (records_of : ℤ → List Kept) (content : Content) : Type 0 where
+  pub rising : IsRising content
+  pub each : (id : ℤ) (key : Key) (p : Posting) → Has (content id key) p
+      ↔ ((kept : Kept) × Contains (records_of id) kept × (kept.sysno ≡ p.sysno) × OccursIn profile kept (record { key = key; seq = p.seq; pos = p.pos }))
+
+abbrev pub AreKept : Trees → (ℤ → List Kept) → Type 0
+AreKept trees records_of = (id sysno : ℤ) (ident bytes : List ℕ) → HasRecord trees id sysno ident bytes
+    ↔ ((kept : Kept) × Contains (records_of id) kept × (sysno ≡ pos kept.sysno) × (ident ≡ kept.ident) × (bytes ≡ kept.bytes))
+
+-- `holds` is what a layout says of registers
+pub record AreStored (holds : Trees → Content → Type 0) (profile : List Directive) (trees : Trees) (records_of : ℤ → List Kept) : Type 0 where
+  pub kept : AreKept trees records_of
+  pub content : Content
+  pub held : holds trees content
+  pub posted : ArePosted profile records_of content
+
+-- ---- all tables
+
+-- under some ids, a different one for each name: the databases, their records and the postings of these, and no others
+pub record IsImageOf (holds : Trees → Content → Type 0) (profile : List Directive) (trees : Trees) (bases : List Base) : Type 0 where
+  pub id_of : List ℕ → ℤ
+  pub records_of : ℤ → List Kept
   pub distinct : (a b : Base) → Contains bases a → Contains bases b → id_of a.name ≡ id_of b.name → a.name ≡ b.name
-  pub databases : (id : ℤ) (name : List ℕ) (last : ℕ) → tables.HasDatabase id name last
-      ↔ ((base : Base) × Contains bases base × (id ≡ id_of base.name) × (name ≡ base.name) × (last ≡ base.last))
-  pub records : (id : ℤ) (sysno : ℕ) (ident bytes : List ℕ) → tables.HasRecord id sysno ident bytes
-      ↔ ((base : Base) × Contains bases base × (id ≡ id_of base.name) × Contains base.records (record { sysno = sysno; ident = ident; bytes = bytes }))
-  pub postings : (id : ℤ) (key : Key) (sysno seq pos : ℕ) → tables.HasPosting id key sysno seq pos
-      ↔ ((base : Base) × Contains bases base × (id ≡ id_of base.name)
-      × ((kept : Kept) × Contains base.records kept × (kept.sysno ≡ sysno) × OccursIn rules kept (record { key = key; seq = seq; pos = pos })))
+  pub listed : AreListed trees bases id_of
+  pub of_base : (base : Base) → Contains bases base → records_of (id_of base.name) ≡ base.records
+  pub of_none : (id : ℤ) → ((base : Base) → Contains bases base → id ≢ id_of base.name) → (kept : Kept) → ¬ Contains (records_of id) kept
+  pub stored : AreStored holds profile trees records_of
 
-abbrev pub IsImage : Rules → List ℕ → Tables → Holdings → Type 0
-IsImage rules version tables nothing_yet = IsBare tables
-IsImage rules version tables (under text bases) = ValuesAre tables version text rules.pattern × ((id_of : List ℕ → ℤ) × IsImageOf rules tables bases id_of)
+-- A register of another version or under another profile is refused, whatever else its tables hold.
+abbrev pub IsImage : (holds : Trees → Content → Type 0) → Conditions → Trees → Holdings → Type 0
+IsImage holds c trees nothing_yet = LacksLists trees × LacksRegisters trees
+IsImage holds c trees (under version text bases) = (pattern : List ℕ) × HasTexts trees version text pattern
+    × (version ≡ c.version → text ≡ canonical_text c.profile
+    → (option_map pattern_text (identifier_pattern c.profile) ≡ Some pattern) × AreBases c.profile bases × IsImageOf holds c.profile trees bases)
+
+-- a shut connection shows nothing
+abbrev pub Sees : (holds : Trees → Content → Type 0) → Conditions → State → Holdings → Type 0
+Sees holds c s held = IsTrue s.is_open → IsStore s × IsImage holds c s.now.trees held
+
+-- the same outside a transaction, where it is also what was committed
+abbrev pub Keeps : (holds : Trees → Content → Type 0) → Conditions → State → Holdings → Type 0
+Keeps holds c s held = IsTrue s.is_open → (IsStore s × IsImage holds c s.now.trees held) × (s.committed ≡ s.now)

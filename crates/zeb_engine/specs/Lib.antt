@@ -8,9 +8,15 @@ pub mod KeyRuns
 pub mod Transactions
 pub mod Holdings
 pub mod Answers
-pub mod Rules
+pub mod Conditions
 pub mod Folding
 pub mod Finding
 pub mod Steps
 pub mod Image
+pub mod Works
+pub mod Writing
+pub mod ChangedKeys
+pub mod Tallies
+pub mod Reading
 pub mod Headline
+pub mod Records

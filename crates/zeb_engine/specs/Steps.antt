@@ -1,41 +1,79 @@
 -- What each command answers, and what the register holds then. A refusal gives back what it held. The order of refusals is
 -- that of the cases: the register, the query's text, the database, the query's meaning, and then record after record.
-use Rattle.std.specs.Prelude.{◌≡◌, ◌⊎◌, ℕ, List, [], ◌∷◌, map, Option, Some, None, Result, Ok, Err, unwrap_or, string_bytes, if◌then◌else◌}
+use Rattle.std.specs.Prelude.{◌≡◌, ◌⊎◌, ℕ, List, [], ◌∷◌, map, Option, Some, None, Result, Ok, Err, string_bytes, if◌then◌else◌}
 use Rattle.std.specs.Str.{bytes_eq}
-use Rattle.zeb_marc.specs.Splits.{IsSplit}
+use Rattle.zeb_profile.specs.Canonical.{canonical_text}
+use Rattle.zeb_query.specs.Reading.{query_fault}
+use Rattle.zeb_marc.specs.Splits.{Split, split_of}
 use Rattle.zeb_engine.specs.declared.commands.Command.{Command}
 use Rattle.zeb_engine.specs.declared.commands.Command.TheVariants.{Init, Check, Create, Drop, Stat, Dump, Change, Find, Scan, Analyse}
 use Rattle.zeb_engine.specs.declared.commands.Kind.{Kind}
 use Rattle.zeb_engine.specs.declared.commands.Kind.TheVariants.{Update, Delete, Adelete}
-use Rattle.zeb_engine.specs.declared.commands.Limits.{Limits}
 use Rattle.zeb_engine.specs.NameOf.{name_bytes}
-use Rattle.zeb_engine.specs.Answers.{Answer, Why, done, changed, refused, not_initialised, profile_changed, diagnostic, exists, unsupported, IsFailure}
-use Rattle.zeb_engine.specs.Holdings.{Holdings, nothing_yet, under, Base, new_base, base_named, with_base}
-use Rattle.zeb_engine.specs.Rules.{Rules, Asked, a_word, a_fault, another}
-use Rattle.zeb_engine.specs.Folding.{Progress, at_first, Slices, files_folded}
-use Rattle.zeb_engine.specs.Finding.{IsFound}
+use Rattle.zeb_engine.specs.Answers.{Answer, Why, done, changed, refused, not_initialised, old_format, profile_changed, diagnostic, exists, unsupported, IsFailure}
+use Rattle.zeb_engine.specs.Holdings.{Holdings, nothing_yet, under, Base, new_base, base_named, with_base, without_base}
+use Rattle.zeb_engine.specs.Conditions.{Conditions}
+use Rattle.zeb_engine.specs.Folding.{Progress, at_first, files_folded}
+use Rattle.zeb_engine.specs.Finding.{IsAnswered}
 
 -- an answer, and what is held then
 abbrev pub Outcome : Type 0
 Outcome = Answer × Holdings
 
--- the databases of a register that is under these rules; other registers are refused
-abbrev pub ready : Rules → Holdings → Result (List Base) Why
-ready rules nothing_yet = Err not_initialised
-ready rules (under text bases) = if bytes_eq text rules.text then Ok bases else Err profile_changed
+-- the databases of a register of this version and under this profile; other registers are refused
+unfoldable pub ready : Conditions → Holdings → Result (List Base) Why
+ready c nothing_yet = Err not_initialised
+ready c (under version text bases) =
+    if bytes_eq version c.version then (if bytes_eq text (canonical_text c.profile) then Ok bases else Err profile_changed) else Err old_format
 
 abbrev pub no_database : List ℕ → Why
 no_database name = diagnostic 235 0 name
 
--- ---- commands that change what is held
+-- the database of this name
+abbrev pub found_or : List ℕ → Option Base → Result Base Why
+found_or name (Some base) = Ok base
+found_or name None = Err (no_database name)
 
-abbrev pub created_in : Rules → List ℕ → List Base → Option Base → Outcome
-created_in rules name bases (Some base) = (refused exists, under rules.text bases)
-created_in rules name bases None = (done, under rules.text (with_base (new_base name) bases))
+abbrev pub existing : List ℕ → List Base → Result Base Why
+existing name bases = found_or name (base_named name bases)
 
-abbrev pub created : Rules → List ℕ → Holdings → Result (List Base) Why → Outcome
-created rules name before (Err why) = (refused why, before)
-created rules name before (Ok bases) = created_in rules name bases (base_named name bases)
+-- what is held under these conditions, with these databases
+abbrev pub holding : Conditions → List Base → Holdings
+holding c bases = under c.version (canonical_text c.profile) bases
+
+-- ---- commands that change what is held, each in two steps: whether the register is ready, and then the databases
+
+-- what becomes of the databases: an answer and the databases then, or a refusal
+abbrev pub Turn : Type 0
+Turn = List Base → Result (Answer × List Base) Why
+
+abbrev pub ends : Conditions → Holdings → Result (Answer × List Base) Why → Outcome
+ends c before (Ok turned) = (turned.0, holding c turned.1)
+ends c before (Err why) = (refused why, before)
+
+abbrev pub turned_from : Conditions → Turn → Holdings → Result (List Base) Why → Outcome
+turned_from c turn before (Ok bases) = ends c before (turn bases)
+turned_from c turn before (Err why) = (refused why, before)
+
+unfoldable pub turned : Conditions → Turn → Holdings → Outcome
+turned c turn before = turned_from c turn before (ready c before)
+
+unfoldable pub initialised : Conditions → Holdings → Outcome
+initialised c before = (done, holding c [])
+
+abbrev pub created_in : List ℕ → List Base → Option Base → Result (Answer × List Base) Why
+created_in name bases (Some base) = Err exists
+created_in name bases None = Ok (done, with_base (new_base name) bases)
+
+unfoldable pub created : List ℕ → Turn
+created name bases = created_in name bases (base_named name bases)
+
+abbrev pub dropped_in : List ℕ → List Base → Option Base → Result (Answer × List Base) Why
+dropped_in name bases None = Err (no_database name)
+dropped_in name bases (Some base) = Ok (done, without_base name bases)
+
+unfoldable pub dropped : List ℕ → Turn
+dropped name bases = dropped_in name bases (base_named name bases)
 
 -- a change begins with the database, which an update makes where it is absent
 abbrev pub start_of : Kind → List ℕ → Option Base → Result Base Why
@@ -44,66 +82,81 @@ start_of Update name None = Ok (new_base name)
 start_of Delete name None = Err (no_database name)
 start_of Adelete name None = Err (no_database name)
 
-abbrev pub change_ends : Rules → Holdings → List Base → Result Progress Why → Outcome
-change_ends rules before bases (Err why) = (refused why, before)
-change_ends rules before bases (Ok p) = (changed p.inserted p.updated p.deleted, under rules.text (with_base p.base bases))
+abbrev pub change_ends : List Base → Result Progress Why → Result (Answer × List Base) Why
+change_ends bases (Err why) = Err why
+change_ends bases (Ok p) = Ok (changed p.inserted p.updated p.deleted, with_base p.base bases)
 
-abbrev pub change_from : Rules → Limits → Kind → List Slices → Holdings → List Base → Result Base Why → Outcome
-change_from rules limits kind files before bases (Err why) = (refused why, before)
-change_from rules limits kind files before bases (Ok base) = change_ends rules before bases (files_folded rules limits kind 1 files (at_first base))
+abbrev pub change_from : Conditions → Kind → List Split → List Base → Result Base Why → Result (Answer × List Base) Why
+change_from c kind files bases (Err why) = Err why
+change_from c kind files bases (Ok base) = change_ends bases (files_folded c kind 1 files (at_first base))
 
-abbrev pub changed_by_files : Rules → Limits → Kind → List ℕ → List Slices → Holdings → Result (List Base) Why → Outcome
-changed_by_files rules limits kind name files before (Err why) = (refused why, before)
-changed_by_files rules limits kind name files before (Ok bases) = change_from rules limits kind files before bases (start_of kind name (base_named name bases))
+unfoldable pub changed_by_files : Conditions → Kind → List ℕ → List Split → Turn
+changed_by_files c kind name files bases = change_from c kind files bases (start_of kind name (base_named name bases))
 
 -- ---- the command that finds
 
-abbrev pub FoundIn : Rules → List ℕ → List ℕ → ℕ → ℕ → Option Base → Answer → Type 0
-FoundIn rules name query first count None answer = answer ≡ refused (no_database name)
-FoundIn rules name query first count (Some base) answer = elim (rules.asked query) [
-  | a_fault number place addinfo ↦ answer ≡ refused (diagnostic number place addinfo)
-  | another ↦ answer ≡ refused unsupported
-  | a_word key ↦ IsFound rules key first count base answer
-]
+abbrev pub FoundIn : Conditions → List ℕ → List ℕ → ℕ → ℕ → Option Base → Answer → Type 0
+FoundIn c name query first count None answer = answer ≡ refused (no_database name)
+FoundIn c name query first count (Some base) answer = IsAnswered c.profile query first count base answer
 
-abbrev pub FoundUnder : Rules → List ℕ → List ℕ → ℕ → ℕ → Option (ℕ × ℕ × List ℕ) → Result (List Base) Why → Answer → Type 0
-FoundUnder rules name query first count fault (Err why) answer = answer ≡ refused why
-FoundUnder rules name query first count (Some fault) (Ok bases) answer = answer ≡ refused (diagnostic fault.0 fault.1 fault.2)
-FoundUnder rules name query first count None (Ok bases) answer = FoundIn rules name query first count (base_named name bases) answer
+abbrev pub FoundAmong : Conditions → List ℕ → List ℕ → ℕ → ℕ → List Base → Option (ℕ × ℕ) → Answer → Type 0
+FoundAmong c name query first count bases (Some fault) answer = answer ≡ refused (diagnostic fault.0 fault.1 [])
+FoundAmong c name query first count bases None answer = FoundIn c name query first count (base_named name bases) answer
+
+abbrev pub FoundFrom : Conditions → List ℕ → List ℕ → ℕ → ℕ → Result (List Base) Why → Answer → Type 0
+FoundFrom c name query first count (Err why) answer = answer ≡ refused why
+FoundFrom c name query first count (Ok bases) answer = FoundAmong c name query first count bases (query_fault query) answer
 
 -- ---- one command
 
--- each file as its slices
-abbrev pub AreSplit : List (List ℕ) → List Slices → Type 0
-AreSplit [] splits = splits ≡ []
-AreSplit (file ∷ files) [] = ⊥
-AreSplit (file ∷ files) (split ∷ splits) = IsSplit file split.0 split.1 × AreSplit files splits
-
 -- commands that are not there yet
-abbrev pub NotYet : Rules → Holdings → Answer → Holdings → Type 0
-NotYet rules before answer after = (after ≡ before) × elim (ready rules before) [ Err why ↦ answer ≡ refused why | Ok bases ↦ answer ≡ refused unsupported ]
+abbrev pub waits : Result (List Base) Why → Answer
+waits (Err why) = refused why
+waits (Ok bases) = refused unsupported
 
-abbrev pub Steps : Rules → Limits → Holdings → Command → Answer → Holdings → Type 0
-Steps rules limits before Init answer after = (answer ≡ done) × (after ≡ under rules.text [])
-Steps rules limits before (Create name) answer after = created rules (name_bytes name) before (ready rules before) ≡ (answer, after)
-Steps rules limits before (Change kind name files) answer after =
-    (splits : List Slices) × AreSplit (map (λ file. file.items) files.items) splits
-    × (changed_by_files rules limits kind (name_bytes name) splits before (ready rules before) ≡ (answer, after))
-Steps rules limits before (Find name query first count) answer after =
-    (after ≡ before) × FoundUnder rules (name_bytes name) (string_bytes query) first count (rules.misspelled (string_bytes query)) (ready rules before) answer
-Steps rules limits before Check answer after = NotYet rules before answer after
-Steps rules limits before (Drop name) answer after = NotYet rules before answer after
-Steps rules limits before (Stat name) answer after = NotYet rules before answer after
-Steps rules limits before (Dump name) answer after = NotYet rules before answer after
-Steps rules limits before (Scan name query number position) answer after = NotYet rules before answer after
-Steps rules limits before (Analyse files) answer after = (after ≡ before) × (answer ≡ refused unsupported)
+-- a command that is not there yet, on a register that is ready
+abbrev pub waited : Conditions → Holdings → Outcome
+waited c before = (waits (ready c before), before)
+
+-- what a change's files are: slices, and the fault behind them, if there is one
+abbrev pub splits_of : List (List ℕ) → List Split
+splits_of files = map split_of files
+
+-- what a command that writes does
+abbrev pub outcome : Conditions → Command → Holdings → Outcome
+outcome c Init before = initialised c before
+outcome c (Create name) before = turned c (created (name_bytes name)) before
+outcome c (Drop name) before = turned c (dropped (name_bytes name)) before
+outcome c (Change kind name files) before = turned c (changed_by_files c kind (name_bytes name) (splits_of (map (λ file. file.items) files.items))) before
+outcome c (Find name query first count) before = (refused unsupported, before)
+outcome c Check before = waited c before
+outcome c (Stat name) before = waited c before
+outcome c (Dump name) before = waited c before
+outcome c (Scan name query number position) before = waited c before
+outcome c (Analyse files) before = (refused unsupported, before)
+
+-- what is held after a command
+abbrev pub after : Conditions → Command → Holdings → Holdings
+after c command before = (outcome c command before).1
+
+-- what a command answers: a find by the records that it finds, each other by its outcome
+abbrev pub Answers : Conditions → Command → Holdings → Answer → Type 0
+Answers c (Find name query first count) before answer = FoundFrom c (name_bytes name) (string_bytes query) first count (ready c before) answer
+Answers c Init before answer = answer ≡ (outcome c Init before).0
+Answers c Check before answer = answer ≡ (outcome c Check before).0
+Answers c (Create name) before answer = answer ≡ (outcome c (Create name) before).0
+Answers c (Drop name) before answer = answer ≡ (outcome c (Drop name) before).0
+Answers c (Stat name) before answer = answer ≡ (outcome c (Stat name) before).0
+Answers c (Dump name) before answer = answer ≡ (outcome c (Dump name) before).0
+Answers c (Change kind name files) before answer = answer ≡ (outcome c (Change kind name files) before).0
+Answers c (Scan name query number position) before answer = answer ≡ (outcome c (Scan name query number position) before).0
+Answers c (Analyse files) before answer = answer ≡ (outcome c (Analyse files) before).0
 
 -- ---- a list of commands: each takes its step, or the store or the memory fails and nothing changes
 
-abbrev pub Run : Rules → Limits → Holdings → List Command → List Answer → Holdings → Type 0
-Run rules limits before [] [] after = after ≡ before
-Run rules limits before (command ∷ commands) (answer ∷ answers) after =
-    ((mid : Holdings) × Steps rules limits before command answer mid × Run rules limits mid commands answers after)
-    ⊎ (IsFailure answer × Run rules limits before commands answers after)
-Run rules limits before [] (answer ∷ answers) after = ⊥
-Run rules limits before (command ∷ commands) [] after = ⊥
+abbrev pub Run : Conditions → Holdings → List Command → List Answer → Holdings → Type 0
+Run c before [] [] last = last ≡ before
+Run c before (command ∷ commands) (answer ∷ answers) last =
+    (Answers c command before answer × Run c (after c command before) commands answers last) ⊎ (IsFailure answer × Run c before commands answers last)
+Run c before [] (answer ∷ answers) last = ⊥
+Run c before (command ∷ commands) [] last = ⊥

@@ -1,11 +1,13 @@
 //! The keys whose places differ between two lists of occurrences.
 
-ghost use Rattle.std.specs.Prelude.{◌≡◌, ◌+◌, ◌≤◌, ◌<◌, ◌⊎◌, length, IfOk, IfSome, IfNone, []};
-ghost use Rattle.zeb_engine.specs.KeyRuns.{BeginsWith};
+ghost use Rattle.std.specs.Prelude.{◌≡◌, ◌+◌, ◌≤◌, ◌<◌, ◌⊎◌, length, map, take, drop, IfOk, OnOk, IfSome, IfNone, []};
+ghost use Rattle.zeb_extract.specs.Order.{IsRising as AreRising};
+ghost use Rattle.zeb_engine.specs.ChangedKeys.{AreChangedKeys, IsNoted, place_in};
+ghost use Rattle.zeb_engine.specs.KeyRuns.{BeginsWith, AreOf, Stops, IsNotAbove};
 
 use std::alloc::{AllocError, Global};
 use std::cmp::Ordering;
-use zeb_extract::{Key, Occurrence};
+use zeb_extract::{Key, Occurrence, order_is_by_parts};
 use zeb_register::Place;
 
 /// A key with its places in the elder record and in the newer one.
@@ -19,6 +21,8 @@ pub(crate) struct ChangedKey<'a> {
 /// How many of the first occurrences are of this key.
 fn run_length(occurrences: &[Occurrence], key: &Key) -> usize
     ensures within { result ≤ length occurrences.now }
+    ensures run { AreOf key.now (take result occurrences.now) }
+    ensures stops { Stops key.now (drop result occurrences.now) }
     ensures some { BeginsWith key.now occurrences.now → 1 ≤ result }
 {
     for (index, occurrence) in occurrences.iter().enumerate() {
@@ -30,7 +34,9 @@ fn run_length(occurrences: &[Occurrence], key: &Key) -> usize
 }
 
 /// The places of some occurrences, in their order.
-fn places_of(alloc: Global, occurrences: &[Occurrence]) -> Result<Vec<Place>, AllocError> {
+fn places_of(alloc: Global, occurrences: &[Occurrence]) -> Result<Vec<Place>, AllocError>
+    ensures { IfOk result (λ places. places.items ≡ map place_in occurrences.now) }
+{
     occurrences
         .iter()
         .map(|occurrence| Place {
@@ -42,8 +48,11 @@ fn places_of(alloc: Global, occurrences: &[Occurrence]) -> Result<Vec<Place>, Al
 
 /// The lesser of the keys that two lists begin with.
 fn lesser_key<'a>(old: &'a [Occurrence], new: &'a [Occurrence]) -> Option<&'a Key>
-    ensures { IfSome result (λ key. BeginsWith key.now old.now ⊎ BeginsWith key.now new.now) }
+    ensures found { IfSome result (λ key. BeginsWith key.now old.now ⊎ BeginsWith key.now new.now) }
+    ensures lesser { IfSome result (λ key. IsNotAbove key.now old.now × IsNotAbove key.now new.now) }
+    ensures none { IfNone result ((old.now ≡ []) × (new.now ≡ [])) }
 {
+    order_is_by_parts();
     match (old.first(), new.first()) {
         (Some(elder), Some(newer)) => match elder.key.cmp(&newer.key) {
             Ordering::Greater => Some(&newer.key),
@@ -55,12 +64,29 @@ fn lesser_key<'a>(old: &'a [Occurrence], new: &'a [Occurrence]) -> Option<&'a Ke
     }
 }
 
+/// Notes a key with its places in either record, where they differ.
+fn note<'a>(
+    changed: &mut Vec<ChangedKey<'a>>,
+    key: &'a Key,
+    old: Vec<Place>,
+    new: Vec<Place>,
+) -> Result<(), AllocError>
+    ensures { OnOk result (IsNoted key.now old.items new.items changed.old.items changed.new.items) }
+{
+    if old != new {
+        changed.push(ChangedKey { key, old, new })?;
+    }
+    Ok(())
+}
+
 /// The keys, in their order, whose places differ between two rising lists of occurrences.
 pub(crate) fn changed_keys<'a>(
     alloc: Global,
     elder: &'a [Occurrence],
     newer: &'a [Occurrence],
-) -> Result<Vec<ChangedKey<'a>>, AllocError> {
+) -> Result<Vec<ChangedKey<'a>>, AllocError>
+    ensures { AreRising elder.now → AreRising newer.now → IfOk result (λ changed. AreChangedKeys elder.now newer.now changed.items) }
+{
     let mut changed = Vec::new(alloc);
     let mut elder = elder;
     let mut newer = newer;
@@ -69,9 +95,7 @@ pub(crate) fn changed_keys<'a>(
         let (in_newer, newer_rest) = newer.split_at(run_length(newer, key));
         let old = places_of(alloc, in_elder)?;
         let new = places_of(alloc, in_newer)?;
-        if old != new {
-            changed.push(ChangedKey { key, old, new })?;
-        }
+        note(&mut changed, key, old, new)?;
         elder = elder_rest;
         newer = newer_rest;
     }

@@ -1,10 +1,15 @@
 //! Updates and deletes: the records of files, folded into a database in one transaction.
 
-ghost use Rattle.std.specs.Prelude.{◌≡◌, false, IsTrue, OnErr, IfErr, ⊤};
+ghost use Rattle.std.specs.Prelude.{◌≡◌, ◌⊎◌, ◌+◌, ℕ, ℤ, List, Some, Ok, Err, true, false, IsTrue, OnErr, IfErr, OnOk, ⊤};
 ghost use Rattle.sqlite.specs.Held.{state};
 ghost use Rattle.sqlite.specs.State.{HasCleanDisk, Survives};
 ghost use Rattle.zeb_register.specs.Calls.{ChangesNothing};
+ghost use Rattle.zeb_marc.specs.Splits.{next_of, split_of};
+ghost use Rattle.zeb_engine.specs.Folding.{Progress as FoldProgress, folded, file_folded};
+ghost use Rattle.zeb_engine.specs.Holdings.{Kept};
+ghost use Rattle.zeb_engine.specs.Reading.{ReadsNext};
 ghost use Rattle.zeb_engine.specs.Transactions.{EnduresRefusal, Stays};
+ghost use Rattle.zeb_engine.specs.Works.{IsFolded, IsUnderWay, Meets, StandsFor, conditions_of};
 
 use crate::commands::Kind;
 use crate::names::DbName;
@@ -23,7 +28,11 @@ fn read_record<R: Source>(
     buffer: &mut RecordBuf,
     file: u64,
     nth: u64,
-) -> Result<bool, Refusal> {
+) -> Result<bool, Refusal>
+    ensures told { (text : List ℕ) → R.remaining reader.old ≡ Some text → R.has_failed reader.new ≡ false → ReadsNext file nth (next_of text) result buffer.new (R.remaining reader.new) }
+    ensures failed { R.has_failed reader.new ≡ true → result ≡ Err (Refusal.ReadFault file) }
+    ensures fault { (other : ℕ) → result ≡ Err (Refusal.ReadFault other) → (other ≡ file) × (R.has_failed reader.new ≡ true) }
+{
     if reader.has_failed() {
         return Err(Refusal::ReadFault { file });
     }
@@ -49,6 +58,13 @@ fn take_record<S: Alter, L: Layout>(
 ) -> Result<(), Refusal>
     ensures same { tx.new.conn.ghost_name ≡ tx.old.conn.ghost_name }
     ensures stays { HasCleanDisk (state S.Store tx.new.conn.now) → IsTrue (state S.Store tx.old.conn.now).in_transaction → Stays (state S.Store tx.old.conn.now) (state S.Store tx.new.conn.now) result }
+    ensures database { fold.new.progress.database ≡ fold.old.progress.database }
+    ensures counted { OnOk result (fold.new.tally.records ≡ fold.old.tally.records + 1) }
+    ensures folded { HasCleanDisk (state S.Store tx.new.conn.now) → IsTrue (state S.Store tx.old.conn.now).in_transaction
+        → (version : List ℕ) (records_of : ℤ → List Kept) (p : FoldProgress) → StandsFor fold.old p
+        → IsUnderWay L.holds setting.now.profile.now fold.old.progress.database.0 records_of (state S.Store tx.old.conn.now) p.base
+        → Meets (λ after _. IsFolded L.holds setting.now.profile.now fold.old.progress.database.0 records_of (state S.Store tx.old.conn.now) (state S.Store tx.new.conn.now) fold.new after)
+        (folded (conditions_of version setting.now) setting.now.kind incoming.entry.file incoming.entry.nth incoming.entry.bytes.now p) result }
     ensures crash { Survives (state S.Store tx.old.conn.now) (state S.Store tx.new.conn.now) (λ _. ⊥) }
 {
     if fold.tally.records >= setting.limits.records {
@@ -70,6 +86,14 @@ fn fold_file<S: Alter, L: Layout, R: Source>(
 ) -> Result<(), Refusal>
     ensures same { tx.new.conn.ghost_name ≡ tx.old.conn.ghost_name }
     ensures stays { HasCleanDisk (state S.Store tx.new.conn.now) → IsTrue (state S.Store tx.old.conn.now).in_transaction → Stays (state S.Store tx.old.conn.now) (state S.Store tx.new.conn.now) result }
+    ensures database { fold.new.progress.database ≡ fold.old.progress.database }
+    ensures folded { HasCleanDisk (state S.Store tx.new.conn.now) → IsTrue (state S.Store tx.old.conn.now).in_transaction
+        → (text : List ℕ) → R.remaining reader.old ≡ Some text → R.has_failed reader.new ≡ false
+        → (version : List ℕ) (records_of : ℤ → List Kept) (p : FoldProgress) → StandsFor fold.old p
+        → IsUnderWay L.holds setting.now.profile.now fold.old.progress.database.0 records_of (state S.Store tx.old.conn.now) p.base
+        → Meets (λ after _. IsFolded L.holds setting.now.profile.now fold.old.progress.database.0 records_of (state S.Store tx.old.conn.now) (state S.Store tx.new.conn.now) fold.new after)
+        (file_folded (conditions_of version setting.now) setting.now.kind file (split_of text) p) result }
+    ensures failed { R.has_failed reader.new ≡ true → result ≡ Err (Refusal.ReadFault file) }
     ensures crash { Survives (state S.Store tx.old.conn.now) (state S.Store tx.new.conn.now) (λ _. ⊥) }
 {
     for nth in 1..u64::MAX {
@@ -181,7 +205,7 @@ pub(crate) fn change_database<S: Alter, L: Layout, R: Source>(
     let found = match setting.kind {
         Kind::Update => database_of(connection, name.as_str())?,
         Kind::Delete | Kind::Adelete => {
-            Some(existing_database(setting.alloc, connection, name)?)
+            Some(existing_database::<S, L>(setting.alloc, connection, name)?)
         }
     };
     let mut buffer = RecordBuf::new(setting.alloc)?;

@@ -118,7 +118,7 @@ pub(crate) fn find<S: Alter, L: Layout>(
     ensures crash { Survives (state S.Store connection.old) (state S.Store connection.new) (λ _. ⊥) }
 {
     let query = read_pqf(alloc, question.query)?;
-    let database = existing_database(alloc, connection, name)?;
+    let database = existing_database::<S, L>(alloc, connection, name)?;
     let key = key_of_plan(alloc, &plan(alloc, &query, profile)?)?;
     let postings = L::key_list(alloc, connection, work, database.id, &key)?;
     let numbers = numbers_of(alloc, &postings)?;

@@ -1,9 +1,17 @@
 //! Whether a register may be used by a session, and which of its databases is meant.
 
-ghost use Rattle.std.specs.Prelude.{◌≡◌, false};
+ghost use Rattle.std.specs.Prelude.{◌≡◌, ℕ, List, false, pos, Ok, IsTrue};
 ghost use Rattle.sqlite.specs.Held.{state};
 ghost use Rattle.sqlite.specs.State.{HasCleanDisk, Survives};
 ghost use Rattle.zeb_register.specs.Calls.{ChangesNothing};
+ghost use Rattle.zeb_register.specs.Store.{HasDatabase};
+ghost use Rattle.zeb_engine.specs.Conditions.{Conditions, conditions};
+ghost use Rattle.zeb_engine.specs.declared.commands.Limits.{Limits};
+ghost use Rattle.zeb_engine.specs.Holdings.{Holdings, Base};
+ghost use Rattle.zeb_engine.specs.Image.{Keeps};
+ghost use Rattle.zeb_engine.specs.NameOf.{name_bytes};
+ghost use Rattle.zeb_engine.specs.Steps.{ready, existing};
+ghost use Rattle.zeb_engine.specs.Works.{Meets};
 
 use crate::names::DbName;
 use crate::refusals::Refusal;
@@ -32,22 +40,27 @@ pub(crate) fn check_ready<S: Alter, L: Layout>(
     requires idle { connection.old.in_transaction ≡ false }
     ensures idle { connection.new.in_transaction ≡ false }
     ensures same { HasCleanDisk (state S.Store connection.new) → ChangesNothing (state S.Store connection.old) (state S.Store connection.new) }
+    ensures ready { HasCleanDisk (state S.Store connection.new) → (limits : Limits) (before : Holdings) → Keeps L.holds (conditions L.version profile.now limits) (state S.Store connection.old) before
+        → Meets (λ bases _. IsTrue (state S.Store connection.old).is_open × IsTrue (state S.Store connection.new).is_open) (ready (conditions L.version profile.now limits) before) result }
     ensures crash { Survives (state S.Store connection.old) (state S.Store connection.new) (λ _. ⊥) }
 {
     let Some(version) = meta_of(connection, VERSION)? else {
         return Err(Refusal::NotInitialised);
     };
-    if version.as_str() != L::VERSION {
+    if version.as_str() != L::version() {
         return Err(Refusal::OldFormat);
     }
-    match meta_of(connection, PROFILE)? {
-        Some(text) if text.as_str() == profile.text() => Ok(()),
-        _ => Err(Refusal::ProfileChanged),
+    let Some(text) = meta_of(connection, PROFILE)? else {
+        return Err(Refusal::ProfileChanged);
+    };
+    if text.as_str() != profile.text() {
+        return Err(Refusal::ProfileChanged);
     }
+    Ok(())
 }
 
 /// The database of this name; where there is none, diagnostic 235, which names it.
-pub(crate) fn existing_database<S: Alter>(
+pub(crate) fn existing_database<S: Alter, L: Layout>(
     alloc: Global,
     connection: &mut Connection<S>,
     name: &DbName,
@@ -55,6 +68,10 @@ pub(crate) fn existing_database<S: Alter>(
     requires idle { connection.old.in_transaction ≡ false }
     ensures idle { connection.new.in_transaction ≡ false }
     ensures same { HasCleanDisk (state S.Store connection.new) → ChangesNothing (state S.Store connection.old) (state S.Store connection.new) }
+    ensures exists { HasCleanDisk (state S.Store connection.new) → IsTrue (state S.Store connection.old).is_open
+        → (c : Conditions) (before : Holdings) (bases : List Base) → ready c before ≡ Ok bases → Keeps L.holds c (state S.Store connection.old) before
+        → Meets (λ base found. HasDatabase (state S.Store connection.old).now.trees found.id.0 base.name (pos base.last) × (found.last ≡ base.last) × IsTrue (state S.Store connection.new).is_open)
+        (existing (name_bytes name.now) bases) result }
     ensures crash { Survives (state S.Store connection.old) (state S.Store connection.new) (λ _. ⊥) }
 {
     match database_of(connection, name.as_str())? {

@@ -1,9 +1,19 @@
 //! One record of a change: it is added, replaces a kept one, or takes it away.
 
-ghost use Rattle.std.specs.Prelude.{◌≡◌, IsTrue};
+ghost use Rattle.std.specs.Prelude.{◌≡◌, ◌⊎◌, ℕ, ℤ, List, Some, None, Result, Ok, Err, string_bytes, IsTrue, OnOk, IfOk, IfErr};
 ghost use Rattle.sqlite.specs.Held.{state};
 ghost use Rattle.sqlite.specs.State.{HasCleanDisk, Survives};
+ghost use Rattle.zeb_marc.specs.Records.{first_fault, IsRecord};
+ghost use Rattle.zeb_extract.specs.Order.{IsRising as AreRising};
+ghost use Rattle.zeb_register.specs.Content.{Content, IsRising};
+ghost use Rattle.zeb_register.specs.Store.{IsStore, KeepsLists};
+ghost use Rattle.zeb_engine.specs.ChangedKeys.{ArePostingsOf, IsReposted};
+ghost use Rattle.zeb_engine.specs.Answers.{Why, why_of, refused, IsFailure};
+ghost use Rattle.zeb_engine.specs.Folding.{Changed, changed_record, updated, deleted, ident_in};
+ghost use Rattle.zeb_engine.specs.Holdings.{Base, Kept, kept_as};
+ghost use Rattle.zeb_engine.specs.Records.{AreOccurrencesOf, IsElderAs, IsNewer, Takes};
 ghost use Rattle.zeb_engine.specs.Transactions.{Stays};
+ghost use Rattle.zeb_engine.specs.Works.{IsTaken, IsUnderWay, Meets, conditions_of};
 
 use crate::changed_keys::changed_keys;
 use crate::commands::{Kind, Limits};
@@ -60,6 +70,16 @@ fn change_keys<S: Alter, L: Layout>(
 ) -> Result<(), Refusal>
     ensures same { tx.new.conn.ghost_name ≡ tx.old.conn.ghost_name }
     ensures stays { HasCleanDisk (state S.Store tx.new.conn.now) → IsTrue (state S.Store tx.old.conn.now).in_transaction → Stays (state S.Store tx.old.conn.now) (state S.Store tx.new.conn.now) result }
+    ensures place { (progress.new.database ≡ progress.old.database) × (progress.new.last ≡ progress.old.last) }
+    ensures moved { HasCleanDisk (state S.Store tx.new.conn.now) → IsTrue (state S.Store tx.old.conn.now).in_transaction → IsStore (state S.Store tx.old.conn.now)
+        → AreRising elder.now → AreRising newer.now
+        → OnOk result (IsStore (state S.Store tx.new.conn.now) × KeepsLists (state S.Store tx.old.conn.now).now.trees (state S.Store tx.new.conn.now).now.trees
+        × ((before after : Content) → L.holds (state S.Store tx.old.conn.now).now.trees before → IsRising before → ArePostingsOf sysno elder.now (before progress.old.database.0)
+        → IsReposted progress.old.database.0 sysno newer.now before after → L.holds (state S.Store tx.new.conn.now).now.trees after)) }
+    ensures fails { IfErr result (λ refusal. (refusal ≡ Refusal.Damaged) ⊎ IsFailure (refused (why_of refusal))) }
+    ensures honest { HasCleanDisk (state S.Store tx.new.conn.now) → IsTrue (state S.Store tx.old.conn.now).in_transaction → IsStore (state S.Store tx.old.conn.now)
+        → AreRising elder.now → AreRising newer.now → result ≡ Err Refusal.Damaged
+        → (content : Content) → L.holds (state S.Store tx.old.conn.now).now.trees content → IsRising content → ¬ ArePostingsOf sysno elder.now (content progress.old.database.0) }
     ensures crash { Survives (state S.Store tx.old.conn.now) (state S.Store tx.new.conn.now) (λ _. ⊥) }
 {
     let changed_keys = changed_keys(alloc, elder, newer)?;
@@ -78,7 +98,10 @@ fn change_keys<S: Alter, L: Layout>(
 }
 
 /// The occurrences of a kept record, computed again from its bytes.
-fn kept_occurrences(setting: &Setting<'_>, elder: &Elder) -> Result<Vec<Occurrence>, Refusal> {
+fn kept_occurrences(setting: &Setting<'_>, elder: &Elder) -> Result<Vec<Occurrence>, Refusal>
+    ensures found { IfOk result (λ found. AreOccurrencesOf setting.now.profile.now elder.now.bytes.items found.items) }
+    ensures fails { IfErr result (λ refusal. first_fault elder.now.bytes.items ≡ None → refusal ≡ Refusal.Memory) }
+{
     match Marc::read(&elder.bytes) {
         Ok(record) => Ok(occurrences(setting.alloc, &record, setting.profile)?),
         Err(_) => Err(Refusal::Damaged),
@@ -94,6 +117,11 @@ fn insert<S: Alter, L: Layout>(
 ) -> Result<Fate, Refusal>
     ensures same { tx.new.conn.ghost_name ≡ tx.old.conn.ghost_name }
     ensures stays { HasCleanDisk (state S.Store tx.new.conn.now) → IsTrue (state S.Store tx.old.conn.now).in_transaction → Stays (state S.Store tx.old.conn.now) (state S.Store tx.new.conn.now) result }
+    ensures place { progress.new.database ≡ progress.old.database }
+    ensures taken { HasCleanDisk (state S.Store tx.new.conn.now) → IsTrue (state S.Store tx.old.conn.now).in_transaction
+        → (version : List ℕ) → IsNewer setting.now.profile.now newer.now.ident.now newer.now.bytes.now newer.now.occurrences.items
+        → Takes L.holds setting.now.profile.now progress.old.database.0 (state S.Store tx.old.conn.now) (state S.Store tx.new.conn.now) progress.old.last progress.new.last
+        (λ base. IsElderAs newer.now.ident.now base None) (λ base. updated (conditions_of version setting.now) newer.now.ident.now newer.now.bytes.now base (kept_as newer.now.ident.now base)) result }
     ensures crash { Survives (state S.Store tx.old.conn.now) (state S.Store tx.new.conn.now) (λ _. ⊥) }
 {
     if progress.last >= setting.limits.numbers {
@@ -116,6 +144,11 @@ fn replace<S: Alter, L: Layout>(
 ) -> Result<Fate, Refusal>
     ensures same { tx.new.conn.ghost_name ≡ tx.old.conn.ghost_name }
     ensures stays { HasCleanDisk (state S.Store tx.new.conn.now) → IsTrue (state S.Store tx.old.conn.now).in_transaction → Stays (state S.Store tx.old.conn.now) (state S.Store tx.new.conn.now) result }
+    ensures place { progress.new.database ≡ progress.old.database }
+    ensures taken { HasCleanDisk (state S.Store tx.new.conn.now) → IsTrue (state S.Store tx.old.conn.now).in_transaction
+        → (version : List ℕ) → IsNewer setting.now.profile.now newer.now.ident.now newer.now.bytes.now newer.now.occurrences.items
+        → Takes L.holds setting.now.profile.now progress.old.database.0 (state S.Store tx.old.conn.now) (state S.Store tx.new.conn.now) progress.old.last progress.new.last
+        (λ base. IsElderAs newer.now.ident.now base (Some elder.now)) (λ base. updated (conditions_of version setting.now) newer.now.ident.now newer.now.bytes.now base (kept_as newer.now.ident.now base)) result }
     ensures crash { Survives (state S.Store tx.old.conn.now) (state S.Store tx.new.conn.now) (λ _. ⊥) }
 {
     let old = kept_occurrences(setting, elder)?;
@@ -134,6 +167,11 @@ fn withdraw<S: Alter, L: Layout>(
 ) -> Result<Fate, Refusal>
     ensures same { tx.new.conn.ghost_name ≡ tx.old.conn.ghost_name }
     ensures stays { HasCleanDisk (state S.Store tx.new.conn.now) → IsTrue (state S.Store tx.old.conn.now).in_transaction → Stays (state S.Store tx.old.conn.now) (state S.Store tx.new.conn.now) result }
+    ensures place { progress.new.database ≡ progress.old.database }
+    ensures taken { HasCleanDisk (state S.Store tx.new.conn.now) → IsTrue (state S.Store tx.old.conn.now).in_transaction
+        → (ident : List ℕ) (absent : Result Changed Why)
+        → Takes L.holds setting.now.profile.now progress.old.database.0 (state S.Store tx.old.conn.now) (state S.Store tx.new.conn.now) progress.old.last progress.new.last
+        (λ base. IsElderAs ident base (Some elder.now)) (λ base. deleted absent ident base (kept_as ident base)) result }
     ensures crash { Survives (state S.Store tx.old.conn.now) (state S.Store tx.new.conn.now) (λ _. ⊥) }
 {
     let old = kept_occurrences(setting, elder)?;
@@ -153,11 +191,37 @@ fn keep<S: Alter, L: Layout>(
 ) -> Result<Fate, Refusal>
     ensures same { tx.new.conn.ghost_name ≡ tx.old.conn.ghost_name }
     ensures stays { HasCleanDisk (state S.Store tx.new.conn.now) → IsTrue (state S.Store tx.old.conn.now).in_transaction → Stays (state S.Store tx.old.conn.now) (state S.Store tx.new.conn.now) result }
+    ensures place { progress.new.database ≡ progress.old.database }
+    ensures taken { HasCleanDisk (state S.Store tx.new.conn.now) → IsTrue (state S.Store tx.old.conn.now).in_transaction
+        → (version : List ℕ) → IsNewer setting.now.profile.now newer.now.ident.now newer.now.bytes.now newer.now.occurrences.items
+        → Takes L.holds setting.now.profile.now progress.old.database.0 (state S.Store tx.old.conn.now) (state S.Store tx.new.conn.now) progress.old.last progress.new.last
+        (λ base. IsElderAs newer.now.ident.now base elder) (λ base. updated (conditions_of version setting.now) newer.now.ident.now newer.now.bytes.now base (kept_as newer.now.ident.now base)) result }
     ensures crash { Survives (state S.Store tx.old.conn.now) (state S.Store tx.new.conn.now) (λ _. ⊥) }
 {
     match elder {
         Some(elder) => replace::<S, L>(tx, setting, progress, &elder, newer),
         None => insert::<S, L>(tx, setting, progress, newer),
+    }
+}
+
+/// The record that the bytes are, with its identifier under the profile.
+fn sound_record<'a>(
+    setting: &Setting<'_>,
+    incoming: Incoming<'a>,
+) -> Result<(Marc<'a>, String), Refusal>
+    ensures whole { IfOk result (λ sound. IsRecord incoming.entry.bytes.now sound.0) }
+    ensures named { IfOk result (λ sound. ident_in setting.now.profile.now incoming.entry.bytes.now ≡ Ok (string_bytes sound.1)) }
+    ensures refused { IfErr result (λ refusal. (version : List ℕ) (kind : Kind) (base : Base) → IsFailure (refused (why_of refusal))
+        ⊎ (changed_record (conditions_of version setting.now) kind incoming.entry.file incoming.entry.nth incoming.entry.bytes.now base ≡ Err (why_of refusal))) }
+{
+    let Incoming { bytes, file, nth } = incoming;
+    let record = match Marc::read(bytes) {
+        Ok(record) => record,
+        Err(fault) => return Err(Refusal::of_marc(file, nth, fault)),
+    };
+    match identifier(setting.alloc, &record, setting.profile) {
+        Ok(ident) => Ok((record, ident)),
+        Err(fault) => Err(Refusal::of_identifier(file, nth, fault)),
     }
 }
 
@@ -170,27 +234,28 @@ pub(crate) fn change_record<S: Alter, L: Layout>(
 ) -> Result<Fate, Refusal>
     ensures same { tx.new.conn.ghost_name ≡ tx.old.conn.ghost_name }
     ensures stays { HasCleanDisk (state S.Store tx.new.conn.now) → IsTrue (state S.Store tx.old.conn.now).in_transaction → Stays (state S.Store tx.old.conn.now) (state S.Store tx.new.conn.now) result }
+    ensures database { progress.new.database ≡ progress.old.database }
+    ensures taken { HasCleanDisk (state S.Store tx.new.conn.now) → IsTrue (state S.Store tx.old.conn.now).in_transaction
+        → (version : List ℕ) (records_of : ℤ → List Kept) (base : Base) → progress.old.last ≡ base.last
+        → IsUnderWay L.holds setting.now.profile.now progress.old.database.0 records_of (state S.Store tx.old.conn.now) base
+        → Meets (IsTaken L.holds setting.now.profile.now progress.old.database.0 records_of (state S.Store tx.old.conn.now) (state S.Store tx.new.conn.now) progress.new.last)
+        (changed_record (conditions_of version setting.now) setting.now.kind incoming.entry.file incoming.entry.nth incoming.entry.bytes.now base) result }
     ensures crash { Survives (state S.Store tx.old.conn.now) (state S.Store tx.new.conn.now) (λ _. ⊥) }
 {
     let Incoming { bytes, file, nth } = incoming;
-    let alloc = setting.alloc;
-    let record = Marc::read(bytes).map_err(|fault| Refusal::of_marc(file, nth, fault))?;
-    let ident = identifier(alloc, &record, setting.profile).map_err(|fault| Refusal::of_identifier(
-        file, nth, fault,
-    ))?;
+    let (record, ident) = sound_record(setting, incoming)?;
     let elder = record_of_ident(tx, progress.database, ident.as_str())?;
     match (setting.kind, elder) {
         (Kind::Update, elder) => {
             let newer = Newer {
                 ident: ident.as_str(),
                 bytes,
-                occurrences: occurrences(alloc, &record, setting.profile)?,
+                occurrences: occurrences(setting.alloc, &record, setting.profile)?,
             };
             keep::<S, L>(tx, setting, progress, elder, &newer)
         }
-        (Kind::Delete | Kind::Adelete, Some(elder)) => {
-            withdraw::<S, L>(tx, setting, progress, &elder)
-        }
+        (Kind::Delete, Some(elder)) => withdraw::<S, L>(tx, setting, progress, &elder),
+        (Kind::Adelete, Some(elder)) => withdraw::<S, L>(tx, setting, progress, &elder),
         (Kind::Delete, None) => Err(Refusal::Unknown { file, nth }),
         (Kind::Adelete, None) => Ok(Fate::PassedOver),
     }

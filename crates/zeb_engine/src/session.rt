@@ -1,8 +1,12 @@
 //! A register that commands are given to.
 
-ghost use Rattle.std.specs.Prelude.{◌≡◌, false, IfOk, IfErr, OnOk, OnErr, length, ⊤};
+ghost use Rattle.std.specs.Prelude.{◌≡◌, ◌⊎◌, false, IfOk, IfErr, OnOk, OnErr, length, ⊤};
+ghost use Rattle.std.specs.List.{AllByRecursion};
 ghost use Rattle.sqlite.specs.Held.{state};
 ghost use Rattle.sqlite.specs.State.{HasCleanDisk, Survives};
+ghost use Rattle.zeb_engine.specs.Conditions.{conditions};
+ghost use Rattle.zeb_engine.specs.NameOf.{name_bytes};
+ghost use Rattle.zeb_engine.specs.Steps.{turned, created, dropped, waited};
 ghost use Rattle.zeb_engine.specs.Transactions.{EnduresRefusal, IsDurable};
 ghost use Rattle.zeb_register.specs.Calls.{ChangesNothing};
 
@@ -15,7 +19,7 @@ use crate::records::Setting;
 use crate::refusals::Refusal;
 use crate::replies::Reply;
 use crate::tables::make_absent_tables;
-use crate::writes::{create_database, init_register};
+use crate::writes::{create_database, drop_database, init_register};
 use sqlite::{Alter, Connection};
 use std::alloc::Global;
 use std::marker::PhantomData;
@@ -48,6 +52,9 @@ impl<S: Alter + Drop, L: Layout> Drop for Session<S, L> {
 }
 
 impl<S: Alter, L: Layout> Session<S, L> {
+    ghost use Rattle.zeb_engine.specs.Works.{Always, ReadsNoRecord, Serves, ServesCommand};
+    ghost use Rattle.zeb_engine.specs.Headline.{Headline};
+
     /// Takes a store over: the tables that are absent are made, and no row changes. Refused (`Store`, `Memory`), it
     /// gives the connection back, and the tables are as before.
     pub fn adopt(
@@ -60,6 +67,7 @@ impl<S: Alter, L: Layout> Session<S, L> {
         ensures idle { IfErr result (λ back. back.0.in_transaction ≡ false) }
         ensures refused { IfErr result (λ back. HasCleanDisk (state S.Store back.0) → ChangesNothing (state S.Store connection) (state S.Store back.0)) }
         ensures endures { IfErr result (λ back. HasCleanDisk (state S.Store back.0) → EnduresRefusal (state S.Store connection) (state S.Store back.0) back.1) }
+        ensures failed { IfErr result (λ back. (back.1 ≡ Refusal.Store) ⊎ (back.1 ≡ Refusal.Memory)) }
     {
         let mut connection = connection;
         match make_absent_tables(&mut connection) {
@@ -104,6 +112,9 @@ impl<S: Alter, L: Layout> Session<S, L> {
         ensures refused { HasCleanDisk (state S.Store self.new.connection) → OnErr result (ChangesNothing (state S.Store self.old.connection) (state S.Store self.new.connection)) }
         ensures endures { HasCleanDisk (state S.Store self.new.connection) → IfErr result (EnduresRefusal (state S.Store self.old.connection) (state S.Store self.new.connection)) }
         ensures survives { Survives (state S.Store self.old.connection) (state S.Store self.new.connection) (λ _. ⊤) }
+        ensures under { (self.new.profile ≡ self.old.profile) × (self.new.limits ≡ self.old.limits) }
+        ensures serves { HasCleanDisk (state S.Store self.new.connection) → ReadsNoRecord command.now
+            → ServesCommand L.holds (conditions L.version self.old.profile self.old.limits) command.now (state S.Store self.old.connection) (state S.Store self.new.connection) result }
     {
         let answer = self.carry_out(command);
         // What is shown is what was committed.
@@ -115,43 +126,28 @@ impl<S: Alter, L: Layout> Session<S, L> {
         ensures refused { HasCleanDisk (state S.Store self.new.connection) → OnErr result (ChangesNothing (state S.Store self.old.connection) (state S.Store self.new.connection)) }
         ensures endures { HasCleanDisk (state S.Store self.new.connection) → IfErr result (EnduresRefusal (state S.Store self.old.connection) (state S.Store self.new.connection)) }
         ensures survives { Survives (state S.Store self.old.connection) (state S.Store self.new.connection) (λ _. ⊤) }
+        ensures under { (self.new.profile ≡ self.old.profile) × (self.new.limits ≡ self.old.limits) }
+        ensures serves { HasCleanDisk (state S.Store self.new.connection) → ReadsNoRecord command.now
+            → ServesCommand L.holds (conditions L.version self.old.profile self.old.limits) command.now (state S.Store self.old.connection) (state S.Store self.new.connection) result }
     {
         self.work = Work::default();
         match command {
             Command::Init => {
                 init_register::<S, L>(self.alloc, &mut self.connection, &self.profile)
             }
-            Command::Analyse { .. } => Err(Refusal::Unsupported),
+            Command::Create(name) => self.create(name),
+            Command::Drop(name) => self.take(name),
             Command::Change {
                 kind,
                 database,
                 files,
             } => self.change(*kind, database, files),
-            asked => {
-                check_ready::<S, L>(&mut self.connection, &self.profile)?;
-                self.answer(asked)
-            }
-        }
-    }
-
-    /// Carries out a command that reads no records, over a register that is ready.
-    fn answer(&mut self, command: &Command) -> Result<Reply, Refusal>
-        ensures refused { HasCleanDisk (state S.Store self.new.connection) → OnErr result (ChangesNothing (state S.Store self.old.connection) (state S.Store self.new.connection)) }
-        ensures endures { HasCleanDisk (state S.Store self.new.connection) → IfErr result (EnduresRefusal (state S.Store self.old.connection) (state S.Store self.new.connection)) }
-        ensures survives { Survives (state S.Store self.old.connection) (state S.Store self.new.connection) (λ _. ⊤) }
-    {
-        match command {
-            Command::Create(name) => create_database::<S, L>(&mut self.connection, name),
             Command::Find {
                 database,
                 query,
                 first,
                 count,
-            } => find::<S, L>(
-                self.alloc,
-                &mut self.connection,
-                &mut self.work,
-                &self.profile,
+            } => self.find(
                 database,
                 Question {
                     query: query.as_str(),
@@ -159,8 +155,69 @@ impl<S: Alter, L: Layout> Session<S, L> {
                     count: *count,
                 },
             ),
-            _ => Err(Refusal::Unsupported),
+            Command::Check => self.wait(),
+            Command::Stat(_) => self.wait(),
+            Command::Dump(_) => self.wait(),
+            Command::Scan { .. } => self.wait(),
+            Command::Analyse { .. } => Err(Refusal::Unsupported),
         }
+    }
+
+    /// An empty database, on a register that is ready.
+    fn create(&mut self, name: &DbName) -> Result<Reply, Refusal>
+        ensures refused { HasCleanDisk (state S.Store self.new.connection) → OnErr result (ChangesNothing (state S.Store self.old.connection) (state S.Store self.new.connection)) }
+        ensures endures { HasCleanDisk (state S.Store self.new.connection) → IfErr result (EnduresRefusal (state S.Store self.old.connection) (state S.Store self.new.connection)) }
+        ensures survives { Survives (state S.Store self.old.connection) (state S.Store self.new.connection) (λ _. ⊤) }
+        ensures under { (self.new.profile ≡ self.old.profile) × (self.new.limits ≡ self.old.limits) }
+        ensures serves { HasCleanDisk (state S.Store self.new.connection)
+            → Serves L.holds (conditions L.version self.old.profile self.old.limits) Always (turned (conditions L.version self.old.profile self.old.limits) (created (name_bytes name.now))) (state S.Store self.old.connection) (state S.Store self.new.connection) result }
+    {
+        check_ready::<S, L>(&mut self.connection, &self.profile)?;
+        create_database::<S, L>(&mut self.connection, name)
+    }
+
+    /// No database of this name any more, on a register that is ready.
+    fn take(&mut self, name: &DbName) -> Result<Reply, Refusal>
+        ensures refused { HasCleanDisk (state S.Store self.new.connection) → OnErr result (ChangesNothing (state S.Store self.old.connection) (state S.Store self.new.connection)) }
+        ensures endures { HasCleanDisk (state S.Store self.new.connection) → IfErr result (EnduresRefusal (state S.Store self.old.connection) (state S.Store self.new.connection)) }
+        ensures survives { Survives (state S.Store self.old.connection) (state S.Store self.new.connection) (λ _. ⊤) }
+        ensures under { (self.new.profile ≡ self.old.profile) × (self.new.limits ≡ self.old.limits) }
+        ensures serves { HasCleanDisk (state S.Store self.new.connection)
+            → Serves L.holds (conditions L.version self.old.profile self.old.limits) Always (turned (conditions L.version self.old.profile self.old.limits) (dropped (name_bytes name.now))) (state S.Store self.old.connection) (state S.Store self.new.connection) result }
+    {
+        check_ready::<S, L>(&mut self.connection, &self.profile)?;
+        drop_database::<S, L>(self.alloc, &mut self.connection, name)
+    }
+
+    /// A command that is not there yet is refused, on a register that is ready.
+    fn wait(&mut self) -> Result<Reply, Refusal>
+        ensures refused { HasCleanDisk (state S.Store self.new.connection) → OnErr result (ChangesNothing (state S.Store self.old.connection) (state S.Store self.new.connection)) }
+        ensures endures { HasCleanDisk (state S.Store self.new.connection) → IfErr result (EnduresRefusal (state S.Store self.old.connection) (state S.Store self.new.connection)) }
+        ensures survives { Survives (state S.Store self.old.connection) (state S.Store self.new.connection) (λ _. ⊤) }
+        ensures under { (self.new.profile ≡ self.old.profile) × (self.new.limits ≡ self.old.limits) }
+        ensures serves { HasCleanDisk (state S.Store self.new.connection)
+            → Serves L.holds (conditions L.version self.old.profile self.old.limits) Always (waited (conditions L.version self.old.profile self.old.limits)) (state S.Store self.old.connection) (state S.Store self.new.connection) result }
+    {
+        check_ready::<S, L>(&mut self.connection, &self.profile)?;
+        Err(Refusal::Unsupported)
+    }
+
+    /// Finds the records of a query, on a register that is ready.
+    fn find(&mut self, database: &DbName, question: Question<'_>) -> Result<Reply, Refusal>
+        ensures refused { HasCleanDisk (state S.Store self.new.connection) → OnErr result (ChangesNothing (state S.Store self.old.connection) (state S.Store self.new.connection)) }
+        ensures endures { HasCleanDisk (state S.Store self.new.connection) → IfErr result (EnduresRefusal (state S.Store self.old.connection) (state S.Store self.new.connection)) }
+        ensures survives { Survives (state S.Store self.old.connection) (state S.Store self.new.connection) (λ _. ⊤) }
+        ensures under { (self.new.profile ≡ self.old.profile) × (self.new.limits ≡ self.old.limits) }
+    {
+        check_ready::<S, L>(&mut self.connection, &self.profile)?;
+        find::<S, L>(
+            self.alloc,
+            &mut self.connection,
+            &mut self.work,
+            &self.profile,
+            database,
+            question,
+        )
     }
 
     /// Changes a database by files that are given as their bytes.
@@ -168,6 +225,7 @@ impl<S: Alter, L: Layout> Session<S, L> {
         ensures refused { HasCleanDisk (state S.Store self.new.connection) → OnErr result (ChangesNothing (state S.Store self.old.connection) (state S.Store self.new.connection)) }
         ensures endures { HasCleanDisk (state S.Store self.new.connection) → IfErr result (EnduresRefusal (state S.Store self.old.connection) (state S.Store self.new.connection)) }
         ensures survives { Survives (state S.Store self.old.connection) (state S.Store self.new.connection) (λ _. ⊤) }
+        ensures under { (self.new.profile ≡ self.old.profile) × (self.new.limits ≡ self.old.limits) }
     {
         let mut readers = Vec::with_capacity(self.alloc, files.len())?;
         for file in files {
@@ -188,6 +246,7 @@ impl<S: Alter, L: Layout> Session<S, L> {
         ensures refused { HasCleanDisk (state S.Store self.new.connection) → OnErr result (ChangesNothing (state S.Store self.old.connection) (state S.Store self.new.connection)) }
         ensures endures { HasCleanDisk (state S.Store self.new.connection) → IfErr result (EnduresRefusal (state S.Store self.old.connection) (state S.Store self.new.connection)) }
         ensures survives { Survives (state S.Store self.old.connection) (state S.Store self.new.connection) (λ _. ⊤) }
+        ensures under { (self.new.profile ≡ self.old.profile) × (self.new.limits ≡ self.old.limits) }
     {
         let answer = self.change_from(database, kind, readers);
         // What is shown is what was committed.
@@ -204,6 +263,7 @@ impl<S: Alter, L: Layout> Session<S, L> {
         ensures refused { HasCleanDisk (state S.Store self.new.connection) → OnErr result (ChangesNothing (state S.Store self.old.connection) (state S.Store self.new.connection)) }
         ensures endures { HasCleanDisk (state S.Store self.new.connection) → IfErr result (EnduresRefusal (state S.Store self.old.connection) (state S.Store self.new.connection)) }
         ensures survives { Survives (state S.Store self.old.connection) (state S.Store self.new.connection) (λ _. ⊤) }
+        ensures under { (self.new.profile ≡ self.old.profile) × (self.new.limits ≡ self.old.limits) }
     {
         self.work = Work::default();
         check_ready::<S, L>(&mut self.connection, &self.profile)?;
@@ -226,6 +286,8 @@ impl<S: Alter, L: Layout> Session<S, L> {
     /// for the answers: nothing was carried out then.
     pub fn run_all(&mut self, commands: &[Command]) -> Result<Vec<Result<Reply, Refusal>>, Refusal>
         ensures durable { HasCleanDisk (state S.Store self.new.connection) → OnOk result (IsDurable (state S.Store self.new.connection)) }
+        ensures run { IfOk result (λ answers. AllByRecursion ReadsNoRecord commands.now
+            → Headline L.holds (conditions L.version self.old.profile self.old.limits) commands.now answers.items (state S.Store self.old.connection) (state S.Store self.new.connection)) }
         ensures count { IfOk result (λ answers. length answers.items ≡ length commands.now) }
         ensures memory { IfErr result (λ refusal. (refusal ≡ Refusal.Memory) × (self.new.connection ≡ self.old.connection)) }
     {

@@ -1,6 +1,6 @@
 //! The tables of a store that is taken over.
 
-ghost use Rattle.std.specs.Prelude.{◌≡◌, false, OnErr, IfErr, ⊤};
+ghost use Rattle.std.specs.Prelude.{◌≡◌, ◌⊎◌, false, OnErr, IfErr, ⊤};
 ghost use Rattle.sqlite.specs.Held.{state};
 ghost use Rattle.sqlite.specs.State.{HasCleanDisk, Survives};
 ghost use Rattle.zeb_engine.specs.Transactions.{EnduresRefusal};
@@ -17,6 +17,7 @@ pub(crate) fn make_absent_tables<S: Alter>(connection: &mut Connection<S>) -> Re
     ensures refused { HasCleanDisk (state S.Store connection.new) → OnErr result (ChangesNothing (state S.Store connection.old) (state S.Store connection.new)) }
     ensures endures { HasCleanDisk (state S.Store connection.new) → IfErr result (EnduresRefusal (state S.Store connection.old) (state S.Store connection.new)) }
     ensures survives { Survives (state S.Store connection.old) (state S.Store connection.new) (λ _. ⊤) }
+    ensures failed { IfErr result (λ refusal. (refusal ≡ Refusal.Store) ⊎ (refusal ≡ Refusal.Memory)) }
 {
     let _settled = connection.is_autocommit();
     let mut tx = connection.transaction();

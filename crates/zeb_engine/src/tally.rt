@@ -25,8 +25,12 @@ pub(crate) struct Tally {
 }
 
 impl Tally {
+    ghost use Rattle.zeb_engine.specs.Tallies.{IsCounted};
+
     /// Nothing was taken yet.
-    pub(crate) fn new() -> Tally {
+    pub(crate) fn new() -> Tally
+        ensures { (result.records ≡ 0) × (result.inserted ≡ 0) × (result.updated ≡ 0) × (result.deleted ≡ 0) }
+    {
         Tally {
             records: 0,
             inserted: 0,
@@ -38,6 +42,7 @@ impl Tally {
     /// One more record is taken.
     pub(crate) fn count(&mut self, fate: Fate)
         requires { self.old.records < 1_000_000 }
+        ensures { IsCounted fate self.old self.new }
     {
         self.records += 1;
         match fate {

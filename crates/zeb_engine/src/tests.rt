@@ -77,12 +77,17 @@ fn told(alloc: Global, answer: &Result<Reply, Refusal>) -> Result<String, Fail> 
     }
 }
 
+/// What is printed for a command. No clause is stated here, so that a test holds no more than these texts.
+fn printed(alloc: Global, session: &mut Memory, command: &Command) -> Result<String, Fail> {
+    let answer = session.command(command);
+    told(alloc, &answer)
+}
+
 /// Asserts what is printed for each command in turn.
 macro_rules! tells {
     ($rt:expr, $session:expr, $($command:expr => $text:expr),+ $(,)?) => {
         $(
-            let answer = $session.command(&$command);
-            assert_eq!($rt; told($rt.alloc(), &answer)?.as_str(), $text);
+            assert_eq!($rt; printed($rt.alloc(), &mut $session, &$command)?.as_str(), $text);
         )+
     };
 }
@@ -171,6 +176,21 @@ fn a_database_is_made_where_it_is_absent(rt: HostRuntime) -> Result<(), Fail> {
         Command::Create(name("Y")?) => "ok\n",
         Command::Create(name("Y")?) => "zebraidx: database exists",
         Command::Check => "zebraidx: not supported",
+    );
+    Ok(())
+}
+
+#[test]
+fn a_dropped_database_is_gone(rt: HostRuntime) -> Result<(), Fail> {
+    let alloc = rt.alloc();
+    let mut session = opened(alloc, TITLES, Limits::GREATEST)?;
+    tells!(rt, session,
+        Command::Init => "ok\n",
+        change(alloc, Kind::Update, &[&[MOBY]])? => "inserted 1 updated 0 deleted 0\n",
+        Command::Drop(name("Default")?) => "ok\n",
+        Command::Drop(name("Default")?) => "zebraidx: diagnostic 235 at 0: Default",
+        Command::Create(name("Default")?) => "ok\n",
+        find(alloc, "@attr 1=4 whale")? => "hits 0\n",
     );
     Ok(())
 }

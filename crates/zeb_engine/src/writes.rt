@@ -1,19 +1,29 @@
 //! The commands that write without reading records, each in one transaction.
 
-ghost use Rattle.std.specs.Prelude.{◌≡◌, false, IsTrue, OnErr, IfErr, ⊤};
+ghost use Rattle.std.specs.Prelude.{◌≡◌, false, [], IsTrue, OnOk, OnErr, IfErr, ⊤};
 ghost use Rattle.sqlite.specs.Held.{state};
-ghost use Rattle.sqlite.specs.State.{HasCleanDisk, Survives};
-ghost use Rattle.zeb_register.specs.Calls.{ChangesNothing};
+ghost use Rattle.sqlite.specs.State.{HasCleanDisk, KeepsCommit, Survives};
+ghost use Rattle.zeb_register.specs.Calls.{ChangesNothing, GoesOn};
+ghost use Rattle.zeb_register.specs.Sql.{Replaces};
+ghost use Rattle.zeb_register.specs.Store.{IsStore, meta_tree, entry, IsEntryOf};
+ghost use Rattle.zeb_engine.specs.declared.commands.Limits.{Limits};
+ghost use Rattle.zeb_engine.specs.Answers.{IsFailure, refused, why_of};
+ghost use Rattle.zeb_engine.specs.Conditions.{Conditions, conditions};
+ghost use Rattle.zeb_engine.specs.Image.{IsImage};
+ghost use Rattle.zeb_engine.specs.NameOf.{name_bytes};
+ghost use Rattle.zeb_engine.specs.Steps.{holding, initialised, turned, created, dropped};
 ghost use Rattle.zeb_engine.specs.Transactions.{EnduresRefusal, Stays};
+ghost use Rattle.zeb_engine.specs.Works.{IsReady, Serves, Works};
+ghost use Rattle.zeb_engine.specs.Writing.{AreOf, Begins, IsFree, IsKnown, Fits, IsReached, PutsTexts, written};
 
 use crate::names::DbName;
-use crate::readiness::{IDENTIFIER, PROFILE, VERSION};
+use crate::readiness::{IDENTIFIER, PROFILE, VERSION, existing_database};
 use crate::refusals::Refusal;
 use crate::replies::Reply;
 use sqlite::{Alter, Connection, Transaction};
 use std::alloc::Global;
 use zeb_profile::Profile;
-use zeb_register::{Layout, database_of, database_put, meta_put, wipe};
+use zeb_register::{DatabaseId, Layout, database_of, database_put, meta_put, wipe};
 
 /// A command that writes.
 #[derive(Clone, Copy)]
@@ -25,8 +35,32 @@ pub(crate) enum Write<'a> {
     },
     /// An empty database, of a name that has none.
     Create(&'a DbName),
+    /// No database of this name any more, which the tables know by this id.
+    Drop(&'a DbName, DatabaseId),
 }
 
+/// The three texts of a register whose tables hold no text.
+fn put_texts<S: Alter>(
+    tx: &mut Transaction<'_, S>,
+    version: &str,
+    text: &str,
+    pattern: &str,
+) -> Result<(), Refusal>
+    ensures same { tx.new.conn.ghost_name ≡ tx.old.conn.ghost_name }
+    ensures ok { HasCleanDisk (state S.Store tx.new.conn.now) → IsTrue (state S.Store tx.old.conn.now).in_transaction → OnOk result (GoesOn (state S.Store tx.old.conn.now) (state S.Store tx.new.conn.now)) }
+    ensures err { HasCleanDisk (state S.Store tx.new.conn.now) → IsTrue (state S.Store tx.old.conn.now).in_transaction → OnErr result (KeepsCommit (state S.Store tx.old.conn.now) (state S.Store tx.new.conn.now)) }
+    ensures put { HasCleanDisk (state S.Store tx.new.conn.now) → IsTrue (state S.Store tx.old.conn.now).in_transaction → IsStore (state S.Store tx.old.conn.now) → (state S.Store tx.old.conn.now).now.trees meta_tree ≡ []
+        → OnOk result (PutsTexts version.now text.now pattern.now (state S.Store tx.old.conn.now) (state S.Store tx.new.conn.now)) }
+    ensures failed { IfErr result (λ refusal. IsFailure (refused (why_of refusal))) }
+    ensures crash { Survives (state S.Store tx.old.conn.now) (state S.Store tx.new.conn.now) (λ _. ⊥) }
+{
+    meta_put(tx, VERSION, version)?;
+    meta_put(tx, PROFILE, text)?;
+    meta_put(tx, IDENTIFIER, pattern)?;
+    Ok(())
+}
+
+/// No row but the three texts, whatever rows there were.
 fn init<S: Alter, L: Layout>(
     tx: &mut Transaction<'_, S>,
     profile: &Profile,
@@ -34,12 +68,42 @@ fn init<S: Alter, L: Layout>(
 ) -> Result<Reply, Refusal>
     ensures same { tx.new.conn.ghost_name ≡ tx.old.conn.ghost_name }
     ensures stays { HasCleanDisk (state S.Store tx.new.conn.now) → IsTrue (state S.Store tx.old.conn.now).in_transaction → Stays (state S.Store tx.old.conn.now) (state S.Store tx.new.conn.now) result }
+    ensures ok { HasCleanDisk (state S.Store tx.new.conn.now) → IsTrue (state S.Store tx.old.conn.now).in_transaction → OnOk result (GoesOn (state S.Store tx.old.conn.now) (state S.Store tx.new.conn.now) × (result ≡ Ok Reply.Done)) }
+    ensures begun { HasCleanDisk (state S.Store tx.new.conn.now) → IsTrue (state S.Store tx.old.conn.now).in_transaction → IsStore (state S.Store tx.old.conn.now)
+        → OnOk result (IsStore (state S.Store tx.new.conn.now) × ((c : Conditions) → AreOf L.version profile.now pattern.now c → IsImage L.holds c (state S.Store tx.new.conn.now).now.trees (holding c []))) }
+    ensures failed { IfErr result (λ refusal. IsFailure (refused (why_of refusal))) }
     ensures crash { Survives (state S.Store tx.old.conn.now) (state S.Store tx.new.conn.now) (λ _. ⊥) }
 {
     wipe(tx)?;
-    meta_put(tx, VERSION, L::VERSION)?;
-    meta_put(tx, PROFILE, profile.text())?;
-    meta_put(tx, IDENTIFIER, pattern)?;
+    put_texts(tx, L::version(), profile.text(), pattern)?;
+    Ok(Reply::Done)
+}
+
+/// An empty database under a name that has none.
+fn create<S: Alter, L: Layout>(tx: &mut Transaction<'_, S>, name: &DbName) -> Result<Reply, Refusal>
+    ensures same { tx.new.conn.ghost_name ≡ tx.old.conn.ghost_name }
+    ensures stays { HasCleanDisk (state S.Store tx.new.conn.now) → IsTrue (state S.Store tx.old.conn.now).in_transaction → Stays (state S.Store tx.old.conn.now) (state S.Store tx.new.conn.now) result }
+    ensures works { HasCleanDisk (state S.Store tx.new.conn.now) → IsTrue (state S.Store tx.old.conn.now).in_transaction → IsTrue (state S.Store tx.old.conn.now).is_open → (c : Conditions)
+        → Works L.holds c (IsFree (name_bytes name.now) c) (turned c (created (name_bytes name.now))) (state S.Store tx.old.conn.now) (state S.Store tx.new.conn.now) result }
+    ensures crash { Survives (state S.Store tx.old.conn.now) (state S.Store tx.new.conn.now) (λ _. ⊥) }
+{
+    database_put(tx, name.as_str(), 0)?;
+    Ok(Reply::Done)
+}
+
+/// No database of this id, with its records and postings.
+fn take<S: Alter, L: Layout>(
+    tx: &mut Transaction<'_, S>,
+    name: &DbName,
+    id: DatabaseId,
+) -> Result<Reply, Refusal>
+    ensures same { tx.new.conn.ghost_name ≡ tx.old.conn.ghost_name }
+    ensures stays { HasCleanDisk (state S.Store tx.new.conn.now) → IsTrue (state S.Store tx.old.conn.now).in_transaction → Stays (state S.Store tx.old.conn.now) (state S.Store tx.new.conn.now) result }
+    ensures works { HasCleanDisk (state S.Store tx.new.conn.now) → IsTrue (state S.Store tx.old.conn.now).in_transaction → (c : Conditions)
+        → Works L.holds c (IsKnown (name_bytes name.now) id.0 c) (turned c (dropped (name_bytes name.now))) (state S.Store tx.old.conn.now) (state S.Store tx.new.conn.now) result }
+    ensures crash { Survives (state S.Store tx.old.conn.now) (state S.Store tx.new.conn.now) (λ _. ⊥) }
+{
+    L::database_take(tx, id)?;
     Ok(Reply::Done)
 }
 
@@ -49,14 +113,15 @@ fn apply<S: Alter, L: Layout>(
 ) -> Result<Reply, Refusal>
     ensures same { tx.new.conn.ghost_name ≡ tx.old.conn.ghost_name }
     ensures stays { HasCleanDisk (state S.Store tx.new.conn.now) → IsTrue (state S.Store tx.old.conn.now).in_transaction → Stays (state S.Store tx.old.conn.now) (state S.Store tx.new.conn.now) result }
+    ensures works { HasCleanDisk (state S.Store tx.new.conn.now) → IsTrue (state S.Store tx.old.conn.now).in_transaction → (c : Conditions) → IsReached write.now (state S.Store tx.old.conn.now)
+        → Works L.holds c (Fits L.version c write.now) (written c write.now) (state S.Store tx.old.conn.now) (state S.Store tx.new.conn.now) result }
+    ensures begun { HasCleanDisk (state S.Store tx.new.conn.now) → IsTrue (state S.Store tx.old.conn.now).in_transaction → OnOk result (Begins L.holds L.version write.now (state S.Store tx.old.conn.now) (state S.Store tx.new.conn.now)) }
     ensures crash { Survives (state S.Store tx.old.conn.now) (state S.Store tx.new.conn.now) (λ _. ⊥) }
 {
     match write {
         Write::Init { profile, pattern } => init::<S, L>(tx, profile, pattern),
-        Write::Create(name) => {
-            database_put(tx, name.as_str(), 0)?;
-            Ok(Reply::Done)
-        }
+        Write::Create(name) => create::<S, L>(tx, name),
+        Write::Drop(name, id) => take::<S, L>(tx, name, *id),
     }
 }
 
@@ -70,6 +135,9 @@ fn transact<S: Alter, L: Layout>(
     ensures refused { HasCleanDisk (state S.Store connection.new) → OnErr result (ChangesNothing (state S.Store connection.old) (state S.Store connection.new)) }
     ensures endures { HasCleanDisk (state S.Store connection.new) → IfErr result (EnduresRefusal (state S.Store connection.old) (state S.Store connection.new)) }
     ensures survives { Survives (state S.Store connection.old) (state S.Store connection.new) (λ _. ⊤) }
+    ensures begun { HasCleanDisk (state S.Store connection.new) → OnOk result (Begins L.holds L.version write.now (state S.Store connection.old) (state S.Store connection.new)) }
+    ensures serves { HasCleanDisk (state S.Store connection.new) → (c : Conditions) → IsReached write.now (state S.Store connection.old)
+        → Serves L.holds c (Fits L.version c write.now) (written c write.now) (state S.Store connection.old) (state S.Store connection.new) result }
 {
     let _settled = connection.is_autocommit();
     let mut tx = connection.transaction();
@@ -89,6 +157,10 @@ pub(crate) fn init_register<S: Alter, L: Layout>(
     ensures refused { HasCleanDisk (state S.Store connection.new) → OnErr result (ChangesNothing (state S.Store connection.old) (state S.Store connection.new)) }
     ensures endures { HasCleanDisk (state S.Store connection.new) → IfErr result (EnduresRefusal (state S.Store connection.old) (state S.Store connection.new)) }
     ensures survives { Survives (state S.Store connection.old) (state S.Store connection.new) (λ _. ⊤) }
+    ensures begun { HasCleanDisk (state S.Store connection.new) → OnOk result (IsStore (state S.Store connection.old) → (limits : Limits)
+        → IsStore (state S.Store connection.new) × IsImage L.holds (conditions L.version profile.now limits) (state S.Store connection.new).now.trees (holding (conditions L.version profile.now limits) [])) }
+    ensures serves { HasCleanDisk (state S.Store connection.new) → (limits : Limits)
+        → Serves L.holds (conditions L.version profile.now limits) (λ _ _. Unit {0}) (initialised (conditions L.version profile.now limits)) (state S.Store connection.old) (state S.Store connection.new) result }
 {
     let pattern = profile.identifier_rule().to_string(alloc)?;
     transact::<S, L>(
@@ -110,9 +182,30 @@ pub(crate) fn create_database<S: Alter, L: Layout>(
     ensures refused { HasCleanDisk (state S.Store connection.new) → OnErr result (ChangesNothing (state S.Store connection.old) (state S.Store connection.new)) }
     ensures endures { HasCleanDisk (state S.Store connection.new) → IfErr result (EnduresRefusal (state S.Store connection.old) (state S.Store connection.new)) }
     ensures survives { Survives (state S.Store connection.old) (state S.Store connection.new) (λ _. ⊤) }
+    ensures serves { HasCleanDisk (state S.Store connection.new) → IsTrue (state S.Store connection.old).is_open → (c : Conditions)
+        → Serves L.holds c (IsReady c) (turned c (created (name_bytes name.now))) (state S.Store connection.old) (state S.Store connection.new) result }
 {
-    if database_of(connection, name.as_str())?.is_some() {
-        return Err(Refusal::Exists);
+    let found = database_of(connection, name.as_str())?;
+    match found {
+        Some(_) => Err(Refusal::Exists),
+        None => transact::<S, L>(connection, &Write::Create(name)),
     }
-    transact::<S, L>(connection, &Write::Create(name))
+}
+
+/// Takes a database away with its records and postings; where there is none, diagnostic 235, which names it.
+pub(crate) fn drop_database<S: Alter, L: Layout>(
+    alloc: Global,
+    connection: &mut Connection<S>,
+    name: &DbName,
+) -> Result<Reply, Refusal>
+    requires idle { connection.old.in_transaction ≡ false }
+    ensures idle { connection.new.in_transaction ≡ false }
+    ensures refused { HasCleanDisk (state S.Store connection.new) → OnErr result (ChangesNothing (state S.Store connection.old) (state S.Store connection.new)) }
+    ensures endures { HasCleanDisk (state S.Store connection.new) → IfErr result (EnduresRefusal (state S.Store connection.old) (state S.Store connection.new)) }
+    ensures survives { Survives (state S.Store connection.old) (state S.Store connection.new) (λ _. ⊤) }
+    ensures serves { HasCleanDisk (state S.Store connection.new) → IsTrue (state S.Store connection.old).is_open → (c : Conditions)
+        → Serves L.holds c (IsReady c) (turned c (dropped (name_bytes name.now))) (state S.Store connection.old) (state S.Store connection.new) result }
+{
+    let database = existing_database::<S, L>(alloc, connection, name)?;
+    transact::<S, L>(connection, &Write::Drop(name, database.id))
 }

@@ -1,17 +1,15 @@
 -- The example record has one occurrence under the example profile.
-use Rattle.std.proofs.Common.{◌≡◌, ℕ, List, [], ◌∷◌, refl, sym, subst, codes, ◌↔◌}
+use Rattle.std.proofs.Common.{◌≡◌, [], ◌∷◌, refl, sym, subst, codes}
 use Rattle.std.specs.List.{Contains}
 use Rattle.std.specs.Str.{chars, is_utf8}
 use Rattle.std.specs.Fmt.{digits}
 use Rattle.std.specs.Str.Lossy.{utf8_lossy, utf8_valid_len}
 use lib.Utf8.{encode}
-use Rattle.zeb_marc.specs.Contents.{UnitText}
 use Rattle.zeb_profile.specs.Indexes.{unit_targets}
-use Rattle.zeb_profile.specs.declared.registers.Register.TheVariants.{Number}
 use Rattle.zeb_text.specs.Words.{runs_of}
 use Rattle.zeb_text.specs.Numbers.{numerals_of, number_key}
 use Rattle.zeb_extract.specs.declared.keys.Occurrence.{Occurrence}
-use Rattle.zeb_extract.specs.Occurrences.{text_of, terms_of, IsOccurrence}
+use Rattle.zeb_extract.specs.Occurrences.{IsOccurrence}
 use Rattle.zeb_extract.specs.Listing.{listing}
 use Rattle.zeb_extract.proofs.Listed.{occurrences_are_listed}
 use Rattle.zeb_extract.proofs.Members.{first_member, only_member}

@@ -1,7 +1,8 @@
+pub mod Stripped
+pub mod Analysis
 pub mod Members
 pub mod Rising
 pub mod Ordered
 pub mod Spaces
-pub mod Bounds
 pub mod Listed
 pub mod Example

@@ -1,7 +1,8 @@
 -- The members of the list that is found are the occurrences.
 use Rattle.std.proofs.Common.{◌≡◌, ℕ, ◌+◌, List, [], ◌∷◌, ◌++◌, length, map, refl, ap, sym, ◌∙◌, subst, ◌↔◌, arith, add-zero, append_assoc, true, false, ◌==◌}
 use Rattle.std.proofs.lemmas.List.{map-append, append-nil}
-use Rattle.std.specs.List.{Contains, enumerate_from, join_with_byte}
+use Rattle.std.specs.List.{Contains, enumerate_from}
+use Rattle.zeb_text.specs.Words.{joined_text}
 use borrow.Author.Tests.{eqb-true}
 use Rattle.zeb_marc.specs.Contents.{UnitText}
 use Rattle.zeb_profile.specs.declared.registers.Register.{Register}
@@ -71,13 +72,13 @@ joined-none f [] e = refl
 joined-none f (w ∷ ws) e = absurd (omega (arith, eqb-true (length (w ∷ ws)) 0 (sym e)))
 
 pub joined-some : {X : Type 0} (f : X → List ℕ) (words : List X) → false ≡ (length words == 0)
-    → joined (map f words) ≡ join_with_byte 32 (map f words) ∷ []
+    → joined (map f words) ≡ joined_text (map f words) ∷ []
 joined-some f [] e = absurd (cc)
 joined-some f (w ∷ ws) e = refl
 
 -- the joined words of some, where they are put into an empty list
 pub only_joined : {X : Type 0} (f : X → List ℕ) (words : List X) (empty found : List (List ℕ)) (term text : List ℕ)
-    → found ≡ empty ++ term ∷ [] → empty ≡ [] → term ≡ text → text ≡ join_with_byte 32 (map f words) → false ≡ (length words == 0)
+    → found ≡ empty ++ term ∷ [] → empty ≡ [] → term ≡ text → text ≡ joined_text (map f words) → false ≡ (length words == 0)
     → found ≡ joined (map f words)
 only_joined f words empty found term text e none is text_is some =
     e ∙ ap (λ l. l ++ term ∷ []) none ∙ ap (λ t. t ∷ []) (is ∙ text_is) ∙ sym (joined-some f words some)

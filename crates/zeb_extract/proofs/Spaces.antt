@@ -28,7 +28,7 @@ keeps_head byte bytes other = by_test (eqb byte 32) refl
     by_test true e = absurd (other (eqb-true byte 32 e))
     by_test false e = refl
 
-keeps : (bytes : List ℕ) → ((rest : List ℕ) → bytes ≢ 32 ∷ rest) → without_leading_spaces bytes ≡ bytes
+pub keeps : (bytes : List ℕ) → ((rest : List ℕ) → bytes ≢ 32 ∷ rest) → without_leading_spaces bytes ≡ bytes
 keeps [] no_space = refl
 keeps (byte ∷ bytes) no_space = keeps_head byte bytes (λ e. no_space bytes (ap (λ b. b ∷ bytes) e))
 

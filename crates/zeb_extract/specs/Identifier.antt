@@ -21,6 +21,10 @@ without_leading_spaces (byte ∷ bytes) = if byte == 32 then without_leading_spa
 abbrev pub without_trailing_spaces : List ℕ → List ℕ
 without_trailing_spaces bytes = reverse (without_leading_spaces (reverse bytes))
 
+-- a text without the spaces at its ends
+abbrev pub without_spaces : List ℕ → List ℕ
+without_spaces bytes = without_trailing_spaces (without_leading_spaces bytes)
+
 abbrev pub has_control : List ℕ → Bool
 has_control bytes = list_any is_control (chars bytes)
 
@@ -34,7 +38,7 @@ checked bytes = if length bytes == 0 then Err NoIdentifier else (if is_bad bytes
 
 -- the identifier that a unit's bytes hold
 abbrev pub identifier_in : List ℕ → Result (List ℕ) IdentFault
-identifier_in bytes = checked (without_trailing_spaces (without_leading_spaces (utf8_lossy bytes)))
+identifier_in bytes = checked (without_spaces (utf8_lossy bytes))
 
 -- the identifier that this unit holds, if there is one
 abbrev pub held_in : Option UnitText → Result (List ℕ) IdentFault

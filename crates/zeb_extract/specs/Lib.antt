@@ -1,5 +1,7 @@
 pub mod Order
 pub mod Identifier
+pub mod Stripped
+pub mod Names
 pub mod Occurrences
 pub mod Listing
 pub mod Sample

@@ -3,9 +3,9 @@
 -- phrase register the words joined by one space, where there is a word, and a number register the keys of the numbers.
 -- A unit's bytes are read as UTF-8, with U+FFFD where they are not (The Unicode Standard, section 3.9).
 use Rattle.std.specs.Prelude.{◌≡◌, ℕ, List, [], ◌∷◌, map, chars, encode_utf8_all, Option}
-use Rattle.std.specs.List.{Contains, enumerate_from, join_with_byte}
+use Rattle.std.specs.List.{Contains, enumerate_from}
 use Rattle.std.specs.Str.Lossy.{utf8_lossy}
-use Rattle.zeb_text.specs.Words.{words_of}
+use Rattle.zeb_text.specs.Words.{joined_text, words_of}
 use Rattle.zeb_text.specs.Numbers.{numbers_of, number_key}
 use Rattle.zeb_marc.specs.Contents.{UnitText}
 use Rattle.zeb_profile.specs.declared.registers.Register.{Register}
@@ -20,10 +20,10 @@ text_of bytes = chars (utf8_lossy bytes)
 abbrev pub word_terms : List ℕ → List (List ℕ)
 word_terms text = map encode_utf8_all (words_of text)
 
--- the words joined by a space (32), where there is a word
+-- the joined words, where there is a word
 abbrev pub joined : List (List ℕ) → List (List ℕ)
 joined [] = []
-joined (word ∷ words) = join_with_byte 32 (word ∷ words) ∷ []
+joined (word ∷ words) = joined_text (word ∷ words) ∷ []
 
 -- the terms that a text adds to a register, in the order of their numbers
 abbrev pub terms_of : Register → List ℕ → List (List ℕ)

@@ -23,6 +23,9 @@ use zeb_profile::{Profile, Register};
 /// number register the key of each of its numbers, at the number's number. Words and numbers count from 1 in their
 /// unit. Bytes that are no UTF-8 are read as U+FFFD (Unicode, section 3.9, best practice).
 ///
+/// Each unit's text is folded once, whatever the number of its targets, and `n` occurrences are put in order by about
+/// `n log n` comparisons.
+///
 /// `AllocError` comes where memory was refused, and then alone.
 pub fn occurrences(
     alloc: Global,
@@ -41,7 +44,7 @@ pub fn occurrences(
     Ok(found)
 }
 
-/// Sorts the elements and leaves out repeats. An error leaves them as they were.
+/// Sorts the elements, by merging, and leaves out repeats. An error leaves them as they were.
 fn put_in_order<T: Ord + Drop>(elements: &mut Vec<T>) -> Result<(), AllocError>
     requires { TellsApart T.cmp }
     ensures rising { OnOk result (IsStrictlySortedBy T.cmp elements.new.items) }

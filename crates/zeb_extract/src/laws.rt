@@ -1,15 +1,17 @@
-//! Laws of the order of occurrences. Each is a function with no code, whose contract is the law.
-ghost use Rattle.std.specs.Prelude.{◌≡◌, ◌↔◌, List, codes};
+//! Laws of the definitions that the contracts cite. Each is a function with no code, whose contract is the law.
+ghost use Rattle.std.specs.Prelude.{◌≡◌, ◌↔◌, ℕ, List, codes, true};
 ghost use Rattle.std.specs.Cmp.{IsTotalOrder};
 ghost use Rattle.std.specs.List.{Contains};
 ghost use Rattle.zeb_extract.specs.declared.keys.Key.{Key};
 ghost use Rattle.zeb_extract.specs.declared.keys.Occurrence.{Occurrence};
 ghost use Rattle.zeb_profile.specs.Indexes.{unit_targets};
+ghost use Rattle.zeb_extract.specs.Identifier.{identifier_of, without_spaces};
+ghost use Rattle.zeb_extract.specs.Stripped.{IsStripped};
 ghost use Rattle.zeb_extract.specs.Occurrences.{IsOccurrence};
 ghost use Rattle.zeb_extract.specs.Order.{key_order, occurrence_order, IsRising, TellsApart};
-ghost use Rattle.zeb_extract.specs.Sample.{moby_dick, date_profile, date_at};
+ghost use Rattle.zeb_extract.specs.Sample.{moby_dick, moby_dick_analysis, date_profile, date_at, title_profile};
 
-use crate::{Key, Occurrence};
+use crate::{Key, Occurrence, Term};
 
 /// Keys compare by index, then register, then the bytes of the term; occurrences by key, then unit, then place.
 pub fn order_is_by_parts()
@@ -25,10 +27,23 @@ pub fn order_is_total()
     ensures occurrences_apart { TellsApart occurrence_order }
 {}
 
+/// Keys, occurrences and terms are equal as the program compares them exactly where they are the same.
+pub fn equality_is_identity()
+    ensures terms { (a b : List ℕ) → (⟦<Term as PartialEq>⟧.eq a b ≡ true) ↔ (a ≡ b) }
+    ensures keys { (a b : Key) → (⟦<Key as PartialEq>⟧.eq a b ≡ true) ↔ (a ≡ b) }
+    ensures occurrences { (a b : Occurrence) → (⟦<Occurrence as PartialEq>⟧.eq a b ≡ true) ↔ (a ≡ b) }
+{}
+
 /// Two rising lists of occurrences that have the same members are the same list.
 pub fn rising_list_is_one()
     ensures { (xs ys : List Occurrence) → IsRising xs → IsRising ys → ((o : Occurrence) → Contains xs o ↔ Contains ys o)
         → xs ≡ ys }
+{}
+
+/// An identifier's spaces (U+0020) go from both ends of its text and from nowhere else: the text is spaces, what is left,
+/// and spaces, and what is left neither begins nor ends with one. There is one text that is left so.
+pub fn spaces_go_from_both_ends()
+    ensures { (text stripped : List ℕ) → (IsStripped text stripped) ↔ (stripped ≡ without_spaces text) }
 {}
 
 /// An example: under a profile that indexes the date of publication as a number, the record of "Moby Dick" has the
@@ -36,4 +51,14 @@ pub fn rising_list_is_one()
 pub fn moby_dick_has_its_date()
     ensures found { IsOccurrence (unit_targets date_profile) moby_dick (date_at 4 (codes "000000000000001851")) }
     ensures no_other { (o : Occurrence) → IsOccurrence (unit_targets date_profile) moby_dick o → o ≡ date_at 4 (codes "000000000000001851") }
+    ensures not_elsewhere { ¬ (IsOccurrence (unit_targets date_profile) moby_dick (date_at 3 (codes "000000000000001851"))) }
+{}
+
+/// A whole example: what "Moby Dick" is called and found by under a profile of titles, dates and any words, line by line
+/// in the order of occurrences.
+pub fn moby_dick_is_analysed()
+    ensures called { identifier_of title_profile moby_dick ≡ Ok (codes "a1") }
+    ensures rising { IsRising moby_dick_analysis }
+    ensures members { (o : Occurrence) →
+        Contains moby_dick_analysis o ↔ IsOccurrence (unit_targets title_profile) moby_dick o }
 {}

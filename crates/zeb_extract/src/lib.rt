@@ -10,7 +10,10 @@ mod terms;
 
 pub use entries::occurrences;
 pub use keys::{Key, Occurrence};
-pub use laws::{moby_dick_has_its_date, order_is_by_parts, order_is_total, rising_list_is_one};
+pub use laws::{
+    equality_is_identity, moby_dick_has_its_date, moby_dick_is_analysed, order_is_by_parts,
+    order_is_total, rising_list_is_one, spaces_go_from_both_ends,
+};
 pub use naming::{IdentFault, identifier};
 pub use terms::Term;
 

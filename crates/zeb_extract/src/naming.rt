@@ -1,7 +1,7 @@
 //! The identifier of a record.
 ghost use Rattle.std.specs.Prelude.{◌≡◌, ◌≢◌, IfOk, IfErr, string_bytes};
 ghost use Rattle.zeb_marc.specs.Contents.{units_of};
-ghost use Rattle.zeb_extract.specs.Identifier.{has_control, identifier_in, identifier_of, is_bad, without_leading_spaces, without_trailing_spaces};
+ghost use Rattle.zeb_extract.specs.Identifier.{has_control, identifier_in, identifier_of, is_bad, without_spaces};
 
 use std::alloc::{AllocError, Global};
 use std::fmt;
@@ -23,12 +23,18 @@ pub enum IdentFault {
 }
 
 impl fmt::Display for IdentFault {
+    ghost use Rattle.std.specs.Prelude.{Some};
+    ghost use Rattle.zeb_extract.specs.Names.{fault_name};
+
+    ghost output = { λ fault. Some (fault_name fault) };
+
     fn fmt<W: fmt::Write>(&self, f: &mut fmt::Formatter<W>) -> fmt::Result {
-        match self {
-            IdentFault::NoIdentifier => f.write_str("NoIdentifier"),
-            IdentFault::BadIdentifier => f.write_str("BadIdentifier"),
-            IdentFault::Memory => f.write_str("Memory"),
-        }
+        let name = match self {
+            IdentFault::NoIdentifier => "NoIdentifier",
+            IdentFault::BadIdentifier => "BadIdentifier",
+            IdentFault::Memory => "Memory",
+        };
+        write!(f, "{name}")
     }
 }
 
@@ -95,7 +101,7 @@ fn has_control(text: &str) -> bool
 
 /// The text without U+0020 at its ends.
 fn without_spaces(text: &str) -> &str
-    ensures { result.now ≡ without_trailing_spaces (without_leading_spaces text.now) }
+    ensures { result.now ≡ without_spaces text.now }
 {
     text.trim_start_matches(' ').trim_end_matches(' ')
 }

@@ -1,7 +1,7 @@
 -- Lemmas on the entries of a directory.
 use Rattle.std.proofs.Common.{◌≡◌, ℕ, ◌-◌, ◌<◌, ◌≤◌, Bool, true, false, cond, Some, None, List, [], ◌∷◌, ◌++◌, length, take, drop, map, sym, ltb, leb, refl, ap, ◌∙◌, ◌&&◌, ◌==◌, slice_index, arith}
 use Rattle.std.specs.List.{flat_map}
-use Rattle.std.proofs.lemmas.Bool.{ltb-true, leb-true}
+use Rattle.std.proofs.lemmas.Bool.{ltb-true, leb-true, eqb-true}
 use Rattle.zeb_marc.specs.declared.faults.MarcFault.{MarcFault}
 use Rattle.zeb_marc.specs.declared.faults.MarcFault.TheVariants.{EntryDigits, EntryTag, EntryRange, FieldEnd}
 use Rattle.zeb_marc.specs.Leader.{Check, check, first_failing, number_of}
@@ -71,6 +71,7 @@ pub record IsSoundEntry (area : List ℕ) (entry : Entry) : Type 0 where
   pub tag : has_tag_bytes entry.tag ≡ true
   pub begins : number_of entry.start < end_of entry
   pub within : end_of entry ≤ length area
+  pub ended : slice_index area (end_of entry - 1) ≡ 30
 
 both_true : (a b : Bool) → (a && b) ≡ true → (a ≡ true) × (b ≡ true)
 both_true true b e = (refl, e)
@@ -87,8 +88,9 @@ IsSoundEntry-from_checks area entry e =
     let a = first_failing-cons (check (has_digits entry) EntryDigits) (check (has_tag_bytes entry.tag) EntryTag ∷ check (is_in_area area entry) EntryRange ∷ check (slice_index area (end_of entry - 1) == 30) FieldEnd ∷ []) e in
     let b = first_failing-cons (check (has_tag_bytes entry.tag) EntryTag) (check (is_in_area area entry) EntryRange ∷ check (slice_index area (end_of entry - 1) == 30) FieldEnd ∷ []) a.1 in
     let c = first_failing-cons (check (is_in_area area entry) EntryRange) (check (slice_index area (end_of entry - 1) == 30) FieldEnd ∷ []) b.1 in
+    let d = first_failing-cons (check (slice_index area (end_of entry - 1) == 30) FieldEnd) [] c.1 in
     let bounds = in_area_bounds area entry c.0 in
-    record { digits = a.0; tag = b.0; begins = bounds.0; within = bounds.1 }
+    record { digits = a.0; tag = b.0; begins = bounds.0; within = bounds.1; ended = eqb-true _ _ d.0 }
 
 -- the checks of a directory: those of its first entry, and then those of the others
 pub directory_checks-more : (area directory : List ℕ) → 12 ≤ length directory → directory_checks area directory ≡ entry_checks area (entry_of (take 12 directory)) ++ directory_checks area (drop 12 directory)

@@ -6,3 +6,8 @@ pub mod Runs
 pub mod ReadingLemmas
 pub mod SplitLaws
 pub mod PartLaws
+pub mod Unread
+pub mod LayoutLaws
+pub mod LayoutChecks
+pub mod FaultLaws
+pub mod TakenLaws

@@ -43,7 +43,7 @@ all_behind_one : (x : ℕ) (xs : List ℕ) (parts : List (List ℕ)) → AllByRe
 all_behind_one x xs [] h = tt
 all_behind_one x xs (part ∷ parts) h = (behind_one x xs part h.0, all_behind_one x xs parts h.1)
 
-all-append : {X : Type 0} (P : X → Type 0) (xs ys : List X) → AllByRecursion P xs → AllByRecursion P ys → AllByRecursion P (xs ++ ys)
+pub all-append : {X : Type 0} (P : X → Type 0) (xs ys : List X) → AllByRecursion P xs → AllByRecursion P ys → AllByRecursion P (xs ++ ys)
 all-append P [] ys h k = k
 all-append P (x ∷ xs) ys h k = (h.0, all-append P xs ys h.1 k)
 
@@ -133,7 +133,7 @@ all_digits : (digits : List ℕ) → list_all is_ascii_digit digits ≡ true →
 all_digits [] e = tt
 all_digits (c ∷ digits) e = let both = both_true (is_ascii_digit c) (list_all is_ascii_digit digits) e in (digit_below c both.0, all_digits digits both.1)
 
-number_of-below : (digits : List ℕ) → are_digits digits ≡ true → number_of digits < 10 ^ length digits
+pub number_of-below : (digits : List ℕ) → are_digits digits ≡ true → number_of digits < 10 ^ length digits
 unfolding are_digits number_of
 number_of-below digits e = digits_value-lt 10 digits (all_digits digits e)
 

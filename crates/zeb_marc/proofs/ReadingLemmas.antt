@@ -1,7 +1,7 @@
 -- Lemmas on reading one record from a source, part by part.
-use Rattle.std.proofs.Common.{◌≡◌, ℕ, ◌<◌, ◌≤◌, Bool, true, false, cond, leb, Option, Some, None, Ok, Err, List, [], ◌∷◌, ◌++◌, length, set, take, drop, refl, sym, ap, subst, ◌∙◌, length-take, length-set, arith}
+use Rattle.std.proofs.Common.{◌≡◌, ℕ, suc, ◌+◌, ◌<◌, ◌≤◌, Bool, true, false, cond, leb, Option, Some, None, Ok, Err, List, [], ◌∷◌, ◌++◌, length, set, take, drop, refl, sym, ap, subst, ◌∙◌, length-take, length-set, arith, inl, inr, ◌⊎◌}
 use Rattle.std.specs.List.{prefix_len}
-use Rattle.std.proofs.lemmas.List.{take-take}
+use Rattle.std.proofs.lemmas.List.{take-take, drop-drop}
 use Rattle.std.proofs.lemmas.Slice.{take-put_mid}
 use Rattle.std.proofs.lemmas.Bool.{le-leb, lt-leb, leb-true, le-ltb, lt-ltb}
 use borrow.Rule.Slice.PartMut.{put_mid}
@@ -11,7 +11,8 @@ use Rattle.zeb_marc.specs.Leader.{Check, check, first_failing, are_digits, numbe
 use Rattle.zeb_marc.specs.Splits.{is_separator, next_of, next_if, next_behind, Next, at_end, a_fault, Gives, IsSlice}
 use Rattle.zeb_marc.specs.Reading.{FailsIf, ByteGives, SkipGives, FillGives, SliceGives}
 use Rattle.zeb_marc.proofs.Entries.{first_failing-append_none, first_failing-cons}
-use Rattle.zeb_marc.proofs.RecordChecks.{slice_fails, slice_passes, one_fails}
+use Rattle.zeb_marc.proofs.RecordChecks.{slice_cut, slice_fails, slice_passes, one_fails}
+use Rattle.zeb_marc.proofs.Runs.{suc_add}
 
 -- ---- one byte
 
@@ -22,6 +23,10 @@ byte_none (Some byte) text left e h = absurd cc
 pub byte_some : (answer : Option ℕ) (byte : ℕ) (text : List ℕ) (left : Option (List ℕ)) → answer ≡ Some byte → ByteGives text (Ok answer) left → (rest : List ℕ) × (text ≡ byte ∷ rest) × (left ≡ Some rest)
 byte_some None byte text left e h = absurd cc
 byte_some (Some b) byte text left e h = let same : b ≡ byte = cc in (h.0, h.1 ∙ ap (λ (x : ℕ). x ∷ h.0) same, h.2)
+
+-- a read that fails behind so many separators
+pub skip_failed : (text : List ℕ) (fault : MarcFault) (k : ℕ) (left : Option (List ℕ)) → fault ≡ ReadFault → k ≤ 65535 → k ≤ prefix_len is_separator text → ByteGives (drop k text) (Err fault) left → SkipGives text (Err fault) left
+skip_failed text fault k left e few le h = subst (λ (f : MarcFault). ByteGives (drop k text) (Err f) left → SkipGives text (Err f) left) (sym e) (λ behind. (k, few, le, behind)) h
 
 -- ---- the first five bytes of a record
 
@@ -47,18 +52,53 @@ five_are room part first pos len = take-put_mid 1 4 (set room 0 first) part 5 (o
 
 -- ---- the bytes of a record
 
-pub fill_err : (text part record_text room : List ℕ) (fault : MarcFault) (left after : Option (List ℕ)) → FillGives text (Err fault) part left → (length text < length part → first_failing (slice_checks record_text) ≡ Some Truncated) → SliceGives record_text (Err fault) room after
-fill_err text part record_text room Truncated left after h cut = cut h
-fill_err text part record_text room ReadFault left after h cut = tt
-fill_err text part record_text room _ left after h cut = absurd h
+pub fill_err : (text part record_text room : List ℕ) (m : ℕ) (fault : MarcFault) (left : Option (List ℕ)) → text ≡ drop (suc m) record_text → FillGives text (Err fault) part left
+    → (length text < length part → first_failing (slice_checks record_text) ≡ Some Truncated)
+    → ((k : ℕ) → k < length part → first_failing (slice_checks (take (suc (m + k)) record_text)) ≡ Some Truncated)
+    → SliceGives record_text (Err fault) room left
+fill_err text part record_text room m Truncated left same h short cut = (short h.0, h.1)
+fill_err text part record_text room m ReadFault left same h short cut =
+    let k = h.0 in
+    let behind = ap (drop k) same ∙ drop-drop k (suc m) record_text ∙ ap (λ (n : ℕ). drop n record_text) (suc_add m k) in
+    (m + k, cut k h.1, h.2 ∙ ap (λ (t : List ℕ). Some t) behind)
+fill_err text part record_text room m _ left same h short cut = absurd h
 
 -- fewer than five bytes
 pub slice_short : (text : List ℕ) → length text < 5 → first_failing (slice_checks text) ≡ Some Truncated
 slice_short text short = slice_fails text Truncated (one_fails (leb 5 (length text)) Truncated (check (are_digits (take 5 text)) LengthDigits ∷ check (leb 26 (record_length text)) LengthRange ∷ []) (lt-leb 5 (length text) short))
 
-pub slice_err : (record_text room : List ℕ) (fault : MarcFault) (left : Option (List ℕ)) → first_failing (announced_checks record_text) ≡ Some fault → SliceGives record_text (Err fault) room left
-slice_err record_text room ReadFault left e = tt
-slice_err record_text room _ left e = slice_fails record_text _ e
+-- the bytes up to somewhere within a record
+pub slice_cut_within : (record_text five : List ℕ) (n k : ℕ) → five ≡ take 5 record_text → 5 ≤ length record_text → first_failing (announced_checks five) ≡ None → n ≡ record_length five → 5 + k < n
+    → first_failing (slice_checks (take (suc (4 + k)) record_text)) ≡ Some Truncated
+slice_cut_within record_text five n k same long announced len within =
+    let front = take (suc (4 + k)) record_text in
+    let same_five : five ≡ take 5 front = same ∙ sym (take-take 5 (suc (4 + k)) record_text (omega arith)) in
+    let front_long : 5 ≤ length front = omega (arith, length-take (suc (4 + k)) record_text) in
+    let checks = announced_checks-five front five same_five front_long in
+    let same_length = record_length-five front five same_five in
+    slice_cut front (ap first_failing (sym checks) ∙ announced) (omega (arith, length-take (suc (4 + k)) record_text, len, same_length))
+
+-- five bytes that aren't the length of a record
+three_checks : (digits long : Bool) (fault : MarcFault) → cond digits (cond long None (Some LengthRange)) (Some LengthDigits) ≡ Some fault → (fault ≡ LengthDigits) ⊎ (fault ≡ LengthRange)
+three_checks true true fault e = absurd cc
+three_checks true false fault e = inr cc
+three_checks false long fault e = inl cc
+
+pub five_fault : (five : List ℕ) (fault : MarcFault) → 5 ≤ length five → first_failing (announced_checks five) ≡ Some fault → (fault ≡ LengthDigits) ⊎ (fault ≡ LengthRange)
+five_fault five fault long e =
+    let others = check (are_digits (take 5 five)) LengthDigits ∷ check (leb 26 (record_length five)) LengthRange ∷ [] in
+    let behind : first_failing others ≡ Some fault = sym (ap (λ (b : Bool). cond b (first_failing others) (Some Truncated)) (le-leb 5 (length five) long)) ∙ e in
+    three_checks (are_digits (take 5 five)) (leb 26 (record_length five)) fault behind
+
+pub slice_err : (record_text room five : List ℕ) (fault : MarcFault) (left : Option (List ℕ)) → five ≡ take 5 record_text → 5 ≤ length record_text → first_failing (announced_checks five) ≡ Some fault → left ≡ Some (drop 5 record_text)
+    → SliceGives record_text (Err fault) room left
+slice_err record_text room five fault left same long e behind =
+    let is : first_failing (announced_checks (take 5 record_text)) ≡ Some fault = ap (λ (t : List ℕ). first_failing (announced_checks t)) (sym same) ∙ e in
+    let five_long : 5 ≤ length five = omega (arith, ap length same, length-take 5 record_text) in
+    elim (five_fault five fault five_long e) [
+      | inl f ↦ subst (λ (g : MarcFault). SliceGives record_text (Err g) room left) (sym f) (long, is ∙ ap (λ (g : MarcFault). Some g) f, behind)
+      | inr f ↦ subst (λ (g : MarcFault). SliceGives record_text (Err g) room left) (sym f) (long, is ∙ ap (λ (g : MarcFault). Some g) f, behind)
+    ]
 
 -- the room holds the record
 pub IsSlice-from_five : (slice five : List ℕ) (n : ℕ) → take 5 slice ≡ five → first_failing (announced_checks five) ≡ None → n ≡ record_length five → 26 ≤ n → length slice ≡ n → IsSlice slice
@@ -105,7 +145,7 @@ skip_some (Some byte) first text left e h =
     record { rest = h.1.0; left_is = h.1.2; next_is = next_of-record text first h.1.0 h.0 (h.1.1 ∙ ap (λ (x : ℕ). x ∷ h.1.0) same) }
 
 pub skip_err : (text : List ℕ) (fault : MarcFault) (left after : Option (List ℕ)) (old new : Bool) → SkipGives text (Err fault) left → FailsIf {T = Option ℕ} (Err fault) old new → new ≡ false → Gives (next_of text) (Err fault) [] after
-skip_err text TooManySeparators left after old new h fails sound = subst (λ (next : Next). Gives next (Err TooManySeparators) [] after) (sym (next_of-many text h)) (refl, refl)
+skip_err text TooManySeparators left after old new h fails sound = subst (λ (next : Next). Gives next (Err TooManySeparators) [] after) (sym (next_of-many text h.0)) (refl, refl)
 skip_err text ReadFault left after old new h fails sound = let both : true ≡ false = sym fails ∙ sound in absurd cc
 skip_err text _ left after old new h fails sound = absurd h
 
@@ -116,7 +156,9 @@ given_fault record_text fault after e = subst (λ (o : Option MarcFault). Gives 
 pub slice_gives_err : (record_text room : List ℕ) (fault : MarcFault) (left after : Option (List ℕ)) (old new : Bool) → SliceGives record_text (Err fault) room left → FailsIf {T = ℕ} (Err fault) old new → new ≡ false
     → Gives (next_if (first_failing (slice_checks record_text)) record_text) (Err fault) [] after
 slice_gives_err record_text room ReadFault left after old new h fails sound = let both : true ≡ false = sym fails ∙ sound in absurd cc
-slice_gives_err record_text room _ left after old new h fails sound = given_fault record_text _ after h
+slice_gives_err record_text room Truncated left after old new h fails sound = given_fault record_text Truncated after h.0
+slice_gives_err record_text room _ left after old new h fails sound =
+    given_fault record_text _ after (slice_fails record_text _ (ap first_failing (sym (announced_checks-five record_text (take 5 record_text) refl h.0)) ∙ h.1))
 
 pub slice_gives_ok : (record_text room : List ℕ) (n : ℕ) (left : Option (List ℕ)) → SliceGives record_text (Ok n) room left → Gives (next_if (first_failing (slice_checks record_text)) record_text) (Ok (Some n)) (take n room) left
 slice_gives_ok record_text room n left h =

@@ -1,7 +1,7 @@
 -- Lemmas on runs of separators, on bytes that a source tells, and on filling a part of a record.
 use Rattle.std.proofs.Common.{◌≡◌, ℕ, zero, suc, ◌+◌, ◌≤◌, Bool, true, false, cond, Option, Some, None, List, [], ◌∷◌, ◌++◌, length, take, drop, refl, sym, ap, subst, ◌∙◌, length-take, length-drop, length-append, arith}
 use Rattle.std.specs.List.{prefix_len}
-use Rattle.std.specs.Io.KnownBytes.{Consumes, IsAtEnd}
+use Rattle.std.specs.Io.KnownBytes.{Consumes, IsAtEnd, Keeps}
 use Rattle.std.proofs.lemmas.List.{take_at, drop_at, take-append-le, drop-drop}
 use Rattle.std.proofs.lemmas.List.Sums.{prefix_len-le-length}
 use borrow.Rule.Slice.PartMut.{put_mid}
@@ -53,6 +53,12 @@ pub at_end_is : (left : Option (List ℕ)) (rest : List ℕ) → left ≡ Some r
 at_end_is None rest e h = absurd cc
 at_end_is (Some xs) rest e h = let same : xs ≡ rest = cc in sym same ∙ h
 
+-- a read that fails takes none
+pub kept_is : (old new : Option (List ℕ)) (text : List ℕ) → old ≡ Some text → Keeps old new → new ≡ Some text
+kept_is None new text e h = absurd cc
+kept_is (Some xs) None text e h = absurd h
+kept_is (Some xs) (Some ys) text e h = ap (λ (t : List ℕ). Some t) h ∙ e
+
 -- ---- filling
 
 take_nothing : {X : Type 0} (n : ℕ) → take {A = X} n [] ≡ []
@@ -62,7 +68,7 @@ take_nothing (suc n) = refl
 zero_add : (n : ℕ) → 0 + n ≡ n
 zero_add n = omega arith
 
-suc_add : (a n : ℕ) → suc a + n ≡ suc (a + n)
+pub suc_add : (a n : ℕ) → suc a + n ≡ suc (a + n)
 suc_add a n = omega arith
 
 pub take-add : {X : Type 0} (xs : List X) (a n : ℕ) → take (a + n) xs ≡ take a xs ++ take n (drop a xs)

@@ -1,5 +1,5 @@
 -- A file is split in one way, which is what reading it from its front on finds.
-use Rattle.std.proofs.Common.{◌≡◌, ℕ, zero, suc, ◌+◌, ◌<◌, ◌≤◌, Bool, true, false, cond, ◌&&◌, leb, Option, Some, None, List, [], ◌∷◌, ◌++◌, length, take, drop, refl, sym, ap, subst, ◌∙◌, length-take, length-drop, length-append, arith, inl, inr, ◌⊎◌}
+use Rattle.std.proofs.Common.{◌≡◌, ◌↔◌, ℕ, zero, suc, ◌+◌, ◌<◌, ◌≤◌, Bool, true, false, cond, ◌&&◌, leb, Option, Some, None, List, [], ◌∷◌, ◌++◌, length, take, drop, refl, sym, ap, subst, ◌∙◌, length-take, length-drop, length-append, arith, inl, inr, ◌⊎◌}
 use Rattle.std.specs.List.{list_all, prefix_len}
 use Rattle.std.specs.Char.{is_ascii_digit}
 use Rattle.std.proofs.lemmas.List.{take_at, drop_at, take_all, drop_all, take-take, take-append-drop, take-append-le, append-nil}
@@ -33,7 +33,7 @@ prefix_len-run p (x ∷ run) rest e =
     ap (λ (b : Bool). cond b (1 + prefix_len p (run ++ rest)) 0) both.0 ∙ omega (arith, more)
 
 -- the elements up to there pass
-list_all-take : {X : Type 0} (p : X → Bool) (xs : List X) (n : ℕ) → n ≤ prefix_len p xs → list_all p (take n xs) ≡ true
+pub list_all-take : {X : Type 0} (p : X → Bool) (xs : List X) (n : ℕ) → n ≤ prefix_len p xs → list_all p (take n xs) ≡ true
 list_all-take p xs zero le = refl
 list_all-take p [] (suc n) le = refl
 list_all-take p (x ∷ xs) (suc n) le =
@@ -43,7 +43,7 @@ list_all-take p (x ∷ xs) (suc n) le =
     ] le
 
 -- and the one behind them doesn't
-stops_there : {X : Type 0} (p : X → Bool) (xs : List X) (y : X) (ys : List X) → drop (prefix_len p xs) xs ≡ y ∷ ys → p y ≡ false
+pub stops_there : {X : Type 0} (p : X → Bool) (xs : List X) (y : X) (ys : List X) → drop (prefix_len p xs) xs ≡ y ∷ ys → p y ≡ false
 stops_there p xs y ys e =
     elim (p y) as (λ b. p y ≡ b → b ≡ false) [
       | true ↦ λ py. let more = run_more p xs (prefix_len p xs) y ys (omega arith) e py in absurd (omega (arith, more.0))
@@ -56,13 +56,13 @@ digit_or_separator : (byte : ℕ) → is_ascii_digit byte ≡ true → is_separa
 digit_or_separator byte e = grind (arith, nat_tests)
 
 -- the checks of a slice that passes them
-record SoundSlice (text : List ℕ) : Type 0 where
-  announced : first_failing (announced_checks text) ≡ None
-  long : 5 ≤ length text
-  digits : are_digits (take 5 text) ≡ true
-  least : 26 ≤ record_length text
+pub record SoundSlice (text : List ℕ) : Type 0 where
+  pub announced : first_failing (announced_checks text) ≡ None
+  pub long : 5 ≤ length text
+  pub digits : are_digits (take 5 text) ≡ true
+  pub least : 26 ≤ record_length text
 
-SoundSlice-from_checks : (text : List ℕ) → first_failing (slice_checks text) ≡ None → SoundSlice text
+pub SoundSlice-from_checks : (text : List ℕ) → first_failing (slice_checks text) ≡ None → SoundSlice text
 SoundSlice-from_checks text e =
     let announced = (first_failing-append_none (announced_checks text) (check (leb (record_length text) (length text)) Truncated ∷ []) e).0 in
     let a = first_failing-cons (check (leb 5 (length text)) Truncated) (check (are_digits (take 5 text)) LengthDigits ∷ check (leb 26 (record_length text)) LengthRange ∷ []) announced in
@@ -76,7 +76,7 @@ unfolding are_digits
 first_is_digit byte bytes e = digit_or_separator byte (both_true (is_ascii_digit byte) (list_all is_ascii_digit (take 4 bytes)) e).0
 
 -- the front of a text that is as long as its first five digits say is a slice
-IsSlice-front : (text : List ℕ) → first_failing (slice_checks text) ≡ None → IsSlice (take (record_length text) text)
+pub IsSlice-front : (text : List ℕ) → first_failing (slice_checks text) ≡ None → IsSlice (take (record_length text) text)
 IsSlice-front text e =
     let sound = SoundSlice-from_checks text e in
     let n = record_length text in
@@ -100,7 +100,7 @@ slice_then slice rest is =
 -- ---- what stands next
 
 -- what it says of the text
-abbrev NextIs : List ℕ → Next → Type 0
+abbrev pub NextIs : List ℕ → Next → Type 0
 NextIs text at_end = IsRun text
 NextIs text (a_slice slice rest) = (run : List ℕ) × (text ≡ run ++ (slice ++ rest)) × IsRun run × IsSlice slice × (length rest < length text)
 NextIs text (a_fault fault) = EndsAs text (Some fault)
@@ -114,7 +114,7 @@ too_long text lt =
       inl (record { separators = list_all-take is_separator text 65536 lt; long = omega (arith, length-take 65536 text, most); is = refl }),
     )
 
-ended : (text : List ℕ) → prefix_len is_separator text ≤ 65535 → drop (prefix_len is_separator text) text ≡ [] → NextIs text at_end
+pub ended : (text : List ℕ) → prefix_len is_separator text ≤ 65535 → drop (prefix_len is_separator text) text ≡ [] → NextIs text at_end
 ended text le e =
     let n = prefix_len is_separator text in
     let short : length text ≤ n = omega (arith, length-drop n text, ap length e) in
@@ -141,7 +141,7 @@ begun text byte bytes le e =
       | Some fault ↦ λ some. (run, tail, parts, inr (record { skipped = is_run; begun = (byte, bytes, refl, stops_there is_separator text byte bytes e); is = some }))
     ] refl
 
-next_view : (text : List ℕ) → NextIs text (next_of text)
+pub next_view : (text : List ℕ) → NextIs text (next_of text)
 next_view text =
     elim (cases_lt 65535 (prefix_len is_separator text)) [
       | inl lt ↦ subst (NextIs text) (sym (next_of-many text lt)) (too_long text lt)
@@ -199,12 +199,12 @@ next_of-behind run byte bytes is other =
     let rest = ap (λ (k : ℕ). drop k text) n ∙ drop_at run (byte ∷ bytes) (length run) refl in
     next_of-record text byte bytes (omega (arith, n, is.bounded)) rest
 
-next_of-run : (run : List ℕ) → IsRun run → next_of run ≡ at_end
+pub next_of-run : (run : List ℕ) → IsRun run → next_of run ≡ at_end
 next_of-run run is =
     let n : prefix_len is_separator run ≡ length run = ap (prefix_len is_separator) (sym (append-nil run)) ∙ prefix_len-run is_separator run [] is.separators ∙ (let none : length run + 0 ≡ length run = omega arith in none) in
     next_of-end run (omega (arith, n, is.bounded)) (drop_all (prefix_len is_separator run) run (omega (arith, n)))
 
-next_of-slice : (run slice rest : List ℕ) → IsRun run → IsSlice slice → next_of (run ++ (slice ++ rest)) ≡ a_slice slice rest
+pub next_of-slice : (run slice rest : List ℕ) → IsRun run → IsSlice slice → next_of (run ++ (slice ++ rest)) ≡ a_slice slice rest
 next_of-slice run [] rest is_run is = let sound = SoundSlice-from_checks [] is.no_fault in absurd (omega (arith, sound.long))
 next_of-slice run (byte ∷ bytes) rest is_run is =
     let slice = byte ∷ bytes in
@@ -216,7 +216,7 @@ next_of-slice run (byte ∷ bytes) rest is_run is =
     ∙ ap (λ (front : List ℕ). a_slice front (drop (length slice) (slice ++ rest))) (take_at slice rest (length slice) refl)
     ∙ ap (λ (back : List ℕ). a_slice slice back) (drop_at slice rest (length slice) refl)
 
-next_of-fault : (run rest : List ℕ) (fault : MarcFault) → IsTooLong run fault ⊎ IsNoSlice run rest fault → next_of (run ++ rest) ≡ a_fault fault
+pub next_of-fault : (run rest : List ℕ) (fault : MarcFault) → IsTooLong run fault ⊎ IsNoSlice run rest fault → next_of (run ++ rest) ≡ a_fault fault
 next_of-fault run rest fault (inl is) =
     let n = prefix_len-run is_separator run rest is.separators in
     next_of-many (run ++ rest) (omega (arith, n, is.long)) ∙ ap (λ (f : MarcFault). a_fault f) (sym is.is)
@@ -233,3 +233,17 @@ split_of-only file [] (Some fault) is = split_of-next file ∙ ap (split_next sp
 split_of-only file (slice ∷ slices) end is =
     split_of-next file ∙ ap (split_next split_of) (ap next_of is.2 ∙ next_of-slice is.0 slice is.1 is.3 is.4)
     ∙ ap (λ (s : Split). record { slices = slice ∷ s.slices; fault = s.fault }) (split_of-only is.1 slices end is.5)
+
+-- ---- what stands next, in terms of runs and slices
+
+pub next_slice : (file slice rest : List ℕ) → next_of file ≡ a_slice slice rest ↔ ((run : List ℕ) × (file ≡ run ++ (slice ++ rest)) × IsRun run × IsSlice slice)
+next_slice file slice rest = (
+  λ e. let is = subst (NextIs file) e (next_view file) in (is.0, is.1, is.2, is.3),
+  λ is. ap next_of is.1 ∙ next_of-slice is.0 slice rest is.2 is.3,
+)
+
+pub next_end : (file : List ℕ) → next_of file ≡ at_end ↔ EndsAs file None
+next_end file = (λ e. subst (NextIs file) e (next_view file), next_of-run file)
+
+pub next_fault : (file : List ℕ) (fault : MarcFault) → next_of file ≡ a_fault fault ↔ EndsAs file (Some fault)
+next_fault file fault = (λ e. subst (NextIs file) e (next_view file), λ is. ap next_of is.2 ∙ next_of-fault is.0 is.1 fault is.3)

@@ -3,10 +3,11 @@ pub mod Leader
 pub mod Directory
 pub mod Fields
 pub mod Records
+pub mod Layout
 pub mod Contents
 pub mod Splits
 pub mod Reading
 pub mod Units
 pub mod Worked
 pub mod Parts
-pub mod Sources
+pub mod Unread

@@ -2,8 +2,9 @@
 -- directory ended by a field terminator, the data area, and a record terminator. A text is a record where each check
 -- passes, those of the leader first and then those of each directory entry in order; its fields are then those that the
 -- entries name. Of every other text the first check that fails gives the fault.
-use Rattle.std.specs.Prelude.{◌≡◌, ℕ, ◌-◌, List, ◌++◌, length, Option, None, slice_range}
+use Rattle.std.specs.Prelude.{◌≡◌, ℕ, ◌-◌, List, ◌++◌, length, Option, None, slice_range, ⊤}
 use Rattle.zeb_marc.specs.declared.faults.MarcFault.{MarcFault}
+use Rattle.zeb_marc.specs.declared.faults.MarcFault.TheVariants.{TooManySeparators, ReadFault}
 use Rattle.zeb_marc.specs.Leader.{Check, first_failing, leader_checks, base_address}
 use Rattle.zeb_marc.specs.Directory.{FieldText, directory_checks, fields_in}
 
@@ -28,3 +29,9 @@ fields_of text = fields_in (data_area text) (directory_of text)
 pub record IsRecord (text : List ℕ) (fields : List FieldText) : Type 0 where
   pub sound : first_fault text ≡ None
   pub fields_are : fields ≡ fields_of text
+
+-- the faults of a text that is no record: the two others are those of a stream
+abbrev pub IsRecordFault : MarcFault → Type 0
+IsRecordFault TooManySeparators = ⊥
+IsRecordFault ReadFault = ⊥
+IsRecordFault fault = ⊤

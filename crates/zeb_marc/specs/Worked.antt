@@ -12,6 +12,10 @@ record_with head last = head ++ codes "22" ++ codes "00061 a 4500" ++ codes "001
 abbrev pub worked_record : List ℕ
 worked_record = record_with (codes "00109nam a") 29
 
+-- the record, a separator of two bytes, the record again, and one byte more
+abbrev pub worked_stream : List ℕ
+worked_stream = worked_record ++ (13 ∷ 10 ∷ (worked_record ++ (26 ∷ [])))
+
 abbrev pub worked_fields : List FieldText
 worked_fields = record { tag = codes "001"; text = codes "a1" }
     ∷ record { tag = codes "245"; text = codes "10" ++ (31 ∷ codes "aMoby Dick :") ++ (31 ∷ codes "bor, the whale /") }

@@ -1,8 +1,9 @@
 use std::fmt;
 
 /// Why bytes are no record, and what else can go wrong in reading records from a stream. Positions count from 0 (ISO 2709;
-/// MARC 21 Specifications for Record Structure). The checks are made in the order of the leader, but fewer than five bytes
-/// are `Truncated` before their digits are looked at, and a length that is too small comes before one that is too great.
+/// MARC 21 Specifications for Record Structure). The checks of a record are made in the order of the faults below, the four
+/// of an entry one entry after the other; but fewer than five bytes are `Truncated` before their digits are looked at, and bytes
+/// beyond the length are looked for just before the record terminator.
 #[derive(Clone, Copy, Debug, PartialEq, Eq)]
 pub enum MarcFault {
     /// Leader 00-04, the record's length, aren't five ASCII digits.

@@ -1,39 +1,62 @@
 // What holds of records and streams, whatever their bytes.
-ghost use Rattle.std.specs.Prelude.{◌≡◌, ◌<◌, ◌^◌, ◌↔◌, ◌∷◌, [], ℕ, List, Option, Some, None, codes, length};
+ghost use Rattle.std.specs.Prelude.{◌≡◌, ◌+◌, ◌<◌, ◌≤◌, ◌^◌, ◌↔◌, ◌∷◌, ◌++◌, [], ℕ, List, Option, Result, Some, None, codes, length, slice_get};
 ghost use Rattle.std.specs.List.{AllByRecursion};
 ghost use Rattle.zeb_marc.specs.declared.faults.MarcFault.{MarcFault};
 ghost use Rattle.zeb_marc.specs.Directory.{FieldText};
 ghost use Rattle.zeb_marc.specs.Contents.{UnitText, units_of};
-ghost use Rattle.zeb_marc.specs.Records.{first_fault, fields_of, IsRecord};
-ghost use Rattle.zeb_marc.specs.Splits.{next_of, split_next, split_of, IsSplit};
+ghost use Rattle.zeb_marc.specs.Records.{first_fault, fields_of, IsRecord, IsRecordFault};
+ghost use Rattle.zeb_marc.specs.Layout.{IsLaidOut};
+ghost use Rattle.zeb_marc.specs.Splits.{at_end, a_fault, a_slice, next_of, split_next, split_of, EndsAs, IsRun, IsSlice, IsSplit};
+ghost use Rattle.zeb_marc.specs.Unread.{Takes};
 ghost use Rattle.zeb_marc.specs.Parts.{IsPart};
-ghost use Rattle.zeb_marc.specs.Worked.{record_with, worked_fields, worked_record, worked_units};
+ghost use Rattle.zeb_marc.specs.Worked.{record_with, worked_fields, worked_record, worked_stream, worked_units};
 
-/// A text is a record in at most one way, and in one exactly where no check fails. The texts of its fields and units
-/// are parts of it, and 64 bits number its units.
+/// A text is a record in at most one way, and in one exactly where no check fails; and it is one exactly where it is
+/// laid out as ISO 2709 says: a leader, the directory's entries, 0x1E, the data area and 0x1D. The texts of its fields
+/// and units are parts of it; its units are numbered from 1, and 64 bits number them. A text that is no record has a
+/// fault of records, and none of streams.
 pub fn record_laws()
     ensures unique { (text : List ℕ) (one other : List FieldText) → IsRecord text one → IsRecord text other → one ≡ other }
     ensures exact { (text : List ℕ) → ((fields : List FieldText) × IsRecord text fields) ↔ (first_fault text ≡ None) }
+    ensures laid_out { (text : List ℕ) (fields : List FieldText) → IsRecord text fields ↔ IsLaidOut text fields }
     ensures field_parts { (text : List ℕ) (fields : List FieldText) → IsRecord text fields
         → AllByRecursion (λ field. IsPart text field.text) fields }
     ensures unit_parts { (text : List ℕ) (fields : List FieldText) → IsRecord text fields
         → AllByRecursion (λ unit. IsPart text unit.text) (units_of fields) }
+    ensures faults { (text : List ℕ) (fault : MarcFault) → first_fault text ≡ Some fault → IsRecordFault fault }
+    ensures numbered { (fields : List FieldText) (k : ℕ) (unit : UnitText) → slice_get (units_of fields) k ≡ Some unit
+        → unit.seq ≡ k + 1 }
     ensures few { (text : List ℕ) (fields : List FieldText) → IsRecord text fields → length (units_of fields) < 2 ^ 64 }
 {}
 
-/// A stream is split in exactly one way, which reading it from its front on finds.
+/// A stream is split in exactly one way, which reading it from its front on finds: what stands next is its first slice
+/// behind separators, or its end, or its fault.
 pub fn split_laws()
     ensures found { (file : List ℕ) → IsSplit file (split_of file).slices (split_of file).fault }
     ensures only { (file : List ℕ) (slices : List (List ℕ)) (end : Option MarcFault) → IsSplit file slices end
         → split_of file ≡ record { slices = slices; fault = end } }
     ensures step { (file : List ℕ) → split_of file ≡ split_next split_of (next_of file) }
+    // What stands next, in the same terms.
+    ensures slice { (file slice rest : List ℕ) → next_of file ≡ a_slice slice rest
+        ↔ ((run : List ℕ) × (file ≡ run ++ (slice ++ rest)) × IsRun run × IsSlice slice) }
+    ensures end { (file : List ℕ) → next_of file ≡ at_end ↔ EndsAs file None }
+    ensures fault { (file : List ℕ) (fault : MarcFault) → next_of file ≡ a_fault fault ↔ EndsAs file (Some fault) }
 {}
 
-/// The definitions, tried on a worked record and on three texts that aren't one.
+/// Whatever reading the next record answers, it takes no more bytes off a stream than 65,535 separators and a record of
+/// 99,999 bytes have together.
+pub fn reading_laws()
+    ensures few { (answer : Result (Option ℕ) MarcFault) (taken rest : List ℕ) → Takes answer taken rest
+        → length taken ≤ 65535 + 99999 }
+{}
+
+/// The definitions, tried on a worked record, on three texts that aren't one, and on a stream of two records and one byte.
 pub fn worked_examples()
     ensures accepted { IsRecord worked_record worked_fields }
     ensures units { units_of worked_fields ≡ worked_units }
     ensures cut { first_fault (record_with (codes "00110nam a") 29) ≡ Some MarcFault.Truncated }
     ensures unended { first_fault (record_with (codes "00109nam a") 30) ≡ Some MarcFault.NoTerminator }
     ensures empty { first_fault [] ≡ Some MarcFault.Truncated }
+    ensures stream { split_of worked_stream
+        ≡ record { slices = worked_record ∷ worked_record ∷ []; fault = Some MarcFault.Truncated } }
 {}

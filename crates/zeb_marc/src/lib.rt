@@ -13,11 +13,13 @@ mod units;
 
 pub use directory::{Field, Fields};
 pub use faults::MarcFault;
-pub use laws::{record_laws, split_laws, worked_examples};
+pub use laws::{reading_laws, record_laws, split_laws, worked_examples};
 pub use records::Marc;
 pub use sources::{FromRead, ReadFailed, Slice, Source};
 pub use stream::{RecordBuf, next_record};
 pub use units::{Unit, Units};
 
+#[cfg(test)]
+mod stream_tests;
 #[cfg(test)]
 mod tests;

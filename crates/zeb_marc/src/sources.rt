@@ -1,7 +1,7 @@
 // Where records are read from.
 ghost use Rattle.std.specs.Prelude.{◌≡◌, List, ℕ, Option, Bool, true, false, Some, is_ok, if◌then◌else◌};
 ghost use Rattle.std.specs.Io.{ReadsAtMost};
-ghost use Rattle.zeb_marc.specs.Sources.{ReadTakes};
+ghost use Rattle.std.specs.Io.KnownBytes.{ReadConsumes};
 
 use std::io::Read;
 use std::marker::Model;
@@ -20,10 +20,10 @@ pub trait Source {
 
     /// Reads some bytes into the front of the buffer and says how many; 0 into a buffer with room is the end.
     ///
-    /// An error, an interruption too, is for good: the source has failed then.
+    /// An error, an interruption too, is for good: the source has failed then. It takes no byte of those that are left.
     fn read(&mut self, buffer: &mut [u8]) -> Result<usize, ReadFailed>
         ensures bound { ReadsAtMost result buffer.new }
-        ensures bytes { ReadTakes (remaining self.old) (remaining self.new) result buffer.new }
+        ensures bytes { ReadConsumes (remaining self.old) (remaining self.new) result buffer.new }
         ensures failed { has_failed self.new ≡ (if is_ok result then has_failed self.old else true) };
 
     /// Whether a read has failed.

@@ -2,6 +2,7 @@
 ghost use Rattle.std.specs.Prelude.{◌≡◌, ◌≤◌, ◌∷◌, ◌↔◌, [], ℕ, List, length, take, vec_len, Some, false, true, IfOk, IfErr, IsErrOf, MatchResult};
 ghost use Rattle.zeb_marc.specs.Splits.{is_separator, next_of, Gives, IsSlice};
 ghost use Rattle.zeb_marc.specs.Reading.{ByteGives, FailsIf, FillGives, IsFillFault, IsSkipFault, IsStreamFault, Keeps, SkipGives, SliceGives};
+ghost use Rattle.zeb_marc.specs.Unread.{LeavesUnread};
 
 use crate::faults::MarcFault;
 use crate::leader::announced_length;
@@ -132,9 +133,12 @@ fn read_slice<R: Source>(source: &mut R, room: &mut [u8], first: u8) -> Result<u
 ///
 /// CR, LF and spaces before a record and before the end are skipped, at most 65,535 in a run: one more is
 /// `TooManySeparators`, whatever follows it. Of the record only the length is checked (`LengthDigits`, `LengthRange`
-/// where it is below 26, `Truncated` where the stream ends before it, or within its first five bytes); what follows the
-/// record is left unread. `ReadFault` comes exactly where the source has failed. After a fault the buffer is empty, and
-/// the bytes that were read are gone.
+/// where it is below 26, `Truncated` where the stream ends before it, or within its first five bytes). `ReadFault` comes
+/// exactly where the source has failed. After a fault the buffer is empty.
+///
+/// No more is read than shows the answer, and what follows is left unread: behind a record, behind 65,536 separators,
+/// behind the five bytes of a bad length. So a record or a fault that stands before a failing read is answered, and not
+/// the failure.
 pub fn next_record<R: Source>(
     reader: &mut R,
     buffer: &mut RecordBuf,
@@ -143,6 +147,8 @@ pub fn next_record<R: Source>(
     // What stands next in what the source tells, unless the source fails.
     ensures told { (text : List ℕ) → R.remaining reader.old ≡ Some text → R.has_failed reader.new ≡ false
         → Gives (next_of text) result buffer.new (R.remaining reader.new) }
+    // What is taken off it and what is left, whatever is answered.
+    ensures unread { (text : List ℕ) → R.remaining reader.old ≡ Some text → LeavesUnread text result (R.remaining reader.new) }
     ensures failed { IsErrOf result MarcFault.ReadFault ↔ (R.has_failed reader.new ≡ true) }
     // The same of any source.
     ensures kept { Keeps result buffer.new }

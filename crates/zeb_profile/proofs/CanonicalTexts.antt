@@ -1,5 +1,5 @@
 -- The parts of a canonical text, one after another.
-use Rattle.std.proofs.Common.{◌≡◌, ℕ, List, [], ◌∷◌, ◌++◌, append_assoc, ap, sym, ◌∙◌, refl}
+use Rattle.std.proofs.Common.{◌≡◌, ℕ, List, [], ◌∷◌, ◌++◌, ap, sym}
 use Rattle.std.specs.List.{flat_map}
 use Rattle.zeb_profile.specs.declared.directives.Target.{Target}
 use Rattle.std.proofs.lemmas.List.{append-nil}

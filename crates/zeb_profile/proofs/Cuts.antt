@@ -1,9 +1,9 @@
 -- Where a text is cut at blanks.
-use Rattle.std.proofs.Common.{◌≡◌, ℕ, ◌+◌, ◌-◌, ◌<◌, ◌≤◌, List, [], ◌∷◌, ◌++◌, length, take, drop, get_or, Bool, true, false, cond, ◌||◌, not, Option, Some, None, unwrap_or, nat_lt, nat_eq, arith, refl, ap, sym, ◌∙◌, suc, subst, drop-cons, add-one, add-suc, inl, inr, ◌⊎◌}
-use Rattle.std.specs.List.{position_or_len, prefix_len, suffix_len, slice_split, onto_first, filter}
+use Rattle.std.proofs.Common.{◌≡◌, ℕ, ◌+◌, ◌-◌, ◌<◌, ◌≤◌, List, [], ◌∷◌, length, take, drop, get_or, Bool, true, false, not, nat_lt, nat_eq, arith, refl, ap, sym, ◌∙◌, suc, subst, inl, inr}
+use Rattle.std.specs.List.{position_or_len, prefix_len, slice_split, filter}
 use Rattle.std.specs.Str.{IsUtf8, IsCharBoundary}
 use Rattle.std.proofs.lemmas.Str.{IsCharBoundary-start, IsCharBoundary-after_ascii}
-use Rattle.std.proofs.lemmas.List.Sums.{fails_before_first, passes_at_first, prefix_len-le-length, position_or_len_is, suffix_len-le-length}
+use Rattle.std.proofs.lemmas.List.Sums.{fails_before_first, passes_at_first, prefix_len-le-length, position_or_len_is}
 use Rattle.std.proofs.lemmas.Bool.{cases_eq, lt-ltb, cases_Bool, eqb-true, or_cases, not-false, not-true}
 use Rattle.zeb_profile.specs.Lines.{is_blank, is_no_blank, without_leading_blanks, words_of}
 
@@ -74,11 +74,12 @@ split_first p (x ∷ xs) =
           rw (e, more, split_first p xs) refl
     ]
 
-abbrev BeginsWith : (ℕ → Bool) → List ℕ → Type 0
+-- a text is empty or begins with a byte that passes
+abbrev pub BeginsWith : (ℕ → Bool) → List ℕ → Type 0
 BeginsWith p [] = Unit {0}
 BeginsWith p (y ∷ ys) = p y ≡ true
 
-begins_at_first : (p : ℕ → Bool) (xs : List ℕ) → BeginsWith p (drop (position_or_len p xs) xs)
+pub begins_at_first : (p : ℕ → Bool) (xs : List ℕ) → BeginsWith p (drop (position_or_len p xs) xs)
 begins_at_first p [] = tt
 begins_at_first p (x ∷ xs) =
     elim (cases_Bool (p x)) [

@@ -1,5 +1,5 @@
 -- Places and first finds in a list.
-use Rattle.std.proofs.Common.{◌≡◌, ℕ, ◌+◌, ◌<◌, ◌≤◌, List, [], ◌∷◌, ◌++◌, length, drop, get_or, map, suc, add-one, drop-cons, true, false, Bool, Option, Some, None, unwrap_or, nat_lt, cond, refl, arith, ap, sym, ◌∙◌, inl, inr, not}
+use Rattle.std.proofs.Common.{◌≡◌, ℕ, ◌+◌, ◌<◌, List, [], ◌∷◌, ◌++◌, length, drop, get_or, suc, add-one, drop-cons, true, false, Bool, Some, None, unwrap_or, refl, arith, sym, inl, inr, not}
 use Rattle.std.specs.List.{position, position_or_len, find, flat_map}
 use Rattle.std.proofs.lemmas.List.Sums.{position_or_len_is, prefix_len-le-length}
 use Rattle.std.proofs.lemmas.Bool.{cases_lt, cases_Bool, lt-ltb, le-ltb}

@@ -6,3 +6,14 @@ pub mod IndexFacts
 pub mod Numbering
 pub mod Lacks
 pub mod StoreLaws
+pub mod PlainWords
+pub mod WordsBack
+pub mod TargetsBack
+pub mod LinesBack
+pub mod StorePaths
+pub mod DirectivesBack
+pub mod WrittenLines
+pub mod SoundLists
+pub mod ProfilesBack
+pub mod SaysProps
+pub mod Comments

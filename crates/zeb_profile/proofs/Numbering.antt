@@ -1,9 +1,9 @@
 -- Names get their numbers one after another.
-use Rattle.std.proofs.Common.{◌≡◌, ℕ, ◌+◌, ◌<◌, ◌≤◌, List, [], ◌∷◌, ◌++◌, length, drop, get_or, map, suc, add-one, drop-cons, refl, sym, ◌∙◌, ap, append_assoc, Bool, true, false, not, ◌||◌, cond, inl, inr, arith, Option, Some, None, unwrap_or}
+use Rattle.std.proofs.Common.{◌≡◌, ℕ, ◌+◌, ◌<◌, ◌≤◌, List, [], ◌∷◌, ◌++◌, length, drop, get_or, map, suc, add-one, drop-cons, refl, sym, ◌∙◌, ap, append_assoc, Bool, true, false, not, ◌||◌, cond, inl, inr, unwrap_or}
 use Rattle.std.specs.List.{fold, list_any, filter, find, flat_map}
 use Rattle.std.specs.Str.{bytes_eq, str_to_ascii_lowercase}
 use Rattle.std.proofs.lemmas.Slice.Eq.{bytes_eq-Decides}
-use Rattle.std.proofs.lemmas.Bool.{cases_Bool, not-false, false_from_ne_true, or_from, or_right, or_left}
+use Rattle.std.proofs.lemmas.Bool.{cases_Bool, not-false, false_from_ne_true}
 use Rattle.std.proofs.lemmas.List.Folds.{list_any-append}
 use Rattle.std.proofs.lemmas.List.{map-append, append-nil, drop_all}
 use Rattle.zeb_profile.specs.declared.directives.Placed.{Placed}

@@ -1,5 +1,5 @@
 -- What a `store` line doesn't touch.
-use Rattle.std.proofs.Common.{◌≡◌, ℕ, List, [], ◌∷◌, ◌++◌, map, Option, Some, refl, ap, sym, ◌∙◌, Ok, cond, ◌==◌, unwrap_or, if◌then◌else◌}
+use Rattle.std.proofs.Common.{◌≡◌, ℕ, List, [], ◌∷◌, ◌++◌, map, Option, Some, refl, ap, sym, ◌∙◌, cond, ◌==◌, unwrap_or, if◌then◌else◌}
 use Rattle.zeb_profile.specs.declared.directives.Directive.{Directive}
 use Rattle.zeb_profile.specs.declared.directives.Directive.TheVariants.{Store, Identifier, Att, Melm, All}
 use Rattle.zeb_profile.specs.declared.directives.Target.{Target}
@@ -7,14 +7,14 @@ use Rattle.zeb_profile.specs.declared.patterns.UnitPattern.{UnitPattern}
 use Rattle.std.specs.List.{find, flat_map, position}
 use Rattle.std.specs.Option.{option_and_then}
 use Rattle.zeb_profile.specs.Canonical.{canonical_line, canonical_text}
-use Rattle.zeb_profile.specs.Indexes.{all_line_targets, all_pairs, distinct_names, fits, first_spelling, further_pairs, identifier_pattern, index_by_name, index_by_use, index_names, is_control_tag, melm_targets, names_in, pair_of, unit_targets, use_name}
+use Rattle.zeb_profile.specs.Indexes.{all_line_targets, distinct_names, fits, further_pairs, identifier_pattern, index_by_name, index_names, is_control_tag, melm_targets, names_in, pair_of, use_name}
 use Rattle.zeb_profile.specs.Laws.{SaysTheSame, StoreSaysNothingElse, without_store}
 use Rattle.zeb_profile.specs.declared.registers.Register.{Register}
 use Rattle.zeb_profile.specs.Words.{same_name}
 use Rattle.zeb_profile.specs.Profiles.{all_targets, targets_in}
 
 -- a function that goes over a list and passes over `store` lines
-stays : {A : Type 0} (f : List Directive → A) (g : Directive → A → A) (step : (d : Directive) (ds : List Directive) → f (d ∷ ds) ≡ g d (f ds))
+pub stays : {A : Type 0} (f : List Directive → A) (g : Directive → A → A) (step : (d : Directive) (ds : List Directive) → f (d ∷ ds) ≡ g d (f ds))
     (over : (path : List ℕ) (a : A) → g (Store path) a ≡ a) → (ds : List Directive) → f (without_store ds) ≡ f ds
 stays f g step over [] = refl
 stays f g step over (Store path ∷ ds) = stays f g step over ds ∙ sym (step (Store path) ds ∙ over path (f ds))

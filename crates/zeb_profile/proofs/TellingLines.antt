@@ -1,5 +1,5 @@
 -- The lines that say something, from one of them on.
-use Rattle.std.proofs.Common.{◌≡◌, ℕ, ◌+◌, ◌<◌, List, [], ◌∷◌, ◌++◌, length, drop, get_or, map, suc, add-one, drop-cons, Bor, cond, refl, true, ap, sym, ◌∙◌, Result, Err, ◌≢◌}
+use Rattle.std.proofs.Common.{◌≡◌, ℕ, ◌+◌, ◌<◌, List, [], ◌∷◌, length, drop, get_or, map, suc, add-one, drop-cons, Bor, cond, refl, true, ap, sym, ◌∙◌, Err, ◌≢◌}
 use Rattle.std.specs.List.{enumerate_from, filter}
 use Rattle.std.specs.Str.Lines.{lines as lines_of}
 use Rattle.zeb_profile.specs.declared.directives.Placed.{Placed}

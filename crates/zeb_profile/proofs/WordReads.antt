@@ -1,11 +1,10 @@
 -- Reading words one after another.
-use Rattle.std.proofs.Common.{◌≡◌, ℕ, ◌+◌, ◌<◌, ◌≤◌, ◌^◌, List, [], ◌∷◌, ◌++◌, length, drop, get_or, map, suc, true, false, refl, arith, rules, add-one, drop-cons, Result, Ok, Err, Bor, if◌then◌else◌}
+use Rattle.std.proofs.Common.{◌≡◌, ℕ, ◌+◌, ◌<◌, ◌≤◌, List, [], ◌∷◌, ◌++◌, length, drop, get_or, map, suc, true, refl, arith, rules, add-one, drop-cons, Result, Ok, Err, Bor, if◌then◌else◌}
 use Rattle.std.specs.List.{list_all, list_any}
 use Rattle.std.specs.Char.{is_ascii_digit}
 use Rattle.std.specs.Str.Parse.{digits_value, ParsesUnsigned}
 use Rattle.std.proofs.lemmas.Str.Parse.{IsNumeralModel, numerals_by_value, parse_gives, digits_value_short}
 use Rattle.zeb_profile.specs.declared.directives.Target.{Target}
-use Rattle.zeb_profile.specs.declared.faults.ProfileFaultKind.{ProfileFaultKind}
 use Rattle.zeb_profile.specs.declared.faults.ProfileFaultKind.TheVariants.{DuplicateTarget}
 use Rattle.zeb_profile.specs.Outcomes.{◌>>=◌}
 use Rattle.zeb_profile.specs.Words.{target_of, same_target, targets_after}

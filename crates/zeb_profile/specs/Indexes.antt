@@ -1,5 +1,5 @@
 -- Zebra manual, "Abstract syntaxes": what the directives `att`, `melm` and `all` say of indexes and of units.
-use Rattle.std.specs.Prelude.{ℕ, Bool, true, false, not, ◌&&◌, ◌||◌, List, [], ◌∷◌, ◌++◌, length, ◌==◌, map, filter, Option, Some, None, unwrap_or, slice_index, slice_get, if◌then◌else◌}
+use Rattle.std.specs.Prelude.{ℕ, Bool, true, false, not, ◌&&◌, List, [], ◌∷◌, ◌++◌, ◌==◌, map, filter, Option, Some, None, unwrap_or, slice_index, if◌then◌else◌}
 use Rattle.std.specs.List.{find, list_any, flat_map, position, position_or_len}
 use Rattle.std.specs.Option.{option_and_then}
 use Rattle.std.specs.Str.{bytes_eq}

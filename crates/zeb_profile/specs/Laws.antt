@@ -1,9 +1,10 @@
 -- Laws of profiles and their canonical texts.
-use Rattle.std.specs.Prelude.{◌≡◌, ℕ, List, not, filter, Option}
+use Rattle.std.specs.Prelude.{◌≡◌, ℕ, List, [], ◌∷◌, ◌++◌, codes, map, not, filter, Option, Some, Ok}
 use Rattle.zeb_profile.specs.declared.directives.Directive.{Directive}
+use Rattle.zeb_profile.specs.declared.directives.Directive.TheVariants.{Store}
 use Rattle.zeb_profile.specs.Canonical.{canonical_text}
-use Rattle.zeb_profile.specs.Indexes.{identifier_pattern, index_by_use, index_names, all_pairs, unit_targets}
-use Rattle.zeb_profile.specs.Profiles.{is_store}
+use Rattle.zeb_profile.specs.Indexes.{identifier_pattern, index_by_use, index_names, all_pairs, store_path, unit_targets}
+use Rattle.zeb_profile.specs.Profiles.{is_store, profile_of, telling_lines}
 
 abbrev pub without_store : List Directive → List Directive
 without_store directives = filter (λ directive. not (is_store directive)) directives
@@ -20,3 +21,33 @@ pub record SaysTheSame (one other : List Directive) : Type 0 where
 abbrev pub StoreSaysNothingElse : Type 0
 StoreSaysNothingElse = (directives : List Directive)
     → (canonical_text (without_store directives) ≡ canonical_text directives) × SaysTheSame (without_store directives) directives
+
+-- the directives of some text
+pub record IsProfile (directives : List Directive) : Type 0 where
+  pub text : List ℕ
+  pub reads : profile_of text ≡ Ok directives
+
+-- a canonical text with a line `store PATH` behind it
+abbrev pub text_with_store : List Directive → List ℕ → List ℕ
+text_with_store directives path = canonical_text directives ++ codes "store " ++ path
+
+-- the canonical text of a profile, read again with a `store` line of any profile behind it, has the same directives, of
+-- which the store is now the last
+abbrev pub CanonicalTextReadsBack : Type 0
+CanonicalTextReadsBack = (directives other : List Directive) (path : List ℕ)
+    → IsProfile directives → IsProfile other → store_path other ≡ Some path
+    → profile_of (text_with_store directives path) ≡ Ok (without_store directives ++ Store path ∷ [])
+
+-- two profiles with one canonical text have the same directives but for the store, and say the same
+abbrev pub OneTextSaysTheSame : Type 0
+OneTextSaysTheSame = (one other : List Directive) → IsProfile one → IsProfile other → canonical_text one ≡ canonical_text other
+    → (without_store one ≡ without_store other) × SaysTheSame one other
+
+-- the lines of a text that say something, without their numbers
+abbrev pub telling_texts : List ℕ → List (List ℕ)
+telling_texts text = map (λ line. line.1) (telling_lines text)
+
+-- comments, empty lines and blanks at the ends of lines say nothing: a text with the telling lines of a profile is that profile
+abbrev pub CommentsSayNothing : Type 0
+CommentsSayNothing = (text other : List ℕ) (directives : List Directive)
+    → telling_texts text ≡ telling_texts other → profile_of text ≡ Ok directives → profile_of other ≡ Ok directives

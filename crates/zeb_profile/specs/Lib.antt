@@ -1,6 +1,7 @@
 pub mod Canonical
 pub mod Directives
 pub mod Examples
+pub mod Faults
 pub mod Indexes
 pub mod Laws
 pub mod Lines

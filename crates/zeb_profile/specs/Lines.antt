@@ -2,8 +2,7 @@
 -- The lines of a text, numbered from 1, without the blanks at their ends; the lines that say something; the
 -- words of a line.
 use Rattle.std.specs.Prelude.{ℕ, ◌-◌, Bool, ◌||◌, not, List, length, take, drop, ◌==◌, nat_lt, slice_index, filter}
-use Rattle.std.specs.List.{suffix_len, position_or_len, slice_split, enumerate_from}
-use Rattle.std.specs.Str.Lines.{lines}
+use Rattle.std.specs.List.{suffix_len, position_or_len, slice_split}
 
 -- a space or a tab
 abbrev pub is_blank : ℕ → Bool

@@ -37,6 +37,11 @@ pub enum ProfileFaultKind {
 }
 
 impl fmt::Display for ProfileFaultKind {
+    ghost use Rattle.std.specs.Prelude.{Some};
+    ghost use Rattle.zeb_profile.specs.Faults.{fault_name};
+
+    ghost output = { λ kind. Some (fault_name kind) };
+
     fn fmt<W: fmt::Write>(&self, f: &mut fmt::Formatter<W>) -> fmt::Result {
         f.write_str(match self {
             ProfileFaultKind::Directive => "Directive",
@@ -85,6 +90,11 @@ impl ProfileFault {
 }
 
 impl fmt::Display for ProfileFault {
+    ghost use Rattle.std.specs.Prelude.{Some};
+    ghost use Rattle.zeb_profile.specs.Faults.{fault_text};
+
+    ghost output = { λ fault. Some (fault_text fault) };
+
     fn fmt<W: fmt::Write>(&self, f: &mut fmt::Formatter<W>) -> fmt::Result {
         let line = self.line;
         let kind = self.kind;

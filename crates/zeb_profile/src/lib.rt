@@ -19,7 +19,10 @@ mod searches;
 mod unit_targets;
 
 pub use faults::{ProfileFault, ProfileFaultKind};
-pub use laws::{examples, store_says_nothing_else};
+pub use laws::{
+    canonical_text_reads_back, comments_say_nothing, examples, one_text_says_the_same,
+    store_says_nothing_else,
+};
 pub use lookups::Profile;
 pub use patterns::UnitPattern;
 pub use registers::Register;

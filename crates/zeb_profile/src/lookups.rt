@@ -2,6 +2,7 @@ ghost use Rattle.std.specs.Prelude.{◌≡◌, ◌<◌, ◌^◌, List, ℕ, leng
 ghost use Rattle.std.specs.List.{list_any, position};
 ghost use Rattle.zeb_profile.specs.Indexes as indexes;
 ghost use Rattle.zeb_profile.specs.Canonical.{canonical_text};
+ghost use Rattle.zeb_profile.specs.Laws.{IsProfile, SaysTheSame};
 ghost use Rattle.zeb_profile.specs.Outcomes.{GivesPlaced};
 ghost use Rattle.zeb_profile.specs.Profiles.{profile_of, directives_in};
 ghost use Rattle.zeb_profile.specs.TargetsLeft.{targets_left};
@@ -37,6 +38,7 @@ impl Model for Profile {
     ghost use Rattle.std.specs.Prelude.{◌≡◌, ◌<◌, ◌^◌, length, string_bytes, IsSome};
     ghost use Rattle.zeb_profile.specs.Indexes as indexes;
     ghost use Rattle.zeb_profile.specs.Canonical.{canonical_text};
+    ghost use Rattle.zeb_profile.specs.Laws.{IsProfile};
 
     ghost view = { λ profile. profile.directives.items };
 
@@ -45,7 +47,8 @@ impl Model for Profile {
         × (length profile.names.items < 2 ^ 32)
         × (string_bytes profile.text ≡ canonical_text profile.directives.items)
         × IsSome (indexes.identifier_pattern profile.directives.items)
-        × IsSome (indexes.store_path profile.directives.items) };
+        × IsSome (indexes.store_path profile.directives.items)
+        × ∥ IsProfile profile.directives.items ∥₁ };
 }
 
 impl Profile {
@@ -135,6 +138,21 @@ impl Profile {
         let first = melm_targets(&self.directives, tag, code);
         let all = further_targets(&self.directives, tag);
         Targets::new(&self.names, first, all)
+    }
+
+    /// A law: every profile is the directives of some text.
+    pub fn is_of_some_text(&self)
+        ensures { ∥ IsProfile self.now ∥₁ }
+    {
+        let _directives = &self.directives;
+    }
+
+    /// A law: two profiles that show one text say the same of indexes, units and identifiers.
+    pub fn text_tells_all(&self, other: &Profile)
+        ensures { canonical_text self.now ≡ canonical_text other.now → SaysTheSame self.now other.now }
+    {
+        let _own = &self.directives;
+        let _others = &other.directives;
     }
 }
 

@@ -1,5 +1,5 @@
 -- What `parse` reads where a text is a number.
-use Rattle.std.proofs.Common.{◌≡◌, ℕ, ◌<◌, ◌≤◌, ◌^◌, Bool, true, false, List, [], ◌∷◌, ◌&&◌, Result, Ok, Option, Some, None, length, refl, ap, sym, ◌∙◌, cond, arith, rules}
+use Rattle.std.proofs.Common.{◌≡◌, ℕ, ◌<◌, ◌≤◌, ◌^◌, Bool, true, false, List, [], ◌∷◌, ◌&&◌, Result, Ok, Option, Some, length, refl, ap, sym, ◌∙◌, arith}
 use Rattle.std.specs.Prelude.{IfSome, nat_lt, nat_le}
 use Rattle.std.specs.List.{list_all}
 use Rattle.std.specs.Char.{is_ascii_digit}

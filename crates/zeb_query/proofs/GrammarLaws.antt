@@ -1,23 +1,19 @@
 -- A structure is read to its end and no further, and one text is one structure.
-use Rattle.std.proofs.Common.{◌≡◌, ◌≢◌, ℕ, zero, suc, ◌+◌, ◌-◌, ◌<◌, ◌≤◌, Bool, true, false, ◌||◌, true≢false, List, [], ◌∷◌, ◌++◌, Option, Some, None, length, cond, eqb, ltb, refl, ap, sym, subst, ◌∙◌, arith, rules, append_assoc, length-append}
-use Rattle.std.specs.Prelude.{map, nat_lt}
-use Rattle.std.specs.Option.{is_some}
+use Rattle.std.proofs.Common.{◌≡◌, ◌≢◌, ℕ, zero, suc, ◌+◌, ◌-◌, ◌≤◌, Bool, true, false, ◌||◌, true≢false, List, [], ◌∷◌, ◌++◌, Some, None, length, refl, ap, sym, ◌∙◌, arith, append_assoc, length-append}
 use Rattle.std.specs.List.{list_all, list_any, position_or_len}
 use Rattle.std.proofs.Math.Numerals.{one-add}
-use Rattle.std.proofs.lemmas.Bool.Decides.{nat_tests}
 use Rattle.zeb_query.specs.declared.queries.Connective.{Connective}
-use Rattle.zeb_query.specs.declared.queries.Connective.TheVariants.{And, Or, Not, Proximity}
 use Rattle.zeb_query.specs.declared.keywords.Keyword.{Keyword}
 use Rattle.zeb_query.specs.declared.keywords.Keyword.TheVariants.{AttributeSet, Attribute, TermType, ResultSet, Operator}
 use Rattle.zeb_query.specs.Words.{Word}
 use Rattle.zeb_query.specs.Keywords.{keyword_of}
 use Rattle.zeb_query.specs.Queries.{HeadValue, TreeValue, TermValue, NamedValue, PairValue, QueryValue}
-use Rattle.zeb_query.specs.Grammar.{IsStructure, is_term, is_named, is_attribute, is_attribute_of_set, is_typed, is_pair, IsQuery, is_structure, is_structure_of_set, is_good, has_equals, is_equals, kind_and_value, parameter_count, under, text_of, no_head, with_attribute, with_type}
-use Rattle.zeb_query.specs.Following.{Due, Start, Structures, SetOrSpec, Spec, MoreWords, words_then, fault, Step, Allowed, Refused, step, structure_step, start_step, spec_step}
+use Rattle.zeb_query.specs.Grammar.{IsStructure, is_term, is_named, is_attribute, is_attribute_of_set, is_typed, is_pair, IsQuery, is_structure, is_structure_of_set, is_good, has_equals, is_equals, kind_and_value, parameter_count, under, with_attribute, with_type}
+use Rattle.zeb_query.specs.Following.{Due, Start, Structures, SetOrSpec, Spec, MoreWords, words_then, fault, Allowed, step, structure_step, start_step}
 use Rattle.zeb_query.specs.Laws.{operators}
 use Rattle.zeb_query.specs.Parsing.{first_keyword}
 use Rattle.zeb_query.proofs.DigitLemmas.{and_parts}
-use Rattle.zeb_query.proofs.GrammarLemmas.{kind_and_value-none, append-nil, fault-start, fault-step, step-structure, good_from_keyword, start_step-structure}
+use Rattle.zeb_query.proofs.GrammarLemmas.{kind_and_value-none, append-nil, fault-start, fault-step, step-structure, good_from_keyword}
 
 -- a SPEC has `=`
 or_parts : (a b : Bool) → (a || b) ≡ false → (a ≡ false) × (b ≡ false)
@@ -37,23 +33,23 @@ has_equals_from_read text read e = decide (has_equals text) refl
     decide true h = h
     decide false h = let n : kind_and_value text ≡ None = kind_and_value-none text (position-any text h) in cc
 
-operators-under : (h : HeadValue) (t : TreeValue) → operators (under h t) ≡ operators t
+pub operators-under : (h : HeadValue) (t : TreeValue) → operators (under h t) ≡ operators t
 operators-under h (TermValue place head text) = refl
 operators-under h (NamedValue place head name) = refl
 operators-under h (PairValue place head connective parameters left right) = refl
 
 -- one step over a word
-over : (end room r : ℕ) (due next : Due) (w : Word) (ws : List Word) → step room w due ≡ Allowed r next → fault end room due (w ∷ ws) ≡ fault end r next ws
+pub over : (end room r : ℕ) (due next : Due) (w : Word) (ws : List Word) → step room w due ≡ Allowed r next → fault end room due (w ∷ ws) ≡ fault end r next ws
 over end room r due next w ws e = fault-step end room due w ws (Allowed r next) e
 
-over-keyword : (end room n : ℕ) (next : Due) (k : Keyword) (w : Word) (ws : List Word) → keyword_of w ≡ Some k → structure_step room (Some k) n ≡ Allowed room next → fault end room (Structures (suc n)) (w ∷ ws) ≡ fault end room next ws
+pub over-keyword : (end room n : ℕ) (next : Due) (k : Keyword) (w : Word) (ws : List Word) → keyword_of w ≡ Some k → structure_step room (Some k) n ≡ Allowed room next → fault end room (Structures (suc n)) (w ∷ ws) ≡ fault end room next ws
 over-keyword end room n next k w ws key e =
     over end room room (Structures (suc n)) next w ws (step-structure room n w (good_from_keyword w k key) ∙ ap (λ j. structure_step room j n) key ∙ e)
 
-over-word : (end room k n : ℕ) (w : Word) (ws : List Word) → is_good w ≡ true → fault end room (MoreWords k n) (w ∷ ws) ≡ fault end room (words_then k n) ws
+pub over-word : (end room k n : ℕ) (w : Word) (ws : List Word) → is_good w ≡ true → fault end room (MoreWords k n) (w ∷ ws) ≡ fault end room (words_then k n) ws
 over-word end room k n w ws good = over end room room (MoreWords k n) (words_then k n) w ws (rw good refl)
 
-over-words : (end room k n : ℕ) (ps ws : List Word) → length ps ≡ k → list_all is_good ps ≡ true → fault end room (words_then k n) (ps ++ ws) ≡ fault end room (Structures n) ws
+pub over-words : (end room k n : ℕ) (ps ws : List Word) → length ps ≡ k → list_all is_good ps ≡ true → fault end room (words_then k n) (ps ++ ws) ≡ fault end room (Structures n) ws
 over-words end room zero n [] ws e good = refl
 over-words end room zero n (p ∷ ps) ws e good = absurd (omega arith)
 over-words end room (suc k) n [] ws e good = absurd (omega arith)
@@ -61,18 +57,18 @@ over-words end room (suc k) n (p ∷ ps) ws e good =
     let g : (is_good p ≡ true) × (list_all is_good ps ≡ true) = and_parts (is_good p) (list_all is_good ps) good in
     over-word end room k n p (ps ++ ws) g.0 ∙ over-words end room k n ps ws (omega arith) g.1
 
-over-set : (end room n : ℕ) (w : Word) (ws : List Word) → is_good w ≡ true → has_equals w.text ≡ false → fault end room (SetOrSpec n) (w ∷ ws) ≡ fault end room (Spec n) ws
+pub over-set : (end room n : ℕ) (w : Word) (ws : List Word) → is_good w ≡ true → has_equals w.text ≡ false → fault end room (SetOrSpec n) (w ∷ ws) ≡ fault end room (Spec n) ws
 over-set end room n w ws good plain = over end room room (SetOrSpec n) (Spec n) w ws (rw (good, plain) refl)
 
-over-spec : (end room n : ℕ) (w : Word) (ws : List Word) (read : ℕ × List ℕ) → is_good w ≡ true → kind_and_value w.text ≡ Some read → fault end room (Spec n) (w ∷ ws) ≡ fault end room (Structures (suc n)) ws
+pub over-spec : (end room n : ℕ) (w : Word) (ws : List Word) (read : ℕ × List ℕ) → is_good w ≡ true → kind_and_value w.text ≡ Some read → fault end room (Spec n) (w ∷ ws) ≡ fault end room (Structures (suc n)) ws
 over-spec end room n w ws read good e = over end room room (Spec n) (Structures (suc n)) w ws (rw (good, e) refl)
 
-over-set_or_spec : (end room n : ℕ) (w : Word) (ws : List Word) (read : ℕ × List ℕ) → is_good w ≡ true → kind_and_value w.text ≡ Some read → fault end room (SetOrSpec n) (w ∷ ws) ≡ fault end room (Structures (suc n)) ws
+pub over-set_or_spec : (end room n : ℕ) (w : Word) (ws : List Word) (read : ℕ × List ℕ) → is_good w ≡ true → kind_and_value w.text ≡ Some read → fault end room (SetOrSpec n) (w ∷ ws) ≡ fault end room (Structures (suc n)) ws
 over-set_or_spec end room n w ws read good e =
     let has : has_equals w.text ≡ true = has_equals_from_read w.text read e in
     over end room room (SetOrSpec n) (Structures (suc n)) w ws (rw (good, has, e) refl)
 
-over-operator : (end r n : ℕ) (connective : Connective) (w : Word) (ws : List Word) → keyword_of w ≡ Some (Operator connective) → fault end (suc r) (Structures (suc n)) (w ∷ ws) ≡ fault end r (words_then (parameter_count connective) (suc (suc n))) ws
+pub over-operator : (end r n : ℕ) (connective : Connective) (w : Word) (ws : List Word) → keyword_of w ≡ Some (Operator connective) → fault end (suc r) (Structures (suc n)) (w ∷ ws) ≡ fault end r (words_then (parameter_count connective) (suc (suc n))) ws
 over-operator end r n connective w ws key =
     over end (suc r) r (Structures (suc n)) (words_then (parameter_count connective) (suc (suc n))) w ws
     (step-structure (suc r) n w (good_from_keyword w (Operator connective) key) ∙ ap (λ j. structure_step (suc r) j n) key)

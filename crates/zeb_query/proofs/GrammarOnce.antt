@@ -1,12 +1,12 @@
 -- One text is one structure: the first word says which rule it is by, and each part is read to its end and no further.
-use Rattle.std.proofs.Common.{◌≡◌, ◌≢◌, ℕ, zero, suc, ◌+◌, ◌⊎◌, inl, inr, Bool, true, false, true≢false, List, [], ◌∷◌, ◌++◌, Option, Some, None, length, refl, ap, sym, subst, ◌∙◌, arith, append_assoc}
+use Rattle.std.proofs.Common.{◌≡◌, ℕ, ◌⊎◌, inl, inr, true, false, true≢false, List, [], ◌∷◌, ◌++◌, Option, Some, None, length, refl, ap, sym, subst, ◌∙◌, arith, append_assoc}
 use Rattle.std.specs.Prelude.{map}
 use Rattle.zeb_query.specs.declared.queries.Connective.{Connective}
 use Rattle.zeb_query.specs.declared.keywords.Keyword.{Keyword}
 use Rattle.zeb_query.specs.declared.keywords.Keyword.TheVariants.{AttributeSet, Attribute, TermType, ResultSet, Operator}
 use Rattle.zeb_query.specs.Words.{Word}
 use Rattle.zeb_query.specs.Keywords.{keyword_of}
-use Rattle.zeb_query.specs.Queries.{HeadValue, TreeValue, TermValue, NamedValue, PairValue, QueryValue}
+use Rattle.zeb_query.specs.Queries.{TreeValue, TermValue, NamedValue, PairValue, QueryValue}
 use Rattle.zeb_query.specs.Grammar.{IsStructure, is_term, is_named, is_attribute, is_attribute_of_set, is_typed, is_pair, IsQuery, is_structure, is_structure_of_set, is_good, has_equals, kind_and_value, parameter_count, under, text_of, no_head, with_attribute, with_type}
 use Rattle.zeb_query.specs.Parsing.{first_keyword}
 use Rattle.zeb_query.proofs.GrammarLaws.{has_equals_from_read, not_set_first}

@@ -1,7 +1,6 @@
--- Which words may follow: a fault of 108 stands where no query goes on, and nowhere else.
-use Rattle.std.proofs.Common.{◌≡◌, ◌≢◌, ℕ, zero, suc, ◌+◌, ◌⊎◌, inl, inr, Bool, true, false, true≢false, List, [], ◌∷◌, ◌++◌, Option, Some, None, length, refl, ap, sym, subst, ◌∙◌, arith, append_assoc}
+-- Which words may follow: a word is allowed exactly where some text goes on with it, unless there is no room for an operator.
+use Rattle.std.proofs.Common.{◌≡◌, ℕ, zero, suc, ◌⊎◌, inl, inr, Bool, true, false, List, [], ◌∷◌, ◌++◌, Option, Some, None, length, refl, ap, sym, subst, ◌∙◌, arith, append_assoc}
 use Rattle.std.specs.Prelude.{codes}
-use Rattle.std.specs.Option.{is_some}
 use Rattle.std.specs.List.{list_all}
 use Rattle.zeb_query.specs.declared.queries.Connective.{Connective}
 use Rattle.zeb_query.specs.declared.words.Spelling.TheVariants.{Plain}
@@ -9,39 +8,38 @@ use Rattle.zeb_query.specs.declared.keywords.Keyword.{Keyword}
 use Rattle.zeb_query.specs.declared.keywords.Keyword.TheVariants.{AttributeSet, Attribute, TermType, ResultSet, Operator}
 use Rattle.zeb_query.specs.Words.{Word}
 use Rattle.zeb_query.specs.Keywords.{keyword_of}
-use Rattle.zeb_query.specs.Queries.{TreeValue, TermValue, NamedValue, PairValue, QueryValue}
+use Rattle.zeb_query.specs.Queries.{TreeValue, TermValue, QueryValue}
 use Rattle.zeb_query.specs.Grammar.{IsStructure, is_term, is_named, is_attribute, is_attribute_of_set, is_typed, is_pair, IsQuery, is_structure, is_structure_of_set, is_good, has_equals, kind_and_value, parameter_count, under, no_head, with_attribute}
 use Rattle.zeb_query.specs.Following.{Due, Start, Structures, SetOrSpec, Spec, MoreWords, words_then, fault, fault_at_end, Step, Allowed, Refused, step, good_step, structure_step, start_step, spec_step, operator_step}
-use Rattle.zeb_query.specs.Laws.{IsBeginning, IsStrange, IsUnfinished, IsUnspelled}
 use Rattle.zeb_query.specs.Parsing.{first_keyword}
 use Rattle.zeb_query.proofs.DigitLemmas.{and_parts}
-use Rattle.zeb_query.proofs.GrammarLemmas.{append-nil, step-start, step-structure, good_from_keyword, after_step, fault-step}
-use Rattle.zeb_query.proofs.GrammarLaws.{has_equals_from_read, not_set_first}
-use Rattle.zeb_query.proofs.GrammarOnce.{Shape, Attributed, AttributedOfSet, shape_of, heads_same, tails_same, somes_same, no_set}
+use Rattle.zeb_query.proofs.GrammarLemmas.{append-nil, step-start, step-structure, good_from_keyword}
+use Rattle.zeb_query.proofs.GrammarLaws.{has_equals_from_read, not_set_first, over-words, over-set_or_spec, over-spec}
+use Rattle.zeb_query.proofs.GrammarOnce.{Attributed, AttributedOfSet, shape_of, heads_same, tails_same, no_set}
 
 -- the words are so many structures
-record Parted (P : List Word → Type 0) (ws : List Word) : Type 0 where
-  front : List Word
-  rest : List Word
-  tree : TreeValue
-  is : ws ≡ front ++ rest
-  spelled : IsStructure front tree
-  past : P rest
+pub record Parted (P : List Word → Type 0) (ws : List Word) : Type 0 where
+  pub front : List Word
+  pub rest : List Word
+  pub tree : TreeValue
+  pub is : ws ≡ front ++ rest
+  pub spelled : IsStructure front tree
+  pub past : P rest
 
-abbrev AreStructures : ℕ → List Word → Type 0
+abbrev pub AreStructures : ℕ → List Word → Type 0
 AreStructures zero ws = ws ≡ []
 AreStructures (suc n) ws = Parted (AreStructures n) ws
 
-record WordsThen (P : List Word → Type 0) (k : ℕ) (ws : List Word) : Type 0 where
-  parameters : List Word
-  rest : List Word
-  is : ws ≡ parameters ++ rest
-  count : length parameters ≡ k
-  good : list_all is_good parameters ≡ true
-  past : P rest
+pub record WordsThen (P : List Word → Type 0) (k : ℕ) (ws : List Word) : Type 0 where
+  pub parameters : List Word
+  pub rest : List Word
+  pub is : ws ≡ parameters ++ rest
+  pub count : length parameters ≡ k
+  pub good : list_all is_good parameters ≡ true
+  pub past : P rest
 
 -- the words are what is due
-abbrev Completes : Due → List Word → Type 0
+abbrev pub Completes : Due → List Word → Type 0
 Completes Start ws = (q : QueryValue) × IsQuery ws q
 Completes (Structures n) ws = AreStructures n ws
 Completes (SetOrSpec n) ws = (attr : Word) → keyword_of attr ≡ Some Attribute → AreStructures (suc n) (attr ∷ ws)
@@ -58,7 +56,7 @@ due_words zero n ws c = record { parameters = []; rest = ws; is = refl; count = 
 due_words (suc k) n ws c = c
 
 -- after a word that begins what is due, the rest is what is due then, unless there was no room for an operator
-abbrev After : Step → List Word → Type 0
+abbrev pub After : Step → List Word → Type 0
 After (Allowed room due) ws = Completes due ws
 After (Refused number) ws = number ≡ 6
 
@@ -72,7 +70,7 @@ after_operator (suc room) n connective ps rest ws is count good c = subst (λ xs
 one_good : (w : Word) → is_good w ≡ true → list_all is_good (w ∷ []) ≡ true
 one_good w good = rw good refl
 
-step-keyword : (room n : ℕ) (w : Word) (k : Keyword) → keyword_of w ≡ Some k → step room w (Structures (suc n)) ≡ structure_step room (Some k) n
+pub step-keyword : (room n : ℕ) (w : Word) (k : Keyword) → keyword_of w ≡ Some k → step room w (Structures (suc n)) ≡ structure_step room (Some k) n
 step-keyword room n w k key = step-structure room n w (good_from_keyword w k key) ∙ ap (λ j. structure_step room j n) key
 
 after_structure : {a : List Word} {t : TreeValue} → IsStructure a t → (n room : ℕ) (ws rest : List Word) (w : Word) → w ∷ ws ≡ a ++ rest → AreStructures n rest → After (step room w (Structures (suc n))) ws
@@ -115,7 +113,7 @@ after_structure (is_pair operator connective ps left right x z key count good l 
 abbrev the_attr : Word
 the_attr = record { place = 0; spelling = Plain; text = codes "@attr" }
 
-abbrev the_set : Word
+abbrev pub the_set : Word
 the_set = record { place = 0; spelling = Plain; text = codes "x" }
 
 abbrev the_spec : Word
@@ -183,7 +181,7 @@ after_query (is_structure_of_set keyword set us tree key good s) room w ws e =
     (record { parameters = set ∷ []; rest = us; is = sym (tails_same e); count = refl; good = one_good set good; past = one }))
 
 -- no query goes on otherwise
-forward : (due : Due) (w : Word) (ws : List Word) → Completes due (w ∷ ws) → (room : ℕ) → After (step room w due) ws
+pub forward : (due : Due) (w : Word) (ws : List Word) → Completes due (w ∷ ws) → (room : ℕ) → After (step room w due) ws
 forward Start w ws c room = after_query c.1 room w ws refl
 forward (Structures zero) w ws c room = absurd (cc)
 forward (Structures (suc n)) w ws c room = after_structure c.spelled n room ws c.rest w c.is c.past
@@ -195,7 +193,7 @@ forward (MoreWords k n) w ws c room = after_words k n room w ws c.parameters c.r
 steps_same : {r room : ℕ} {d due : Due} → Allowed room due ≡ Allowed r d → due ≡ d
 steps_same e = cc
 
-not_refused : {r number : ℕ} {d : Due} → Refused number ≡ Allowed r d → ⊥
+pub not_refused : {r number : ℕ} {d : Due} → Refused number ≡ Allowed r d → ⊥
 not_refused e = absurd (cc)
 
 single : (ps : List Word) → length ps ≡ 1 → (p : Word) × (ps ≡ p ∷ [])
@@ -286,7 +284,7 @@ before_good (MoreWords k n) w ws room r d good e c =
     let p : WordsThen (AreStructures n) k ws = due_words k n ws (subst (λ x. Completes x ws) (sym (steps_same e)) c) in
     record { parameters = w ∷ p.parameters; rest = p.rest; is = ap (λ xs. w ∷ xs) p.is; count = ap suc p.count; good = rw good p.good; past = p.past }
 
-backward : (due : Due) (w : Word) (ws : List Word) (room r : ℕ) (d : Due) → step room w due ≡ Allowed r d → Completes d ws → Completes due (w ∷ ws)
+pub backward : (due : Due) (w : Word) (ws : List Word) (room r : ℕ) (d : Due) → step room w due ≡ Allowed r d → Completes d ws → Completes due (w ∷ ws)
 backward due w ws room r d e c = split (is_good w) refl
   where
     split : (b : Bool) → is_good w ≡ b → Completes due (w ∷ ws)
@@ -316,7 +314,7 @@ good-terms : (k : ℕ) → list_all is_good (terms k) ≡ true
 good-terms zero = refl
 good-terms (suc k) = good-terms k
 
-completion : (due : Due) → (ws : List Word) × Completes due ws
+pub completion : (due : Due) → (ws : List Word) × Completes due ws
 completion Start = (the_set ∷ [], (record { attribute_set = None; tree = TermValue 0 no_head the_set.text }, is_structure (the_set ∷ []) (TermValue 0 no_head the_set.text) (is_term the_set refl refl)))
 completion (Structures n) = (terms n, are_terms n)
 completion (SetOrSpec n) =
@@ -326,6 +324,19 @@ completion (Spec n) =
     let p : AreStructures (suc n) (terms (suc n)) = are_terms (suc n) in
     (the_spec ∷ terms (suc n), λ attr set key good plain. record { front = attr ∷ set ∷ the_spec ∷ p.front; rest = p.rest; tree = under (with_attribute (Some set.text) spec_is.0) p.tree; is = ap (λ xs. attr ∷ set ∷ the_spec ∷ xs) p.is; spelled = is_attribute_of_set attr set the_spec p.front p.tree spec_is.0 key good plain refl spec_is.1 p.spelled; past = p.past })
 completion (MoreWords k n) = (terms (suc k) ++ terms n, record { parameters = terms (suc k); rest = terms n; is = refl; count = length-terms (suc k); good = good-terms (suc k); past = are_terms n })
+
+-- what completes a text without an operator
+no_fault_in_terms : (n end room : ℕ) → fault end room (Structures n) (terms n) ≡ None
+no_fault_in_terms zero end room = refl
+no_fault_in_terms (suc n) end room = no_fault_in_terms n end room
+
+pub no_fault_in_completion : (due : Due) (end room : ℕ) → fault end room due (completion due).0 ≡ None
+unfolding completion
+no_fault_in_completion Start end room = refl
+no_fault_in_completion (Structures n) end room = no_fault_in_terms n end room
+no_fault_in_completion (SetOrSpec n) end room = over-set_or_spec end room n the_spec (terms (suc n)) spec_is.0 refl spec_is.1 ∙ no_fault_in_terms (suc n) end room
+no_fault_in_completion (Spec n) end room = over-spec end room n the_spec (terms (suc n)) spec_is.0 refl spec_is.1 ∙ no_fault_in_terms (suc n) end room
+no_fault_in_completion (MoreWords k n) end room = over-words end room (suc k) n (terms (suc k)) (terms n) (length-terms (suc k)) (good-terms (suc k)) ∙ no_fault_in_terms n end room
 
 -- nothing is what is due only where nothing is
 nonempty : {a : List Word} {t : TreeValue} → IsStructure a t → (rest : List Word) → [] ≡ a ++ rest → ⊥
@@ -340,7 +351,7 @@ no_query : {us : List Word} {q : QueryValue} → IsQuery us q → us ≡ [] → 
 no_query (is_structure us tree s) e = nonempty s [] (sym e ∙ sym (append-nil us))
 no_query (is_structure_of_set keyword set us tree key good s) e = absurd (cc)
 
-nothing_due : (end : ℕ) (due : Due) → Completes due [] → fault_at_end end due ≡ None
+pub nothing_due : (end : ℕ) (due : Due) → Completes due [] → fault_at_end end due ≡ None
 nothing_due end Start c = absurd (no_query c.1 refl)
 nothing_due end (Structures zero) c = refl
 nothing_due end (Structures (suc n)) c = absurd (nonempty c.spelled c.rest c.is)
@@ -366,101 +377,3 @@ nothing_due end (MoreWords k n) c = absurd (none c.parameters c.count c.is)
     none : (ps : List Word) → length ps ≡ suc k → [] ≡ ps ++ c.rest → ⊥
     none [] h e = absurd (omega arith)
     none (p ∷ ps) h e = absurd (cc)
-
--- where a text stops being the beginning of what is due
-record StrangeAt (due : Due) (ws : List Word) (place : ℕ) : Type 0 where
-  front : List Word
-  word : Word
-  more : List Word
-  is : ws ≡ front ++ word ∷ more
-  place_is : place ≡ word.place
-  begins : (rest : List Word) × Completes due (front ++ rest)
-  strange : (rest : List Word) → ¬ Completes due (front ++ word ∷ rest)
-
-record UnfinishedAt (due : Due) (end : ℕ) (ws : List Word) (place : ℕ) : Type 0 where
-  place_is : place ≡ end
-  begins : (rest : List Word) × Completes due (ws ++ rest)
-  unfinished : ¬ Completes due ws
-
-abbrev UnspelledAt : Due → ℕ → List Word → ℕ → Type 0
-UnspelledAt due end ws place = StrangeAt due ws place ⊎ UnfinishedAt due end ws place
-
-pairs_same : {a b c d : ℕ} → ◌≡◌ {A = Option (ℕ × ℕ)} (Some (a, b)) (Some (c, d)) → (a ≡ c) × (b ≡ d)
-pairs_same e = (ap (λ p. p.0) (somes_same e), ap (λ p. p.1) (somes_same e))
-
-at_end : (end : ℕ) (due : Due) (place : ℕ) → fault_at_end end due ≡ Some (108, place) → UnspelledAt due end [] place
-at_end end due place e = inr (record { place_is = at_place due e; begins = completion due; unfinished = λ c. none_some (sym (nothing_due end due c) ∙ e) })
-  where
-    none_some : {x : ℕ × ℕ} → None ≡ Some x → ⊥
-    none_some h = absurd (cc)
-
-    at_place : (d : Due) → fault_at_end end d ≡ Some (108, place) → place ≡ end
-    at_place Start h = sym (pairs_same h).1
-    at_place (Structures zero) h = absurd (none_some h)
-    at_place (Structures (suc n)) h = sym (pairs_same h).1
-    at_place (SetOrSpec n) h = sym (pairs_same h).1
-    at_place (Spec n) h = sym (pairs_same h).1
-    at_place (MoreWords k n) h = sym (pairs_same h).1
-
-over_word : (due d : Due) (end room r place : ℕ) (w : Word) (ws : List Word) → step room w due ≡ Allowed r d → UnspelledAt d end ws place → UnspelledAt due end (w ∷ ws) place
-over_word due d end room r place w ws e (inl s) =
-    inl (record {
-      front = w ∷ s.front;
-      word = s.word;
-      more = s.more;
-      is = ap (λ xs. w ∷ xs) s.is;
-      place_is = s.place_is;
-      begins = (s.begins.0, backward due w (s.front ++ s.begins.0) room r d e s.begins.1);
-      strange = λ rest c. s.strange rest (subst (λ x. After x (s.front ++ s.word ∷ rest)) e (forward due w (s.front ++ s.word ∷ rest) c room));
-    })
-over_word due d end room r place w ws e (inr s) =
-    inr (record {
-      place_is = s.place_is;
-      begins = (s.begins.0, backward due w (ws ++ s.begins.0) room r d e s.begins.1);
-      unfinished = λ c. s.unfinished (subst (λ x. After x ws) e (forward due w ws c room));
-    })
-
-refused_word : (due : Due) (end room number place : ℕ) (w : Word) (ws : List Word) → step room w due ≡ Refused number → number ≡ 108 → place ≡ w.place → UnspelledAt due end (w ∷ ws) place
-refused_word due end room number place w ws e is at =
-    inl (record {
-      front = [];
-      word = w;
-      more = ws;
-      is = refl;
-      place_is = at;
-      begins = completion due;
-      strange = λ rest c. six (sym is ∙ subst (λ x. After x rest) e (forward due w rest c room));
-    })
-  where
-    six : ◌≡◌ {A = ℕ} 108 6 → ⊥
-    six h = absurd (omega arith)
-
-unspelled : (ws : List Word) (end room : ℕ) (due : Due) (place : ℕ) → fault end room due ws ≡ Some (108, place) → UnspelledAt due end ws place
-unspelled [] end room due place e = at_end end due place e
-unspelled (w ∷ ws) end room due place e = at (unspelled ws end) (step room w due) refl
-  where
-    at : ((room2 : ℕ) (due2 : Due) (place2 : ℕ) → fault end room2 due2 ws ≡ Some (108, place2) → UnspelledAt due2 end ws place2) → (s : Step) → step room w due ≡ s → UnspelledAt due end (w ∷ ws) place
-    at again (Allowed r d) is = over_word due d end room r place w ws is (again r d place (sym (fault-step end room due w ws (Allowed r d) is) ∙ e))
-    at again (Refused number) is =
-        let p = pairs_same (sym (fault-step end room due w ws (Refused number) is) ∙ e) in
-        refused_word due end room number place w ws is p.0 (sym p.1)
-
--- the same of a whole text
-pub unspelled_query : (end room : ℕ) (words : List Word) (place : ℕ) → fault end room Start words ≡ Some (108, place) → IsUnspelled end words place
-unspelled_query end room words place e = said (unspelled words end room Start place e)
-  where
-    said : UnspelledAt Start end words place → IsUnspelled end words place
-    said (inl s) = inl (record {
-      front = s.front;
-      word = s.word;
-      more = s.more;
-      is = s.is;
-      place_is = s.place_is;
-      begins = (s.begins.0, s.begins.1);
-      strange = λ b. s.strange b.0 (b.1.0, subst (λ xs. IsQuery xs b.1.0) (append_assoc s.front (s.word ∷ []) b.0) b.1.1);
-    })
-    said (inr s) = inr (record {
-      place_is = s.place_is;
-      begins = (s.begins.0, s.begins.1);
-      unfinished = λ q spelled. s.unfinished (q, spelled);
-    })

@@ -4,4 +4,7 @@ pub mod GrammarLemmas
 pub mod GrammarLaws
 pub mod GrammarOnce
 pub mod GrammarPlaces
+pub mod GrammarRoom
+pub mod GrammarFaults
 pub mod HoldingLemmas
+pub mod RefusalLemmas

@@ -2,7 +2,7 @@
 -- beginning of a query. The grammar needs no look ahead: each word is allowed or not by what is due at it. A fault is a
 -- diagnostic's number and place: 108 at the first word that isn't allowed, or at the text's end where something is still
 -- due; 6 at an operator beyond those that there is room for, where a structure is due.
-use Rattle.std.specs.Prelude.{ℕ, zero, suc, ◌+◌, Bool, true, false, List, [], ◌∷◌, Option, Some, None, if◌then◌else◌}
+use Rattle.std.specs.Prelude.{ℕ, zero, suc, List, [], ◌∷◌, Option, Some, None, if◌then◌else◌}
 use Rattle.std.specs.Option.{is_some}
 use Rattle.zeb_query.specs.declared.queries.Connective.{Connective}
 use Rattle.zeb_query.specs.declared.keywords.Keyword.{Keyword}

@@ -16,7 +16,7 @@ use Rattle.zeb_query.specs.declared.keywords.Keyword.TheVariants.{AttributeSet, 
 use Rattle.zeb_query.specs.Digits.{number_of}
 use Rattle.zeb_query.specs.Words.{Word}
 use Rattle.zeb_query.specs.Keywords.{keyword_of}
-use Rattle.zeb_query.specs.Queries.{AttributeValue, HeadValue, TreeValue, TermValue, NamedValue, PairValue, QueryValue}
+use Rattle.zeb_query.specs.Queries.{HeadValue, TreeValue, TermValue, NamedValue, PairValue, QueryValue}
 
 abbrev pub is_good_spelling : Spelling → Bool
 is_good_spelling Plain = true

@@ -1,7 +1,7 @@
 -- The attributes that hold for a term (YAZ manual, PQF; ANSI/NISO Z39.50-2003, attribute sets). For each type the innermost
 -- attribute holds. All attributes over a term count for two faults: a set other than Bib-1, and a type outside 1 to 6,
 -- of which the leftmost is told.
-use Rattle.std.specs.Prelude.{ℕ, ◌==◌, ◌||◌, ◌&&◌, Bool, true, false, not, List, [], ◌∷◌, ◌++◌, Option, Some, None, map, nat_lt, if◌then◌else◌, codes}
+use Rattle.std.specs.Prelude.{ℕ, ◌==◌, ◌||◌, ◌&&◌, Bool, not, List, [], ◌∷◌, ◌++◌, Option, Some, None, map, nat_lt, if◌then◌else◌, codes}
 use Rattle.std.specs.Option.{option_map, option_to_list}
 use Rattle.std.specs.List.{find}
 use Rattle.std.specs.Char.{to_ascii_lowercase}

@@ -1,5 +1,5 @@
 -- The words with a meaning of their own (YAZ manual, Prefix Query Format): unquoted, and in lower case.
-use Rattle.std.specs.Prelude.{ℕ, Bool, List, Option, Some, None, if◌then◌else◌, codes}
+use Rattle.std.specs.Prelude.{ℕ, List, Option, Some, None, if◌then◌else◌, codes}
 use Rattle.std.specs.Str.{bytes_eq}
 use Rattle.zeb_query.specs.declared.queries.Connective.TheVariants.{And, Or, Not, Proximity}
 use Rattle.zeb_query.specs.declared.words.Spelling.{Spelling}

@@ -1,35 +1,61 @@
--- Beginnings of queries (YAZ manual, Prefix Query Format): what the place of 108 is, and the operators of a query.
-use Rattle.std.specs.Prelude.{◌≡◌, ℕ, List, [], ◌∷◌, ◌++◌, ◌⊎◌}
+-- Beginnings of queries (YAZ manual, Prefix Query Format): what the places of 108 and 6 are. The words of a text go from the
+-- left for as long as some query with no more operators than there is room for begins with them. At the first word that
+-- none has, 6 stands where there are queries that begin so, each with more operators, and 108 where there is no query.
+use Rattle.std.specs.Prelude.{◌≡◌, ◌≤◌, ℕ, List, [], ◌∷◌, ◌++◌, ◌⊎◌, Some, length, slice_get}
+use Rattle.zeb_query.specs.declared.queries.Connective.{Connective}
+use Rattle.zeb_query.specs.declared.keywords.Keyword.TheVariants.{Operator}
 use Rattle.zeb_query.specs.Words.{Word}
+use Rattle.zeb_query.specs.Keywords.{keyword_of}
 use Rattle.zeb_query.specs.Queries.{TreeValue, TermValue, NamedValue, PairValue, QueryValue}
 use Rattle.zeb_query.specs.Grammar.{IsQuery}
-
--- some query begins with the words
-abbrev pub IsBeginning : List Word → Type 0
-IsBeginning words = (more : List Word) × ((query : QueryValue) × IsQuery (words ++ more) query)
-
--- the place of the first word that no query has after the words before it
-pub record IsStrange (words : List Word) (place : ℕ) : Type 0 where
-  pub front : List Word
-  pub word : Word
-  pub more : List Word
-  pub is : words ≡ front ++ word ∷ more
-  pub place_is : place ≡ word.place
-  pub begins : IsBeginning front
-  pub strange : ¬ IsBeginning (front ++ word ∷ [])
-
--- the end, where all words together are the beginning of a query and no query
-pub record IsUnfinished (end : ℕ) (words : List Word) (place : ℕ) : Type 0 where
-  pub place_is : place ≡ end
-  pub begins : IsBeginning words
-  pub unfinished : (query : QueryValue) → ¬ IsQuery words query
-
--- the place of 108
-abbrev pub IsUnspelled : ℕ → List Word → ℕ → Type 0
-IsUnspelled end words place = IsStrange words place ⊎ IsUnfinished end words place
 
 -- the places of the operators, in the order of the text
 abbrev pub operators : TreeValue → List ℕ
 operators (TermValue place head text) = []
 operators (NamedValue place head name) = []
 operators (PairValue place head connective parameters left right) = place ∷ (operators left ++ operators right)
+
+-- some query begins with the words
+abbrev pub IsBeginning : List Word → Type 0
+IsBeginning words = (more : List Word) × ((query : QueryValue) × IsQuery (words ++ more) query)
+
+-- the words spell a query with at most so many operators
+abbrev pub IsQueryWithin : ℕ → List Word → Type 0
+IsQueryWithin room words = (query : QueryValue) × (IsQuery words query × (length (operators query.tree) ≤ room))
+
+-- some query with at most so many operators begins with the words
+abbrev pub IsBeginningWithin : ℕ → List Word → Type 0
+IsBeginningWithin room words = (more : List Word) × IsQueryWithin room (words ++ more)
+
+-- the place of the first word that no query has after the words before it, for which there is room
+pub record IsStrange (room : ℕ) (words : List Word) (place : ℕ) : Type 0 where
+  pub front : List Word
+  pub word : Word
+  pub more : List Word
+  pub is : words ≡ front ++ word ∷ more
+  pub place_is : place ≡ word.place
+  pub begins : IsBeginningWithin room front
+  pub strange : ¬ IsBeginning (front ++ word ∷ [])
+
+-- the end, where all words together, for which there is room, are the beginning of a query and no query
+pub record IsUnfinished (end room : ℕ) (words : List Word) (place : ℕ) : Type 0 where
+  pub place_is : place ≡ end
+  pub begins : IsBeginningWithin room words
+  pub unfinished : (query : QueryValue) → ¬ IsQuery words query
+
+-- the place of 108
+abbrev pub IsUnspelled : ℕ → ℕ → List Word → ℕ → Type 0
+IsUnspelled end room words place = IsStrange room words place ⊎ IsUnfinished end room words place
+
+-- the place of 6: that of the first operator for which there is no room, which is the one after so many operators in each
+-- query that begins so, and some query does
+pub record IsCrowded (room : ℕ) (words : List Word) (place : ℕ) : Type 0 where
+  pub front : List Word
+  pub word : Word
+  pub more : List Word
+  pub is : words ≡ front ++ word ∷ more
+  pub place_is : place ≡ word.place
+  pub operator : (connective : Connective) × (keyword_of word ≡ Some (Operator connective))
+  pub fits : IsBeginningWithin room front
+  pub begins : IsBeginning (front ++ word ∷ [])
+  pub crowded : (rest : List Word) (query : QueryValue) → IsQuery (front ++ word ∷ rest) query → slice_get (operators query.tree) room ≡ Some place

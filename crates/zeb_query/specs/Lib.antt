@@ -13,3 +13,4 @@ pub mod Attributes
 pub mod Holding
 pub mod Terms
 pub mod Plans
+pub mod Refusals

@@ -1,5 +1,5 @@
 -- What the parts of a reader of queries give, in the words of the grammar.
-use Rattle.std.specs.Prelude.{◌≡◌, ℕ, suc, List, [], ◌∷◌, ◌++◌, true, Option, Some, None, Result, Ok, Err, length, map, string_bytes}
+use Rattle.std.specs.Prelude.{◌≡◌, ℕ, List, [], ◌∷◌, ◌++◌, true, Option, Some, None, length, map, string_bytes}
 use Rattle.std.specs.List.{list_all}
 use Rattle.std.specs.Borrow.{Bor}
 use Rattle.zeb_query.specs.declared.grammar.Rest.{Rest}

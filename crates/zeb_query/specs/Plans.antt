@@ -1,7 +1,6 @@
 -- What a query asks for over a profile (ANSI/NISO Z39.50-2003, attribute set Bib-1): its plan, or its first diagnostic. The
 -- query is walked from left to right, an operator before its operands.
-use Rattle.std.specs.Prelude.{ℕ, Bool, true, false, List, [], ◌∷◌, Option, Some, None, Result, Ok, Err, map, chars, string_bytes, encode_utf8_all, if◌then◌else◌, codes}
-use Rattle.std.specs.Option.{option_map}
+use Rattle.std.specs.Prelude.{ℕ, Bool, List, [], ◌∷◌, Option, Some, None, Result, Ok, map, chars, string_bytes, encode_utf8_all, if◌then◌else◌, codes}
 use Rattle.std.specs.List.{join_with_byte}
 use Rattle.zeb_profile.specs.declared.Register.{Register}
 use Rattle.zeb_profile.specs.declared.Profile.{Profile}

@@ -1,6 +1,6 @@
 -- A query in the Prefix Query Format as a value (YAZ manual): what it says, without where it lies in memory. Texts are
 -- in UTF-8.
-use Rattle.std.specs.Prelude.{ℕ, List, [], ◌++◌, Option, Some, None, map, string_bytes}
+use Rattle.std.specs.Prelude.{ℕ, List, Option, map, string_bytes}
 use Rattle.std.specs.Option.{option_map}
 use Rattle.zeb_query.specs.declared.queries.Attribute.{Attribute}
 use Rattle.zeb_query.specs.declared.queries.Head.{Head}

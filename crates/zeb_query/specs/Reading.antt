@@ -1,5 +1,5 @@
 -- What a text is in the Prefix Query Format (YAZ manual): the query that it spells, or its fault.
-use Rattle.std.specs.Prelude.{◌≡◌, ℕ, List, Option, Some, None, length, nat_lt, chars, if◌then◌else◌}
+use Rattle.std.specs.Prelude.{ℕ, List, Option, Some, length, nat_lt, chars, if◌then◌else◌}
 use Rattle.zeb_query.specs.Words.{words_at}
 use Rattle.zeb_query.specs.Queries.{QueryValue}
 use Rattle.zeb_query.specs.Grammar.{IsQuery}

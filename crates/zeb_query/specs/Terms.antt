@@ -1,6 +1,6 @@
 -- How a term is read (ANSI/NISO Z39.50-2003, attribute set Bib-1): its type, the sets and types of the attributes over it,
 -- their values, and its words, in this order; the first fault is answered, at the term's place.
-use Rattle.std.specs.Prelude.{ℕ, ◌||◌, ◌&&◌, Bool, true, false, not, List, [], Option, Some, None, Result, Ok, Err, length, nat_lt, chars, if◌then◌else◌, codes}
+use Rattle.std.specs.Prelude.{ℕ, ◌||◌, ◌&&◌, Bool, true, false, not, List, [], Option, Some, None, Result, Ok, length, nat_lt, chars, if◌then◌else◌, codes}
 use Rattle.std.specs.Str.{bytes_eq}
 use Rattle.std.specs.Fmt.{decimal}
 use Rattle.zeb_profile.specs.declared.Register.{Register}

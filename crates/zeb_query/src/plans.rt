@@ -15,10 +15,15 @@ pub enum Operator {
 /// How an entry stands to a term (Bib-1, relation attributes 1 to 5).
 #[derive(Clone, Copy, Debug, PartialEq, Eq)]
 pub enum Relation {
+    /// 1: the entry comes before the term.
     Less,
+    /// 2: it comes before the term or is the term.
     LessOrEqual,
+    /// 3: it is the term.
     Equal,
+    /// 4: it is the term or comes after it.
     GreaterOrEqual,
+    /// 5: it comes after the term.
     Greater,
 }
 
@@ -74,7 +79,9 @@ pub enum TermPlan {
 #[derive(Debug, Drop)]
 #[cycle(plan)]
 pub enum Plan {
+    /// What one term asks for.
     Term(TermPlan),
+    /// An operator over two plans.
     Pair(Box<PairPlan>),
 }
 
@@ -82,15 +89,20 @@ pub enum Plan {
 #[derive(Debug, Drop)]
 #[cycle(plan)]
 pub struct PairPlan {
+    /// The operator on the records of the two.
     pub operator: Operator,
+    /// The operand that stands first in the query.
     pub left: Plan,
+    /// The other one.
     pub right: Plan,
 }
 
 /// Where a scan of a register begins.
 #[derive(Debug, Drop)]
 pub struct ScanPlan {
+    /// The number of the index in the profile.
     pub index: u32,
+    /// The register of the index that is read.
     pub register: Register,
     /// The entry to begin with, which need not be there; empty for the first one.
     pub start: String,

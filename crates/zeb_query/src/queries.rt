@@ -55,10 +55,13 @@ pub enum Tree {
         place: usize,
         /// What stands right before the operator.
         head: Head,
+        /// Which operator it is.
         connective: Connective,
         /// The six parameters of `@prox` in their order; empty for the other operators.
         parameters: Vec<String>,
+        /// The first operand.
         left: Box<Tree>,
+        /// The second operand.
         right: Box<Tree>,
     },
 }
@@ -68,5 +71,6 @@ pub enum Tree {
 pub struct Query {
     /// The attribute set named after `@attrset`.
     pub attribute_set: Option<String>,
+    /// What the query asks for.
     pub tree: Tree,
 }

@@ -1,5 +1,5 @@
 -- What each call on the tables does to a connection, whatever its text is.
-use Rattle.std.proofs.Common.{◌≡◌, ◌⊎◌, ◌+◌, ℕ, List, true, false, not, Bool, IsTrue, None, Some, IsSome, Result, Ok, Err, OnOk, OnErr, IfOk, IfErr, inl, inr, refl, sym, ap, subst, ◌∙◌}
+use Rattle.std.proofs.Common.{◌≡◌, ◌⊎◌, ◌+◌, ℕ, List, true, false, not, Bool, IsTrue, None, IsSome, Result, Ok, Err, OnOk, OnErr, IfOk, IfErr, inl, inr, refl, sym, ap, subst, ◌∙◌}
 use Rattle.sqlite.specs.Order.{Row}
 use Rattle.sqlite.specs.Tree.{Trees}
 use Rattle.sqlite.specs.Schema.{Schema}
@@ -7,7 +7,7 @@ use Rattle.sqlite.specs.Command.{Command}
 use Rattle.sqlite.specs.Compile.{compiled, first, returning, planned, meaning, command, with_command, small, timed as timed_in}
 use Rattle.sqlite.specs.Listing.{understood, reads_listing, listing_schema, is_select, if_select}
 use Rattle.sqlite.specs.declared.error.Error.{Error}
-use Rattle.sqlite.specs.State.{State, IsUnchanged, IsRolledBack, KeepsCommit, Survives, Executes, ExecutesInside, Shown, ShowsRows, FailsToQuery, FailsToShow, IsNotRun, CommitsShowing, IsTooLate, HasCleanDisk}
+use Rattle.sqlite.specs.State.{State, IsUnchanged, IsRolledBack, KeepsCommit, Survives, Executes, ExecutesInside, Shown, ShowsRows, FailsToQuery, FailsToShow, IsNotRun, CommitsShowing, IsTooLate}
 use Rattle.sqlite.specs.Clock.{timed}
 use Rattle.sqlite.proofs.StateLemmas.{survives_weaker}
 use Rattle.sqlite_resolve.specs.Lowering.{and_then}
@@ -22,6 +22,7 @@ use Rattle.zeb_register.specs.Tables.{store_schema}
 use Rattle.zeb_register.specs.Sql.{IsListOf, IsKeyed, KeepsOthers}
 use Rattle.zeb_register.specs.Store.{IsStore, Changes}
 use Rattle.zeb_register.specs.Calls.{GoesOn, OnlyReads, ChangesNothing, Alters, Lists, ListsInside, Stays}
+use Rattle.zeb_register.specs.Terms.{Reads}
 
 -- ---- a text that is a query under every schema
 
@@ -90,6 +91,12 @@ pub lists : {A : Type 0} (rows : A → List Row) (P : Trees → Row → Type 0) 
     → ((all : List Row) → IsStore old → Shown sql params old new all → IsListOf (P old.now.trees) all) → IfOk r (λ x. Lists P old new (rows x))
 lists rows P sql params old new (Ok x) silent shown means = (shown_alone sql params old new (rows x) silent shown, λ store. means (rows x) store shown)
 lists rows P sql params old new (Err e) silent shown means = tt
+
+-- the same for what is said of all rows at once
+pub read_so : {A : Type 0} (rows : A → List Row) (P : Trees → List Row → Type 0) (sql : List ℕ) (params : Row) (old new : State) (r : Result A Error) → IsSilent sql → IfOk r (λ x. Shown sql params old new (rows x))
+    → ((all : List Row) → IsStore old → Shown sql params old new all → P old.now.trees all) → IfOk r (λ x. Reads P old new (rows x))
+read_so rows P sql params old new (Ok x) silent shown means = (shown_alone sql params old new (rows x) silent shown, λ store. means (rows x) store shown)
+read_so rows P sql params old new (Err e) silent shown means = tt
 
 same_nothing : (old new : State) → IsUnchanged old new → ChangesNothing old new
 same_nothing old new same open' = (same.0.was_open, same.0.now_is, same.0.committed_is)

@@ -1,24 +1,23 @@
 -- Rows of postings as the postings of a content.
-use Rattle.std.proofs.Common.{int_cmp, zero, suc, get_or, length, ◌<◌, ◌≡◌, ◌↔◌, ◌⊎◌, ◌∙◌, ℕ, ℤ, pos, List, [], ◌∷◌, ◌++◌, map, drop, inl, inr, refl, sym, ap, ap₂, subst, Ordering, Less, Equal, Greater, arith}
+use Rattle.std.proofs.Common.{int_cmp, zero, suc, get_or, length, ◌<◌, ◌≡◌, ◌∙◌, ℕ, ℤ, pos, List, [], ◌∷◌, ◌++◌, map, drop, inl, inr, refl, sym, ap, ap₂, subst, Ordering, Less, Equal, Greater, arith}
 use Rattle.std.specs.List.Sorted.{IsStrictlySortedBy}
 use Rattle.std.specs.List.{AllByRecursion}
 use Rattle.std.proofs.lemmas.Bool.Decides.{nat_tests}
-use Rattle.std.specs.Ordering.{nat_cmp, ordering_then, ordering_reverse}
+use Rattle.std.specs.Ordering.{nat_cmp, ordering_then}
 use Rattle.sqlite.specs.declared.types.Value.TheVariants.{Int, Text}
 use Rattle.sqlite.specs.Order.{Row, column, row_cmp}
 use Rattle.sqlite.specs.Tree.{Trees}
 use Rattle.sqlite_rules.specs.Lists.{Has}
-use Rattle.sqlite_rules.proofs.ListLemmas.{all_has}
 use Rattle.sqlite_rules.proofs.ProbeLemmas.{has_mapped, mapped_has}
 use Rattle.sqlite_value.proofs.OrderLemmas.{row_cmp_total, value_cmp-Int}
-use Rattle.std.proofs.lemmas.Cmp.{tied_itself}
 use Rattle.zeb_extract.specs.declared.keys.Key.{Key}
 use Rattle.zeb_profile.specs.declared.Register.{Register}
 use Rattle.zeb_profile.specs.declared.Register.TheVariants.{Word, Phrase, Number}
 use Rattle.zeb_register.specs.declared.registers.Posting.{Posting}
-use Rattle.zeb_register.specs.Sql.{HasRow, IsListOf}
-use Rattle.zeb_register.specs.Store.{postings_tree, key_of, IsRest}
-use Rattle.zeb_register.specs.Content.{Content, posting_cmp, IsRising, code_of_register, key_row, posting_row, IsPostingRow, HoldsRows, first_three, IsThreeNumbers}
+use Rattle.zeb_register.specs.Sql.{IsListOf}
+use Rattle.zeb_register.specs.Store.{postings_tree, IsRest}
+use Rattle.zeb_register.proofs.RisingLists.{same_list}
+use Rattle.zeb_register.specs.Content.{Content, posting_cmp, code_of_register, key_row, posting_row, HoldsRows, first_three, IsThreeNumbers}
 
 lower_then : (x y z : Ordering) → ordering_then x (ordering_then y z) ≡ Less → ordering_then x (ordering_then y (ordering_then z Equal)) ≡ Less
 lower_then Less y z h = refl
@@ -37,33 +36,8 @@ row_order p q h =
     rw (value_cmp-Int (pos p.sysno) (pos q.sysno), value_cmp-Int (pos p.seq) (pos q.seq), value_cmp-Int (pos p.pos) (pos q.pos), ints_order p.sysno q.sysno, ints_order p.seq q.seq, ints_order p.pos q.pos)
     (lower_then (nat_cmp p.sysno q.sysno) (nat_cmp p.seq q.seq) (nat_cmp p.pos q.pos) h)
 
-never_itself : (r : Row) → row_cmp r r ≡ Less → ⊥
-never_itself r h = let e : Less ≡ Equal = sym h ∙ tied_itself row_cmp_total r in cc
-
-never_back : (r s : Row) → row_cmp r s ≡ Less → row_cmp s r ≡ Less → ⊥
-never_back r s p q = let e : Less ≡ Greater = sym p ∙ row_cmp_total.antisymm r s ∙ ap ordering_reverse q in cc
-
--- a list that rises is told by its members
-same_list : (xs ys : List Row) → IsStrictlySortedBy row_cmp xs → IsStrictlySortedBy row_cmp ys → ((r : Row) → Has xs r → Has ys r) → ((r : Row) → Has ys r → Has xs r) → xs ≡ ys
-unfolding IsStrictlySortedBy
-same_list [] [] up down there back = refl
-same_list [] (y ∷ ys) up down there back = absurd (back y (inl refl))
-same_list (x ∷ xs) [] up down there back = absurd (there x (inl refl))
-same_list (x ∷ xs) (y ∷ ys) up down there back =
-    let first : x ≡ y = elim (there x (inl refl)) [
-      | inl same ↦ same
-      | inr deep ↦ elim (back y (inl refl)) [ inl same ↦ sym same | inr other ↦ absurd (never_back x y (all_has _ xs y up.0 other) (all_has _ ys x down.0 deep)) ]
-    ] in
-    ap₂ (λ a as'. a ∷ as') first (same_list xs ys up.1 down.1 (λ r h. elim (there r (inr h)) [
-      | inl same ↦ absurd (never_itself x (subst (λ t. row_cmp x t ≡ Less) (same ∙ sym first) (all_has _ xs r up.0 h)))
-      | inr deep ↦ deep
-    ]) (λ r h. elim (back r (inr h)) [
-      | inl same ↦ absurd (never_itself y (subst (λ t. row_cmp y t ≡ Less) (same ∙ first) (all_has _ ys r down.0 h)))
-      | inr deep ↦ deep
-    ]))
-
 pub one_list : (P : Row → Type 0) (xs ys : List Row) → IsListOf P xs → IsListOf P ys → xs ≡ ys
-one_list P xs ys left right = same_list xs ys left.rising right.rising (λ r h. (right.each r).1 ((left.each r).0 h)) (λ r h. (left.each r).1 ((right.each r).0 h))
+one_list P xs ys left right = same_list row_cmp_total xs ys left.rising right.rising (λ r h. (right.each r).1 ((left.each r).0 h)) (λ r h. (left.each r).1 ((right.each r).0 h))
 
 -- ---- keys and postings as rows
 
@@ -157,7 +131,7 @@ pub list_read : (trees : Trees) (content : Content) (db : ℤ) (key : Key) (rows
 list_read trees content db key rows list holds are shown =
     same_postings list (content db key) (shown ∙ first_three_same rows (rows_known trees content db key rows holds are) ∙ one_list _ rows (map posting_row (content db key)) are (list_held trees content db key holds))
 
-pub has_at : (xs : List Row) (i : ℕ) (x : Row) → x ≡ get_or xs i x → i < length xs → Has xs x
+pub has_at : {X : Type 0} (xs : List X) (i : ℕ) (x : X) → x ≡ get_or xs i x → i < length xs → Has xs x
 has_at [] i x is below = absurd (omega arith)
 has_at (y ∷ ys) zero x is below = inl is
 has_at (y ∷ ys) (suc i) x is below = inr (has_at ys i x is (omega arith))

@@ -1,12 +1,12 @@
 -- What the first row of an answer says of the tables.
-use Rattle.std.proofs.Common.{◌≡◌, ◌<◌, ◌∙◌, ℕ, ℤ, pos, List, [], ◌∷◌, length, slice_get, Some, None, refl, sym, ap, subst, inl, arith, IsUtf8}
-use Rattle.sqlite.specs.declared.types.Value.TheVariants.{Null, Int, Text, Blob}
+use Rattle.std.proofs.Common.{◌≡◌, ◌<◌, ◌∙◌, ℕ, ℤ, pos, List, [], ◌∷◌, length, slice_get, Some, None, refl, sym, ap, subst, arith, IsUtf8}
+use Rattle.sqlite.specs.declared.types.Value.TheVariants.{Int, Text, Blob}
 use Rattle.sqlite.specs.Order.{Row, column}
 use Rattle.sqlite.specs.Tree.{Trees}
 use Rattle.sqlite_rules.specs.Lists.{Has}
 use Rattle.sqlite_rules.proofs.ListLemmas.{has_got}
-use Rattle.zeb_register.specs.Sql.{HasRow, IsListOf}
-use Rattle.zeb_register.specs.Store.{IsValueRow, AreReadableTexts, IsDatabaseRow, HasDatabase, IsElderRow, IsIdentRow, HasRecord, record_row, records_tree}
+use Rattle.zeb_register.specs.Sql.{IsListOf}
+use Rattle.zeb_register.specs.Store.{IsValueRow, AreReadableTexts, IsDatabaseRow, HasDatabase, IsElderRow, IsIdentRow, HasRecord}
 use Rattle.zeb_register.specs.Catalog.{AreCountedDatabases}
 use Rattle.zeb_register.specs.Kept.{AreNumbered, AreReadableIdents}
 

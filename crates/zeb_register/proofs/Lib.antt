@@ -3,6 +3,7 @@ pub mod Scans
 pub mod Edits
 pub mod Parts
 pub mod Writes
+pub mod FirstRows
 pub mod Selects
 pub mod Prefix
 pub mod Creates
@@ -13,8 +14,14 @@ pub mod TextStatements
 pub mod DatabaseStatements
 pub mod RecordStatements
 pub mod PostingStatements
+pub mod TermStatements
 pub mod WipeStatements
 pub mod Found
+pub mod RisingLists
 pub mod ContentLemmas
+pub mod ContentChanges
+pub mod CountLemmas
+pub mod TermLists
+pub mod TermRows
 pub mod PlaceLemmas
 pub mod RecordLemmas

@@ -1,30 +1,23 @@
 -- The statements on postings, each with what it is compiled to.
-use Rattle.std.proofs.Common.{◌≡◌, ◌≢◌, ◌↔◌, ◌∙◌, sym, ap, ap₂, subst, map, drop, ◌++◌, ℕ, zero, suc, List, [], ◌∷◌, codes, refl, false, true, ℤ, pos, Ok, inl, inr, slice_get, Some, None, Ordering, Less, Equal, Greater}
-use Rattle.std.specs.Ordering.{ordering_then}
-use Rattle.sqlite.specs.declared.types.Value.TheVariants.{Null, Int, Text, Blob}
+use Rattle.std.proofs.Common.{◌≡◌, sym, subst, ℕ, List, [], ◌∷◌, codes, refl, false, ℤ, Ok}
+use Rattle.sqlite.specs.declared.types.Value.TheVariants.{Null, Int}
 use Rattle.sqlite.specs.State.{State, Executes, Shown}
-use Rattle.sqlite.specs.Command.TheVariants.{Update, Select, Delete, Insert, InsertOr}
+use Rattle.sqlite.specs.Command.TheVariants.{Select, Delete, Insert}
 use Rattle.sqlite.specs.Source.TheVariants.{Values}
-use Rattle.sqlite.specs.Edit.{next_rowid}
 use Rattle.sqlite.specs.Term.{Term, lit, col}
-use Rattle.sqlite_schema.specs.declared.command.Conflict.TheVariants.{Replace}
 use Rattle.sqlite.specs.Listing.{understood, reads_listing}
 use Rattle.sqlite.proofs.Callers.{IsPlain, command_of}
 use Rattle.sqlite_tied.specs.Compute.{everything}
-use Rattle.zeb_register.specs.Tables.{store_schema, meta_table, databases_table, records_table, postings_table, blocks_table, dict_table}
-use Rattle.zeb_register.specs.Sql.{Condition, equals, at_least, reading, alone, keyed_from, shows, no_limit, Loses, Gains, Replaces, HasRow, IsListOf}
-use Rattle.zeb_register.specs.Kinds.{codes_of, IsPlainTable, HasKeys, code}
+use Rattle.zeb_register.specs.Tables.{store_schema, postings_table}
+use Rattle.zeb_register.specs.Sql.{Condition, equals, reading, alone, keyed_from, shows, no_limit, Loses, Gains, IsListOf}
+use Rattle.zeb_register.specs.Kinds.{IsPlainTable, HasKeys}
 use Rattle.sqlite.specs.Table.{Table}
-use Rattle.zeb_register.specs.Store.{IsStore, Changes, Empties, meta_tree, entry, IsEntryOf, IsValueRow, databases_tree, HasDatabase, AddsDatabase, SetsLast, TakesDatabase, IsDatabaseRow, records_tree, record_row, HasRecord, HasNumber, SharesRecord, IsRecordIn, IsElderRow, IsIdentRow, postings_tree, posting, key_of, place_key, IsPlaceOf, IsPostingIn, IsRest}
-use Rattle.zeb_register.proofs.Writes.{next_free, GainsRow, LosesRows, RemakesRows, updates, changed_so, deletes, inserts, replaces, loses, gains, takes_place, codes_there}
-use Rattle.zeb_register.proofs.RowLemmas.{null_of, spread, code_at, int_of, text_of, blob_of}
-use Rattle.zeb_register.proofs.Selects.{IsSelected, selects, list_so}
+use Rattle.zeb_register.specs.Store.{IsStore, Changes, postings_tree, posting, key_of, place_key, IsPlaceOf, IsPostingIn, IsRest}
+use Rattle.zeb_register.proofs.Writes.{deletes, inserts, loses, gains}
+use Rattle.zeb_register.proofs.Selects.{list_so}
 use Rattle.zeb_register.proofs.Prefix.{IsAfter, lists_after}
 use Rattle.zeb_register.proofs.Calls.{IsSilent}
-use Rattle.sqlite.specs.Order.{Row, column}
-use Rattle.sqlite.specs.Tree.{Trees}
-use Rattle.sqlite_rules.specs.Lists.{Has}
-use Rattle.sqlite_rules.proofs.ListLemmas.{has_got}
+use Rattle.sqlite.specs.Order.{Row}
 
 abbrev pub postings : Table
 postings = record postings_table { tree = 7 }
@@ -180,19 +173,3 @@ lifts db idx reg term sysno old new count store ran =
       λ m. (m.0, m.1.0, m.1.1.0, m.1.1.1.0, m.1.1.1.1.0),
       λ p. (p.0, (p.1, (p.2, (p.3, (p.4, tt))))),
     )) (deletes store_schema 3 postings postings_static lift_text (place_key db idx reg term sysno) lift_wheres lift_is lift_plain refl old new count store ran)
-
--- ---- the terms next to a text
-
-abbrev pub from_text : List ℕ
-from_text = codes "SELECT term, sysno, seq, pos FROM postings WHERE db = ?1 AND idx = ?2 AND reg = ?3 AND term >= ?4 ORDER BY term, sysno, seq, pos LIMIT 1"
-
-pub from_silent : IsSilent from_text
-unfolding everything
-from_silent = λ schema base. refl
-
-abbrev pub before_text : List ℕ
-before_text = codes "SELECT term FROM postings WHERE db = ?1 AND idx = ?2 AND reg = ?3 AND term < ?4 ORDER BY term DESC LIMIT 1"
-
-pub before_silent : IsSilent before_text
-unfolding everything
-before_silent = λ schema base. refl

@@ -1,30 +1,27 @@
 -- The statements on records, each with what it is compiled to.
-use Rattle.std.proofs.Common.{◌≡◌, ◌≢◌, ◌↔◌, ◌∙◌, sym, ap, ap₂, subst, map, drop, ◌++◌, ℕ, zero, suc, List, [], ◌∷◌, codes, refl, false, true, ℤ, pos, Ok, inl, inr, slice_get, Some, None, Ordering, Less, Equal, Greater}
+use Rattle.std.proofs.Common.{◌≡◌, ◌∙◌, sym, ap, ap₂, subst, map, drop, ℕ, List, [], ◌∷◌, codes, refl, false, ℤ, Ok, inl, inr, Ordering, Less, Equal, Greater}
 use Rattle.std.specs.Ordering.{ordering_then}
 use Rattle.sqlite.specs.declared.types.Value.TheVariants.{Null, Int, Text, Blob}
 use Rattle.sqlite.specs.State.{State, Executes, Shown}
-use Rattle.sqlite.specs.Command.TheVariants.{Update, Select, Delete, Insert, InsertOr}
+use Rattle.sqlite.specs.Command.TheVariants.{Select, Delete, InsertOr}
 use Rattle.sqlite.specs.Source.TheVariants.{Values}
-use Rattle.sqlite.specs.Edit.{next_rowid}
 use Rattle.sqlite.specs.Term.{Term, lit, col}
 use Rattle.sqlite_schema.specs.declared.command.Conflict.TheVariants.{Replace}
 use Rattle.sqlite.specs.Listing.{understood, reads_listing}
 use Rattle.sqlite.proofs.Callers.{IsPlain, command_of}
 use Rattle.sqlite_tied.specs.Compute.{everything}
-use Rattle.zeb_register.specs.Tables.{store_schema, meta_table, databases_table, records_table, postings_table, blocks_table, dict_table}
-use Rattle.zeb_register.specs.Sql.{Condition, equals, at_least, reading, alone, keyed_from, shows, no_limit, Loses, Gains, Replaces, HasRow, IsListOf}
+use Rattle.zeb_register.specs.Tables.{store_schema, records_table}
+use Rattle.zeb_register.specs.Sql.{Condition, equals, reading, alone, keyed_from, shows, no_limit, Loses, Replaces, HasRow, IsListOf}
 use Rattle.zeb_register.specs.Kinds.{codes_of, IsPlainTable, HasKeys, code}
 use Rattle.sqlite.specs.Table.{Table}
-use Rattle.zeb_register.specs.Store.{IsStore, Changes, Empties, meta_tree, entry, IsEntryOf, IsValueRow, databases_tree, HasDatabase, AddsDatabase, SetsLast, TakesDatabase, IsDatabaseRow, records_tree, record_row, HasRecord, HasNumber, SharesRecord, IsRecordIn, IsElderRow, IsIdentRow, postings_tree, posting, key_of, place_key, IsPlaceOf, IsPostingIn, IsRest}
-use Rattle.zeb_register.proofs.Writes.{next_free, GainsRow, LosesRows, RemakesRows, updates, changed_so, deletes, inserts, replaces, loses, gains, takes_place, codes_there}
-use Rattle.zeb_register.proofs.RowLemmas.{null_of, spread, code_at, int_of, text_of, blob_of}
+use Rattle.zeb_register.specs.Store.{IsStore, Changes, records_tree, record_row, HasNumber, SharesRecord, IsRecordIn, IsElderRow, IsIdentRow, IsRest}
+use Rattle.zeb_register.proofs.Writes.{deletes, replaces, loses, takes_place, codes_there}
+use Rattle.zeb_register.proofs.RowLemmas.{spread, code_at, int_of, text_of, blob_of}
 use Rattle.zeb_register.proofs.Selects.{IsSelected, selects, list_so}
 use Rattle.zeb_register.proofs.Prefix.{IsAfter, lists_after}
 use Rattle.zeb_register.proofs.Calls.{IsSilent}
 use Rattle.sqlite.specs.Order.{Row, column}
-use Rattle.sqlite.specs.Tree.{Trees}
 use Rattle.sqlite_rules.specs.Lists.{Has}
-use Rattle.sqlite_rules.proofs.ListLemmas.{has_got}
 
 abbrev pub records : Table
 records = record records_table { tree = 4 }

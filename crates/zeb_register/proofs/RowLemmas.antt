@@ -15,7 +15,7 @@ use Rattle.sqlite.specs.Term.{Term, lit, col, eval, eval_all, holds}
 use Rattle.sqlite.specs.Kind.{Kind}
 use Rattle.sqlite.specs.Kind.TheVariants as kind
 use Rattle.sqlite_sql.specs.declared.ops.BinaryOp.TheVariants.{Compare}
-use Rattle.sqlite_sql.specs.declared.ops.CompareOp.TheVariants.{Eq, Ge}
+use Rattle.sqlite_sql.specs.declared.ops.CompareOp.TheVariants.{Eq, Ge, Lt}
 use Rattle.sqlite.specs.Collation.TheVariants.{Binary}
 use Rattle.sqlite.specs.Tree.{Trees, rowid}
 use Rattle.sqlite.specs.View.{is_int}
@@ -35,7 +35,7 @@ use Rattle.sqlite_rules.proofs.ListLemmas.{some_has, some_from, test_has}
 use Rattle.sqlite_rules.specs.Lists.{Has}
 use Rattle.sqlite_rules.proofs.RuleLemmas.{keeps_at}
 use Rattle.sqlite_catalog.specs.Listing.{IsSound}
-use Rattle.zeb_register.specs.Sql.{Condition, equals, at_least, term_of, Meets, MeetsAll, passes, ascending, ordering}
+use Rattle.zeb_register.specs.Sql.{Condition, equals, at_least, less_than, term_of, Meets, MeetsAll, passes, ascending, ordering}
 use Rattle.zeb_register.specs.Kinds.{keeps, keeps_all, term_code, is_plain_term, holds_code, store_all, code, codes_from, codes_of, is_empty, are_whole, is_whole, is_exact, fits, are_comparable, SharesKey, HasKeys, is_at, covers}
 
 -- ---- types
@@ -118,7 +118,7 @@ row_codes schema db table (v ∷ vs) sound listed whole has keyed =
 same_int : (m n : ℤ) → int_cmp m n ≡ Equal → m ≡ n
 same_int m n h = int_ranked m n Equal (sym h)
 
-same_bytes : (s t : List ℕ) → slice_cmp nat_cmp s t ≡ Equal → s ≡ t
+pub same_bytes : (s t : List ℕ) → slice_cmp nat_cmp s t ≡ Equal → s ≡ t
 same_bytes s t h = (bytes_eq-Decides s t).0 (sym (is_eq-slice_cmp s t) ∙ ap is_eq h)
 
 -- values of one type that tie are the same
@@ -165,6 +165,15 @@ module _ (a b : Value) (fit : (is_exact (code a) && eqb (code a) (code b)) ≡ t
       at Equal = (λ h. refl, λ h. refl)
       at Greater = (λ h. refl, λ h. refl)
 
+  less_holds : (is_true (binary (Compare Lt Binary) a b) ≡ true) ↔ (is_lt (value_cmp a b) ≡ true)
+  unfolding binary
+  less_holds = (λ h. (at (value_cmp a b)).0 (rw (whole.0, whole.1) at h), λ low. rw (whole.0, whole.1) ((at (value_cmp a b)).1 low))
+    where
+      at : (o : Ordering) → (is_true (from_truth (Some (is_lt o))) ≡ true) ↔ (is_lt o ≡ true)
+      at Less = (λ h. refl, λ h. refl)
+      at Equal = (λ h. absurd cc, λ h. absurd cc)
+      at Greater = (λ h. absurd cc, λ h. absurd cc)
+
 meets_one : (codes : List ℕ) (params row : Row) (c : Condition) → map code row ≡ codes → fits codes params c ≡ true → (holds (params ∷ row ∷ []) (term_of c) ≡ true) ↔ Meets params row c
 meets_one codes params row (equals place from) typed fit =
     let here : code (column row place) ≡ get_or codes place 0 = value_code row place ∙ ap (λ l. get_or l place 0) typed in
@@ -172,6 +181,9 @@ meets_one codes params row (equals place from) typed fit =
 meets_one codes params row (at_least place from) typed fit =
     let here : code (column row place) ≡ get_or codes place 0 = value_code row place ∙ ap (λ l. get_or l place 0) typed in
     least_holds (column row place) (column params from) (rw here fit)
+meets_one codes params row (less_than place from) typed fit =
+    let here : code (column row place) ≡ get_or codes place 0 = value_code row place ∙ ap (λ l. get_or l place 0) typed in
+    less_holds (column row place) (column params from) (rw here fit)
 
 -- a row passes WHERE exactly where it meets each condition
 pub meets : (codes : List ℕ) (params row : Row) (wheres : List Condition) → map code row ≡ codes → list_all (fits codes params) wheres ≡ true → (passes wheres params row ≡ true) ↔ MeetsAll params row wheres
@@ -267,6 +279,7 @@ module _ (params r s : Row) where
     | inr later ↦ met_at p wheres a.1 b.1 later
   ]
   met_at p (at_least place from ∷ wheres) a b h = met_at p wheres a.1 b.1 h
+  met_at p (less_than place from ∷ wheres) a b h = met_at p wheres a.1 b.1 h
 
   tied_at : (p : ℕ) (order : List ℕ) → AllByRecursion (λ q. column r q ≡ column s q) order → list_any (λ q. eqb q p) order ≡ true → column r p ≡ column s p
   tied_at p [] o h = absurd (true≢false (sym h))

@@ -13,6 +13,7 @@ use Rattle.sqlite.specs.Order.{Row, column, value_cmp, row_cmp}
 use Rattle.sqlite.specs.Query.{Output, output_cmp, end, IsAnswer, output, matches_as}
 use Rattle.sqlite.specs.Term.{Term, Env, eval_all}
 use Rattle.sqlite.specs.Tree.{Trees, IsTable, IsAscending, rowid}
+use Rattle.sqlite_value.specs.declared.keys.Key.{Key}
 use Rattle.sqlite.specs.Program.{overlay}
 use Rattle.sqlite.specs.Effect.{Database, Answers}
 use Rattle.std.proofs.lemmas.Cmp.{eq_by_cmp_equiv}
@@ -23,7 +24,7 @@ use Rattle.sqlite_trees.proofs.ListLemmas.{map-map, all-permutation}
 use Rattle.sqlite_rules.specs.Lists.{Has}
 use Rattle.sqlite_rules.proofs.ListLemmas.{all_has, all_from, contains_had, has_filtered, has_kept}
 use Rattle.sqlite_rules.proofs.ProbeLemmas.{has_mapped, mapped_has}
-use Rattle.zeb_register.specs.Sql.{Condition, term_of, passes, reading, alone, rising, ascending, ordering, shown_of, IsReading}
+use Rattle.zeb_register.specs.Sql.{Condition, term_of, passes, reading, reading_by, alone, rising, ascending, ordering, shown_of, IsReading}
 
 -- ---- sorted lists
 
@@ -47,7 +48,7 @@ strictly R o (x ∷ xs) up apart = (
     below Equal q back other not_lower = absurd cc
     below Greater q back other not_lower = absurd (let e = rw back at not_lower in cc)
 
-strictly_mapped : {X Y : Type 0} (R : X → X → Ordering) (S : Y → Y → Ordering) (f : X → Y) (xs : List X) → ((a b : X) → Has xs a → Has xs b → R a b ≡ Less → S (f a) (f b) ≡ Less) → IsStrictlySortedBy R xs → IsStrictlySortedBy S (map f xs)
+pub strictly_mapped : {X Y : Type 0} (R : X → X → Ordering) (S : Y → Y → Ordering) (f : X → Y) (xs : List X) → ((a b : X) → Has xs a → Has xs b → R a b ≡ Less → S (f a) (f b) ≡ Less) → IsStrictlySortedBy R xs → IsStrictlySortedBy S (map f xs)
 unfolding IsStrictlySortedBy
 strictly_mapped R S f [] so up = tt
 strictly_mapped R S f (x ∷ xs) so up = (
@@ -91,63 +92,72 @@ matched wheres params lost db (r ∷ rows) = elim (cases_Bool (passes wheres par
 plain : (db : Trees) (tree : ℕ) → overlay db [] tree ≡ db tree
 plain db tree = elim (cases_Bool (leb (2 ^ 31) tree)) [ inl is ↦ rw is | inr is_not ↦ rw is_not ]
 
-pub reads : (schema_db : Database) (tree : ℕ) (wheres : List Condition) (project : List Term) (order : List ℕ) (limit : Term) (params : Row) (rows : List Row)
-    → Answers schema_db (alone (reading tree wheres project order limit)) params rows → IsReading (schema_db.trees tree) wheres project order limit params rows
-reads schema_db tree wheres project order limit params rows h =
+pub reads : (schema_db : Database) (tree : ℕ) (wheres : List Condition) (project : List Term) (keys : List (Term × Key)) (limit : Term) (params : Row) (rows : List Row)
+    → Answers schema_db (alone (reading_by tree wheres project keys limit)) params rows → IsReading (schema_db.trees tree) wheres project keys limit params rows
+reads schema_db tree wheres project keys limit params rows h =
     let db = schema_db.trees in
-    let q = reading tree wheres project order limit in
+    let q = reading_by tree wheres project keys limit in
     let a : IsAnswer q (overlay db []) params rows = h.answer Null in
     let staged : a.staged ≡ map (λ r. params ∷ r ∷ []) (filter (passes wheres params) (db tree)) =
     a.grouped ∙ matched wheres params Null (overlay db []) (overlay db [] tree) ∙ ap (λ rs. map (λ r. params ∷ r ∷ []) (filter (passes wheres params) rs)) (plain db tree) in
-    let kept : a.kept ≡ map (shown_of project order params) (filter (passes wheres params) (db tree)) =
+    let kept : a.kept ≡ map (shown_of project keys params) (filter (passes wheres params) (db tree)) =
     a.distinct ∙ ap (map (output q)) staged ∙ map-map (output q) (λ r. params ∷ r ∷ []) _ in
     record { ordered = a.ordered; same = subst (λ k. IsPermutation k a.ordered) kept a.same; sorted = a.sorted; shown = a.shown }
 
 has_permuted : {X : Type 0} (xs ys : List X) (x : X) → IsPermutation xs ys → Has ys x → Has xs x
 has_permuted xs ys x same = all_has (Has xs) ys x (all-permutation (Has xs) xs ys same (all_from (Has xs) xs (λ e h. h)))
 
-module _ (db : List Row) (wheres : List Condition) (project : List Term) (order : List ℕ) (limit : Term) (params : Row) (rows : List Row) (h : IsReading db wheres project order limit params rows) where
-  abbrev one : Row → Output
-  one = shown_of project order params
+module _ (db : List Row) (wheres : List Condition) (project : List Term) (keys : List (Term × Key)) (limit : Term) (params : Row) (rows : List Row) (h : IsReading db wheres project keys limit params rows) where
+  abbrev pub one : Row → Output
+  one = shown_of project keys params
 
   abbrev pub all_shown : List Row
   all_shown = map (λ (o : Output). o.1) h.ordered
 
-  origin : (o : Output) → Has h.ordered o → (r : Row) × Has db r × (passes wheres params r ≡ true) × (o ≡ one r)
+  pub origin : (o : Output) → Has h.ordered o → (r : Row) × Has db r × (passes wheres params r ≡ true) × (o ≡ one r)
   origin o there =
       let r = has_mapped one (filter (passes wheres params) db) o (has_permuted (map one (filter (passes wheres params) db)) h.ordered o h.same there) in
       let found = has_filtered (passes wheres params) db r.0 r.1 in
       (r.0, found.0, found.1, r.2)
+
+  -- each row that passes has its place in the order
+  pub in_order : (r : Row) → Has db r → passes wheres params r ≡ true → Has h.ordered (one r)
+  in_order r here passed =
+      has_permuted h.ordered (map one (filter (passes wheres params) db)) (one r) (IsPermutation-sym _ _ h.same)
+      (mapped_has one (filter (passes wheres params) db) r (has_kept (passes wheres params) db r here passed))
 
   -- a row is shown exactly where it passes
   pub shows_each : (x : Row) → Has all_shown x ↔ ((r : Row) × Has db r × (passes wheres params r ≡ true) × (x ≡ eval_all project (params ∷ r ∷ [])))
   shows_each x = (
     λ there. let o = has_mapped (λ (k : Output). k.1) h.ordered x there in let r = origin o.0 o.1 in (r.0, r.1, r.2, o.2 ∙ ap (λ (k : Output). k.1) r.3),
     λ is.
-        let there = mapped_has one (filter (passes wheres params) db) is.0 (has_kept (passes wheres params) db is.0 is.1 is.2) in
-        let put = has_permuted h.ordered (map one (filter (passes wheres params) db)) (one is.0) (IsPermutation-sym _ _ h.same) there in
-        subst (Has all_shown) (sym is.3) (mapped_has (λ (k : Output). k.1) h.ordered (one is.0) put),
+        subst (Has all_shown) (sym is.3) (mapped_has (λ (k : Output). k.1) h.ordered (one is.0) (in_order is.0 is.1 is.2)),
   )
 
-  ordered_by : (r s : Row) → output_cmp (reading 0 wheres project order limit) (one r) (one s) ≡ ordering order r s
+-- the rows rise where ORDER BY does
+module _ (db : List Row) (wheres : List Condition) (project : List Term) (order : List ℕ) (limit : Term) (params : Row) (rows : List Row) (h : IsReading db wheres project (rising order) limit params rows) where
+  abbrev row_of : Row → Output
+  row_of = shown_of project (rising order) params
+
+  ordered_by : (r s : Row) → output_cmp (reading 0 wheres project order limit) (row_of r) (row_of s) ≡ ordering order r s
   ordered_by r s = rw (keys_by order, read_by params r order, read_by params s order)
 
   -- where no two rows that pass tie in ORDER BY, the rows rise
   pub shows_rising : IsTable db → ((r s : Row) → Has db r → Has db s → passes wheres params r ≡ true → passes wheres params s ≡ true → value_cmp (rowid r) (rowid s) ≡ Less → ordering order r s ≢ Equal)
-      → ((r s : Row) → ordering order r s ≡ Less → row_cmp (eval_all project (params ∷ r ∷ [])) (eval_all project (params ∷ s ∷ [])) ≡ Less) → IsStrictlySortedBy row_cmp all_shown
+      → ((r s : Row) → ordering order r s ≡ Less → row_cmp (eval_all project (params ∷ r ∷ [])) (eval_all project (params ∷ s ∷ [])) ≡ Less) → IsStrictlySortedBy row_cmp (all_shown db wheres project (rising order) limit params rows h)
   shows_rising up apart rises =
       let R = output_cmp (reading 0 wheres project order limit) in
       let total = output_cmp_total (reading 0 wheres project order limit) in
       let kept = filter (passes wheres params) db in
-      let distinct = distinct_mapped (λ a b. value_cmp (rowid a) (rowid b) ≡ Less) (eq_by_cmp R) one kept (λ a b here there lower.
+      let distinct = distinct_mapped (λ a b. value_cmp (rowid a) (rowid b) ≡ Less) (eq_by_cmp R) row_of kept (λ a b here there lower.
       let r = has_filtered (passes wheres params) db a here in
       let s = has_filtered (passes wheres params) db b there in
-      elim (cases_Bool (eq_by_cmp R (one a) (one b))) [
-        | inl ties ↦ absurd (apart a b r.0 s.0 r.1 s.1 lower (sym (ordered_by a b) ∙ tied (R (one a) (one b)) ties))
+      elim (cases_Bool (eq_by_cmp R (row_of a) (row_of b))) [
+        | inl ties ↦ absurd (apart a b r.0 s.0 r.1 s.1 lower (sym (ordered_by a b) ∙ tied (R (row_of a) (row_of b)) ties))
         | inr other ↦ other
       ]) (ascending_filter (λ a b. value_cmp (rowid a) (rowid b) ≡ Less) (passes wheres params) db up) in
-      let apart_now = IsDistinct-IsPermutation (eq_by_cmp R) (eq_by_cmp_equiv total).symm (map one kept) h.ordered h.same distinct in
+      let apart_now = IsDistinct-IsPermutation (eq_by_cmp R) (eq_by_cmp_equiv total).symm (map row_of kept) h.ordered h.same distinct in
       strictly_mapped R row_cmp (λ (o : Output). o.1) h.ordered (λ a b here there lower.
-      let r = origin a here in
-      let s = origin b there in
+      let r = origin db wheres project (rising order) limit params rows h a here in
+      let s = origin db wheres project (rising order) limit params rows h b there in
       rw (r.3, s.3) (rises r.0 s.0 (sym (ordered_by r.0 s.0) ∙ rw (r.3, s.3) at lower))) (strictly R total h.ordered h.sorted apart_now)

@@ -15,7 +15,7 @@ use Rattle.sqlite.proofs.Callers.{never_commits, IsPlain, command_of, reads_as}
 use Rattle.sqlite.proofs.StateLemmas.{survives_weaker}
 use Rattle.sqlite_rules.specs.Lists.{Has}
 use Rattle.sqlite_rules.proofs.ListLemmas.{all_has, has_got}
-use Rattle.zeb_register.specs.Sql.{Condition, MeetsAll, passes, reading, alone, shows, ordering, HasLayout, IsListOf}
+use Rattle.zeb_register.specs.Sql.{Condition, MeetsAll, passes, reading, alone, rising, shows, ordering, HasLayout, IsListOf}
 use Rattle.zeb_register.specs.Kinds.{IsPlainTable, HasKeys, are_fit, are_comparable, codes_of, covers}
 use Rattle.zeb_register.proofs.RowLemmas.{covered_some, ordering_tied, shares_alone}
 use Rattle.zeb_register.proofs.Scans.{reads, shows_each, shows_rising, all_shown}
@@ -48,8 +48,8 @@ module _ (schema : Schema) (at : ℕ) (table : Table) (static : IsPlainTable sch
   selects sql params wheres show order limit names is bare unlisted fit comparable covered rises old new rows layout shown =
       let db = old.now.trees table.tree in
       let read = reads_as sql params old new schema layout.is (Select (alone (reading table.tree wheres (shows show) order limit)) names) is bare unlisted rows shown in
-      let answer = reads old.now table.tree wheres (shows show) order limit params rows read in
-      let each = shows_each db wheres (shows show) order limit params rows answer in
+      let answer = reads old.now table.tree wheres (shows show) (rising order) limit params rows read in
+      let each = shows_each db wheres (shows show) (rising order) limit params rows answer in
       let met = meets_there schema at table static old params wheres layout fit in
       let sound = subst (λ t. IsDatabase (record { schema = t; trees = old.now.trees })) layout.is layout.sound in
       let keyed = keyed_there schema at table static old layout in
@@ -58,7 +58,7 @@ module _ (schema : Schema) (at : ℕ) (table : Table) (static : IsPlainTable sch
       let apart = λ (r s : Row) (here : Has db r) (there : Has db s) (p : passes wheres params r ≡ true) (q : passes wheres params s ≡ true) (lower : _) (tie : ordering order r s ≡ Equal).
       shares_alone schema old.now.trees table keys sound (has_got schema.tables at table static.there) has r s here there (int r here) (int s there) (codes r here) (codes s there)
       (covered_some params r s wheres order keys ((met r here).0 p) ((met s there).0 q) (ordering_tied (codes_of table) order r s (codes r here) (codes s there) comparable tie) covered) lower in (
-        all_shown db wheres (shows show) order limit params rows answer,
+        all_shown db wheres (shows show) (rising order) limit params rows answer,
         record {
           each = λ x. (
             λ h. let r = (each x).0 h in (r.0, r.1, (met r.0 r.1).0 r.2, r.3 ∙ shown_places params r.0 show),

@@ -17,7 +17,7 @@ use Rattle.sqlite_schema.specs.declared.schema.Keys.TheVariants.{Enforced}
 use Rattle.sqlite_rules.specs.Action.{works}
 use Rattle.sqlite_schema.specs.Names.{is_key}
 use Rattle.sqlite_schema.specs.Rules.{kind_of, kind_code, agree}
-use Rattle.zeb_register.specs.Sql.{Condition, equals, at_least}
+use Rattle.zeb_register.specs.Sql.{Condition, equals, at_least, less_than}
 
 -- 0 NULL, 1 an integer, 2 a float, 3 a text, 4 a blob
 abbrev pub code : Value → ℕ
@@ -49,6 +49,7 @@ is_exact n = (n == 1) || (n == 3) || (n == 4)
 abbrev pub fits : List ℕ → Row → Condition → Bool
 fits codes params (equals place from) = is_exact (slice_index_or codes place 0) && (slice_index_or codes place 0 == code (column params from))
 fits codes params (at_least place from) = is_exact (slice_index_or codes place 0) && (slice_index_or codes place 0 == code (column params from))
+fits codes params (less_than place from) = is_exact (slice_index_or codes place 0) && (slice_index_or codes place 0 == code (column params from))
 
 abbrev pub are_fit : Table → Row → List Condition → Bool
 are_fit table params = list_all (fits (codes_of table) params)
@@ -102,6 +103,7 @@ pub record HasKeys (schema : Schema) (table : Table) (keys : List (List ℕ)) : 
 abbrev pub is_at : ℕ → Condition → Bool
 is_at p (equals place from) = place == p
 is_at p (at_least place from) = false
+is_at p (less_than place from) = false
 
 -- each place of the key is told by a condition or is in ORDER BY, so no two rows of an answer tie
 abbrev pub covers : List Condition → List ℕ → List ℕ → Bool

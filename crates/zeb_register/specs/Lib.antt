@@ -7,3 +7,4 @@ pub mod Calls
 pub mod Catalog
 pub mod Kept
 pub mod Content
+pub mod Terms

@@ -14,6 +14,7 @@ mod plain;
 mod registers;
 mod statements;
 mod tables;
+mod terms;
 mod values;
 mod wiping;
 
@@ -21,7 +22,7 @@ pub use catalog::{Database, DatabaseId, database_of, database_put};
 pub use faults::RegFault;
 pub use kept::{Elder, Record, ident_of, record_of_ident, record_put, record_take, records};
 pub use meta::{meta_of, meta_put};
-pub use plain::{Rows, rows_hold_one_content};
-pub use registers::{Layout, Place, Posting, TermCount, Totals, Work};
+pub use plain::{Rows, registers_have_one_list_of_terms, rows_hold_one_content};
+pub use registers::{Layout, Place, Posting, TermCount, Totals, Work, contents_change};
 pub use tables::make_tables;
 pub use wiping::wipe;

@@ -21,6 +21,7 @@ pub fn meta_of<S: Alter>(conn: &mut Connection<S>, name: &str) -> Result<Option<
     ensures same { HasCleanDisk (state S.Store conn.new) → conn.old.in_transaction ≡ false → ChangesNothing (state S.Store conn.old) (state S.Store conn.new) }
     ensures value { HasCleanDisk (state S.Store conn.new) → IsStore (state S.Store conn.old) → IfOk result (IsValueOf (state S.Store conn.old).now.trees name.now) }
     ensures honest { HasCleanDisk (state S.Store conn.new) → IsStore (state S.Store conn.old) → result ≡ Err RegFault.Damaged → ¬ AreReadableTexts (state S.Store conn.old).now.trees name.now }
+    ensures opened { HasCleanDisk (state S.Store conn.new) → result ≡ Err RegFault.Damaged → IsTrue (state S.Store conn.old).is_open }
     ensures crash { Survives (state S.Store conn.old) (state S.Store conn.new) (λ _. ⊥) }
 {
     let rows = text_rows(conn, name)?;

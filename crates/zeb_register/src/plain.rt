@@ -1,6 +1,6 @@
 //! Registers with one row for each posting.
 
-ghost use Rattle.std.specs.Prelude.{ℤ, ◌≡◌, ◌≢◌, true, false, pos, map, IsTrue, OnOk, OnErr, IfOk, FitsSigned};
+ghost use Rattle.std.specs.Prelude.{ℕ, ℤ, List, IsUtf8, ◌≡◌, ◌≢◌, true, false, pos, map, IsTrue, OnOk, OnErr, IfOk, FitsSigned};
 ghost use Rattle.std.specs.Int.{w64};
 ghost use Rattle.sqlite.specs.Tree.{Trees};
 ghost use Rattle.sqlite_rules.specs.Lists.{Has};
@@ -11,14 +11,15 @@ ghost use Rattle.std.specs.List.Sorted.{IsStrictlySortedBy};
 ghost use Rattle.zeb_register.specs.Sql.{Loses, Gains};
 ghost use Rattle.zeb_register.specs.Store.{IsStore, postings_tree};
 ghost use Rattle.zeb_register.specs.Calls.{ChangesNothing, GoesOn, OnlyReads, Alters};
+ghost use Rattle.zeb_register.specs.Terms.{key_in, AreTermsOf};
 
 use crate::catalog::database_drop;
 use crate::kept::records_drop;
 use crate::registers::{Layout, Place, Posting, TermCount, Totals, Work};
 use crate::statements::postings::{
-    place_rows, places_lift, posting_put, posting_rows, postings_clear, register_rows, rows_before,
-    rows_from,
+    place_rows, places_lift, posting_put, posting_rows, postings_clear, register_rows,
 };
+use crate::terms::{count_terms, term_before, term_count, term_from, text_above};
 use crate::values::{read, stored};
 use crate::{DatabaseId, RegFault};
 use sqlite::{Alter, Connection, Row, Transaction};
@@ -31,15 +32,25 @@ use zeb_profile::Register;
 pub struct Rows;
 
 impl Layout for Rows {
+    ghost use Rattle.std.specs.Prelude.{codes};
     ghost use Rattle.zeb_register.specs.Content.{HoldsRows, rows_stay, rows_empty};
+    ghost use Rattle.zeb_register.specs.Terms.{no_rows};
 
     ghost holds = { HoldsRows };
+
+    ghost row_work = { 0 };
+
+    ghost block_rows = { no_rows };
 
     ghost stays = { rows_stay };
 
     ghost empty = { rows_empty };
 
-    const VERSION: &'static str = "1";
+    ghost version = { codes "1" };
+
+    fn version() -> &'static str {
+        "1"
+    }
 
     fn key_change<S: Alter>(
         tx: &mut Transaction<'_, S>,
@@ -73,9 +84,7 @@ impl Layout for Rows {
         db: DatabaseId,
         key: &Key,
     ) -> Result<Vec<Posting>, RegFault> {
-        let register = code_of(key.register);
-        let rows = posting_rows(conn, db.column(), key.index, register, key.term.as_str())?;
-        postings_of(alloc, &rows)
+        postings_under(alloc, conn, db, key.index, key.register, key.term.as_str())
     }
 
     fn terms_of<S: Alter>(
@@ -102,15 +111,13 @@ impl Layout for Rows {
     ) -> Result<Vec<TermCount>, RegFault> {
         let mut counts = Vec::new(alloc);
         let mut next = String::from_str(alloc, start)?;
-        for _ in 0..n {
+        for _done in 0..n {
             let Some(term) = term_from(conn, db, index, register, &next)? else {
                 break;
             };
-            let records = records_with(conn, db, index, register, &term)?;
-            next = term.clone()?;
-            // The least text above the term.
-            next.push('\0')?;
-            counts.push(TermCount { term, records })?;
+            let count = term_count(alloc, conn, db, index, register, term)?;
+            next = text_above(alloc, count.term.as_str())?;
+            counts.push(count)?;
         }
         Ok(counts)
     }
@@ -127,13 +134,13 @@ impl Layout for Rows {
     ) -> Result<Vec<TermCount>, RegFault> {
         let mut counts = Vec::new(alloc);
         let mut above = String::from_str(alloc, start)?;
-        for _ in 0..n {
+        for _done in 0..n {
             let Some(term) = term_before(conn, db, index, register, &above)? else {
                 break;
             };
-            let records = records_with(conn, db, index, register, &term)?;
-            above = term.clone()?;
-            counts.push(TermCount { term, records })?;
+            let count = term_count(alloc, conn, db, index, register, term)?;
+            above = String::from_str(alloc, count.term.as_str())?;
+            counts.push(count)?;
         }
         counts.reverse();
         Ok(counts)
@@ -161,8 +168,14 @@ pub fn rows_hold_one_content()
     ensures { (trees : Trees) (one two : Content) → HoldsRows trees one → HoldsRows trees two → (db : ℤ) (key : _) → one db key ≡ two db key }
 {}
 
+/// Each register of a content has at most one list of terms, and where tables hold the content it has one.
+pub fn registers_have_one_list_of_terms()
+    ensures one { (content : Content) (db : ℤ) (index : ℕ) (register : _) (one two : List _) → AreTermsOf content db index register one → AreTermsOf content db index register two → one ≡ two }
+    ensures held { (trees : Trees) (content : Content) (db : ℤ) (index : ℕ) (register : _) → HoldsRows trees content → (terms : List _) × AreTermsOf content db index register terms }
+{}
+
 /// The number by which the tables know a register.
-fn code_of(register: Register) -> i64
+pub(crate) fn code_of(register: Register) -> i64
     ensures value { result ≡ pos (code_of_register register) }
     ensures fits { FitsSigned w64 result }
 {
@@ -171,6 +184,27 @@ fn code_of(register: Register) -> i64
         Register::Phrase => 1,
         Register::Number => 2,
     }
+}
+
+/// The postings of a term, rising.
+pub(crate) fn postings_under<S: Alter>(
+    alloc: Global,
+    conn: &mut Connection<S>,
+    db: DatabaseId,
+    index: u32,
+    register: Register,
+    term: &str,
+) -> Result<Vec<Posting>, RegFault>
+    ensures idle { conn.old.in_transaction ≡ false → conn.new.in_transaction ≡ false }
+    ensures same { HasCleanDisk (state S.Store conn.new) → conn.old.in_transaction ≡ false → ChangesNothing (state S.Store conn.old) (state S.Store conn.new) }
+    ensures still { HasCleanDisk (state S.Store conn.new) → OnOk result ((state S.Store conn.new).now ≡ (state S.Store conn.old).now) }
+    ensures value { HasCleanDisk (state S.Store conn.new) → IsStore (state S.Store conn.old)
+        → IfOk result (λ list. (content : Content) → HoldsRows (state S.Store conn.old).now.trees content → list.items ≡ content db.0 (key_in index register term.now)) }
+    ensures honest { HasCleanDisk (state S.Store conn.new) → IsStore (state S.Store conn.old) → result ≡ Err RegFault.Damaged → (content : Content) → ¬ HoldsRows (state S.Store conn.old).now.trees content }
+    ensures crash { Survives (state S.Store conn.old) (state S.Store conn.new) (λ _. ⊥) }
+{
+    let rows = posting_rows(conn, db.column(), index, code_of(register), term)?;
+    postings_of(alloc, &rows)
 }
 
 /// The postings that rows of a key show.
@@ -225,51 +259,6 @@ fn is_place(row: &Row, place: Place) -> Result<bool, RegFault>
     Ok(seq == place.seq && pos == place.pos)
 }
 
-/// The terms of rows that are sorted by term and number, each with how many numbers it has.
-fn count_terms(alloc: Global, rows: &[Row]) -> Result<Vec<TermCount>, RegFault> {
-    let mut counts: Vec<TermCount> = Vec::new(alloc);
-    let mut newest: u64 = 0;
-    for row in rows {
-        let term: String = read(row, 0)?;
-        let sysno: u64 = read(row, 1)?;
-        match counts.last_mut() {
-            Some(count) if count.term == term => {
-                if sysno != newest {
-                    count.records = count.records.saturating_add(1);
-                }
-            }
-            _ => counts.push(TermCount { term, records: 1 })?,
-        }
-        newest = sysno;
-    }
-    Ok(counts)
-}
-
-/// How many records have the term.
-fn records_with<S: Alter>(
-    conn: &mut Connection<S>,
-    db: DatabaseId,
-    index: u32,
-    register: Register,
-    term: &str,
-) -> Result<u64, RegFault>
-    ensures idle { conn.old.in_transaction ≡ false → conn.new.in_transaction ≡ false }
-    ensures same { HasCleanDisk (state S.Store conn.new) → conn.old.in_transaction ≡ false → ChangesNothing (state S.Store conn.old) (state S.Store conn.new) }
-    ensures crash { Survives (state S.Store conn.old) (state S.Store conn.new) (λ _. ⊥) }
-{
-    let rows = posting_rows(conn, db.column(), index, code_of(register), term)?;
-    let mut records: u64 = 0;
-    let mut newest: u64 = 0;
-    for row in &rows {
-        let sysno: u64 = read(row, 0)?;
-        if records == 0 || sysno != newest {
-            records = records.saturating_add(1);
-        }
-        newest = sysno;
-    }
-    Ok(records)
-}
-
 /// Whether the register holds just these places of the key in the record.
 fn holds_places<S: Alter>(
     tx: &mut Transaction<'_, S>,
@@ -286,6 +275,7 @@ fn holds_places<S: Alter>(
     ensures lost { HasCleanDisk (state S.Store tx.new.conn.now) → IsTrue (state S.Store tx.old.conn.now).in_transaction → IsStore (state S.Store tx.old.conn.now) → (content : Content) → HoldsRows (state S.Store tx.old.conn.now).now.trees content
         → IsStrictlySortedBy place_cmp places.now → result ≡ Ok false → ¬ ArePlacesOf sysno places.now (content db.0 key.now) }
     ensures honest { HasCleanDisk (state S.Store tx.new.conn.now) → IsTrue (state S.Store tx.old.conn.now).in_transaction → IsStore (state S.Store tx.old.conn.now) → (content : Content) → HoldsRows (state S.Store tx.old.conn.now).now.trees content → result ≢ Err RegFault.Damaged }
+    ensures text { OnOk result (IsUtf8 key.now.term) }
     ensures crash { Survives (state S.Store tx.old.conn.now) (state S.Store tx.new.conn.now) (λ _. ⊥) }
 {
     let sysno = stored(sysno)?;
@@ -378,42 +368,4 @@ fn place_put<S: Alter>(
         pos,
     )?;
     Ok(())
-}
-
-/// The least term of the register that is not below `start`.
-fn term_from<S: Alter>(
-    conn: &mut Connection<S>,
-    db: DatabaseId,
-    index: u32,
-    register: Register,
-    start: &str,
-) -> Result<Option<String>, RegFault>
-    ensures idle { conn.old.in_transaction ≡ false → conn.new.in_transaction ≡ false }
-    ensures same { HasCleanDisk (state S.Store conn.new) → conn.old.in_transaction ≡ false → ChangesNothing (state S.Store conn.old) (state S.Store conn.new) }
-    ensures crash { Survives (state S.Store conn.old) (state S.Store conn.new) (λ _. ⊥) }
-{
-    let rows = rows_from(conn, db.column(), index, code_of(register), start)?;
-    match rows.first() {
-        Some(row) => Ok(Some(read(row, 0)?)),
-        None => Ok(None),
-    }
-}
-
-/// The greatest term of the register that is below `start`.
-fn term_before<S: Alter>(
-    conn: &mut Connection<S>,
-    db: DatabaseId,
-    index: u32,
-    register: Register,
-    start: &str,
-) -> Result<Option<String>, RegFault>
-    ensures idle { conn.old.in_transaction ≡ false → conn.new.in_transaction ≡ false }
-    ensures same { HasCleanDisk (state S.Store conn.new) → conn.old.in_transaction ≡ false → ChangesNothing (state S.Store conn.old) (state S.Store conn.new) }
-    ensures crash { Survives (state S.Store conn.old) (state S.Store conn.new) (λ _. ⊥) }
-{
-    let rows = rows_before(conn, db.column(), index, code_of(register), start)?;
-    match rows.first() {
-        Some(row) => Ok(Some(read(row, 0)?)),
-        None => Ok(None),
-    }
 }

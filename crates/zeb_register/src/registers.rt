@@ -1,14 +1,16 @@
 //! What a layout of the registers has to do, whatever tables it keeps them in.
 
-ghost use Rattle.std.specs.Prelude.{◌≡◌, ◌≢◌, false, [], IsTrue, OnOk, OnErr, IfOk};
+ghost use Rattle.std.specs.Prelude.{◌≡◌, ◌≢◌, ◌↔◌, ◌+◌, ◌*◌, ℕ, ℤ, false, List, [], length, IsUtf8, IsTrue, OnOk, OnErr, IfOk};
 ghost use Rattle.sqlite.specs.Held.{state};
 ghost use Rattle.sqlite.specs.State.{HasCleanDisk, KeepsCommit, Survives};
+ghost use Rattle.sqlite_rules.specs.Lists.{Has};
 ghost use Rattle.zeb_register.specs.Calls.{ChangesNothing, GoesOn};
+ghost use Rattle.zeb_register.specs.Content.{Content, IsRising, IsChangedAt, IsWithout};
 
 use crate::{DatabaseId, RegFault};
 use sqlite::{Alter, Connection, Transaction};
 use std::alloc::Global;
-use zeb_extract::Key;
+use zeb_extract::{Key, Term};
 use zeb_profile::Register;
 
 /// A place of a record at which a key stands: the number of the unit, and the number of the word or number in it. Both are 1 to `2^63 - 1`.
@@ -29,7 +31,7 @@ pub struct Posting {
 /// A term of a register, and the number of records that have it.
 #[derive(Debug, PartialEq, Eq, Drop)]
 pub struct TermCount {
-    pub term: String,
+    pub term: Term,
     pub records: u64,
 }
 
@@ -53,16 +55,29 @@ pub struct Work {
 ///
 /// What the registers hold is, for each database and each key, a rising list of postings.
 pub trait Layout {
+    ghost use Rattle.std.specs.Prelude.{List, ℕ};
     ghost use Rattle.std.specs.List.Sorted.{IsStrictlySortedBy};
     ghost use Rattle.sqlite.specs.Tree.{Trees};
     ghost use Rattle.zeb_register.specs.Store.{IsStore, KeepsLists, KeepsRegisters, LacksRegisters};
     ghost use Rattle.zeb_register.specs.Content.{Content, IsChangedAt, ArePlacesOf, place_cmp, IsWithout, TakesWhole};
+    ghost use Rattle.zeb_register.specs.Terms.{AreTermsOf, AreTermsFrom, AreTermsBefore, AreTotals, HasTexts, Works, ReadsTerms};
+    ghost use Rattle.zeb_register.specs.declared.registers.Posting.{Posting};
 
     /// The tables of the registers hold this content and nothing else.
     ghost holds: { Trees → Content → Type 0 };
 
+    /// What a row of `dict` or `blocks` that is read or written adds to its count: 1, or 0 in a layout that has no such rows.
+    ghost row_work: { ℕ };
+
+    /// How many rows of `blocks` a list of postings has.
+    ghost block_rows: { List Posting → ℕ };
+
     /// The text that a store of this layout keeps under the name `version`.
-    const VERSION: &'static str;
+    ghost version: { List ℕ };
+
+    /// The text that a store of this layout keeps under the name `version`.
+    fn version() -> &'static str
+        ensures { result.now ≡ version };
 
     /// Puts the places `new` of a key in a record where `old` stood. Both lists rise.
     ///
@@ -86,6 +101,10 @@ pub trait Layout {
             → OnOk result ((content : Content) → holds (state S.Store tx.old.conn.now).now.trees content → ArePlacesOf sysno old.now (content db.0 key.now)) }
         ensures damaged { HasCleanDisk (state S.Store tx.new.conn.now) → IsTrue (state S.Store tx.old.conn.now).in_transaction → IsStore (state S.Store tx.old.conn.now)
             → result ≡ Err RegFault.Damaged → IsStrictlySortedBy place_cmp old.now → (content : Content) → holds (state S.Store tx.old.conn.now).now.trees content → ¬ ArePlacesOf sysno old.now (content db.0 key.now) }
+        ensures text { OnOk result (IsUtf8 key.now.term) }
+        ensures work { HasCleanDisk (state S.Store tx.new.conn.now) → IsTrue (state S.Store tx.old.conn.now).in_transaction → IsStore (state S.Store tx.old.conn.now)
+            → OnOk result ((content : Content) → holds (state S.Store tx.old.conn.now).now.trees content → Works row_work row_work row_work row_work work.old work.new) }
+        ensures no_work { row_work ≡ 0 → work.new ≡ work.old }
         ensures crash { Survives (state S.Store tx.old.conn.now) (state S.Store tx.new.conn.now) (λ _. ⊥) };
 
     /// Takes a database out, with its records and all its postings.
@@ -112,6 +131,9 @@ pub trait Layout {
         ensures value { HasCleanDisk (state S.Store conn.new) → IsStore (state S.Store conn.old)
             → IfOk result (λ list. (content : Content) → holds (state S.Store conn.old).now.trees content → list.items ≡ content db.0 key.now) }
         ensures honest { HasCleanDisk (state S.Store conn.new) → IsStore (state S.Store conn.old) → result ≡ Err RegFault.Damaged → (content : Content) → ¬ holds (state S.Store conn.old).now.trees content }
+        ensures work { HasCleanDisk (state S.Store conn.new) → IsStore (state S.Store conn.old)
+            → IfOk result (λ list. (content : Content) → holds (state S.Store conn.old).now.trees content → Works 0 0 (block_rows list.items) 0 work.old work.new) }
+        ensures no_work { row_work ≡ 0 → work.new ≡ work.old }
         ensures crash { Survives (state S.Store conn.old) (state S.Store conn.new) (λ _. ⊥) };
 
     /// The terms of a register that have a posting, in the order of their bytes.
@@ -125,6 +147,12 @@ pub trait Layout {
     ) -> Result<Vec<TermCount>, RegFault>
         ensures idle { conn.old.in_transaction ≡ false → conn.new.in_transaction ≡ false }
         ensures same { HasCleanDisk (state S.Store conn.new) → conn.old.in_transaction ≡ false → ChangesNothing (state S.Store conn.old) (state S.Store conn.new) }
+        ensures value { HasCleanDisk (state S.Store conn.new) → IsStore (state S.Store conn.old)
+            → IfOk result (λ list. (content : Content) → holds (state S.Store conn.old).now.trees content → AreTermsOf content db.0 index register list.items) }
+        ensures honest { HasCleanDisk (state S.Store conn.new) → IsStore (state S.Store conn.old) → result ≡ Err RegFault.Damaged → (content : Content) → HasTexts content → ¬ holds (state S.Store conn.old).now.trees content }
+        ensures work { HasCleanDisk (state S.Store conn.new) → IsStore (state S.Store conn.old)
+            → IfOk result (λ list. (content : Content) → holds (state S.Store conn.old).now.trees content → Works (row_work * length list.items) 0 0 0 work.old work.new) }
+        ensures no_work { row_work ≡ 0 → work.new ≡ work.old }
         ensures crash { Survives (state S.Store conn.old) (state S.Store conn.new) (λ _. ⊥) };
 
     /// The first `n` of these terms that are not below `start`, in the order of their bytes.
@@ -140,6 +168,12 @@ pub trait Layout {
     ) -> Result<Vec<TermCount>, RegFault>
         ensures idle { conn.old.in_transaction ≡ false → conn.new.in_transaction ≡ false }
         ensures same { HasCleanDisk (state S.Store conn.new) → conn.old.in_transaction ≡ false → ChangesNothing (state S.Store conn.old) (state S.Store conn.new) }
+        ensures value { HasCleanDisk (state S.Store conn.new) → IsStore (state S.Store conn.old)
+            → IfOk result (λ list. (content : Content) → holds (state S.Store conn.old).now.trees content → AreTermsFrom content db.0 index register start.now n list.items) }
+        ensures honest { HasCleanDisk (state S.Store conn.new) → IsStore (state S.Store conn.old) → result ≡ Err RegFault.Damaged → (content : Content) → HasTexts content → ¬ holds (state S.Store conn.old).now.trees content }
+        ensures work { HasCleanDisk (state S.Store conn.new) → IsStore (state S.Store conn.old)
+            → IfOk result (λ list. (content : Content) → holds (state S.Store conn.old).now.trees content → ReadsTerms (row_work * (n + 1)) work.old work.new) }
+        ensures no_work { row_work ≡ 0 → work.new ≡ work.old }
         ensures crash { Survives (state S.Store conn.old) (state S.Store conn.new) (λ _. ⊥) };
 
     /// The last `n` of these terms that are below `start`, in the order of their bytes.
@@ -155,6 +189,12 @@ pub trait Layout {
     ) -> Result<Vec<TermCount>, RegFault>
         ensures idle { conn.old.in_transaction ≡ false → conn.new.in_transaction ≡ false }
         ensures same { HasCleanDisk (state S.Store conn.new) → conn.old.in_transaction ≡ false → ChangesNothing (state S.Store conn.old) (state S.Store conn.new) }
+        ensures value { HasCleanDisk (state S.Store conn.new) → IsStore (state S.Store conn.old)
+            → IfOk result (λ list. (content : Content) → holds (state S.Store conn.old).now.trees content → AreTermsBefore content db.0 index register start.now n list.items) }
+        ensures honest { HasCleanDisk (state S.Store conn.new) → IsStore (state S.Store conn.old) → result ≡ Err RegFault.Damaged → (content : Content) → HasTexts content → ¬ holds (state S.Store conn.old).now.trees content }
+        ensures work { HasCleanDisk (state S.Store conn.new) → IsStore (state S.Store conn.old)
+            → IfOk result (λ list. (content : Content) → holds (state S.Store conn.old).now.trees content → ReadsTerms (row_work * n) work.old work.new) }
+        ensures no_work { row_work ≡ 0 → work.new ≡ work.old }
         ensures crash { Survives (state S.Store conn.old) (state S.Store conn.new) (λ _. ⊥) };
 
     /// How many terms and postings a register holds.
@@ -168,6 +208,10 @@ pub trait Layout {
     ) -> Result<Totals, RegFault>
         ensures idle { conn.old.in_transaction ≡ false → conn.new.in_transaction ≡ false }
         ensures same { HasCleanDisk (state S.Store conn.new) → conn.old.in_transaction ≡ false → ChangesNothing (state S.Store conn.old) (state S.Store conn.new) }
+        ensures value { HasCleanDisk (state S.Store conn.new) → IsStore (state S.Store conn.old)
+            → IfOk result (λ sums. (content : Content) → holds (state S.Store conn.old).now.trees content → AreTotals content db.0 index register sums) }
+        ensures honest { HasCleanDisk (state S.Store conn.new) → IsStore (state S.Store conn.old) → result ≡ Err RegFault.Damaged → (content : Content) → HasTexts content → ¬ holds (state S.Store conn.old).now.trees content }
+        ensures no_work { row_work ≡ 0 → work.new ≡ work.old }
         ensures crash { Survives (state S.Store conn.old) (state S.Store conn.new) (λ _. ⊥) };
 
     /// What the registers hold is told by their tables alone.
@@ -176,3 +220,12 @@ pub trait Layout {
     /// Tables without a row hold no posting.
     ghost empty: { (trees : Trees) → LacksRegisters trees → holds trees (λ _ _. []) };
 }
+
+/// A content is told by its postings. It can be changed at one key of one record, and a database can be taken from it, each in one way.
+pub fn contents_change()
+    ensures told { (one two : Content) → IsRising one → IsRising two → ((db : ℤ) (key : _) (p : _) → Has (one db key) p ↔ Has (two db key) p) → one ≡ two }
+    ensures changed { (db : ℤ) (key : _) (sysno : ℕ) (places : List _) (old : Content) → IsRising old
+        → ((new : Content) × IsChangedAt db key sysno places old new) × ((one two : Content) → IsChangedAt db key sysno places old one → IsChangedAt db key sysno places old two → one ≡ two) }
+    ensures without { (db : ℤ) (old : Content) → IsRising old
+        → ((new : Content) × IsWithout db old new) × ((one two : Content) → IsWithout db old one → IsWithout db old two → one ≡ two) }
+{}

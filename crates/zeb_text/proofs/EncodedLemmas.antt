@@ -7,9 +7,10 @@ use Rattle.std.proofs.lemmas.Bool.{false_from_ne_true, false≢true, cases_Bool}
 use Rattle.std.proofs.lemmas.Bool.Decides.{nat_tests}
 use Rattle.std.proofs.lemmas.List.{append_assoc, append-nil, get_or_append_left}
 use Rattle.std.proofs.lemmas.Str.{inside_one, length-encode, len_utf8_bounds, encode_ascii, encodes-chars}
+use Rattle.std.proofs.lemmas.List.Elements.{All-nil, All-push}
 use Rattle.zeb_text.specs.Words.{runs_of}
 use Rattle.zeb_text.specs.Numbers.{numerals_of, numbers_of}
-use Rattle.zeb_text.proofs.RunLemmas.{All-from_places, All-push, All-nil, runs_of-other, runs_of-gap, runs_of-run, front_run}
+use Rattle.zeb_text.proofs.RunLemmas.{All-from_places, runs_of-other, runs_of-gap, runs_of-run, front_run}
 
 module _ (p : ℕ → Bool) (ascii : (c : ℕ) → p c ≡ true → c < 128) where
   -- no byte of another character passes

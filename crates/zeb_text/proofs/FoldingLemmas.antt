@@ -7,8 +7,8 @@ use Rattle.std.proofs.Common.{inl, inr}
 use Rattle.unicode_normalization.specs.Forms.{nfd}
 use Rattle.caseless.specs.Caseless.{default_case_fold, canonical_key}
 use Rattle.caseless.proofs.CaselessLemmas.{default_case_fold-ascii, canonical_key-ascii}
+use Rattle.std.proofs.lemmas.List.Elements.{All-cons, All-head, All-nil, All-tail}
 use Rattle.zeb_text.specs.Folding.{folded, is_diacritical_mark}
-use Rattle.zeb_text.proofs.RunLemmas.{All-head, All-tail, All-cons, All-nil}
 
 abbrev kept : List ℕ → List ℕ
 kept = filter (λ c. not (is_diacritical_mark c))

@@ -16,9 +16,9 @@ use Rattle.std.specs.Ordering.{nat_cmp, ordering_then}
 use Rattle.std.specs.Cmp.{nat_cmp_is}
 use Rattle.std.proofs.Common.{Less, Greater}
 use Rattle.std.specs.Cmp.Lexicographic.{slice_cmp}
+use Rattle.std.proofs.lemmas.List.Elements.{All-cons, All-head, All-nil, All-tail}
 use Rattle.zeb_text.specs.Numbers.{number_key}
 use Rattle.zeb_text.proofs.DigitLemmas.{digit_range}
-use Rattle.zeb_text.proofs.RunLemmas.{All-cons, All-nil}
 
 -- what `{:018}` writes
 pub key_text : (n : ℕ) → padded_integral (format_spec 32 0 4 18 (2 ^ 64 - 1)) false [] (decimal n) ≡ number_key n
@@ -166,3 +166,14 @@ All-from_digits (c ∷ ds) all = All-cons (λ d. is_ascii_digit d ≡ true) c ds
 
 pub key_digits : (n : ℕ) → n < 10 ^ 18 → (length (number_key n) ≡ 18) × AllPass is_ascii_digit (number_key n)
 key_digits n small = (length_of_key n small, All-from_digits (number_key n) (digits_of_key n small))
+
+digits_from_All : (ds : List ℕ) → AllPass is_ascii_digit ds → AllDigits 10 ds
+digits_from_All [] all = tt
+digits_from_All (c ∷ ds) all =
+    let digit = digit_range c (All-head (λ d. is_ascii_digit d ≡ true) c ds all) in
+    (omega arith, digits_from_All ds (All-tail (λ d. is_ascii_digit d ≡ true) c ds all))
+
+pub key_of_digits : (ds : List ℕ) → length ds ≡ 18 → AllPass is_ascii_digit ds → (n : ℕ) × (n < 10 ^ 18) × (number_key n ≡ ds)
+key_of_digits ds long all =
+    let key = is_key ds (digits_from_All ds all) long in
+    (digits_value 10 ds, key.0, sym key.1)

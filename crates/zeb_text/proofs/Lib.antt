@@ -9,3 +9,4 @@ pub mod TruncationLemmas
 pub mod KeyLemmas
 pub mod MaximalRuns
 pub mod FoldingLemmas
+pub mod NumberBounds

@@ -4,8 +4,9 @@ use Rattle.std.specs.List.{AllPass, join_with_byte}
 use Rattle.std.specs.Str.{NonePass}
 use Rattle.std.proofs.lemmas.Bool.{cases_Bool}
 use Rattle.std.proofs.lemmas.List.{append_assoc, append-nil}
+use Rattle.std.proofs.lemmas.List.Elements.{All-cons, All-nil, All-push}
 use Rattle.zeb_text.specs.Words.{AreRuns, IsCutOff, runs_of}
-use Rattle.zeb_text.proofs.RunLemmas.{All-cons, All-nil, All-push, runs_of-nil, runs_of-other, runs_of-run, runs_of-last, runs_of-gap, runs_of-none, front_run}
+use Rattle.zeb_text.proofs.RunLemmas.{runs_of-nil, runs_of-other, runs_of-run, runs_of-last, runs_of-gap, runs_of-none, front_run}
 
 module _ (p : ℕ → Bool) where
   All-from_none : (cs : List ℕ) → NonePass p cs → All (λ c. p c ≡ false) cs
@@ -62,7 +63,8 @@ module _ (p : ℕ → Bool) where
 
 -- ---- runs with a separator between them
 
-abbrev AllRuns : (ℕ → Bool) → List (List ℕ) → Type 0
+-- each has a character and only such that pass
+abbrev pub AllRuns : (ℕ → Bool) → List (List ℕ) → Type 0
 AllRuns p [] = Unit {0}
 AllRuns p (run ∷ runs) = (0 < length run) × AllPass p run × AllRuns p runs
 
@@ -79,6 +81,9 @@ all_runs : (p : ℕ → Bool) (text : List ℕ) (runs : List (List ℕ)) → Are
 all_runs p text [] cut = tt
 all_runs p text (run ∷ runs) cut = (some_length p run cut.4, cut.5, all_runs p cut.1 runs cut.7)
 
+pub runs_are_runs : (p : ℕ → Bool) (text : List ℕ) → AllRuns p (runs_of p text)
+runs_are_runs p text = all_runs p text (runs_of p text) (runs-are p text)
+
 -- the runs of a text, joined, have these runs
 pub runs_of-joined : (p : ℕ → Bool) (separator : ℕ) (text : List ℕ) → p separator ≡ false → runs_of p (join_with_byte separator (runs_of p text)) ≡ runs_of p text
-runs_of-joined p separator text other = runs_of-join p separator (runs_of p text) other (all_runs p text (runs_of p text) (runs-are p text))
+runs_of-joined p separator text other = runs_of-join p separator (runs_of p text) other (runs_are_runs p text)

@@ -1,27 +1,11 @@
 -- How the runs of a text grow, character by character.
-use Rattle.std.proofs.Common.{◌≡◌, ℕ, zero, suc, ◌<◌, ◌≤◌, Bool, true, false, not, List, [], ◌∷◌, ◌++◌, filter, length, get_or, take, drop, All, refl, sym, ap, ◌∙◌, arith, add-zero, suc-le-suc, le_of_suc-le-suc, zero-le}
+use Rattle.std.proofs.Common.{◌≡◌, ℕ, zero, suc, ◌<◌, ◌≤◌, Bool, true, false, not, List, [], ◌∷◌, ◌++◌, filter, length, get_or, take, drop, All, refl, sym, ap, ◌∙◌, arith, add-zero}
 use Rattle.std.specs.List.{AllPass}
 use Rattle.std.proofs.lemmas.Bool.{false≢true}
 use Rattle.std.proofs.lemmas.List.{append-nil, take-append-drop, get_or-drop, get_or-take, get_or_default, length-take, length-take-le, length-drop}
+use Rattle.std.proofs.lemmas.List.Elements.{All-head, All-tail}
 use Rattle.std.proofs.lemmas.List.Splits.{slice_split-cons_yes, slice_split_none, slice_split_at}
 use Rattle.zeb_text.specs.Words.{is_not_empty, runs_of}
-
-pub All-cons : {X : Type 0} (P : X → Type 0) (x : X) (xs : List X) → P x → All P xs → All P (x ∷ xs)
-All-cons P x xs h all zero d lt = h
-All-cons P x xs h all (suc k) d lt = all k d (le_of_suc-le-suc lt)
-
-pub All-head : {X : Type 0} (P : X → Type 0) (x : X) (xs : List X) → All P (x ∷ xs) → P x
-All-head P x xs all = all zero x (suc-le-suc zero-le)
-
-pub All-tail : {X : Type 0} (P : X → Type 0) (x : X) (xs : List X) → All P (x ∷ xs) → All P xs
-All-tail P x xs all k d lt = all (suc k) d (suc-le-suc lt)
-
-pub All-nil : {X : Type 0} (P : X → Type 0) → All P []
-All-nil P k d lt = absurd (omega arith)
-
-pub All-push : {X : Type 0} (P : X → Type 0) (xs : List X) (x : X) → All P xs → P x → All P (xs ++ x ∷ [])
-All-push P [] x all h = All-cons P x [] h (All-nil P)
-All-push P (y ∷ ys) x all h = All-cons P y (ys ++ x ∷ []) (All-head P y ys all) (All-push P ys x (All-tail P y ys all) h)
 
 -- what holds of each place
 pub All-from_places : (P : ℕ → Type 0) (xs : List ℕ) → ((k : ℕ) → k < length xs → P (get_or xs k 0)) → All P xs

@@ -3,8 +3,9 @@ use Rattle.std.proofs.Common.{◌≡◌, ℕ, ◌+◌, ◌<◌, Bool, true, fals
 use Rattle.std.specs.List.{AllPass}
 use Rattle.std.proofs.lemmas.List.{append_assoc, append-nil, map-append, nil_from_length}
 use Rattle.std.proofs.lemmas.Str.{encodes-append, length-le-encodes}
+use Rattle.std.proofs.lemmas.List.Elements.{All-nil, All-push}
 use Rattle.zeb_text.specs.Words.{runs_of}
-use Rattle.zeb_text.proofs.RunLemmas.{All-push, All-nil, runs_of-nil, runs_of-other, runs_of-run, runs_of-last}
+use Rattle.zeb_text.proofs.RunLemmas.{runs_of-nil, runs_of-other, runs_of-run, runs_of-last}
 
 -- after n characters of the text: the runs found, as bytes, and the run in hand
 pub record RunsSoFar (p : ℕ → Bool) (text : List ℕ) (n : ℕ) (found : List (List ℕ)) (bytes : List ℕ) : Type 0 where

@@ -1,7 +1,7 @@
 -- Words: the maximal runs of letters, marks and numbers (The Unicode Standard, section 4.5, General_Category L, M, N)
 -- in the folded text, in order. Texts are lists of code points.
 use Rattle.std.specs.Prelude.{◌≡◌, ◌≢◌, ℕ, Bool, true, false, ◌||◌, not, List, [], ◌∷◌, ◌++◌, filter, ⊤}
-use Rattle.std.specs.List.{AllPass, slice_split}
+use Rattle.std.specs.List.{AllPass, join_with_byte, slice_split}
 use Rattle.std.specs.Str.{NonePass}
 use Rattle.ucd_category.specs.GeneralCategory.{general_category}
 use Rattle.ucd_category.specs.GeneralCategoryGroup.{in_group}
@@ -36,3 +36,8 @@ AreRuns passes text (run ∷ runs) = (gap rest : List ℕ) × (text ≡ gap ++ (
 -- the words of a text
 abbrev pub words_of : List ℕ → List (List ℕ)
 words_of text = runs_of is_word_character (folded text)
+
+-- Words joined: one space (32) between each two; of none, the empty text. The words are characters or UTF-8, where a space
+-- is one byte.
+abbrev pub joined_text : List (List ℕ) → List ℕ
+joined_text words = join_with_byte 32 words

@@ -1,7 +1,6 @@
 // Words: a text cut at what is neither letter, mark nor number.
 ghost use Rattle.std.specs.Prelude.{◌≡◌, IfOk, chars, encode_utf8_all, map, string_bytes};
-ghost use Rattle.std.specs.List.{join_with_byte};
-ghost use Rattle.zeb_text.specs.Words.{is_word_character, runs_of, words_of};
+ghost use Rattle.zeb_text.specs.Words.{is_word_character, joined_text, runs_of, words_of};
 ghost use Rattle.zeb_text.specs.Truncation.{belongs_to_word};
 
 use crate::folding::fold;
@@ -21,7 +20,7 @@ pub fn words(alloc: Global, text: &str) -> Result<Vec<String>, AllocError>
 
 /// The words with one space between each two; of none, the empty text. The only refusal is want of memory.
 pub fn join(alloc: Global, words: &[String]) -> Result<String, AllocError>
-    ensures { IfOk result (λ joined. string_bytes joined ≡ join_with_byte 32 (map string_bytes words.now)) }
+    ensures { IfOk result (λ joined. string_bytes joined ≡ joined_text (map string_bytes words.now)) }
 {
     let mut joined = String::new(alloc);
     for (at, word) in words.iter().enumerate() {

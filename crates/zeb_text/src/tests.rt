@@ -1,4 +1,5 @@
-// Vectors of the definitions, from the Unicode tables of another program (tests/vectors.py).
+// Vectors of the definitions: worked answers of each call, and texts read by another program's Unicode tables.
+use self::texts::{Row, TEXTS};
 use crate::{
     Cut, Pattern, Spread, fold, join, join_patterns, key_of_number, number_of_key, numbers,
     pattern_words, words,
@@ -6,164 +7,211 @@ use crate::{
 use std::alloc::{AllocError, Global};
 use std::test::Fail;
 
-// Texts, and their words with a space between: the output of tests/vectors.py.
-const WORDS: [(&str, &str); 30] = [
-    ("CAF\u{c9}", "cafe"),
-    ("cafe\u{301}", "cafe"),
-    ("Stra\u{df}e", "strasse"),
-    ("STRASSE", "strasse"),
-    ("\u{130}stanbul", "istanbul"),
-    ("\u{1c5} \u{1c4} \u{1c6}", "\u{1c6} \u{1c6} \u{1c6}"),
+mod texts;
+
+/// What is asked of a text.
+#[derive(Clone, Copy)]
+enum Ask {
+    Fold,
+    /// The words, with a comma after each.
+    Words,
+    /// The pieces between commas, joined.
+    Join,
+    /// The numbers, with a comma after each.
+    Numbers,
+    /// The keys of the numbers, with a comma after each.
+    Keys,
+    /// The patterns, with a comma after each, where each is a word with or without stars at its ends.
+    Patterns(Cut, Spread),
+    /// The text of the patterns, joined, or `star` where there is one.
+    Literal(Cut, Spread),
+}
+
+use Ask::{Fold, Join, Keys, Literal, Numbers, Patterns, Words};
+use Cut::{Both, Hash, Left, Right};
+use Spread::{Each, Ends};
+
+/// What is asked, of which text, and the answer.
+type Vector = (Ask, &'static str, &'static str);
+
+const ANSWERS: [Vector; 32] = [
+    (Fold, "CAF\u{c9}", "cafe"),
+    (Fold, "Stra\u{df}e", "strasse"),
+    (Fold, "\u{130}", "i"),
+    (Words, "or, the whale /", "or,the,whale,"),
+    (Words, "", ""),
+    (Join, "moby,dick", "moby dick"),
+    (Join, "moby", "moby"),
+    (Join, "", ""),
+    (Numbers, "c1851, 007, 1234567890123456789", "1851,7,"),
+    (Keys, "1851", "000000000000001851,"),
     (
-        "\u{39f}\u{394}\u{39f}\u{3a3} \u{3bf}\u{3b4}\u{3bf}\u{3c2}",
-        "\u{3bf}\u{3b4}\u{3bf}\u{3c3} \u{3bf}\u{3b4}\u{3bf}\u{3c3}",
+        Keys,
+        "0 999999999999999999",
+        "000000000000000000,999999999999999999,",
     ),
-    ("\u{1fb3} \u{3b1}\u{345}", "\u{3b1}\u{3b9} \u{3b1}\u{3b9}"),
-    (
-        "\u{d55c}\u{ae00}",
-        "\u{1112}\u{1161}\u{11ab}\u{1100}\u{1173}\u{11af}",
-    ),
-    ("\u{301}", ""),
-    ("a\u{301}\u{300}b", "ab"),
-    (
-        "\u{661}\u{662}\u{663} \u{bd} \u{2167}",
-        "\u{661}\u{662}\u{663} \u{bd} \u{2177}",
-    ),
-    ("x\u{1f600}y", "x y"),
-    ("", ""),
-    (" ,;:!? ", ""),
-    ("or, the whale /", "or the whale"),
-    ("don't stop-start", "don t stop start"),
-    ("\u{531}\u{587}", "\u{561}\u{565}\u{582}"),
-    ("\u{fb03}x", "ffix"),
-    ("\u{1e9e}", "ss"),
-    ("\u{212b}ngstr\u{f6}m", "angstrom"),
-    ("\u{5d0}\u{5b7}\u{5d1}", "\u{5d0}\u{5b7}\u{5d1}"),
-    ("na\u{ef}ve r\u{e9}sum\u{e9}", "naive resume"),
-    ("tab\u{9}new\u{a}line", "tab new line"),
-    ("A#b", "a b"),
-    ("\u{e44}\u{e17}\u{e22}", "\u{e44}\u{e17}\u{e22}"),
-    ("\u{4e2d}\u{6587}", "\u{4e2d}\u{6587}"),
-    ("e\u{20dd}", "e\u{20dd}"),
-    ("_x_", "x"),
-    ("1851 c1851", "1851 c1851"),
+    (Patterns(Right, Ends), "Moby d", "moby,d*,"),
+    // Each place and spread of stars.
+    (Patterns(Cut::None, Ends), "ab cd ef", "ab,cd,ef,"),
+    (Patterns(Cut::None, Each), "ab cd ef", "ab,cd,ef,"),
+    (Patterns(Right, Ends), "ab cd ef", "ab,cd,ef*,"),
+    (Patterns(Right, Each), "ab cd ef", "ab*,cd*,ef*,"),
+    (Patterns(Left, Ends), "ab cd ef", "*ab,cd,ef,"),
+    (Patterns(Left, Each), "ab cd ef", "*ab,*cd,*ef,"),
+    (Patterns(Both, Ends), "ab cd ef", "*ab,cd,ef*,"),
+    (Patterns(Both, Each), "ab cd ef", "*ab*,*cd*,*ef*,"),
+    (Patterns(Hash, Ends), "ab cd ef", "ab,cd,ef,"),
+    (Patterns(Hash, Each), "ab cd ef", "ab,cd,ef,"),
+    (Patterns(Both, Ends), "ab", "*ab*,"),
+    (Patterns(Both, Each), " ,", ""),
+    // A `#` parts words, but under Hash.
+    (Patterns(Cut::None, Ends), "m#y", "m,y,"),
+    (Patterns(Right, Ends), "m#y", "m,y*,"),
+    (Patterns(Left, Each), "#m#y#", "*m,*y,"),
+    (Patterns(Both, Each), "##", ""),
+    (Literal(Cut::None, Ends), "Moby, Dick!", "moby dick"),
+    (Literal(Right, Ends), "moby", "star"),
+    (Literal(Hash, Ends), "m#by dick", "star"),
+    (Literal(Both, Each), "m#by dick", "star"),
 ];
 
-#[test]
-fn words_of_texts(rt: HostRuntime) -> Result<(), Fail> {
-    for (text, wanted) in WORDS {
-        let found = words(rt.alloc(), text)?;
-        let joined = join(rt.alloc(), found.as_slice())?;
-        assert_eq!(rt; joined.as_str(), wanted, "at {text}");
+/// Whether the patterns of a term, joined, match a text.
+type Match = (Cut, Spread, &'static str, &'static str, bool);
+
+const MATCHES: [Match; 28] = [
+    (Right, Ends, "Moby d", "moby dick", true),
+    (Right, Ends, "Moby d", "mob dick", false),
+    (Right, Ends, "Mo d", "moby dick", false),
+    (Right, Each, "Mo d", "moby dick", true),
+    (Right, Ends, "\u{e9}", "etude", true),
+    (Left, Ends, "by dick", "moby dick", true),
+    (Left, Ends, "by ick", "moby dick", false),
+    (Left, Each, "by ick", "moby dick", true),
+    (Left, Ends, "\u{4e2d}", "\u{6587}\u{4e2d}", true),
+    (Both, Ends, "by di", "moby dick", true),
+    (Both, Ends, "o i", "moby dick", false),
+    (Both, Each, "o i", "moby dick", true),
+    (Cut::None, Each, "moby dick", "moby dick", true),
+    (Cut::None, Ends, "moby", "moby dick", false),
+    (Cut::None, Ends, "", "", true),
+    (Cut::None, Ends, "m#y", "m y", true),
+    (Cut::None, Ends, "m#y", "moby", false),
+    (Hash, Ends, "m#y", "moby", true),
+    (Hash, Ends, "m#y", "my", true),
+    (Hash, Ends, "m#y", "m", false),
+    (Hash, Each, "m#y", "moby dicky", true),
+    (Hash, Each, "m#y d#", "moby dick", true),
+    (Hash, Each, "m#y d#", "moby rick", false),
+    (Hash, Ends, "##", "", true),
+    (Hash, Ends, "a#b#b", "aab", false),
+    (Hash, Ends, "a#b#b", "abab", true),
+    (Hash, Ends, "#b#c#", "bcb", true),
+    (Hash, Ends, "a#a", "a", false),
+];
+
+fn listed_words(alloc: Global, text: &str) -> Result<String, AllocError> {
+    let mut listed = String::new(alloc);
+    for word in &words(alloc, text)? {
+        listed.push_str(word.as_str())?;
+        listed.push(',')?;
     }
-    Ok(())
+    Ok(listed)
 }
 
-#[test]
-fn folds(rt: HostRuntime) -> Result<(), Fail> {
-    for (text, wanted) in [
-        ("CAF\u{c9}", "cafe"),
-        ("Stra\u{df}e", "strasse"),
-        ("\u{130}", "i"),
-        ("", ""),
-        ("\u{301}", ""),
-        ("\u{1c5} \u{1f600}", "\u{1c6} \u{1f600}"),
-        ("\u{39f}\u{3a3}", "\u{3bf}\u{3c3}"),
-        ("\u{d55c}", "\u{1112}\u{1161}\u{11ab}"),
-    ] {
-        let key = fold(rt.alloc(), text)?;
-        assert_eq!(rt; key.as_str(), wanted, "at {text}");
+fn joined_pieces(alloc: Global, text: &str) -> Result<String, AllocError> {
+    let mut pieces = Vec::new(alloc);
+    for piece in text.split(',') {
+        if !piece.is_empty() {
+            pieces.push(String::from_str(alloc, piece)?)?;
+        }
     }
-    Ok(())
+    join(alloc, pieces.as_slice())
 }
 
-fn numbers_as_keys(alloc: Global, text: &str) -> Result<String, AllocError> {
-    let mut keys = String::new(alloc);
+fn listed_numbers(alloc: Global, text: &str) -> Result<String, AllocError> {
+    let mut listed = String::new(alloc);
     for number in numbers(text) {
-        keys.push_str(format!(in alloc; "{number},")?.as_str())?;
+        listed.push_str(format!(in alloc; "{number},")?.as_str())?;
     }
-    Ok(keys)
+    Ok(listed)
 }
 
-#[test]
-fn numbers_of_texts(rt: HostRuntime) -> Result<(), Fail> {
-    for (text, wanted) in [
-        ("c1851, 007, 1234567890123456789", "1851,7,"),
-        ("", ""),
-        ("\u{661} x", ""),
-        (
-            "123456789012345678 1234567890123456789 999999999999999999",
-            "123456789012345678,999999999999999999,",
-        ),
-        ("1\u{1f600}2", "1,2,"),
-    ] {
-        let found = numbers_as_keys(rt.alloc(), text)?;
-        assert_eq!(rt; found.as_str(), wanted, "at {text}");
+fn listed_keys(alloc: Global, text: &str) -> Result<String, AllocError> {
+    let mut listed = String::new(alloc);
+    for number in numbers(text) {
+        let key = key_of_number(alloc, number % 1_000_000_000_000_000_000)?;
+        listed.push_str(key.as_str())?;
+        listed.push(',')?;
     }
-    Ok(())
+    Ok(listed)
 }
 
-#[test]
-fn keys_of_numbers(rt: HostRuntime) -> Result<(), Fail> {
-    for (number, key) in [
-        (0, "000000000000000000"),
-        (1851, "000000000000001851"),
-        (999_999_999_999_999_999, "999999999999999999"),
-    ] {
-        let made = key_of_number(rt.alloc(), number)?;
-        assert_eq!(rt; made.as_str(), key);
-        assert_eq!(rt; number_of_key(key), Some(number));
-    }
-    for text in [
-        "",
-        "1851",
-        "0000000000000001851",
-        "+00000000000001851",
-        "00000000000000185x",
-    ] {
-        assert_eq!(rt; number_of_key(text), None, "at {text}");
-    }
-    Ok(())
+/// The word, where the pattern matches it, with the stars that the pattern has at its ends: an `x` more there matches only
+/// under a star.
+fn shown(alloc: Global, pattern: &Pattern, word: &str) -> Result<String, AllocError> {
+    let before = pattern.matches(format!(in alloc; "x{word}")?.as_str());
+    let after = pattern.matches(format!(in alloc; "{word}x")?.as_str());
+    let left = if before { "*" } else { "" };
+    let right = if after { "*" } else { "" };
+    let middle = if pattern.matches(word) { word } else { "?" };
+    format!(in alloc; "{left}{middle}{right}")
 }
 
-// The patterns of a term, joined.
+fn listed_patterns(
+    alloc: Global,
+    term: &str,
+    cut: Cut,
+    spread: Spread,
+) -> Result<String, AllocError> {
+    let plain = words(alloc, term)?;
+    let mut listed = String::new(alloc);
+    for (at, pattern) in pattern_words(alloc, term, cut, spread)?.iter().enumerate() {
+        let word = plain.get(at).map_or("no word", |word| word.as_str());
+        listed.push_str(shown(alloc, pattern, word)?.as_str())?;
+        listed.push(',')?;
+    }
+    Ok(listed)
+}
+
+/// The patterns of a term, joined.
 fn one_pattern(alloc: Global, term: &str, cut: Cut, spread: Spread) -> Result<Pattern, AllocError> {
     let patterns = pattern_words(alloc, term, cut, spread)?;
     join_patterns(alloc, patterns.as_slice())
 }
 
+fn shown_literal(alloc: Global, pattern: &Pattern) -> Result<String, AllocError> {
+    String::from_str(alloc, pattern.literal().unwrap_or("star"))
+}
+
+fn answer(alloc: Global, ask: Ask, text: &str) -> Result<String, AllocError> {
+    match ask {
+        Fold => fold(alloc, text),
+        Words => listed_words(alloc, text),
+        Join => joined_pieces(alloc, text),
+        Numbers => listed_numbers(alloc, text),
+        Keys => listed_keys(alloc, text),
+        Patterns(cut, spread) => listed_patterns(alloc, text, cut, spread),
+        Literal(cut, spread) => shown_literal(alloc, &one_pattern(alloc, text, cut, spread)?),
+    }
+}
+
+/// What is asked of each text of another program, with its answers.
+fn readings(row: &Row) -> [Vector; 3] {
+    let (text, key, found, listed) = *row;
+    [
+        (Fold, text, key),
+        (Words, text, found),
+        (Numbers, text, listed),
+    ]
+}
+
 #[test]
-fn patterns_match(rt: HostRuntime) -> Result<(), Fail> {
-    for (term, cut, spread, text, wanted) in [
-        ("Moby d", Cut::Right, Spread::Ends, "moby dick", true),
-        ("Moby d", Cut::Right, Spread::Ends, "mob dick", false),
-        ("Mo d", Cut::Right, Spread::Each, "moby dick", true),
-        ("Mo d", Cut::Right, Spread::Ends, "moby dick", false),
-        ("by dick", Cut::Left, Spread::Ends, "moby dick", true),
-        ("by ick", Cut::Left, Spread::Each, "moby dick", true),
-        ("by ick", Cut::Left, Spread::Ends, "moby dick", false),
-        ("by di", Cut::Both, Spread::Ends, "moby dick", true),
-        ("o i", Cut::Both, Spread::Each, "moby dick", true),
-        ("o i", Cut::Both, Spread::Ends, "moby dick", false),
-        ("moby dick", Cut::None, Spread::Each, "moby dick", true),
-        ("moby", Cut::None, Spread::Ends, "moby dick", false),
-        ("m#y", Cut::Hash, Spread::Ends, "moby", true),
-        ("m#y", Cut::Hash, Spread::Ends, "my", true),
-        ("m#y", Cut::Hash, Spread::Ends, "m", false),
-        ("a#b#b", Cut::Hash, Spread::Ends, "aab", false),
-        ("a#b#b", Cut::Hash, Spread::Ends, "abab", true),
-        ("##", Cut::Hash, Spread::Ends, "", true),
-        ("a#a", Cut::Hash, Spread::Ends, "a", false),
-        ("m#y", Cut::None, Spread::Ends, "m y", true),
-        ("\u{e9}", Cut::Right, Spread::Ends, "etude", true),
-        (
-            "\u{4e2d}",
-            Cut::Left,
-            Spread::Ends,
-            "\u{6587}\u{4e2d}",
-            true,
-        ),
-    ] {
+fn vectors_are_answered(rt: HostRuntime) -> Result<(), Fail> {
+    for (ask, text, wanted) in ANSWERS {
+        let found = answer(rt.alloc(), ask, text)?;
+        assert_eq!(rt; found.as_str(), wanted, "at {text}");
+    }
+    for (cut, spread, term, text, wanted) in MATCHES {
         let pattern = one_pattern(rt.alloc(), term, cut, spread)?;
         assert_eq!(rt; pattern.matches(text), wanted, "{term} at {text}");
     }
@@ -171,14 +219,91 @@ fn patterns_match(rt: HostRuntime) -> Result<(), Fail> {
 }
 
 #[test]
-fn literals(rt: HostRuntime) -> Result<(), Fail> {
-    let plain = one_pattern(rt.alloc(), "Moby, Dick!", Cut::None, Spread::Ends)?;
-    assert_eq!(rt; plain.literal(), Some("moby dick"));
-    let cut = one_pattern(rt.alloc(), "moby", Cut::Right, Spread::Ends)?;
-    assert_eq!(rt; cut.literal(), None);
-    let patterns = pattern_words(rt.alloc(), "m#by d#", Cut::Hash, Spread::Ends)?;
-    assert_eq!(rt; patterns.len(), 2);
-    let none = pattern_words(rt.alloc(), " ,", Cut::Both, Spread::Each)?;
-    assert_eq!(rt; none.len(), 0);
+fn texts_are_read(rt: HostRuntime) -> Result<(), Fail> {
+    for row in &TEXTS {
+        for (ask, text, wanted) in readings(row) {
+            let found = answer(rt.alloc(), ask, text)?;
+            assert_eq!(rt; found.as_str(), wanted, "at {text}");
+        }
+    }
+    Ok(())
+}
+
+/// Whether a call was refused; `None` where it gives another answer than the wanted one.
+fn is_refused(alloc: Global, vector: Vector) -> Option<bool> {
+    let (ask, text, wanted) = vector;
+    match answer(alloc, ask, text) {
+        Ok(found) => (found.as_str() == wanted).then_some(false),
+        Err(_) => Some(true),
+    }
+}
+
+fn is_match_refused(alloc: Global, row: Match) -> Option<bool> {
+    let (cut, spread, term, text, wanted) = row;
+    match one_pattern(alloc, term, cut, spread) {
+        Ok(pattern) => (pattern.matches(text) == wanted).then_some(false),
+        Err(_) => Some(true),
+    }
+}
+
+/// Whichever allocation is refused (tests/each_allocation.py), the call that asked for it is refused, and each other
+/// call gives its answer.
+#[test]
+fn one_refused_allocation_refuses_one_call(rt: HostRuntime) -> Result<(), Fail> {
+    let mut refused = 0_u64;
+    for vector in ANSWERS {
+        let is_refused = is_refused(rt.alloc(), vector).ok_or("another answer")?;
+        refused = refused.saturating_add(u64::from(is_refused));
+    }
+    for row in MATCHES {
+        let is_refused = is_match_refused(rt.alloc(), row).ok_or("another answer")?;
+        refused = refused.saturating_add(u64::from(is_refused));
+    }
+    for row in &TEXTS {
+        for vector in readings(row) {
+            let is_refused = is_refused(rt.alloc(), vector).ok_or("another answer")?;
+            refused = refused.saturating_add(u64::from(is_refused));
+        }
+    }
+    assert!(rt; refused <= 1);
+    Ok(())
+}
+
+#[test]
+fn keys_are_read_back(rt: HostRuntime) {
+    for (key, number) in [
+        ("000000000000000000", Some(0)),
+        ("000000000000001851", Some(1851)),
+        ("999999999999999999", Some(999_999_999_999_999_999)),
+        ("", None),
+        ("1851", None),
+        ("00000000000001851", None),
+        ("0000000000000001851", None),
+        ("+00000000000001851", None),
+        ("00000000000000185x", None),
+        ("0000000000000018\u{661}", None),
+    ] {
+        assert_eq!(rt; number_of_key(key), number, "at {key}");
+    }
+}
+
+/// A search that tried every way to place twenty stars in so long a text would not end.
+#[test]
+fn many_stars_are_placed_at_once(rt: HostRuntime) -> Result<(), Fail> {
+    let text = "a".repeat(rt.alloc(), 5000)?;
+    let found = one_pattern(
+        rt.alloc(),
+        "a#a#a#a#a#a#a#a#a#a#a#a#a#a#a#a#a#a#a#a",
+        Hash,
+        Ends,
+    )?;
+    assert!(rt; found.matches(text.as_str()));
+    let missing = one_pattern(
+        rt.alloc(),
+        "a#a#a#a#a#a#a#a#a#a#a#a#a#a#a#a#a#a#a#b",
+        Hash,
+        Ends,
+    )?;
+    assert!(rt; !missing.matches(text.as_str()));
     Ok(())
 }

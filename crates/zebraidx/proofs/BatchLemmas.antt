@@ -1,5 +1,5 @@
 -- A change that a line names, from what is said of the rest of the line.
-use Rattle.std.proofs.Common.{◌≡◌, ◌≢◌, List, [], ◌∷◌, ℕ, get_or, drop, arith, ap, sym, subst, ◌∙◌, refl}
+use Rattle.std.proofs.Common.{◌≡◌, ◌≢◌, List, [], ◌∷◌, ℕ, get_or, drop, length, arith, ap, sym, subst, ◌∙◌, refl}
 use Rattle.std.specs.Prelude.{Result, Ok, Err, Option, Some, None, IfOk, IsOk, MatchOption, codes, map}
 use Rattle.std.specs.declared.alloc.AllocError.{AllocError}
 use Rattle.hex.specs.Hex.{decode_of}
@@ -25,6 +25,11 @@ no_create Update e = apart (codes "update") (codes "create") (λ l. omega (arith
 no_create Delete e = apart (codes "delete") (codes "create") (λ l. omega (arith, l)) e
 no_create Adelete e = apart (codes "adelete") (codes "create") (λ l. omega (arith, l)) e
 
+no_drop : (k : Kind) → kind_word k ≡ codes "drop" → ⊥
+no_drop Update e = apart (codes "update") (codes "drop") (λ l. omega (arith, l)) e
+no_drop Delete e = let lengths : length (codes "delete") ≡ length (codes "drop") = ap length e in omega (arith, lengths)
+no_drop Adelete e = apart (codes "adelete") (codes "drop") (λ l. omega (arith, l)) e
+
 no_find : (k : Kind) → kind_word k ≡ codes "find" → ⊥
 no_find Update e = apart (codes "update") (codes "find") (λ l. omega (arith, l)) e
 no_find Delete e = apart (codes "delete") (codes "find") (λ l. omega (arith, l)) e
@@ -39,7 +44,7 @@ unnamed : (k : Kind) (t : List ℕ) → first_word t ≡ kind_word k → ¬ HasC
 unnamed k t word lacks Init names = no_init k (sym word ∙ names.0)
 unnamed k t word lacks Check names = names
 unnamed k t word lacks (Create name) names = no_create k (sym word ∙ names.0)
-unnamed k t word lacks (Drop name) names = names
+unnamed k t word lacks (Drop name) names = no_drop k (sym word ∙ names.0)
 unnamed k t word lacks (Stat name) names = names
 unnamed k t word lacks (Dump name) names = names
 unnamed k t word lacks (Change kind database files) names = lacks record { name = names.1.name.0; mark = names.1.mark; bytes = has_bytes (decode_of (drop 4 (after_first_word (after_first_word t)))) (map (λ file. file.items) files.items) names.1.bytes }

@@ -6,7 +6,7 @@ use Rattle.zeb_engine.specs.Names.{IsDatabaseName}
 use Rattle.zeb_engine.specs.NameOf.{name_bytes}
 use Rattle.zeb_engine.specs.declared.names.DbName.{DbName}
 use Rattle.zeb_engine.specs.declared.commands.Command.{Command}
-use Rattle.zeb_engine.specs.declared.commands.Command.TheVariants.{Init, Create, Change, Find}
+use Rattle.zeb_engine.specs.declared.commands.Command.TheVariants.{Init, Create, Drop, Change, Find}
 use Rattle.zeb_engine.specs.declared.commands.Kind.{Kind}
 use Rattle.zeb_engine.specs.declared.commands.Kind.TheVariants.{Update, Delete, Adelete}
 use Rattle.zebraidx.specs.Words.{first_word, after_first_word}
@@ -35,6 +35,7 @@ pub record NamesFind (text : List ℕ) (database : DbName) (query : List ℕ) : 
 abbrev pub Names : List ℕ → Command → Type 0
 Names text Init = (first_word text ≡ codes "init") × (after_first_word text ≡ [])
 Names text (Create name) = (first_word text ≡ codes "create") × IsName (after_first_word text) name
+Names text (Drop name) = (first_word text ≡ codes "drop") × IsName (after_first_word text) name
 Names text (Change kind database files) = (first_word text ≡ kind_word kind) × NamesChange (after_first_word text) database (map (λ file. file.items) files.items)
 Names text (Find database query first count) = (first_word text ≡ codes "find") × NamesFind (after_first_word text) database (string_bytes query) × (first ≡ 1) × (count ≡ 20)
 Names text _ = ⊥

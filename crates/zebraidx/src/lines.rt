@@ -30,6 +30,7 @@ impl Line {
     /// ```text
     /// init
     /// create NAME
+    /// drop NAME
     /// update NAME hex:DIGITS
     /// delete NAME hex:DIGITS
     /// adelete NAME hex:DIGITS
@@ -58,6 +59,7 @@ fn read_command(alloc: Global, text: &str) -> Result<Option<Command>, AllocError
     match word {
         "init" => Ok(rest.is_empty().then_some(Command::Init)),
         "create" => Ok(DbName::read(rest).map(Command::Create)),
+        "drop" => Ok(DbName::read(rest).map(Command::Drop)),
         "update" => read_change(alloc, Kind::Update, rest),
         "delete" => read_change(alloc, Kind::Delete, rest),
         "adelete" => read_change(alloc, Kind::Adelete, rest),

@@ -116,6 +116,11 @@ fn changes_records(rt: HostRuntime) -> Result<(), Fail> {
             "init\nupdate X hex:\nfind X @attr 1=4 whale\ncreate Y\nfind Y @attr 1=4 moby\n",
             "ok\ninserted 0 updated 0 deleted 0\nhits 0\nok\nhits 0\n",
         ),
+        // A database that is dropped takes its records with it, and one of its name counts from 1 again.
+        (
+            "init\nupdate X hex:<B>\nupdate Default hex:<A><B>\ndrop X\nupdate X hex:<A>\nfind X @attr 1=4 whale\nfind X @attr 1=4 cafe\nfind Default @attr 1=4 cafe\n",
+            "ok\ninserted 1 updated 0 deleted 0\ninserted 2 updated 0 deleted 0\nok\ninserted 1 updated 0 deleted 0\nhits 1\n1 a1\nhits 0\nhits 1\n2 b2\n",
+        ),
         // Digits of either case, and separators around a record.
         (
             "init\nupdate Default hex:0D0a20<B>0a\nfind Default @attr 1=4 cafe\n",
@@ -136,6 +141,7 @@ fn refuses_by_name(rt: HostRuntime) -> Result<(), Fail> {
         ("find Default whale\n", "diagnostic 116 at 0"),
         ("find X @attr 1=4 whale\n", "diagnostic 235 at 0: X"),
         ("create Default\n", "database exists"),
+        ("drop X\n", "diagnostic 235 at 0: X"),
         (
             "update Default hex:<LEADER>\n",
             "file 1 record 1: LeaderCounts",
@@ -205,6 +211,8 @@ fn numbers_bad_lines(rt: HostRuntime) -> Result<(), Fail> {
         "create",
         "create a b",
         "create a/b",
+        "drop",
+        "drop a/b",
         "update Default",
         "update Default hex:0",
         "update Default hex:0g",

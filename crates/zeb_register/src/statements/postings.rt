@@ -1,12 +1,15 @@
 //! Statements on the table `postings`: a row for each posting.
 
-ghost use Rattle.std.specs.Prelude.{◌≡◌, false, [], ◌∷◌, pos, IsTrue, OnOk, OnErr, IfOk};
+ghost use Rattle.std.specs.Prelude.{◌≡◌, true, false, [], ◌∷◌, pos, IsTrue, OnOk, OnErr, IfOk};
+ghost use Rattle.std.specs.Ordering.{is_lt, nat_cmp};
+ghost use Rattle.std.specs.Cmp.Lexicographic.{slice_cmp};
 ghost use Rattle.sqlite.specs.Held.{state};
 ghost use Rattle.sqlite.specs.State.{HasCleanDisk, KeepsCommit, Survives};
 ghost use Rattle.sqlite.specs.declared.types.Value.TheVariants.{Int};
 ghost use Rattle.zeb_register.specs.Sql.{Loses, Gains};
 ghost use Rattle.zeb_register.specs.Store.{postings_tree, posting, key_of, place_key, IsPlaceOf, IsPostingIn, IsRest};
 ghost use Rattle.zeb_register.specs.Calls.{ChangesNothing, Alters, Lists, ListsInside};
+ghost use Rattle.zeb_register.specs.Terms.{HasTerm, ShowsLeast, ShowsGreatest, Reads};
 
 use sqlite::{Alter, Connection, Error, Row, Transaction, params};
 
@@ -121,7 +124,7 @@ pub(crate) fn postings_clear<S: Alter>(tx: &mut Transaction<'_, S>, db: i64) -> 
     tx.execute("DELETE FROM postings WHERE db = ?1", params![db])
 }
 
-/// The first posting of the register whose term is not below `start`.
+/// The least term of the register that is not below `start`.
 pub(crate) fn rows_from<S: Alter>(
     conn: &mut Connection<S>,
     db: i64,
@@ -130,18 +133,19 @@ pub(crate) fn rows_from<S: Alter>(
     start: &str,
 ) -> Result<Vec<Row>, Error>
     ensures idle { conn.old.in_transaction ≡ false → conn.new.in_transaction ≡ false }
+    ensures ok { HasCleanDisk (state S.Store conn.new) → IfOk result (λ rows. Reads (λ trees. ShowsLeast (λ term. HasTerm trees db (pos idx) reg term × (is_lt (slice_cmp nat_cmp term start.now) ≡ false))) (state S.Store conn.old) (state S.Store conn.new) rows.items) }
     ensures same { HasCleanDisk (state S.Store conn.new) → conn.old.in_transaction ≡ false → ChangesNothing (state S.Store conn.old) (state S.Store conn.new) }
     ensures crash { Survives (state S.Store conn.old) (state S.Store conn.new) (λ _. ⊥) }
 {
     // What is seen outside a transaction is what was committed.
     let _idle = conn.is_autocommit();
     conn.query_all(
-        "SELECT term, sysno, seq, pos FROM postings WHERE db = ?1 AND idx = ?2 AND reg = ?3 AND term >= ?4 ORDER BY term, sysno, seq, pos LIMIT 1",
+        "SELECT term FROM postings WHERE db = ?1 AND idx = ?2 AND reg = ?3 AND term >= ?4 ORDER BY term LIMIT 1",
         params![db, idx, reg, start],
     )
 }
 
-/// The term of a last posting of the register whose term is below `start`.
+/// The greatest term of the register that is below `start`.
 pub(crate) fn rows_before<S: Alter>(
     conn: &mut Connection<S>,
     db: i64,
@@ -150,6 +154,7 @@ pub(crate) fn rows_before<S: Alter>(
     start: &str,
 ) -> Result<Vec<Row>, Error>
     ensures idle { conn.old.in_transaction ≡ false → conn.new.in_transaction ≡ false }
+    ensures ok { HasCleanDisk (state S.Store conn.new) → IfOk result (λ rows. Reads (λ trees. ShowsGreatest (λ term. HasTerm trees db (pos idx) reg term × (is_lt (slice_cmp nat_cmp term start.now) ≡ true))) (state S.Store conn.old) (state S.Store conn.new) rows.items) }
     ensures same { HasCleanDisk (state S.Store conn.new) → conn.old.in_transaction ≡ false → ChangesNothing (state S.Store conn.old) (state S.Store conn.new) }
     ensures crash { Survives (state S.Store conn.old) (state S.Store conn.new) (λ _. ⊥) }
 {

@@ -1,7 +1,10 @@
-use Rattle.std.proofs.Common.{◌≡◌, IsTrue}
+use Rattle.std.proofs.Common.{◌≡◌, IsTrue, take}
 use Rattle.sqlite.specs.Held.{state}
 use Rattle.sqlite.specs.State.{HasCleanDisk, Survives}
+use Rattle.zeb_register.specs.Content.{Content, IsRising}
+use Rattle.zeb_register.specs.Store.{IsStore, KeepsLists}
 use Rattle.zeb_engine.specs.Transactions.{Continues}
+use Rattle.zeb_engine.proofs.Moved.{moved}
 use Rattle.zeb_engine.proofs.records.change_keys.Given as goal
 
 abbrev pub invariant-loop-changed : goal.invariant-loop-changed
@@ -12,4 +15,8 @@ invariant-loop-changed g l =
       same : l.tx.conn.ghost_name ≡ l.fn.tx.conn.ghost_name;
       crash : Survives old now (λ _. ⊥);
       stays : HasCleanDisk now → IsTrue old.in_transaction → Continues old now;
+      place : (l.progress.database ≡ l.fn.progress.database) × (l.progress.last ≡ l.fn.progress.last);
+      store : HasCleanDisk now → IsTrue old.in_transaction → IsStore old → IsStore now × KeepsLists old.now.trees now.now.trees;
+      held : HasCleanDisk now → IsTrue old.in_transaction → IsStore old
+          → (before : Content) → IsRising before → g.L.Layout.holds old.now.trees before → g.L.Layout.holds now.now.trees (moved l.fn.progress.database.0 l.fn.sysno (take l.changed-index l.changed-items) before);
     }

@@ -1,5 +1,5 @@
 -- The first byte, four more, and then as many as these five say.
-use Rattle.std.proofs.Common.{◌≡◌, ◌≤◌, ◌+◌, ◌-◌, ◌∷◌, ◌++◌, ◌∙◌, sym, ap, List, ℕ, Some, length, set, take, drop, length-take, length-drop, length-set, arith}
+use Rattle.std.proofs.Common.{◌≡◌, ◌≤◌, ◌+◌, suc, refl, ◌-◌, ◌∷◌, ◌++◌, ◌∙◌, sym, ap, List, ℕ, Some, length, set, take, drop, length-take, length-drop, length-set, arith}
 use Rattle.std.proofs.lemmas.Result.{err_from_is_err_and}
 use Rattle.std.proofs.lemmas.List.{take-take, drop-drop}
 use Rattle.std.proofs.lemmas.Slice.{take-put_mid, take-put_mid_below}
@@ -7,7 +7,7 @@ use borrow.Rule.Slice.PartMut.{put_mid}
 use Rattle.zeb_marc.specs.Leader.{first_failing}
 use Rattle.zeb_marc.proofs.RecordChecks.{slice_cut, slice_passes}
 use Rattle.zeb_marc.proofs.Runs.{take-add, length-put_mid}
-use Rattle.zeb_marc.proofs.ReadingLemmas.{announced_checks-five, record_length-five, five_are, fill_err, slice_short, slice_err, IsSlice-from_five}
+use Rattle.zeb_marc.proofs.ReadingLemmas.{announced_checks-five, record_length-five, five_are, fill_err, slice_short, slice_err, slice_cut_within, IsSlice-from_five}
 use Rattle.zeb_marc.proofs.stream.read_slice.Goals as goal
 
 -- the room once five bytes are in it
@@ -38,7 +38,9 @@ returns-in_err-fill-clause-told g c = λ text told.
     let len : length part ≡ 4 = omega arith in
     let first = c.args.first in
     let after = g.R.Source.remaining c.fill.new.source in
-    rw (p.1, p.2) (fill_err text part (first ∷ text) _ c.in_err-fill.field-0.0 after after (c.in_err-fill.ensures.told text told) (λ short. slice_short (first ∷ text) (omega arith)))
+    rw (p.1, p.2) (fill_err text part (first ∷ text) _ 0 c.in_err-fill.field-0.0 after refl (c.in_err-fill.ensures.told text told)
+    (λ short. slice_short (first ∷ text) (omega arith))
+    (λ k within. slice_short (take (suc (0 + k)) (first ∷ text)) (omega (arith, length-take (suc (0 + k)) (first ∷ text)))))
 
 pub returns-in_err-length-clause-told : goal.returns-in_err-length-clause-told
 returns-in_err-length-clause-told g c = λ text told.
@@ -49,8 +51,8 @@ returns-in_err-length-clause-told g c = λ text told.
     let filled = c.in_ok-fill.ensures.told text told in
     let long : 5 ≤ length (first ∷ text) = omega (arith, filled.0) in
     let five = same_five c.args.room.now part text first c.requires len filled.1 in
-    let checks = announced_checks-five (first ∷ text) _ five long in
-    rw (p.1, p.2) (slice_err (first ∷ text) _ c.in_err-length.field-0.0 _ (ap first_failing (sym checks) ∙ c.in_err-length.ensures.checked))
+    let left = filled.2 ∙ ap (λ (k : ℕ). Some (drop k text)) len in
+    rw (p.1, p.2) (slice_err (first ∷ text) _ _ c.in_err-length.field-0.0 _ five long c.in_err-length.ensures.checked left)
 
 pub returns-in_err-fill-2-clause-told : goal.returns-in_err-fill-2-clause-told
 returns-in_err-fill-2-clause-told g c = λ text told.
@@ -67,8 +69,9 @@ returns-in_err-fill-2-clause-told g c = λ text told.
     let left = filled.2 ∙ ap (λ (k : ℕ). Some (drop k text)) len in
     let after = g.R.Source.remaining c.fill-2.new.source in
     let rest_len : length c.fill-2.new.part ≡ c.in_ok-length.length - 5 = omega arith in
-    rw (p.1, p.2) (fill_err (drop 4 text) c.fill-2.new.part (first ∷ text) _ c.in_err-fill-2.field-0.0 after after (c.in_err-fill-2.ensures.told (drop 4 text) left)
-    (λ short. slice_cut (first ∷ text) (ap first_failing (sym checks) ∙ c.in_ok-length.ensures.checked) (omega (arith, value.0, value.1, same_length, length-drop 4 text, rest_len))))
+    rw (p.1, p.2) (fill_err (drop 4 text) c.fill-2.new.part (first ∷ text) _ 4 c.in_err-fill-2.field-0.0 after refl (c.in_err-fill-2.ensures.told (drop 4 text) left)
+    (λ short. slice_cut (first ∷ text) (ap first_failing (sym checks) ∙ c.in_ok-length.ensures.checked) (omega (arith, value.0, value.1, same_length, length-drop 4 text, rest_len)))
+    (λ k within. slice_cut_within (first ∷ text) _ c.in_ok-length.length k five long c.in_ok-length.ensures.checked value.0 (omega (arith, value.1, rest_len, within))))
 
 pub returns-clause-told : goal.returns-clause-told
 returns-clause-told g c = λ text told.

@@ -1,8 +1,9 @@
 -- One more separator, or the first byte behind them, or the end.
-use Rattle.std.proofs.Common.{◌∙◌, sym, ap, List, ℕ, Some, drop, arith}
+use Rattle.std.proofs.Common.{◌≡◌, ◌∙◌, sym, ap, List, ℕ, Some, drop, arith}
+use Rattle.std.proofs.lemmas.Result.{err_from_is_err_and}
 use Rattle.zeb_marc.specs.Splits.{is_separator}
 use Rattle.zeb_marc.proofs.Runs.{run_more, run_ends, run_all}
-use Rattle.zeb_marc.proofs.ReadingLemmas.{byte_none, byte_some}
+use Rattle.zeb_marc.proofs.ReadingLemmas.{byte_none, byte_some, skip_failed}
 use Rattle.zeb_marc.proofs.stream.skip_separators.Goals as goal
 
 pub returns-in_default-clause-told : goal.returns-in_default-clause-told
@@ -28,3 +29,15 @@ loop-preserved g c = record {
       let more = run_more is_separator text c.loop.counter c.in-Some.byte found.0 inv.1 found.1 (sym c.if-not-may_separate.ensures) in
       (found.2 ∙ ap (λ (rest : List ℕ). Some rest) (sym more.1), more.0);
 }
+
+pub returns-in_err-byte-clause-told : goal.returns-in_err-byte-clause-told
+returns-in_err-byte-clause-told g c = λ text told.
+    let p = err_from_is_err_and c.from_residual.result c.from_residual.ensures.1 in
+    let inv = c.loop.invariant.told text told in
+    rw (p.1, p.2) (skip_failed text c.in_err-byte.field-0.0 c.loop.counter (g.R.Source.remaining c.read_byte.new.source) c.in_err-byte.ensures.fault (omega arith) inv.1 (c.in_err-byte.ensures.told (drop c.loop.counter text) inv.0))
+
+pub returns-clause-told : goal.returns-clause-told
+returns-clause-told g c = λ text told.
+    let inv = c.loop.invariant.told text told in
+    let all : c.loop.counter ≡ 65536 = omega arith in
+    (omega (arith, inv.1, all), inv.0 ∙ ap (λ (k : ℕ). Some (drop k text)) all)

@@ -1,5 +1,5 @@
 -- 64 bits count a record's units.
-use Rattle.std.proofs.Common.{◌≡◌, List, ℕ, Some, Ok, Result, subst, ap, inl, length, arith}
+use Rattle.std.proofs.Common.{◌≡◌, List, Some, Result, subst, ap, inl, length, arith}
 use Rattle.std.specs.Prelude.{MatchResult}
 use Rattle.zeb_marc.specs.declared.faults.MarcFault.{MarcFault}
 use Rattle.zeb_marc.specs.Directory.{FieldText}

@@ -1,4 +1,4 @@
-use Rattle.std.proofs.Common.{◌≡◌, drop, map, []}
+use Rattle.std.proofs.Common.{◌≡◌, drop, map}
 use Rattle.std.specs.List.{find}
 use Rattle.zeb_profile.specs.Words.{same_name}
 use Rattle.zeb_profile.proofs.indexes.spelling_among.Given as goal

@@ -1,6 +1,5 @@
-use Rattle.std.proofs.Common.{arith, rules, ◌≡◌, ◌<◌, length, ◌∙◌, ap}
+use Rattle.std.proofs.Common.{arith, ◌≡◌}
 use Rattle.std.specs.List.{position_or_len}
-use Rattle.std.proofs.lemmas.Bool.{eqb-true, eqb-false}
 use Rattle.zeb_profile.specs.Lines.{is_blank}
 use Rattle.zeb_profile.proofs.Cuts.{boundary_before_blank, words_of-blank, words_of-cut}
 use Rattle.zeb_profile.proofs.lines.first_word.Goals as goal

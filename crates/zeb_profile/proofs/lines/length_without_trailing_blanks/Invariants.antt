@@ -1,4 +1,4 @@
-use Rattle.std.proofs.Common.{◌≡◌, ℕ, ◌+◌, ◌<◌, ◌≤◌, get_or, true, length, take}
+use Rattle.std.proofs.Common.{◌≡◌, ◌+◌, ◌<◌, ◌≤◌, get_or, true, length, take}
 use Rattle.std.specs.List.{suffix_len}
 use Rattle.zeb_profile.specs.Lines.{is_blank}
 use Rattle.zeb_profile.proofs.lines.length_without_trailing_blanks.Given as goal

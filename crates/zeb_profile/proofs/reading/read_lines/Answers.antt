@@ -1,4 +1,4 @@
-use Rattle.std.proofs.Common.{arith, rules, ◌≡◌, [], map}
+use Rattle.std.proofs.Common.{rules, ◌≡◌, [], map}
 use Rattle.std.specs.Str.Lines.{lines as lines_of}
 use Rattle.zeb_profile.proofs.TellingLines.{placed_lines_fails}
 use Rattle.zeb_profile.proofs.reading.read_lines.Goals as goal

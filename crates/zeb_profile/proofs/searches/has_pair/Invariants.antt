@@ -1,4 +1,4 @@
-use Rattle.std.proofs.Common.{◌≡◌, drop, map, []}
+use Rattle.std.proofs.Common.{◌≡◌, drop, map}
 use Rattle.zeb_profile.specs.Indexes as indexes
 use Rattle.std.specs.List.{list_any}
 use Rattle.zeb_profile.specs.Profiles.{all_targets}

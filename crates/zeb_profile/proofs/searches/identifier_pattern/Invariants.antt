@@ -1,4 +1,4 @@
-use Rattle.std.proofs.Common.{◌≡◌, drop, map, []}
+use Rattle.std.proofs.Common.{◌≡◌, drop}
 use Rattle.zeb_profile.specs.Indexes as indexes
 use Rattle.zeb_profile.proofs.searches.identifier_pattern.Given as goal
 

@@ -1,10 +1,8 @@
-use Rattle.std.proofs.Common.{◌≡◌, ℕ, suc, ◌-◌, ◌∷◌, Some, None, map, ◌∙◌, refl, ap, subst, sym, arith}
-use Rattle.std.specs.Prelude.{string_bytes}
-use Rattle.std.proofs.lemmas.Result.{err_from_is_err_and}
+use Rattle.std.proofs.Common.{Some, ◌∙◌, refl, ap, subst, sym}
 use Rattle.zeb_query.specs.Cutting.{word_of}
-use Rattle.zeb_query.specs.Queries.{head_value, tree_value}
+use Rattle.zeb_query.specs.Queries.{head_value}
 use Rattle.zeb_query.specs.Parsing.{Spells}
-use Rattle.zeb_query.proofs.GrammarLemmas.{spells_term, spells_named, spells_pair, IsFault-same}
+use Rattle.zeb_query.proofs.GrammarLemmas.{spells_term, spells_named, spells_pair}
 use Rattle.zeb_query.proofs.grammar.+structure.Goals as goal
 
 pub returns-in_ok-text-in-None-clause-spelled : goal.returns-in_ok-text-in-None-clause-spelled

@@ -1,12 +1,11 @@
-use Rattle.std.proofs.Common.{◌≡◌, ◌+◌, ℕ, List, [], map, length, drop, ap, sym, ◌∙◌, arith, IfOk}
+use Rattle.std.proofs.Common.{length, sym, ◌∙◌, arith}
 use Rattle.std.specs.Str.{chars}
 use Rattle.std.proofs.lemmas.Grind.{common_steps}
 use Rattle.std.proofs.lemmas.Iterator.{YieldsList-from_chars}
 use Rattle.std.proofs.lemmas.Iterator.Consumers.{YieldsList-turn, YieldsList-end}
 use Rattle.std.proofs.lemmas.List.{length_push, at_drop_all}
 use Rattle.std.proofs.lemmas.Result.{IfOk-weaker}
-use Rattle.zeb_query.specs.Words.{words_at}
-use Rattle.zeb_query.specs.Cutting.{words_with, word_of}
+use Rattle.zeb_query.specs.Cutting.{words_with}
 use Rattle.zeb_query.proofs.CuttingLemmas.{words_with-more}
 use Rattle.zeb_query.proofs.words.words_of.Goals as goal
 

@@ -1,8 +1,7 @@
-use Rattle.std.proofs.Common.{rules, ◌≡◌, ◌∙◌, sym, ap, subst, slice_get, Some, None, pos, w64, to_z, of_z}
+use Rattle.std.proofs.Common.{rules, ◌≡◌, ◌∙◌, sym, ap, slice_get, Some, None, w64}
 use Rattle.std.proofs.Math.Facts.{to_z-of_z}
 use Rattle.std.specs.Option.{option_copied}
 use Rattle.sqlite.specs.Held.{state}
-use Rattle.zeb_register.specs.Sql.{IsListOf}
 use Rattle.zeb_register.proofs.Found.{database_found, no_database, id_readable, last_readable}
 use Rattle.zeb_register.proofs.catalog.database_of.Goals as goal
 

@@ -1,4 +1,4 @@
-use Rattle.std.proofs.Common.{rules, ◌≡◌, ◌∙◌, sym, ap, slice_get, Some, None, pos}
+use Rattle.std.proofs.Common.{rules, ◌≡◌, ◌∙◌, sym, ap, slice_get, Some, None}
 use Rattle.std.specs.Option.{option_copied}
 use Rattle.sqlite.specs.Held.{state}
 use Rattle.zeb_register.proofs.TextStatements.{value_found, no_value}

@@ -1,4 +1,4 @@
-use Rattle.std.proofs.Common.{rules, ◌≡◌, ◌<◌, ◌∙◌, ap, length, arith, Ok, false}
+use Rattle.std.proofs.Common.{rules, ◌<◌, ◌∙◌, ap, length, arith, Ok}
 use Rattle.zeb_register.specs.Content.{first_two}
 use Rattle.zeb_register.proofs.ContentLemmas.{has_at}
 use Rattle.zeb_register.proofs.PlaceLemmas.{both_more, same_at}

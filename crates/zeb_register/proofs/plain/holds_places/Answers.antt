@@ -1,10 +1,10 @@
-use Rattle.std.proofs.Common.{sym, ℤ, List, ℕ, ◌≡◌, ◌≢◌, ◌∙◌, map, ap, subst, pos, w64, to_z, of_z}
+use Rattle.std.proofs.Common.{Result, Ok, Err, OnOk, IsUtf8, sym, ℤ, List, ℕ, ◌≡◌, ◌∙◌, map, ap, subst, pos, w64, to_z, of_z}
 use Rattle.std.proofs.Math.Facts.{to_z-of_z}
 use Rattle.sqlite.specs.Held.{state}
 use Rattle.sqlite_rules.specs.Lists.{Has}
 use Rattle.zeb_register.specs.Sql.{IsListOf}
 use Rattle.zeb_register.specs.Store.{IsRest, postings_tree, place_key}
-use Rattle.zeb_register.specs.Content.{code_of_register, place_front, place_row, first_two, IsTwoNumbers}
+use Rattle.zeb_register.specs.Content.{code_of_register, place_front, first_two}
 use Rattle.zeb_register.proofs.PlaceLemmas.{places_held, places_lost, two_numbers}
 use Rattle.zeb_register.proofs.plain.holds_places.Goals as goal
 
@@ -55,3 +55,10 @@ returns-clause-honest g c clean inside store content holds is =
     (subst (λ r. P c.args.db.0 r c.as_str.result.now (to_z w64 (of_z w64 c.in_ok-sysno.sysno))) code
     (subst (λ d. P d (to_z w64 (of_z w64 c.code_of-register.result)) c.as_str.result.now (to_z w64 (of_z w64 c.in_ok-sysno.sysno))) db ((c.in_ok-rows.ensures.ok clean inside).1 store)))) in
     c.are_places.ensures.honest is (λ row here. two_numbers trees content c.args.db.0 key c.args.sysno holds items held row (subst (λ l. Has l row) c.deref.ensures.value here))
+
+pub returns-clause-text : goal.returns-clause-text
+returns-clause-text g c = IfOk-anyway c.are_places.result (subst IsUtf8 c.as_str.ensures c.as_str.utf8)
+  where
+    IfOk-anyway : {A E P : Type 0} (r : Result A E) → P → OnOk r P
+    IfOk-anyway (Ok a) p = p
+    IfOk-anyway (Err e) p = tt

@@ -11,6 +11,22 @@ pub returns-clause-fold : goal.returns-clause-fold
 unfolding caseless folded
 returns-clause-fold c = refl
 
+pub returns-clause-decomposed : goal.returns-clause-decomposed
+unfolding caseless folded
+returns-clause-decomposed c = refl
+
+pub returns-clause-sharp_s : goal.returns-clause-sharp_s
+unfolding caseless folded
+returns-clause-sharp_s c = refl
+
+pub returns-clause-parted : goal.returns-clause-parted
+unfolding caseless folded
+returns-clause-parted c = refl
+
+pub returns-clause-again : goal.returns-clause-again
+unfolding caseless folded
+returns-clause-again c = refl
+
 pub returns-clause-words : goal.returns-clause-words
 unfolding caseless ucd_category folded is_word_character runs_of
 returns-clause-words c = refl

@@ -1,8 +1,20 @@
-use Rattle.std.proofs.Common.{◌≡◌, ◌≤◌, length, vec_capacity}
+use Rattle.std.proofs.Common.{◌≡◌, ◌≤◌, map, length, take, vec_capacity}
+use Rattle.std.specs.List.{AllByRecursion}
+use Rattle.sqlite.specs.Held.{state}
+use Rattle.sqlite.specs.State.{HasCleanDisk}
+use Rattle.zeb_engine.specs.Answers.{answer_of}
+use Rattle.zeb_engine.specs.Conditions.{conditions}
+use Rattle.zeb_engine.specs.Works.{ReadsNoRecord, Runs}
 use Rattle.zeb_engine.proofs.session.Session.run_all.Given as goal
 
 abbrev pub invariant-loop-command : goal.invariant-loop-command
-invariant-loop-command g l = record {
-  count : length l.answers.items ≡ l.command-index;
-  room : length l.commands ≤ vec_capacity l.answers;
-}
+invariant-loop-command g l =
+    let old = state g.S.Store l.fn.self.connection in
+    let now = state g.S.Store l.self.connection in
+    record {
+      count : length l.answers.items ≡ l.command-index;
+      room : length l.commands ≤ vec_capacity l.answers;
+      under : (l.self.profile ≡ l.fn.self.profile) × (l.self.limits ≡ l.fn.self.limits);
+      run : HasCleanDisk now → AllByRecursion ReadsNoRecord l.commands
+          → Runs g.L.Layout.holds (conditions g.L.Layout.version l.fn.self.profile l.fn.self.limits) (take l.command-index l.commands) (map answer_of l.answers.items) old now;
+    }

@@ -1,38 +1,7 @@
-use Rattle.std.proofs.Common.{◌≡◌, ◌∙◌, map, ap, subst, pos, w64, to_z, of_z}
-use Rattle.std.proofs.Math.Facts.{to_z-of_z}
+use Rattle.std.proofs.Common.{◌∙◌, ap}
 use Rattle.std.proofs.lemmas.Result.{IfOk-weaker}
-use Rattle.sqlite.specs.Held.{state}
-use Rattle.sqlite_rules.specs.Lists.{Has}
-use Rattle.zeb_register.specs.Sql.{IsListOf}
-use Rattle.zeb_register.specs.Store.{IsRest, postings_tree, key_of}
-use Rattle.zeb_register.specs.Content.{code_of_register, key_row, first_three, IsThreeNumbers}
-use Rattle.zeb_register.proofs.ContentLemmas.{list_read, rows_numbered}
+use Rattle.zeb_register.specs.Terms.{key_in}
 use Rattle.zeb_register.proofs.plain.RowsLayout.key_list.Goals as goal
 
 pub returns-clause-value : goal.returns-clause-value
-returns-clause-value g c clean store =
-    let trees = (state g.S.Store c.args.conn.now).now.trees in
-    let items = c.in_ok-rows.rows.items in
-    let key = c.args.key.now in
-    let known : to_z w64 (of_z w64 c.column.result) ≡ c.args.db.0 = to_z-of_z {w = w64} {z = c.column.result} c.column.ensures.fits ∙ c.column.ensures.value in
-    let code : to_z w64 (of_z w64 c.code_of-register.result) ≡ pos (code_of_register key.register) = to_z-of_z {w = w64} {z = c.code_of-register.result} c.code_of-register.ensures.fits ∙ c.code_of-register.ensures.value in
-    let raw = (c.in_ok-rows.ensures.ok clean).1 store in
-    let held : IsListOf (IsRest postings_tree (key_row c.args.db.0 key) trees) items =
-    subst (λ t. IsListOf (IsRest postings_tree (key_of c.args.db.0 (pos key.index) (pos (code_of_register key.register)) t) trees) items) c.as_str.ensures
-    (subst (λ r. IsListOf (IsRest postings_tree (key_of c.args.db.0 (pos key.index) r c.as_str.result.now) trees) items) code
-    (subst (λ d. IsListOf (IsRest postings_tree (key_of d (pos key.index) (to_z w64 (of_z w64 c.code_of-register.result)) c.as_str.result.now) trees) items) known raw)) in
-    IfOk-weaker c.postings_of.result _ _ (λ list shown content holds. list_read trees content c.args.db.0 key items list.items holds held (shown ∙ ap (map first_three) c.deref.ensures.value)) c.postings_of.ensures.ok
-
-pub returns-clause-honest : goal.returns-clause-honest
-returns-clause-honest g c clean store is content holds =
-    let trees = (state g.S.Store c.args.conn.now).now.trees in
-    let items = c.in_ok-rows.rows.items in
-    let key = c.args.key.now in
-    let known : to_z w64 (of_z w64 c.column.result) ≡ c.args.db.0 = to_z-of_z {w = w64} {z = c.column.result} c.column.ensures.fits ∙ c.column.ensures.value in
-    let code : to_z w64 (of_z w64 c.code_of-register.result) ≡ pos (code_of_register key.register) = to_z-of_z {w = w64} {z = c.code_of-register.result} c.code_of-register.ensures.fits ∙ c.code_of-register.ensures.value in
-    let raw = (c.in_ok-rows.ensures.ok clean).1 store in
-    let held : IsListOf (IsRest postings_tree (key_row c.args.db.0 key) trees) items =
-    subst (λ t. IsListOf (IsRest postings_tree (key_of c.args.db.0 (pos key.index) (pos (code_of_register key.register)) t) trees) items) c.as_str.ensures
-    (subst (λ r. IsListOf (IsRest postings_tree (key_of c.args.db.0 (pos key.index) r c.as_str.result.now) trees) items) code
-    (subst (λ d. IsListOf (IsRest postings_tree (key_of d (pos key.index) (to_z w64 (of_z w64 c.code_of-register.result)) c.as_str.result.now) trees) items) known raw)) in
-    c.postings_of.ensures.honest is (λ row here. rows_numbered trees content c.args.db.0 key items holds held row (subst (λ l. Has l row) c.deref.ensures.value here))
+returns-clause-value g c clean store = IfOk-weaker c.postings_under.result _ _ (λ list value content holds. value content holds ∙ ap (λ t. content c.args.db.0 (key_in c.args.key.now.index c.args.key.now.register t)) c.as_str.ensures) (c.postings_under.ensures.value clean store)

@@ -1,15 +1,23 @@
-use Rattle.std.proofs.Common.{◌≡◌, false}
+use Rattle.std.proofs.Common.{◌≡◌, ◌++◌, List, false, length, filter, string_bytes}
 use Rattle.sqlite.specs.Held.{state}
 use Rattle.sqlite.specs.State.{HasCleanDisk, Survives}
 use Rattle.zeb_register.specs.Calls.{ChangesNothing}
+use Rattle.zeb_register.specs.declared.registers.TermCount.{TermCount}
+use Rattle.zeb_register.specs.Store.{IsStore}
+use Rattle.zeb_register.specs.Content.{Content, HoldsRows}
+use Rattle.zeb_register.specs.Terms.{AreTermsOf, is_from}
 use Rattle.zeb_register.proofs.plain.RowsLayout.terms_from.Given as goal
 
-abbrev pub invariant-loop : goal.invariant-loop
-invariant-loop g l =
+abbrev pub invariant-loop-done : goal.invariant-loop-done
+invariant-loop-done g l =
     let old = state g.S.Store l.fn.conn in
     let now = state g.S.Store l.conn in
     record {
       idle : l.fn.conn.in_transaction ≡ false → l.conn.in_transaction ≡ false;
       same : HasCleanDisk now → l.fn.conn.in_transaction ≡ false → ChangesNothing old now;
       crash : Survives old now (λ _. ⊥);
+      still : HasCleanDisk now → now.now ≡ old.now;
+      long : length l.counts.items ≡ l._done;
+      rest : HasCleanDisk now → IsStore old → (content : Content) → HoldsRows old.now.trees content → (all : List TermCount) → AreTermsOf content l.db.0 l.index l.register all
+          → filter (is_from l.start) all ≡ l.counts.items ++ filter (is_from (string_bytes l.next)) all;
     }

@@ -1,0 +1,122 @@
+-- A database is made: the tables are then the image of one database more.
+use Rattle.std.proofs.Common.{◌≡◌, ◌≢◌, ◌↔◌, ◌⊎◌, ◌∙◌, ℕ, ℤ, pos, Bool, true, false, cond, List, [], ◌∷◌, Option, Some, None, refl, sym, ap, subst, inl, inr, arith}
+use Rattle.std.specs.List.{Contains}
+use Rattle.std.specs.List.Sorted.{IsStrictlySortedBy}
+use Rattle.std.specs.Str.{bytes_eq}
+use Rattle.std.proofs.lemmas.Slice.Eq.{bytes_eq-Decides}
+use Rattle.sqlite.specs.declared.types.Value.TheVariants.{Int}
+use Rattle.sqlite.specs.Order.{Row}
+use Rattle.sqlite.specs.Tree.{Trees}
+use Rattle.sqlite_rules.specs.Lists.{Has}
+use Rattle.sqlite_rules.proofs.ListLemmas.{has_contained, contains_had}
+use Rattle.zeb_profile.specs.declared.directives.Directive.{Directive}
+use Rattle.zeb_register.specs.Content.{Content}
+use Rattle.zeb_register.specs.Catalog.{PutsDatabase}
+use Rattle.zeb_register.specs.Store.{HasDatabase, KeepsRegisters, record_row}
+use Rattle.zeb_engine.specs.Holdings.{Base, Kept, new_base, base_named, with_base}
+use Rattle.zeb_engine.specs.Image.{AreBases, AreListed, AreStored, AreKept, IsBase, IsImageOf}
+use Rattle.zeb_engine.proofs.Bases.{bytes_told, bytes_other, named_none, with_base_has, with_base_in_order}
+use Rattle.zeb_engine.proofs.Ids.{none_in}
+
+-- what a new database has
+none_wrong : (profile : List Directive) (name : List ℕ) → IsBase profile (new_base name)
+unfolding IsStrictlySortedBy
+none_wrong profile name = record {
+  rising = tt;
+  from_one = λ kept there. absurd (has_contained [] kept there);
+  to_last = λ kept there. absurd (has_contained [] kept there);
+  few = omega arith;
+  single = λ a b there. absurd (has_contained [] a there);
+  sound = λ kept there. absurd (has_contained [] kept there);
+}
+
+pub with_new_base : (profile : List Directive) (name : List ℕ) (bases : List Base) → AreBases profile bases → AreBases profile (with_base (new_base name) bases)
+with_new_base profile name bases are = record {
+  rising = with_base_in_order (new_base name) bases are.rising;
+  each = λ base there. elim ((with_base_has (new_base name) bases base are.rising).0 (has_contained (with_base (new_base name) bases) base there)) [
+    | inl new ↦ subst (IsBase profile) (sym new) (none_wrong profile name)
+    | inr old ↦ are.each base (contains_had bases base old.0)
+  ];
+}
+
+module _ (holds : Trees → Content → Type 0) (stays : (a b : Trees) (content : Content) → KeepsRegisters a b → holds a content → holds b content) (profile : List Directive) (old new : Trees) (name : List ℕ) (bases : List Base)
+    (image : IsImageOf holds profile old bases) (are : AreBases profile bases) (absent : base_named name bases ≡ None) (id : ℤ) (put : PutsDatabase id name (pos 0) 2 old new) (records : new 4 ≡ old 4) (registers : KeepsRegisters old new) where
+  id_then : List ℕ → ℤ
+  id_then n = cond (bytes_eq n name) id (image.id_of n)
+
+  here : (n : List ℕ) → n ≡ name → id_then n ≡ id
+  unfolding id_then
+  here n same = ap (λ b. cond b id (image.id_of n)) ((bytes_eq-Decides n name).1 same)
+
+  elsewhere : (n : List ℕ) → n ≢ name → id_then n ≡ image.id_of n
+  unfolding id_then
+  elsewhere n other = ap (λ b. cond b id (image.id_of n)) (bytes_other n name other)
+
+  other_name : (base : Base) → Contains bases base → base.name ≢ name
+  other_name base there = named_none name bases base absent (has_contained bases base there)
+
+  row_of : (base : Base) → Contains bases base → HasDatabase old (image.id_of base.name) base.name (pos base.last)
+  row_of base there = (image.listed (image.id_of base.name) base.name (pos base.last)).1 (base, there, refl, refl, refl)
+
+  free : (base : Base) → Contains bases base → id ≢ image.id_of base.name
+  free base there same = other_name base there (put.own base.name (pos base.last) (subst (λ i. HasDatabase old i base.name (pos base.last)) (sym same) (row_of base there)))
+
+  among : (base : Base) → Contains (with_base (new_base name) bases) base → (base ≡ new_base name) ⊎ (Contains bases base × (base.name ≢ name))
+  among base there = elim ((with_base_has (new_base name) bases base are.rising).0 (has_contained (with_base (new_base name) bases) base there)) [
+    | inl one ↦ inl one
+    | inr kept ↦ inr (contains_had bases base kept.0, kept.1)
+  ]
+
+  made_there : Contains (with_base (new_base name) bases) (new_base name)
+  made_there = contains_had (with_base (new_base name) bases) (new_base name) ((with_base_has (new_base name) bases (new_base name) are.rising).1 (inl refl))
+
+  kept_there : (base : Base) → Contains bases base → Contains (with_base (new_base name) bases) base
+  kept_there base there = contains_had (with_base (new_base name) bases) base ((with_base_has (new_base name) bases base are.rising).1 (inr (has_contained bases base there, other_name base there)))
+
+  name_of : (base : Base) → base ≡ new_base name → base.name ≡ name
+  name_of base one = ap (λ (b : Base). b.name) one
+
+  apart : (a b : Base) → Contains (with_base (new_base name) bases) a → Contains (with_base (new_base name) bases) b → id_then a.name ≡ id_then b.name → a.name ≡ b.name
+  apart a b in_a in_b same = elim (among a in_a) [
+    | inl one ↦ elim (among b in_b) [
+      | inl two ↦ name_of a one ∙ sym (name_of b two)
+      | inr two ↦ absurd (free b two.0 (sym (here a.name (name_of a one)) ∙ same ∙ elsewhere b.name two.1))
+    ]
+    | inr one ↦ elim (among b in_b) [
+      | inl two ↦ absurd (free a one.0 (sym (here b.name (name_of b two)) ∙ sym same ∙ elsewhere a.name one.1))
+      | inr two ↦ image.distinct a b one.0 two.0 (sym (elsewhere a.name one.1) ∙ same ∙ elsewhere b.name two.1)
+    ]
+  ]
+
+  listed_then : AreListed new (with_base (new_base name) bases) id_then
+  listed_then i n l = (
+    λ there. elim ((put.each i n l).0 there) [
+      | inl kept ↦ let found = (image.listed i n l).0 kept.0 in
+          (found.0, kept_there found.0 found.1, found.2 ∙ sym (elsewhere found.0.name (other_name found.0 found.1)), found.3, found.4)
+      | inr made ↦ (new_base name, made_there, made.0 ∙ sym (here name refl), made.1, made.2)
+    ],
+    λ found. elim (among found.0 found.1) [
+      | inl one ↦ (put.each i n l).1 (inr (found.2 ∙ here found.0.name (name_of found.0 one), found.3 ∙ name_of found.0 one, found.4 ∙ ap (λ (b : Base). pos b.last) one))
+      | inr kept ↦ (put.each i n l).1 (inl ((image.listed i n l).1 (found.0, kept.0, found.2 ∙ elsewhere found.0.name kept.1, found.3, found.4), λ same. kept.1 (sym found.3 ∙ same)))
+    ],
+  )
+
+  kept_then : AreKept new image.records_of
+  kept_then i sysno ident bytes = (
+    λ there. (image.stored.kept i sysno ident bytes).0 (there.0, subst (λ rows. Has rows (Int there.0 ∷ record_row i sysno ident bytes)) records there.1),
+    λ found. let there = (image.stored.kept i sysno ident bytes).1 found in (there.0, subst (λ rows. Has rows (Int there.0 ∷ record_row i sysno ident bytes)) (sym records) there.1),
+  )
+
+  pub created_image : IsImageOf holds profile new (with_base (new_base name) bases)
+  created_image = record {
+    id_of = id_then;
+    records_of = image.records_of;
+    distinct = apart;
+    listed = listed_then;
+    of_base = λ base there. elim (among base there) [
+      | inl one ↦ ap image.records_of (here base.name (name_of base one)) ∙ none_in (image.records_of id) (image.of_none id free) ∙ sym (ap (λ (b : Base). b.records) one)
+      | inr kept ↦ ap image.records_of (elsewhere base.name kept.1) ∙ image.of_base base kept.0
+    ];
+    of_none = λ i none. image.of_none i (λ base there same. none base (kept_there base there) (same ∙ sym (elsewhere base.name (other_name base there))));
+    stored = record { kept = kept_then; content = image.stored.content; held = stays old new image.stored.content registers image.stored.held; posted = image.stored.posted };
+  }

@@ -1,0 +1,63 @@
+-- The rows of databases, and the databases that they are the image of.
+use Rattle.std.proofs.Common.{◌≡◌, ◌≢◌, ◌∙◌, ℕ, ℤ, pos, List, [], ◌∷◌, Option, Some, None, Result, Ok, Err, refl, sym, ap, subst, subst₂, inl, inr}
+use Rattle.sqlite.specs.Tree.{Trees}
+use Rattle.sqlite_rules.proofs.ListLemmas.{has_contained, contains_had}
+use Rattle.zeb_profile.specs.declared.directives.Directive.{Directive}
+use Rattle.zeb_register.specs.Content.{Content}
+use Rattle.zeb_register.specs.Store.{HasDatabase}
+use Rattle.zeb_register.specs.Catalog.{AreCountedDatabases, IsDatabaseOf}
+use Rattle.zeb_register.specs.declared.catalog.Database.{Database}
+use Rattle.zeb_register.specs.declared.RegFault.{RegFault}
+use Rattle.zeb_register.specs.declared.RegFault.TheVariants as register
+use Rattle.zeb_engine.specs.Answers.{Why, IsFailure, refused, why_of}
+use Rattle.zeb_engine.specs.Conditions.{Conditions}
+use Rattle.zeb_engine.specs.Holdings.{Holdings, Base, base_named}
+use Rattle.zeb_engine.specs.Image.{IsImage, IsImageOf, AreBases, AreListed, HasTexts}
+use Rattle.zeb_engine.specs.Outcomes.{register_refusal}
+use Rattle.zeb_engine.specs.Steps.{ready, holding}
+use Rattle.zeb_engine.specs.Works.{Meets}
+use Rattle.zeb_engine.proofs.Bases.{named_found, named_there}
+use Rattle.zeb_engine.proofs.Ready.{ready_is}
+
+-- a fault of the tables that is no damage is a failure
+pub fault_meets : {A X : Type 0} (Good : A → X → Type 0) (said : Result A Why) (fault : RegFault) → (fault ≡ register.Damaged → ⊥) → Meets Good said (Err (register_refusal fault))
+fault_meets Good said register.Damaged whole = absurd (whole refl)
+fault_meets Good said register.Store whole = inl (inl refl)
+fault_meets Good said register.Memory whole = inl (inr refl)
+
+pub fault_fails : (fault : RegFault) → (fault ≡ register.Damaged → ⊥) → IsFailure (refused (why_of (register_refusal fault)))
+fault_fails register.Damaged whole = absurd (whole refl)
+fault_fails register.Store whole = inl refl
+fault_fails register.Memory whole = inr refl
+
+-- what the tables of a ready register hold
+pub image_ready : (holds : Trees → Content → Type 0) (c : Conditions) (trees : Trees) (before : Holdings) (bases : List Base) → ready c before ≡ Ok bases → IsImage holds c trees before → IsImage holds c trees (holding c bases)
+image_ready holds c trees before bases is image = subst (IsImage holds c trees) (ready_is c before bases is) image
+
+module _ (trees : Trees) (bases : List Base) (id_of : List ℕ → ℤ) (listed : AreListed trees bases id_of) where
+  pub counted : (name : List ℕ) → AreCountedDatabases trees name
+  counted name id last there = let found = (listed id name last).0 there in (found.0.last, found.4)
+
+  -- a row names a database, which has its id and its last number
+  pub row_named : (profile : List Directive) → AreBases profile bases → (id : ℤ) (name : List ℕ) (last : ℕ) → HasDatabase trees id name (pos last)
+      → (base : Base) × (base_named name bases ≡ Some base) × (id ≡ id_of base.name) × (name ≡ base.name) × (last ≡ base.last)
+  row_named profile are id name last there =
+      let found = (listed id name (pos last)).0 there in
+      let same : last ≡ found.0.last = let e = found.4 in cc in
+      (found.0, subst (λ n. base_named n bases ≡ Some found.0) (sym found.3) (named_there bases found.0 are.rising (has_contained bases found.0 found.1)), found.2, found.3, same)
+
+  -- a name without a row names none
+  pub none_named : (name : List ℕ) → ((id last : ℤ) → ¬ HasDatabase trees id name last) → base_named name bases ≡ None
+  none_named name none = from (base_named name bases) refl
+    where
+      from : (o : Option Base) → base_named name bases ≡ o → base_named name bases ≡ None
+      from None is = is
+      from (Some base) is =
+          let found = named_found name bases base is in
+          absurd (none (id_of base.name) (pos base.last) ((listed (id_of base.name) name (pos base.last)).1 (base, contains_had bases base found.0, refl, found.1, refl)))
+
+-- the row of a database that was found
+pub row_found : (trees : Trees) (asked name : List ℕ) → asked ≡ name → (o : Option Database) (found : Database) → o ≡ Some found → IsDatabaseOf trees asked o → (id : ℤ) × (last : ℕ) × HasDatabase trees id name (pos last)
+row_found trees asked name same o found is value =
+    let there : IsDatabaseOf trees asked (Some found) = subst (IsDatabaseOf trees asked) is value in
+    (found.id.0, found.last, subst (λ n. HasDatabase trees found.id.0 n (pos found.last)) same there)

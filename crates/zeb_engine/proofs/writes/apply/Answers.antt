@@ -1,0 +1,35 @@
+use Rattle.std.proofs.Common.{[], IsTrue}
+use Rattle.sqlite.specs.Held.{state}
+use Rattle.zeb_register.specs.Store.{IsStore}
+use Rattle.zeb_engine.specs.Conditions.{Conditions}
+use Rattle.zeb_engine.specs.Image.{IsImage}
+use Rattle.zeb_engine.specs.Steps.{holding}
+use Rattle.zeb_engine.specs.Writing.{AreOf}
+use Rattle.zeb_engine.proofs.WriteSteps.{init_works, begun_so, nothing_so}
+use Rattle.zeb_engine.proofs.writes.apply.Goals as goal
+
+pub returns-in-Init-clause-works : goal.returns-in-Init-clause-works
+returns-in-Init-clause-works g c clean inside k reached =
+    rw c.in-Init.is (init_works g.L.Layout.holds k g.L.Layout.version c.in-Init.profile.now c.in-Init.pattern.now (state g.S.Store c.args.tx.now.conn.now) (state g.S.Store c.init.new.tx.conn.now) c.init.result
+    (c.init.ensures.stays clean inside) (c.init.ensures.ok clean inside) (c.init.ensures.begun clean inside) c.init.ensures.failed)
+
+pub returns-in-Create-clause-works : goal.returns-in-Create-clause-works
+returns-in-Create-clause-works g c clean inside k reached =
+    let opened : IsTrue (state g.S.Store c.args.tx.now.conn.now).is_open = rw c.in-Create.is at reached in
+    rw c.in-Create.is (c.create.ensures.works clean inside opened k)
+
+pub returns-in-Drop-clause-works : goal.returns-in-Drop-clause-works
+returns-in-Drop-clause-works g c clean inside k reached = rw c.in-Drop.is (c.take.ensures.works clean inside k)
+
+pub returns-in-Init-clause-begun : goal.returns-in-Init-clause-begun
+returns-in-Init-clause-begun g c clean inside =
+    let old = state g.S.Store c.args.tx.now.conn.now in
+    let new = state g.S.Store c.init.new.tx.conn.now in
+    rw c.in-Init.is (begun_so c.init.result (IsStore old) (IsStore new × ((k : Conditions) → AreOf g.L.Layout.version c.in-Init.profile.now c.in-Init.pattern.now k → IsImage g.L.Layout.holds k new.now.trees (holding k [])))
+    (c.init.ensures.begun clean inside))
+
+pub returns-in-Create-clause-begun : goal.returns-in-Create-clause-begun
+returns-in-Create-clause-begun g c clean inside = rw c.in-Create.is (nothing_so c.create.result)
+
+pub returns-in-Drop-clause-begun : goal.returns-in-Drop-clause-begun
+returns-in-Drop-clause-begun g c clean inside = rw c.in-Drop.is (nothing_so c.take.result)

@@ -1,0 +1,19 @@
+use Rattle.std.proofs.Common.{pos, subst}
+use Rattle.sqlite.specs.Held.{state}
+use Rattle.zeb_register.specs.Catalog.{PutsDatabase}
+use Rattle.zeb_register.specs.Store.{Changes, databases_tree}
+use Rattle.zeb_engine.specs.NameOf.{name_bytes}
+use Rattle.zeb_engine.proofs.WriteSteps.{create_leads}
+use Rattle.zeb_engine.proofs.writes.create.Goals as goal
+
+pub returns-clause-works : goal.returns-clause-works
+returns-clause-works g c clean inside opened k =
+    let old = state g.S.Store c.args.tx.now.conn.now in
+    let new = state g.S.Store c.database_put.new.tx.conn.now in
+    let name = name_bytes c.args.name.now in
+    let id = c.in_ok-database_put.field-0.0 in (
+      c.in_ok-database_put.ensures.ok clean inside,
+      λ before free store image.
+          let put = subst (λ n. Changes databases_tree (PutsDatabase id n (pos 0)) old new) c.as_str.ensures (c.in_ok-database_put.ensures.put clean inside store) in
+          create_leads g.L.Layout.holds k old new name before image g.met.L.Layout.stays id free put,
+    )

@@ -1,0 +1,42 @@
+use Rattle.std.proofs.Common.{◌≡◌, Err, rules, arith, refl, sym, ap, subst, inl, inr, pos, IsTrue}
+use Rattle.sqlite.specs.Effect.{Database as Contents}
+use Rattle.sqlite.specs.State.{HasCleanDisk}
+use Rattle.sqlite.specs.Held.{state}
+use Rattle.zeb_register.specs.declared.catalog.Database.{Database}
+use Rattle.zeb_register.specs.Store.{HasDatabase}
+use Rattle.zeb_engine.specs.Answers.{why_of}
+use Rattle.zeb_engine.specs.Holdings.{Base}
+use Rattle.zeb_engine.specs.NameOf.{name_bytes}
+use Rattle.zeb_engine.specs.Steps.{turned, dropped}
+use Rattle.zeb_engine.specs.Works.{IsReady, Serves}
+use Rattle.zeb_engine.proofs.Serving.{keeps_still, early_serves}
+use Rattle.zeb_engine.proofs.Turns.{step_missing, existing_known}
+use Rattle.zeb_engine.proofs.writes.drop_database.Goals as goal
+
+pub returns-in_err-database-clause-serves : goal.returns-in_err-database-clause-serves
+returns-in_err-database-clause-serves g c clean opened k =
+    let old = state g.S.Store c.args.connection.now in
+    let new = state g.S.Store c.existing_database.new.connection in
+    let name = name_bytes c.args.name.now in
+    let refusal = c.in_err-database.field-0.0 in
+    let told : c.from_residual.result ≡ Err refusal = search rules in
+    subst (Serves g.L.Layout.holds k (IsReady k) (turned k (dropped name)) old new) (sym told)
+    (early_serves g.L.Layout.holds k (turned k (dropped name)) (IsReady k) old new refusal (c.existing_database.ensures.same clean) (λ before fits keeps.
+    let ready = fits opened in
+    elim (c.in_err-database.ensures.exists clean opened k before ready.0 ready.1 keeps) [
+      | inl failed ↦ inl failed
+      | inr said ↦ inr (step_missing k before name ready.0 ready.1 (why_of refusal) said)
+    ]))
+
+pub returns-clause-serves : goal.returns-clause-serves
+returns-clause-serves g c clean opened k before fits keeps =
+    let old = state g.S.Store c.args.connection.now in
+    let mid = state g.S.Store c.existing_database.new.connection in
+    let name = name_bytes c.args.name.now in
+    let first : HasCleanDisk mid = omega (arith, c.transact.ensures.survives.clean) in
+    let ready = fits opened in
+    let met = c.in_ok-database.ensures.exists first opened k before ready.0 ready.1 keeps in
+    let known = existing_known {X = Database} (λ (base : Base) (found : Database). HasDatabase old.now.trees found.id.0 base.name (pos base.last) × (found.last ≡ base.last) × IsTrue mid.is_open) name ready.0 c.in_ok-database.database met in
+    let nothing = c.existing_database.ensures.same first in
+    let row = subst (λ (d : Contents). HasDatabase d.trees c.in_ok-database.database.id.0 known.0.name (pos known.0.last)) (sym (nothing known.2.2).1) known.2.0 in
+    c.transact.ensures.serves clean k known.2.2 before (λ _. (ready.0, known.0, ready.1, known.1, row)) (keeps_still g.L.Layout.holds k before old mid nothing keeps)

@@ -1,0 +1,14 @@
+use Rattle.sqlite.specs.Held.{state}
+use Rattle.zeb_engine.specs.NameOf.{name_bytes}
+use Rattle.zeb_engine.proofs.WriteSteps.{drop_leads}
+use Rattle.zeb_engine.proofs.writes.take.Goals as goal
+
+pub returns-clause-works : goal.returns-clause-works
+returns-clause-works g c clean inside k =
+    let old = state g.S.Store c.args.tx.now.conn.now in
+    let new = state g.S.Store c.database_take.new.tx.conn.now in (
+      c.in_ok-database_take.ensures.ok clean inside,
+      λ before known store image.
+          let taken = c.in_ok-database_take.ensures.taken clean inside store in
+          drop_leads g.L.Layout.holds k old new (name_bytes c.args.name.now) before image c.args.id.0 known taken.0 taken.1,
+    )

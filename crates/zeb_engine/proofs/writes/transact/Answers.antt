@@ -1,0 +1,46 @@
+use Rattle.std.proofs.Common.{◌≡◌, Ok, Err, rules, arith, refl, sym, subst, subst₂}
+use Rattle.sqlite.specs.State.{HasCleanDisk}
+use Rattle.sqlite.specs.Held.{state}
+use Rattle.zeb_engine.specs.Works.{Serves}
+use Rattle.zeb_engine.specs.Writing.{Begins, Fits, written}
+use Rattle.zeb_engine.proofs.Serving.{begins_over, refusal_serves, reply_serves, reached_inside}
+use Rattle.zeb_engine.proofs.writes.transact.Goals as goal
+
+pub returns-in_err-reply-clause-serves : goal.returns-in_err-reply-clause-serves
+returns-in_err-reply-clause-serves g c clean k reached =
+    let begun = c.transaction-tx.ensures.begun in
+    let write = c.args.write.now in
+    let end = c.drop-tx.new.self.0 in
+    let late : HasCleanDisk (state g.S.Store end) = search rules in
+    let same : end ≡ c.connection-1.given.0 = search rules in
+    let told : c.from_residual.result ≡ Err c.in_err-reply.field-0.0 = search rules in
+    let at = reached_inside g.S.Store write c.args.connection.now c.transaction-tx.result.conn.now begun reached in
+    let works = c.in_err-reply.ensures.works (omega (arith, c.drop-tx.ensures.survives.clean)) (rw begun refl) k at in
+    subst₂ (λ h r. Serves g.L.Layout.holds k (Fits g.L.Layout.version k write) (written k write) (state g.S.Store c.args.connection.now) (state g.S.Store h) r) same (sym told)
+    (refusal_serves g.L.Layout.holds k (written k write) g.S.Store (Fits g.L.Layout.version k write) c.args.connection.now c.transaction-tx.result.conn.now (state g.S.Store c.apply.new.tx.conn.now)
+    (state g.S.Store end) c.in_err-reply.field-0.0 begun works (c.drop-tx.ensures.undone late))
+
+pub returns-clause-serves : goal.returns-clause-serves
+returns-clause-serves g c clean k reached =
+    let begun = c.transaction-tx.ensures.begun in
+    let write = c.args.write.now in
+    let end = c.commit.new.self.0 in
+    let late : HasCleanDisk (state g.S.Store end) = search rules in
+    let same : end ≡ c.connection-2-1.given.0 = search rules in
+    let at = reached_inside g.S.Store write c.args.connection.now c.transaction-tx.result.conn.now begun reached in
+    let works = c.in_ok-reply.ensures.works (omega (arith, c.commit.ensures.survives.clean)) (rw begun refl) k at in
+    subst (λ h. Serves g.L.Layout.holds k (Fits g.L.Layout.version k write) (written k write) (state g.S.Store c.args.connection.now) (state g.S.Store h) (Ok c.in_ok-reply.reply)) same
+    (reply_serves g.L.Layout.holds k (written k write) g.S.Store (Fits g.L.Layout.version k write) c.args.connection.now c.transaction-tx.result.conn.now (state g.S.Store c.apply.new.tx.conn.now)
+    (state g.S.Store end) c.in_ok-reply.reply begun works (c.in_ok-commit.ensures.ok late).1)
+
+pub returns-clause-begun : goal.returns-clause-begun
+returns-clause-begun g c clean =
+    let begun = c.transaction-tx.ensures.begun in
+    let write = c.args.write.now in
+    let end = c.commit.new.self.0 in
+    let late : HasCleanDisk (state g.S.Store end) = search rules in
+    let same : end ≡ c.connection-2-1.given.0 = search rules in
+    let did = c.in_ok-reply.ensures.begun (omega (arith, c.commit.ensures.survives.clean)) (rw begun refl) in
+    subst (λ h. Begins g.L.Layout.holds g.L.Layout.version write (state g.S.Store c.args.connection.now) (state g.S.Store h)) same
+    (begins_over g.L.Layout.holds g.L.Layout.version g.S.Store write c.args.connection.now c.transaction-tx.result.conn.now (state g.S.Store c.apply.new.tx.conn.now) (state g.S.Store end) begun
+    (c.in_ok-commit.ensures.ok late).1 did)

@@ -1,0 +1,12 @@
+-- What a tally counts.
+use Rattle.std.specs.Prelude.{◌≡◌, ◌+◌, ℕ}
+use Rattle.zeb_engine.specs.declared.tally.Fate.{Fate}
+use Rattle.zeb_engine.specs.declared.tally.Fate.TheVariants.{Inserted, Updated, Deleted, PassedOver}
+use Rattle.zeb_engine.specs.declared.tally.Tally.{Tally}
+
+-- one record more, and what became of it
+abbrev pub IsCounted : Fate → Tally → Tally → Type 0
+IsCounted Inserted old new = (new.records ≡ old.records + 1) × (new.inserted ≡ old.inserted + 1) × (new.updated ≡ old.updated) × (new.deleted ≡ old.deleted)
+IsCounted Updated old new = (new.records ≡ old.records + 1) × (new.inserted ≡ old.inserted) × (new.updated ≡ old.updated + 1) × (new.deleted ≡ old.deleted)
+IsCounted Deleted old new = (new.records ≡ old.records + 1) × (new.inserted ≡ old.inserted) × (new.updated ≡ old.updated) × (new.deleted ≡ old.deleted + 1)
+IsCounted PassedOver old new = (new.records ≡ old.records + 1) × (new.inserted ≡ old.inserted) × (new.updated ≡ old.updated) × (new.deleted ≡ old.deleted)

@@ -1,0 +1,140 @@
+-- What commands do to a connection, and to what its tables hold.
+use Rattle.std.specs.Prelude.{◌≡◌, ◌⊎◌, ◌+◌, ℕ, ℤ, List, take, Result, Ok, Err, IsTrue, if◌then◌else◌}
+use Rattle.std.specs.Ordering.{int_eq}
+use Rattle.sqlite.specs.Tree.{Trees}
+use Rattle.sqlite.specs.State.{State, KeepsCommit}
+use Rattle.zeb_profile.specs.declared.directives.Directive.{Directive}
+use Rattle.zeb_register.specs.Calls.{GoesOn}
+use Rattle.zeb_register.specs.Content.{Content}
+use Rattle.zeb_register.specs.Store.{IsStore, meta_tree, databases_tree}
+use Rattle.zeb_engine.specs.declared.commands.Command.{Command}
+use Rattle.zeb_engine.specs.declared.commands.Command.TheVariants.{Init, Check, Create, Drop, Stat, Dump, Change, Find, Scan, Analyse}
+use Rattle.zeb_engine.specs.declared.replies.Reply.{Reply}
+use Rattle.zeb_engine.specs.declared.refusals.Refusal.{Refusal}
+use Rattle.zeb_engine.specs.declared.refusals.Refusal.TheVariants.{Store, Memory}
+use Rattle.zeb_engine.specs.Answers.{Answer, Why, refused, why_of, reply_answer, answer_of, IsFailure}
+use Rattle.zeb_engine.specs.Conditions.{Conditions, conditions}
+use Rattle.zeb_engine.specs.Holdings.{Holdings, Base, Kept}
+use Rattle.zeb_engine.specs.Image.{IsBase, AreStored, IsImage, Sees, Keeps}
+use Rattle.zeb_engine.specs.declared.changes.Fold.{Fold}
+use Rattle.zeb_engine.specs.declared.records.Setting.{Setting}
+use Rattle.zeb_engine.specs.declared.tally.Fate.{Fate}
+use Rattle.zeb_engine.specs.Folding.{Changed, Progress}
+use Rattle.zeb_engine.specs.Steps.{Outcome, Answers, Run, after, ready}
+
+-- ---- a value or a refusal, as a definition says
+
+-- what a call gives is what the definition says, or the store or the memory failed
+abbrev pub Meets : {A X : Type 0} → (Good : A → X → Type 0) → Result A Why → Result X Refusal → Type 0
+Meets Good (Ok a) (Ok x) = Good a x
+Meets Good (Err why) (Ok x) = ⊥
+Meets Good said (Err refusal) = IsFailure (refused (why_of refusal)) ⊎ (said ≡ Err (why_of refusal))
+
+-- the register is ready
+abbrev pub IsReady : Conditions → Trees → Holdings → Type 0
+IsReady c trees before = (bases : List Base) × (ready c before ≡ Ok bases)
+
+-- ---- inside a transaction
+
+-- Work that takes holdings to an outcome: at a reply the tables show what it leaves, and a refusal commits nothing. `Fits` is what
+-- was found out before the transaction began, of the tables and the holdings that they are the image of.
+abbrev pub Works : (holds : Trees → Content → Type 0) → Conditions → (Fits : Trees → Holdings → Type 0) → (Holdings → Outcome) → State → State → Result Reply Refusal → Type 0
+Works holds c Fits outcome old new (Ok reply) =
+    GoesOn old new × ((before : Holdings) → Fits old.now.trees before → IsStore old → IsImage holds c old.now.trees before
+    → ((outcome before).0 ≡ reply_answer reply) × IsStore new × IsImage holds c new.now.trees (outcome before).1)
+Works holds c Fits outcome old new (Err refusal) =
+    KeepsCommit old new × ((before : Holdings) → (IsTrue old.is_open → Fits old.now.trees before) → Sees holds c old before
+    → IsFailure (refused (why_of refusal)) ⊎ (outcome before ≡ (refused (why_of refusal), before)))
+
+-- ---- a change on its way
+
+-- what a change works under
+abbrev pub conditions_of : List ℕ → Setting → Conditions
+conditions_of version setting = conditions version setting.profile.now setting.limits
+
+-- the records of one database in place of those that it had
+abbrev pub with_records : ℤ → List Kept → (ℤ → List Kept) → ℤ → List Kept
+with_records id records records_of other = if int_eq other id then records else records_of other
+
+-- the database with this id is as given, and each other has the records that it had
+abbrev pub IsUnderWay : (holds : Trees → Content → Type 0) → List Directive → ℤ → (ℤ → List Kept) → State → Base → Type 0
+IsUnderWay holds profile id records_of s base = IsStore s × AreStored holds profile s.now.trees (with_records id base.records records_of) × IsBase profile base
+
+-- the texts and the databases are as they were
+abbrev pub KeepsNames : State → State → Type 0
+KeepsNames old new = (new.now.trees meta_tree ≡ old.now.trees meta_tree) × (new.now.trees databases_tree ≡ old.now.trees databases_tree)
+
+-- one record of a change is taken as the definition says
+pub record IsTaken (holds : Trees → Content → Type 0) (profile : List Directive) (id : ℤ) (records_of : ℤ → List Kept) (old new : State) (last : ℕ) (changed : Changed) (fate : Fate) : Type 0 where
+  pub fate_is : fate ≡ changed.1
+  pub last_is : last ≡ changed.0.last
+  pub under_way : IsUnderWay holds profile id records_of new changed.0
+  pub names : KeepsNames old new
+
+-- how far the code has come is how far the definition has
+pub record StandsFor (fold : Fold) (p : Progress) : Type 0 where
+  pub last : fold.progress.last ≡ p.base.last
+  pub taken : fold.tally.records ≡ p.taken
+  pub inserted : fold.tally.inserted ≡ p.inserted
+  pub updated : fold.tally.updated ≡ p.updated
+  pub deleted : fold.tally.deleted ≡ p.deleted
+
+-- some records of a change are folded in as the definition says
+pub record IsFolded (holds : Trees → Content → Type 0) (profile : List Directive) (id : ℤ) (records_of : ℤ → List Kept) (old new : State) (fold : Fold) (p : Progress) : Type 0 where
+  pub stands : StandsFor fold p
+  pub under_way : IsUnderWay holds profile id records_of new p.base
+  pub names : KeepsNames old new
+
+-- ---- outside a transaction
+
+-- nothing had to be found out
+abbrev pub Always : Trees → Holdings → Type 0
+Always trees before = Unit {0}
+
+-- a command that takes holdings to an outcome: it answers that and the tables hold what it leaves, or it fails and they hold what they held
+abbrev pub Serves : (holds : Trees → Content → Type 0) → Conditions → (Fits : Trees → Holdings → Type 0) → (Holdings → Outcome) → State → State → Result Reply Refusal → Type 0
+Serves holds c Fits outcome old new result =
+    (before : Holdings) → (IsTrue old.is_open → Fits old.now.trees before) → Keeps holds c old before
+    → (((outcome before).0 ≡ answer_of result) × Keeps holds c new (outcome before).1) ⊎ (IsFailure (answer_of result) × Keeps holds c new before)
+
+-- the command reads no record and finds none
+abbrev pub ReadsNoRecord : Command → Type 0
+ReadsNoRecord Init = Unit {0}
+ReadsNoRecord Check = Unit {0}
+ReadsNoRecord (Create name) = Unit {0}
+ReadsNoRecord (Drop name) = Unit {0}
+ReadsNoRecord (Stat name) = Unit {0}
+ReadsNoRecord (Dump name) = Unit {0}
+ReadsNoRecord (Change kind name files) = ⊥
+ReadsNoRecord (Find name query first count) = ⊥
+ReadsNoRecord (Scan name query number position) = Unit {0}
+ReadsNoRecord (Analyse files) = Unit {0}
+
+-- the same of any command
+abbrev pub ServesCommand : (holds : Trees → Content → Type 0) → Conditions → Command → State → State → Result Reply Refusal → Type 0
+ServesCommand holds c command old new result =
+    (before : Holdings) → Keeps holds c old before
+    → (Answers c command before (answer_of result) × Keeps holds c new (after c command before)) ⊎ (IsFailure (answer_of result) × Keeps holds c new before)
+
+-- the same of commands in turn
+abbrev pub Runs : (holds : Trees → Content → Type 0) → Conditions → List Command → List Answer → State → State → Type 0
+Runs holds c commands answers old new =
+    (before : Holdings) → Keeps holds c old before → (last : Holdings) × Run c before commands answers last × Keeps holds c new last
+
+-- ---- crashes
+
+-- a crash now leaves the image of these holdings alone
+abbrev pub Leaves : (holds : Trees → Content → Type 0) → Conditions → State → Holdings → Type 0
+Leaves holds c s held = (db : Trees) → s.may_leave db → IsImage holds c db held
+
+-- what a command may commit: the image of its outcome
+abbrev pub Commits : (holds : Trees → Content → Type 0) → Conditions → (Holdings → Holdings) → State → Trees → Type 0
+Commits holds c next old db = (before : Holdings) → Keeps holds c old before → IsImage holds c db (next before)
+
+-- A crash after a command leaves what was there before it, or its outcome: only the outcome once it is accepted, and only what
+-- was there once it is refused, but for a failure of the store.
+abbrev pub Endures : (holds : Trees → Content → Type 0) → Conditions → (Holdings → Holdings) → State → State → Result Reply Refusal → Type 0
+Endures holds c next old new (Ok reply) = (before : Holdings) → Keeps holds c old before → Leaves holds c old before → Leaves holds c new (next before)
+Endures holds c next old new (Err Store) =
+    (before : Holdings) → Keeps holds c old before → Leaves holds c old before → (db : Trees) → new.may_leave db → IsImage holds c db before ⊎ IsImage holds c db (next before)
+Endures holds c next old new (Err refusal) = (before : Holdings) → Leaves holds c old before → Leaves holds c new before

@@ -1,0 +1,64 @@
+-- The commands that write without reading records: what each makes of what is held, and what was found out before it began.
+use Rattle.std.specs.Prelude.{◌≡◌, ℕ, ℤ, pos, List, [], Option, Some, None, Ok, IsTrue}
+use Rattle.std.specs.Option.{option_map}
+use Rattle.sqlite.specs.Tree.{Trees}
+use Rattle.sqlite.specs.State.{State}
+use Rattle.zeb_profile.specs.declared.directives.Directive.{Directive}
+use Rattle.zeb_profile.specs.Indexes.{identifier_pattern}
+use Rattle.zeb_profile.specs.Canonical.{pattern_text}
+use Rattle.zeb_register.specs.Content.{Content}
+use Rattle.zeb_register.specs.Store.{IsStore, HasDatabase}
+use Rattle.zeb_engine.specs.declared.writes.Write.{Write}
+use Rattle.zeb_engine.specs.declared.writes.Write.TheVariants as write
+use Rattle.zeb_engine.specs.Conditions.{Conditions}
+use Rattle.zeb_engine.specs.Holdings.{Holdings, Base, base_named}
+use Rattle.zeb_engine.specs.Image.{HasTexts, IsImage}
+use Rattle.zeb_engine.specs.NameOf.{name_bytes}
+use Rattle.zeb_engine.specs.Steps.{Outcome, holding, ready, initialised, turned, created, dropped}
+
+-- these conditions are those of a layout's version and of a profile, whose identifier rule has this pattern
+pub record AreOf (version : List ℕ) (profile : List Directive) (pattern : List ℕ) (c : Conditions) : Type 0 where
+  pub version_is : c.version ≡ version
+  pub profile_is : c.profile ≡ profile
+  pub pattern_is : option_map pattern_text (identifier_pattern profile) ≡ Some pattern
+
+-- the register is ready, and no database has the name
+abbrev pub IsFree : List ℕ → Conditions → Trees → Holdings → Type 0
+IsFree name c trees before = (bases : List Base) × (ready c before ≡ Ok bases) × (base_named name bases ≡ None)
+
+-- the register is ready, and the database of this name has this id
+abbrev pub IsKnown : List ℕ → ℤ → Conditions → Trees → Holdings → Type 0
+IsKnown name id c trees before = (bases : List Base) × (base : Base) × (ready c before ≡ Ok bases) × (base_named name bases ≡ Some base) × HasDatabase trees id base.name (pos base.last)
+
+abbrev pub written : Conditions → Write → Holdings → Outcome
+written c (write.Init profile pattern) = initialised c
+written c (write.Create name) = turned c (created (name_bytes name.now))
+written c (write.Drop name id) = turned c (dropped (name_bytes name.now))
+
+-- what was found out before a write began
+abbrev pub Fits : List ℕ → Conditions → Write → Trees → Holdings → Type 0
+Fits version c (write.Init profile pattern) trees before = AreOf version profile.now pattern.now c
+Fits version c (write.Create name) trees before = IsFree (name_bytes name.now) c trees before
+Fits version c (write.Drop name id) trees before = IsKnown (name_bytes name.now) id.0 c trees before
+
+-- a write that rests on what was read needs a connection that is open
+abbrev pub IsReached : Write → State → Type 0
+IsReached (write.Init profile pattern) s = Unit {0}
+IsReached (write.Create name) s = IsTrue s.is_open
+IsReached (write.Drop name id) s = IsTrue s.is_open
+
+-- each table but that of the texts is as it was
+abbrev pub KeepsBesideTexts : Trees → Trees → Type 0
+KeepsBesideTexts old new = (new 2 ≡ old 2) × (new 4 ≡ old 4) × (new 7 ≡ old 7) × (new 9 ≡ old 9) × (new 11 ≡ old 11)
+
+-- the texts are these three, and nothing else is changed
+pub record PutsTexts (version text pattern : List ℕ) (old new : State) : Type 0 where
+  pub store : IsStore new
+  pub texts : HasTexts new.now.trees version text pattern
+  pub others : KeepsBesideTexts old.now.trees new.now.trees
+
+-- `init` leaves the image of no database, whatever rows the tables held
+abbrev pub Begins : (holds : Trees → Content → Type 0) → List ℕ → Write → State → State → Type 0
+Begins holds version (write.Init profile pattern) old new = IsStore old → IsStore new × ((c : Conditions) → AreOf version profile.now pattern.now c → IsImage holds c new.now.trees (holding c []))
+Begins holds version (write.Create name) old new = Unit {0}
+Begins holds version (write.Drop name id) old new = Unit {0}

@@ -1,0 +1,9 @@
+-- The names of the faults of an identifier, as they are printed.
+use Rattle.std.specs.Prelude.{ℕ, List, codes}
+use Rattle.zeb_extract.specs.declared.naming.IdentFault.{IdentFault}
+use Rattle.zeb_extract.specs.declared.naming.IdentFault.TheVariants.{NoIdentifier, BadIdentifier, Memory}
+
+abbrev pub fault_name : IdentFault → List ℕ
+fault_name NoIdentifier = codes "NoIdentifier"
+fault_name BadIdentifier = codes "BadIdentifier"
+fault_name Memory = codes "Memory"

@@ -1,0 +1,188 @@
+//! What the plans of queries are, from the reference's worked rows.
+
+use super::{PROFILE, Row};
+use crate::{PairPlan, Plan, TermPlan, plan, read_pqf};
+use std::alloc::{AllocError, Global};
+use std::test::Fail;
+use zeb_profile::Profile;
+use zeb_text::Pattern;
+
+/// A list of patterns, each after a space; `*` for one with a star.
+fn patterns_line(alloc: Global, patterns: &[Pattern]) -> Result<String, AllocError> {
+    let mut line = String::new(alloc);
+    for pattern in patterns {
+        line.push(' ')?;
+        line.push_str(pattern.literal().unwrap_or("*"))?;
+    }
+    Ok(line)
+}
+
+/// The plan of a term that asks for words.
+fn words_line(
+    alloc: Global,
+    name: &str,
+    index: u32,
+    patterns: &[Pattern],
+) -> Result<String, AllocError> {
+    let patterns = patterns_line(alloc, patterns)?;
+    format!(in alloc; "{name} {index}{patterns}")
+}
+
+fn term_line(alloc: Global, term: &TermPlan) -> Result<String, AllocError> {
+    match term {
+        TermPlan::RecordNumber(number) => format!(in alloc; "record {number}"),
+        TermPlan::Always { index, register } => format!(in alloc; "always {index} {register}"),
+        TermPlan::Number {
+            index,
+            relation,
+            number,
+        } => format!(in alloc; "number {index} {relation:?} {number}"),
+        TermPlan::Ordered {
+            index,
+            register,
+            relation,
+            start,
+        } => format!(in alloc; "ordered {index} {register} {relation:?} {start}"),
+        TermPlan::Complete { index, pattern } => words_line(
+            alloc,
+            "complete",
+            *index,
+            pattern.as_slice(),
+        ),
+        TermPlan::Phrase {
+            index,
+            patterns,
+            first,
+        } => words_line(
+            alloc,
+            if *first { "first phrase" } else { "phrase" },
+            *index,
+            patterns,
+        ),
+        TermPlan::AllWords { index, patterns } => words_line(alloc, "all words", *index, patterns),
+        TermPlan::AnyWord { index, patterns } => words_line(alloc, "any word", *index, patterns),
+    }
+}
+
+#[cycle(plan_text)]
+fn pair_line(alloc: Global, pair: &PairPlan) -> Result<String, AllocError> {
+    let operator = pair.operator;
+    let left = plan_text(alloc, &pair.left)?;
+    let right = plan_text(alloc, &pair.right)?;
+    format!(in alloc; "{operator:?}({left}, {right})")
+}
+
+#[cycle(plan_text)]
+fn plan_text(alloc: Global, plan: &Plan) -> Result<String, AllocError> {
+    match plan {
+        Plan::Term(term) => term_line(alloc, term),
+        Plan::Pair(pair) => pair_line(alloc, pair),
+    }
+}
+
+/// Queries and their plans; the indexes are Title 0, Date 1, Any 2.
+const PLANS: &[Row] = &[
+    ("whale", "phrase 2 whale"),
+    ("@attr 1=4 \"Moby Dick\"", "phrase 0 moby dick"),
+    ("@attr 1=4 CAF\u{c9}", "phrase 0 cafe"),
+    ("@attr 1=4 @attr 3=1 or", "first phrase 0 or"),
+    ("@attr 1=4 @attr 3=2 or", "first phrase 0 or"),
+    ("@attr 1=4 @attr 3=3 or", "phrase 0 or"),
+    ("@attr 1=4 @attr 5=100 m#y", "phrase 0 m y"),
+    ("@attr 1=4 @attr 5=101 m#y", "phrase 0 *"),
+    ("@attr 1=4 @attr 5=1 \"moby d\"", "phrase 0 moby *"),
+    ("@attr 1=4 @attr 5=2 \"moby d\"", "phrase 0 * d"),
+    ("@attr 1=4 @attr 5=3 \"a moby d\"", "phrase 0 * moby *"),
+    ("@attr 1=4 @attr 4=2 \"whale moby\"", "phrase 0 whale moby"),
+    (
+        "@attr 1=4 @attr 4=6 \"whale moby\"",
+        "all words 0 whale moby",
+    ),
+    ("@attr 4=6 @attr 5=1 \"whale moby\"", "all words 2 * *"),
+    (
+        "@attr 1=4 @attr 4=105 \"whale zzz\"",
+        "any word 0 whale zzz",
+    ),
+    ("@attr 1=4 @attr 6=2 MOBY-DICK", "complete 0 moby dick"),
+    ("@attr 1=4 @attr 6=3 MOBY-DICK", "complete 0 moby dick"),
+    ("@attr 1=4 @attr 6=3 @attr 3=1 moby", "complete 0 moby"),
+    ("@attr 1=4 @attr 6=3 \"\"", "complete 0"),
+    ("@attr 1=4 @attr 2=1 Dick", "ordered 0 w Less dick"),
+    ("@attr 1=4 @attr 2=2 Dick", "ordered 0 w LessOrEqual dick"),
+    ("@attr 1=4 @attr 2=3 Dick", "phrase 0 dick"),
+    (
+        "@attr 1=4 @attr 2=4 @attr 6=2 \"M  D\"",
+        "ordered 0 p GreaterOrEqual m d",
+    ),
+    ("@attr 1=4 @attr 2=5 Dick", "ordered 0 w Greater dick"),
+    ("@attr 2=1 \"\"", "ordered 2 w Less "),
+    ("@attr 2=103 \"\"", "always 2 w"),
+    ("@attr 1=4 @attr 2=103 @attr 6=2 x", "always 0 p"),
+    ("@attr 1=31 @attr 2=103 @attr 4=109 x", "always 1 n"),
+    (
+        "@attr 1=31 @attr 4=109 @attr 2=4 951",
+        "number 1 GreaterOrEqual 951",
+    ),
+    ("@attr 1=31 @attr 4=109 00951", "number 1 Equal 951"),
+    ("@attr 4=107 007", "record 7"),
+    ("@not moby \"\"", "Not(phrase 2 moby, phrase 2)"),
+    (
+        "@or @and a b c",
+        "Or(And(phrase 2 a, phrase 2 b), phrase 2 c)",
+    ),
+    (
+        "@attr 1=4 @and a @attr 1=title b",
+        "And(phrase 0 a, phrase 0 b)",
+    ),
+];
+
+#[test]
+fn plans_of_queries(rt: HostRuntime) -> Result<(), Fail> {
+    let profile = Profile::read(rt.alloc(), PROFILE)?;
+    for (text, answer) in PLANS {
+        let query = read_pqf(rt.alloc(), text)?;
+        let found = plan(rt.alloc(), &query, &profile)?;
+        assert_eq!(rt;
+            plan_text(rt.alloc(), &found)?.as_str(),
+            *answer,
+            "at {text}"
+        );
+    }
+    Ok(())
+}
+
+/// A query of one pattern, a text that the pattern matches, and one that it doesn't.
+const STARS: [(&str, &str, &str); 6] = [
+    ("@attr 5=1 Moby", "mobydick", "amoby"),
+    ("@attr 5=2 ale", "whale", "ales"),
+    ("@attr 5=3 hal", "whale", "while"),
+    ("@attr 5=101 m#y", "moby", "m"),
+    ("@attr 5=101 #by", "moby", "mob"),
+    (
+        "@attr 1=4 @attr 6=3 @attr 5=1 \"moby d\"",
+        "moby dick",
+        "moby",
+    ),
+];
+
+/// The one pattern of a plan.
+fn only_pattern(plan: &Plan) -> Option<&Pattern> {
+    match plan {
+        Plan::Term(TermPlan::Phrase { patterns, .. }) => patterns.first(),
+        Plan::Term(TermPlan::Complete { pattern, .. }) => pattern.as_ref(),
+        _ => None,
+    }
+}
+
+#[test]
+fn stars_of_truncations(rt: HostRuntime) -> Result<(), Fail> {
+    let profile = Profile::read(rt.alloc(), PROFILE)?;
+    for (text, matching, other) in STARS {
+        let query = read_pqf(rt.alloc(), text)?;
+        let found = plan(rt.alloc(), &query, &profile)?;
+        let pattern = only_pattern(&found).ok_or("a pattern")?;
+        assert!(rt; pattern.matches(matching), "at {text}");
+        assert!(rt; !pattern.matches(other), "at {text}");
+    }
+    Ok(())
+}

@@ -1,0 +1,172 @@
+//! The terms of a register, read from the rows of its postings.
+
+ghost use Rattle.std.specs.Prelude.{◌≡◌, ◌≢◌, ◌<◌, ◌+◌, ◌^◌, ◌++◌, [], ◌∷◌, false, length, pos, IfOk, OnOk, string_bytes};
+ghost use Rattle.std.specs.List.Sorted.{IsStrictlySortedBy};
+ghost use Rattle.sqlite.specs.Held.{state};
+ghost use Rattle.sqlite.specs.State.{HasCleanDisk, Survives};
+ghost use Rattle.sqlite.specs.Order.{row_cmp};
+ghost use Rattle.sqlite_rules.specs.Lists.{Has};
+ghost use Rattle.zeb_register.specs.Calls.{ChangesNothing};
+ghost use Rattle.zeb_register.specs.Content.{Content, HoldsRows, posting_cmp};
+ghost use Rattle.zeb_register.specs.Store.{IsStore};
+ghost use Rattle.zeb_register.specs.Terms.{IsCount, IsInRecord, AreCounts, IsShown, ShowsOccurrence, IsOccurrenceRow, ShowsTerm, IsTermRow, IsCountedIn, IsLeastTerm, IsGreatestTerm, HasTexts, key_in};
+
+use crate::plain::{code_of, postings_under};
+use crate::registers::{Posting, TermCount};
+use crate::statements::postings::{rows_before, rows_from};
+use crate::values::read;
+use crate::{DatabaseId, RegFault};
+use sqlite::{Alter, Connection, Row};
+use std::alloc::{AllocError, Global};
+use zeb_extract::Term;
+use zeb_profile::Register;
+
+/// The terms of rows that rise by term and then by record, each with the number of its records.
+pub(crate) fn count_terms(alloc: Global, rows: &[Row]) -> Result<Vec<TermCount>, RegFault>
+    ensures ok { IfOk result (λ list. IsStrictlySortedBy row_cmp rows.now → AreCounts (IsShown rows.now) list.items) }
+    ensures honest { result ≡ Err RegFault.Damaged → ¬ ((row : _) → Has rows.now row → IsOccurrenceRow row) }
+{
+    let mut counts: Vec<TermCount> = Vec::new(alloc);
+    let mut newest: u64 = 0;
+    for row in rows {
+        let (term, sysno) = occurrence_of(row)?;
+        count_occurrence(&mut counts, newest, term, sysno)?;
+        newest = sysno;
+    }
+    Ok(counts)
+}
+
+/// The term and the record's number that a row shows.
+fn occurrence_of(row: &Row) -> Result<(Term, u64), RegFault>
+    ensures ok { IfOk result (λ o. ShowsOccurrence row.now o.0 o.1) }
+    ensures honest { result ≡ Err RegFault.Damaged → ¬ IsOccurrenceRow row.now }
+{
+    let term: String = read(row, 0)?;
+    let sysno: u64 = read(row, 1)?;
+    Ok((Term::new(term), sysno))
+}
+
+/// Counts one occurrence more. No term comes after this one yet, and the newest number is that of the occurrence before.
+fn count_occurrence(
+    counts: &mut Vec<TermCount>,
+    newest: u64,
+    term: Term,
+    sysno: u64,
+) -> Result<(), RegFault>
+    requires room { (t : _) → Has counts.old.items t → t.records + 1 < 2 ^ 64 }
+    ensures counted { OnOk result (IsCountedIn newest term sysno counts.old.items counts.new.items) }
+    ensures honest { result ≢ Err RegFault.Damaged }
+{
+    if let Some(last) = counts.last_mut() {
+        if last.term == term {
+            if sysno != newest {
+                last.records += 1;
+            }
+            return Ok(());
+        }
+    }
+    counts.push(TermCount { term, records: 1 })?;
+    Ok(())
+}
+
+/// How many records a list has that rises.
+fn records_in(list: &[Posting]) -> u64
+    ensures { IsStrictlySortedBy posting_cmp list.now → IsCount (IsInRecord list.now) result }
+{
+    let mut records: u64 = 0;
+    let mut newest: u64 = 0;
+    for posting in list {
+        if records == 0 || posting.sysno != newest {
+            records += 1;
+        }
+        newest = posting.sysno;
+    }
+    records
+}
+
+/// The term with the number of records that have it.
+pub(crate) fn term_count<S: Alter>(
+    alloc: Global,
+    conn: &mut Connection<S>,
+    db: DatabaseId,
+    index: u32,
+    register: Register,
+    term: String,
+) -> Result<TermCount, RegFault>
+    ensures idle { conn.old.in_transaction ≡ false → conn.new.in_transaction ≡ false }
+    ensures same { HasCleanDisk (state S.Store conn.new) → conn.old.in_transaction ≡ false → ChangesNothing (state S.Store conn.old) (state S.Store conn.new) }
+    ensures still { HasCleanDisk (state S.Store conn.new) → OnOk result ((state S.Store conn.new).now ≡ (state S.Store conn.old).now) }
+    ensures value { HasCleanDisk (state S.Store conn.new) → IsStore (state S.Store conn.old) → IfOk result (λ t. (content : Content) → HoldsRows (state S.Store conn.old).now.trees content
+        → (t.term ≡ string_bytes term) × IsCount (IsInRecord (content db.0 (key_in index register (string_bytes term)))) t.records) }
+    ensures honest { HasCleanDisk (state S.Store conn.new) → IsStore (state S.Store conn.old) → result ≡ Err RegFault.Damaged → (content : Content) → ¬ HoldsRows (state S.Store conn.old).now.trees content }
+    ensures crash { Survives (state S.Store conn.old) (state S.Store conn.new) (λ _. ⊥) }
+{
+    let list = postings_under(alloc, conn, db, index, register, term.as_str())?;
+    let records = records_in(&list);
+    Ok(TermCount {
+        term: Term::new(term),
+        records,
+    })
+}
+
+/// The least text above this one.
+pub(crate) fn text_above(alloc: Global, text: &str) -> Result<String, AllocError>
+    ensures { IfOk result (λ above. string_bytes above ≡ text.now ++ 0 ∷ []) }
+{
+    let mut above = String::from_str(alloc, text)?;
+    above.push('\0')?;
+    Ok(above)
+}
+
+/// The term that the first of the rows shows.
+fn term_of(rows: &[Row]) -> Result<Option<String>, RegFault>
+    ensures ok { IfOk result (ShowsTerm rows.now) }
+    ensures honest { result ≡ Err RegFault.Damaged → ¬ ((row : _) → Has rows.now row → IsTermRow row) }
+{
+    match rows.first() {
+        Some(row) => Ok(Some(read(row, 0)?)),
+        None => Ok(None),
+    }
+}
+
+/// The least term of the register that is not below `start`.
+pub(crate) fn term_from<S: Alter>(
+    conn: &mut Connection<S>,
+    db: DatabaseId,
+    index: u32,
+    register: Register,
+    start: &str,
+) -> Result<Option<String>, RegFault>
+    ensures idle { conn.old.in_transaction ≡ false → conn.new.in_transaction ≡ false }
+    ensures same { HasCleanDisk (state S.Store conn.new) → conn.old.in_transaction ≡ false → ChangesNothing (state S.Store conn.old) (state S.Store conn.new) }
+    ensures still { HasCleanDisk (state S.Store conn.new) → OnOk result ((state S.Store conn.new).now ≡ (state S.Store conn.old).now) }
+    ensures value { HasCleanDisk (state S.Store conn.new) → IsStore (state S.Store conn.old)
+        → IfOk result (λ term. (content : Content) → HoldsRows (state S.Store conn.old).now.trees content → IsLeastTerm content db.0 index register start.now term) }
+    ensures honest { HasCleanDisk (state S.Store conn.new) → IsStore (state S.Store conn.old) → result ≡ Err RegFault.Damaged
+        → (content : Content) → HasTexts content → ¬ HoldsRows (state S.Store conn.old).now.trees content }
+    ensures crash { Survives (state S.Store conn.old) (state S.Store conn.new) (λ _. ⊥) }
+{
+    let rows = rows_from(conn, db.column(), index, code_of(register), start)?;
+    term_of(&rows)
+}
+
+/// The greatest term of the register that is below `start`.
+pub(crate) fn term_before<S: Alter>(
+    conn: &mut Connection<S>,
+    db: DatabaseId,
+    index: u32,
+    register: Register,
+    start: &str,
+) -> Result<Option<String>, RegFault>
+    ensures idle { conn.old.in_transaction ≡ false → conn.new.in_transaction ≡ false }
+    ensures same { HasCleanDisk (state S.Store conn.new) → conn.old.in_transaction ≡ false → ChangesNothing (state S.Store conn.old) (state S.Store conn.new) }
+    ensures still { HasCleanDisk (state S.Store conn.new) → OnOk result ((state S.Store conn.new).now ≡ (state S.Store conn.old).now) }
+    ensures value { HasCleanDisk (state S.Store conn.new) → IsStore (state S.Store conn.old)
+        → IfOk result (λ term. (content : Content) → HoldsRows (state S.Store conn.old).now.trees content → IsGreatestTerm content db.0 index register start.now term) }
+    ensures honest { HasCleanDisk (state S.Store conn.new) → IsStore (state S.Store conn.old) → result ≡ Err RegFault.Damaged
+        → (content : Content) → HasTexts content → ¬ HoldsRows (state S.Store conn.old).now.trees content }
+    ensures crash { Survives (state S.Store conn.old) (state S.Store conn.new) (λ _. ⊥) }
+{
+    let rows = rows_before(conn, db.column(), index, code_of(register), start)?;
+    term_of(&rows)
+}

@@ -1,0 +1,73 @@
+#!/usr/bin/env python3
+"""Refuses each allocation of a crate's tests in turn, one a run: each test has to pass whichever it is.
+
+usage: tests/each_allocation.py CRATE TEST..   after `rt test` in the crate, which leaves its tests in out/
+
+It is for tests that pass where a call gives its ordinary answer or is refused for want of memory. A library put before the C
+library's (LD_PRELOAD) counts the calls of malloc and realloc from 1, and refuses the one that REFUSED names.
+"""
+import pathlib
+import subprocess
+import sys
+import tempfile
+
+LIBRARY = r"""
+#define _GNU_SOURCE
+#include <dlfcn.h>
+#include <stdio.h>
+#include <stdlib.h>
+
+static long calls;
+
+static int is_refused(void) {
+  const char *refused = getenv("REFUSED");
+  return ++calls == (refused ? atol(refused) : 0);
+}
+
+void *malloc(size_t size) {
+  static void *(*real)(size_t);
+  if (!real) real = dlsym(RTLD_NEXT, "malloc");
+  return is_refused() ? NULL : real(size);
+}
+
+void *realloc(void *block, size_t size) {
+  static void *(*real)(void *, size_t);
+  if (!real) real = dlsym(RTLD_NEXT, "realloc");
+  return is_refused() ? NULL : real(block, size);
+}
+
+__attribute__((destructor)) static void tell(void) {
+  long asked = calls;
+  const char *path = getenv("COUNT");
+  FILE *file = path ? fopen(path, "w") : NULL;
+  if (file) fprintf(file, "%ld", asked), fclose(file);
+}
+"""
+
+
+def passes(folder, tests, test, refused):
+    environment = {"LD_PRELOAD": f"{folder}/refuse.so", "REFUSED": str(refused), "COUNT": f"{folder}/count"}
+    return subprocess.run([tests, test], env=environment, capture_output=True).returncode == 0
+
+
+def main(crate, names):
+    tests = pathlib.Path(__file__).parent.parent / "crates" / crate / "out" / f"{crate}_tests"
+    wrong = 0
+    with tempfile.TemporaryDirectory() as name:
+        folder = pathlib.Path(name)
+        (folder / "refuse.c").write_text(LIBRARY)
+        subprocess.run(["cc", "-shared", "-fPIC", "-O1", "-o", folder / "refuse.so", folder / "refuse.c", "-ldl"], check=True)
+        for test in names:
+            assert passes(folder, tests, test, 0), f"{test} has to pass where nothing is refused"
+            total = int((folder / "count").read_text())
+            assert total, f"{test} has to ask for memory"
+            failed = [n for n in range(1, total + 1) if not passes(folder, tests, test, n)]
+            print(f"{test}: {total} allocations, each refused in turn, {len(failed)} wrong answers {failed[:5]}")
+            wrong += len(failed)
+    return 1 if wrong else 0
+
+
+if __name__ == "__main__":
+    if len(sys.argv) < 3:
+        sys.exit(__doc__)
+    sys.exit(main(sys.argv[1], sys.argv[2:]))
