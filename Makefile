@@ -1,9 +1,10 @@
 # make: builds bin/zebraidx · make run: the first example · make check: every proof and every test
-# make install PREFIX=/usr/local: the program and its manual · make clean: what these made
+# make bench: times of the register's calls on files · make clean: what these made
+# make install PREFIX=/usr/local: the program and its manual
 PREFIX ?= /usr/local
 SOURCES := crates.txt $(wildcard crates/*/src/*.rt crates/*/src/*/*.rt crates/*/specs/*.antt crates/*/specs/*/*.antt)
 
-.PHONY: all run check install clean
+.PHONY: all run check bench install clean
 all: bin/zebraidx
 
 # A build is a proof first: the toolchain builds no function that it has not proved.
@@ -19,6 +20,9 @@ run: bin/zebraidx
 
 check:
 	rt ci
+
+bench:
+	bench/registers
 
 install: bin/zebraidx
 	install -d $(DESTDIR)$(PREFIX)/bin $(DESTDIR)$(PREFIX)/share/doc/zebraidx

@@ -39,6 +39,9 @@ with_new_base profile name bases are = record {
   ];
 }
 
+pub new_base_in : (profile : List Directive) (name : List ℕ) (bases : List Base) → AreBases profile bases → Contains (with_base (new_base name) bases) (new_base name)
+new_base_in profile name bases are = contains_had (with_base (new_base name) bases) (new_base name) ((with_base_has (new_base name) bases (new_base name) are.rising).1 (inl refl))
+
 module _ (holds : Trees → Content → Type 0) (stays : (a b : Trees) (content : Content) → KeepsRegisters a b → holds a content → holds b content) (profile : List Directive) (old new : Trees) (name : List ℕ) (bases : List Base)
     (image : IsImageOf holds profile old bases) (are : AreBases profile bases) (absent : base_named name bases ≡ None) (id : ℤ) (put : PutsDatabase id name (pos 0) 2 old new) (records : new 4 ≡ old 4) (registers : KeepsRegisters old new) where
   id_then : List ℕ → ℤ
@@ -67,9 +70,6 @@ module _ (holds : Trees → Content → Type 0) (stays : (a b : Trees) (content 
     | inr kept ↦ inr (contains_had bases base kept.0, kept.1)
   ]
 
-  made_there : Contains (with_base (new_base name) bases) (new_base name)
-  made_there = contains_had (with_base (new_base name) bases) (new_base name) ((with_base_has (new_base name) bases (new_base name) are.rising).1 (inl refl))
-
   kept_there : (base : Base) → Contains bases base → Contains (with_base (new_base name) bases) base
   kept_there base there = contains_had (with_base (new_base name) bases) base ((with_base_has (new_base name) bases base are.rising).1 (inr (has_contained bases base there, other_name base there)))
 
@@ -93,7 +93,7 @@ module _ (holds : Trees → Content → Type 0) (stays : (a b : Trees) (content 
     λ there. elim ((put.each i n l).0 there) [
       | inl kept ↦ let found = (image.listed i n l).0 kept.0 in
           (found.0, kept_there found.0 found.1, found.2 ∙ sym (elsewhere found.0.name (other_name found.0 found.1)), found.3, found.4)
-      | inr made ↦ (new_base name, made_there, made.0 ∙ sym (here name refl), made.1, made.2)
+      | inr made ↦ (new_base name, new_base_in profile name bases are, made.0 ∙ sym (here name refl), made.1, made.2)
     ],
     λ found. elim (among found.0 found.1) [
       | inl one ↦ (put.each i n l).1 (inr (found.2 ∙ here found.0.name (name_of found.0 one), found.3 ∙ name_of found.0 one, found.4 ∙ ap (λ (b : Base). pos b.last) one))

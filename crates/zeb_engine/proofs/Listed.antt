@@ -1,5 +1,5 @@
 -- The rows of databases, and the databases that they are the image of.
-use Rattle.std.proofs.Common.{◌≡◌, ◌≢◌, ◌∙◌, ℕ, ℤ, pos, List, [], ◌∷◌, Option, Some, None, Result, Ok, Err, refl, sym, ap, subst, subst₂, inl, inr}
+use Rattle.std.proofs.Common.{◌≡◌, ◌≢◌, ◌∙◌, ◌⊎◌, ℕ, ℤ, pos, List, [], ◌∷◌, Option, Some, None, Result, Ok, Err, refl, sym, ap, subst, subst₂, inl, inr}
 use Rattle.sqlite.specs.Tree.{Trees}
 use Rattle.sqlite_rules.proofs.ListLemmas.{has_contained, contains_had}
 use Rattle.zeb_profile.specs.declared.directives.Directive.{Directive}
@@ -29,6 +29,11 @@ pub fault_fails : (fault : RegFault) → (fault ≡ register.Damaged → ⊥) �
 fault_fails register.Damaged whole = absurd (whole refl)
 fault_fails register.Store whole = inl refl
 fault_fails register.Memory whole = inr refl
+
+pub fault_fails_or : (X : Type 0) (fault : RegFault) → (fault ≡ register.Damaged → X) → IsFailure (refused (why_of (register_refusal fault))) ⊎ X
+fault_fails_or X register.Damaged damaged = inr (damaged refl)
+fault_fails_or X register.Store damaged = inl (inl refl)
+fault_fails_or X register.Memory damaged = inl (inr refl)
 
 -- what the tables of a ready register hold
 pub image_ready : (holds : Trees → Content → Type 0) (c : Conditions) (trees : Trees) (before : Holdings) (bases : List Base) → ready c before ≡ Ok bases → IsImage holds c trees before → IsImage holds c trees (holding c bases)

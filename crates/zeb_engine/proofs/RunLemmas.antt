@@ -1,8 +1,12 @@
 -- A run goes on by one command.
-use Rattle.std.proofs.Common.{◌≡◌, ◌⊎◌, List, [], ◌∷◌, ◌++◌, Result, inl, inr, refl, subst}
+use Rattle.std.proofs.Common.{◌≡◌, ◌⊎◌, List, [], ◌∷◌, ◌++◌, Result, Ok, Err, OnErr, rules, inl, inr, refl, subst}
+use Rattle.std.specs.List.{AllByRecursion}
+use Rattle.std.specs.Result.{IsErr}
 use Rattle.sqlite.specs.Tree.{Trees}
 use Rattle.sqlite.specs.State.{State}
+use Rattle.zeb_register.specs.Calls.{ChangesNothing}
 use Rattle.zeb_register.specs.Content.{Content}
+use Rattle.zeb_register.proofs.Calls.{nothing_then}
 use Rattle.zeb_engine.specs.declared.commands.Command.{Command}
 use Rattle.zeb_engine.specs.declared.replies.Reply.{Reply}
 use Rattle.zeb_engine.specs.declared.refusals.Refusal.{Refusal}
@@ -29,3 +33,19 @@ runs_more holds c old now next commands answers command result runs serves befor
       | inl step ↦ (after c command so_far.0, more (after c command so_far.0) (inl (step.0, refl)), step.1)
       | inr failed ↦ (so_far.0, more so_far.0 (inr (failed.0, refl)), failed.1)
     ]
+
+-- ---- commands that are all refused
+
+all_last : {X : Type 0} (P : X → Type 0) (xs : List X) (x : X) → AllByRecursion P (xs ++ x ∷ []) → AllByRecursion P xs × P x
+all_last P [] x all = (tt, all.0)
+all_last P (y ∷ ys) x all = let rest = all_last P ys x all.1 in ((all.0, rest.0), rest.1)
+
+on_err : {T E : Type 0} (r : Result T E) (P : Type 0) → IsErr r → OnErr r P → P
+on_err (Ok x) P is p = search rules
+on_err (Err e) P is p = p
+
+pub refused_more : (old now next : State) (results : List (Result Reply Refusal)) (result : Result Reply Refusal) → (AllByRecursion IsErr results → ChangesNothing old now) → OnErr result (ChangesNothing now next)
+    → AllByRecursion IsErr (results ++ result ∷ []) → ChangesNothing old next
+refused_more old now next results result so_far refused all =
+    let split = all_last IsErr results result all in
+    nothing_then old now next (so_far split.0) (on_err result (ChangesNothing now next) split.1 refused)

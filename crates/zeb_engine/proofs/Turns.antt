@@ -1,9 +1,12 @@
 -- What commands that change the databases come to, by what there is of the name.
 use Rattle.std.proofs.Common.{◌≡◌, ◌∙◌, ℕ, List, [], Option, Some, None, Result, Ok, Err, refl, sym, ap}
-use Rattle.zeb_engine.specs.Answers.{Why, done, refused, exists}
+use Rattle.zeb_marc.specs.Splits.{Split}
+use Rattle.zeb_engine.specs.declared.commands.Kind.{Kind}
+use Rattle.zeb_engine.specs.Answers.{Why, done, changed, refused, exists}
 use Rattle.zeb_engine.specs.Conditions.{Conditions}
+use Rattle.zeb_engine.specs.Folding.{Progress, at_first, files_folded}
 use Rattle.zeb_engine.specs.Holdings.{Holdings, Base, new_base, base_named, with_base, without_base}
-use Rattle.zeb_engine.specs.Steps.{Turn, Outcome, ready, holding, ends, turned, turned_from, created, created_in, dropped, dropped_in, no_database, found_or, existing, initialised}
+use Rattle.zeb_engine.specs.Steps.{Turn, Outcome, ready, holding, ends, turned, turned_from, created, created_in, dropped, dropped_in, changed_by_files, change_from, change_ends, start_of, no_database, found_or, existing, initialised}
 use Rattle.zeb_engine.specs.Works.{Meets}
 
 module _ (c : Conditions) (before : Holdings) where
@@ -46,6 +49,24 @@ module _ (c : Conditions) (before : Holdings) where
             let why_is : no_database name ≡ why = cc in
             step_unknown none ∙ ap (λ w. (refused w, before)) why_is
         from (Some base) found = let e : ◌≡◌ {A = Result Base Why} (Ok base) (Err why) = sym (ap (found_or name) found) ∙ said in absurd cc
+
+    -- the records of files are folded into the database that a change begins with
+    module _ (kind : Kind) (files : List Split) where
+      pub step_unbegun : (why : Why) → start_of kind name (base_named name bases) ≡ Err why → turned c (changed_by_files c kind name files) before ≡ (refused why, before)
+      unfolding changed_by_files
+      step_unbegun why starts = turn_taken (changed_by_files c kind name files) bases is ∙ ap (λ s. ends c before (change_from c kind files bases s)) starts
+
+      module _ (start : Base) (starts : start_of kind name (base_named name bases) ≡ Ok start) where
+        step_begun : turned c (changed_by_files c kind name files) before ≡ ends c before (change_ends bases (files_folded c kind 1 files (at_first start)))
+        unfolding changed_by_files
+        step_begun = turn_taken (changed_by_files c kind name files) bases is ∙ ap (λ s. ends c before (change_from c kind files bases s)) starts
+
+        pub step_changed : (p : Progress) → files_folded c kind 1 files (at_first start) ≡ Ok p
+            → turned c (changed_by_files c kind name files) before ≡ (changed p.inserted p.updated p.deleted, holding c (with_base p.base bases))
+        step_changed p folds = step_begun ∙ ap (λ r. ends c before (change_ends bases r)) folds
+
+        pub step_unchanged : (why : Why) → files_folded c kind 1 files (at_first start) ≡ Err why → turned c (changed_by_files c kind name files) before ≡ (refused why, before)
+        step_unchanged why folds = step_begun ∙ ap (λ r. ends c before (change_ends bases r)) folds
 
 -- a database that was found has the name
 pub existing_known : {X : Type 0} (Good : Base → X → Type 0) (name : List ℕ) (bases : List Base) (x : X) → Meets Good (existing name bases) (Ok x) → (base : Base) × (base_named name bases ≡ Some base) × Good base x

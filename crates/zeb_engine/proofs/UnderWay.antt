@@ -24,6 +24,14 @@ use Rattle.zeb_engine.specs.Works.{Meets, IsTaken, IsUnderWay, KeepsNames, with_
 use Rattle.zeb_engine.proofs.PostedLemmas.{IsSwap, posted_elder, posted_after}
 use Rattle.zeb_engine.proofs.Reposted.{reposted, reposted_is}
 
+-- the registers are as they were where the table of records is written
+pub registers_still : (old new : State) (Rows : ℕ → Trees → Trees → Type 0) → Changes records_tree Rows old new → KeepsRegisters old.now.trees new.now.trees
+registers_still old new Rows put = (
+  put.others.1.1.1.0 (λ same. omega (arith, same)),
+  put.others.1.1.1.1.0 (λ same. omega (arith, same)),
+  put.others.1.1.1.1.1.0 (λ same. omega (arith, same)),
+)
+
 -- ---- an answer, as a definition says
 
 pub meets_failure : {A X : Type 0} (Good : A → X → Type 0) (said : Result A Why) (refusal : Refusal) → IsFailure (refused (why_of refusal)) → Meets Good said (Err refusal)
@@ -48,7 +56,7 @@ fault_fails fault.Memory sound = inr refl
 
 -- ---- tables
 
-same_kept : (old new : Trees) (records_of : ℤ → List Kept) → new records_tree ≡ old records_tree → AreKept old records_of → AreKept new records_of
+pub same_kept : (old new : Trees) (records_of : ℤ → List Kept) → new records_tree ≡ old records_tree → AreKept old records_of → AreKept new records_of
 same_kept old new records_of same are i sysno ident bytes = (
   λ there. (are i sysno ident bytes).0 (there.0, subst (λ rows. Has rows (Int there.0 ∷ record_row i sysno ident bytes)) same there.1),
   λ row. let there = (are i sysno ident bytes).1 row in (there.0, subst (λ rows. Has rows (Int there.0 ∷ record_row i sysno ident bytes)) (sym same) there.1),
@@ -83,11 +91,7 @@ module _ (holds : Trees → Content → Type 0) (profile : List Directive) (id :
   module _ (stays : (old new : Trees) (content : Content) → KeepsRegisters old new → holds old content → holds new content) (old mid : State) (base next : Base)
       (under : IsUnderWay holds profile id records_of old base) (Rows : ℕ → Trees → Trees → Type 0) (put : Changes records_tree Rows old mid) where
     registers_kept : KeepsRegisters old.now.trees mid.now.trees
-    registers_kept = (
-      put.others.1.1.1.0 (λ same. omega (arith, same)),
-      put.others.1.1.1.1.0 (λ same. omega (arith, same)),
-      put.others.1.1.1.1.1.0 (λ same. omega (arith, same)),
-    )
+    registers_kept = registers_still old mid Rows put
 
     -- the registers hold then what they held
     pub held_still : holds mid.now.trees under.1.content

@@ -23,6 +23,10 @@ pub record ArePlacesIn (occurrences : List Occurrence) (key : Key) (places : Lis
   pub rising : IsStrictlySortedBy place_cmp places
   pub each : (place : Place) → Has places place ↔ Contains occurrences (occurrence_at key place)
 
+-- two lists of the same occurrences
+abbrev pub AreTheSame : List Occurrence → List Occurrence → Type 0
+AreTheSame elder newer = (o : Occurrence) → Contains elder o ↔ Contains newer o
+
 abbrev pub key_in : ChangedKey → Key
 key_in changed = changed.key.now
 

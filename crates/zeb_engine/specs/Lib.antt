@@ -15,8 +15,12 @@ pub mod Steps
 pub mod Image
 pub mod Works
 pub mod Writing
+pub mod Changing
 pub mod ChangedKeys
 pub mod Tallies
 pub mod Reading
 pub mod Headline
+pub mod Adopting
 pub mod Records
+pub mod Found
+pub mod Worked

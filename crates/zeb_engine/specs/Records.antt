@@ -12,8 +12,10 @@ use Rattle.zeb_extract.specs.Occurrences.{IsOccurrence}
 use Rattle.zeb_extract.specs.Order.{IsRising}
 use Rattle.zeb_register.specs.declared.kept.Elder.{Elder}
 use Rattle.zeb_register.specs.Content.{Content}
+use Rattle.zeb_register.specs.Store.{KeepsRegisters}
 use Rattle.zeb_engine.specs.declared.refusals.Refusal.{Refusal}
 use Rattle.zeb_engine.specs.declared.tally.Fate.{Fate}
+use Rattle.zeb_engine.specs.declared.tally.Fate.TheVariants.{Updated}
 use Rattle.zeb_engine.specs.Answers.{Why}
 use Rattle.zeb_engine.specs.Folding.{Changed, ident_in}
 use Rattle.zeb_engine.specs.Holdings.{Base, Kept, kept_as}
@@ -42,3 +44,7 @@ abbrev pub Takes : (holds : Trees → Content → Type 0) → List Directive →
 Takes holds profile id old new last after Fits said result =
     (records_of : ℤ → List Kept) (base : Base) → last ≡ base.last → IsUnderWay holds profile id records_of old base → Fits base
     → Meets (IsTaken holds profile id records_of old new after) (said base) result
+
+-- a record that is replaced by the same bytes counts as updated, and each table of the registers has the rows that it had
+abbrev pub IsIdle : State → State → Fate → Type 0
+IsIdle old new fate = (fate ≡ Updated) × KeepsRegisters old.now.trees new.now.trees

@@ -122,35 +122,35 @@ waited c before = (waits (ready c before), before)
 abbrev pub splits_of : List (List ℕ) → List Split
 splits_of files = map split_of files
 
--- what a command that writes does
-abbrev pub outcome : Conditions → Command → Holdings → Outcome
-outcome c Init before = initialised c before
-outcome c (Create name) before = turned c (created (name_bytes name)) before
-outcome c (Drop name) before = turned c (dropped (name_bytes name)) before
-outcome c (Change kind name files) before = turned c (changed_by_files c kind (name_bytes name) (splits_of (map (λ file. file.items) files.items))) before
-outcome c (Find name query first count) before = (refused unsupported, before)
-outcome c Check before = waited c before
-outcome c (Stat name) before = waited c before
-outcome c (Dump name) before = waited c before
-outcome c (Scan name query number position) before = waited c before
-outcome c (Analyse files) before = (refused unsupported, before)
+-- What a command answers and leaves. A find has none: what it answers is said by the records that it finds.
+abbrev pub outcome : Conditions → Command → Holdings → Option Outcome
+outcome c Init before = Some (initialised c before)
+outcome c (Create name) before = Some (turned c (created (name_bytes name)) before)
+outcome c (Drop name) before = Some (turned c (dropped (name_bytes name)) before)
+outcome c (Change kind name files) before = Some (turned c (changed_by_files c kind (name_bytes name) (splits_of (map (λ file. file.items) files.items))) before)
+outcome c (Find name query first count) before = None
+outcome c Check before = Some (waited c before)
+outcome c (Stat name) before = Some (waited c before)
+outcome c (Dump name) before = Some (waited c before)
+outcome c (Scan name query number position) before = Some (waited c before)
+outcome c (Analyse files) before = Some (refused unsupported, before)
 
--- what is held after a command
+abbrev pub left_by : Holdings → Option Outcome → Holdings
+left_by before None = before
+left_by before (Some told) = told.1
+
+-- what is held after a command; a find leaves what was held
 abbrev pub after : Conditions → Command → Holdings → Holdings
-after c command before = (outcome c command before).1
+after c command before = left_by before (outcome c command before)
+
+abbrev pub IsTold : Option Outcome → Answer → Type 0
+IsTold None answer = ⊥
+IsTold (Some told) answer = answer ≡ told.0
 
 -- what a command answers: a find by the records that it finds, each other by its outcome
 abbrev pub Answers : Conditions → Command → Holdings → Answer → Type 0
 Answers c (Find name query first count) before answer = FoundFrom c (name_bytes name) (string_bytes query) first count (ready c before) answer
-Answers c Init before answer = answer ≡ (outcome c Init before).0
-Answers c Check before answer = answer ≡ (outcome c Check before).0
-Answers c (Create name) before answer = answer ≡ (outcome c (Create name) before).0
-Answers c (Drop name) before answer = answer ≡ (outcome c (Drop name) before).0
-Answers c (Stat name) before answer = answer ≡ (outcome c (Stat name) before).0
-Answers c (Dump name) before answer = answer ≡ (outcome c (Dump name) before).0
-Answers c (Change kind name files) before answer = answer ≡ (outcome c (Change kind name files) before).0
-Answers c (Scan name query number position) before answer = answer ≡ (outcome c (Scan name query number position) before).0
-Answers c (Analyse files) before answer = answer ≡ (outcome c (Analyse files) before).0
+Answers c command before answer = IsTold (outcome c command before) answer
 
 -- ---- a list of commands: each takes its step, or the store or the memory fails and nothing changes
 

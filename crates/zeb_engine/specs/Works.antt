@@ -20,7 +20,7 @@ use Rattle.zeb_engine.specs.declared.changes.Fold.{Fold}
 use Rattle.zeb_engine.specs.declared.records.Setting.{Setting}
 use Rattle.zeb_engine.specs.declared.tally.Fate.{Fate}
 use Rattle.zeb_engine.specs.Folding.{Changed, Progress}
-use Rattle.zeb_engine.specs.Steps.{Outcome, Answers, Run, after, ready}
+use Rattle.zeb_engine.specs.Steps.{Outcome, Answers, FoundFrom, Run, after, ready}
 
 -- ---- a value or a refusal, as a definition says
 
@@ -97,18 +97,11 @@ Serves holds c Fits outcome old new result =
     (before : Holdings) → (IsTrue old.is_open → Fits old.now.trees before) → Keeps holds c old before
     → (((outcome before).0 ≡ answer_of result) × Keeps holds c new (outcome before).1) ⊎ (IsFailure (answer_of result) × Keeps holds c new before)
 
--- the command reads no record and finds none
-abbrev pub ReadsNoRecord : Command → Type 0
-ReadsNoRecord Init = Unit {0}
-ReadsNoRecord Check = Unit {0}
-ReadsNoRecord (Create name) = Unit {0}
-ReadsNoRecord (Drop name) = Unit {0}
-ReadsNoRecord (Stat name) = Unit {0}
-ReadsNoRecord (Dump name) = Unit {0}
-ReadsNoRecord (Change kind name files) = ⊥
-ReadsNoRecord (Find name query first count) = ⊥
-ReadsNoRecord (Scan name query number position) = Unit {0}
-ReadsNoRecord (Analyse files) = Unit {0}
+-- a find: it answers what is found, or it fails, and the tables hold what they held
+abbrev pub Finds : (holds : Trees → Content → Type 0) → Conditions → (name query : List ℕ) → (first count : ℕ) → State → State → Result Reply Refusal → Type 0
+Finds holds c name query first count old new result =
+    (before : Holdings) → Keeps holds c old before
+    → (FoundFrom c name query first count (ready c before) (answer_of result) × Keeps holds c new before) ⊎ (IsFailure (answer_of result) × Keeps holds c new before)
 
 -- the same of any command
 abbrev pub ServesCommand : (holds : Trees → Content → Type 0) → Conditions → Command → State → State → Result Reply Refusal → Type 0

@@ -1,15 +1,21 @@
 //! Updates and deletes: the records of files, folded into a database in one transaction.
 
-ghost use Rattle.std.specs.Prelude.{◌≡◌, ◌⊎◌, ◌+◌, ℕ, ℤ, List, Some, Ok, Err, true, false, IsTrue, OnErr, IfErr, OnOk, ⊤};
+ghost use Rattle.std.specs.Prelude.{◌≡◌, ◌⊎◌, ◌+◌, ℕ, ℤ, List, map, Some, Ok, Err, true, false, IsTrue, OnErr, IfErr, OnOk, ⊤};
 ghost use Rattle.sqlite.specs.Held.{state};
 ghost use Rattle.sqlite.specs.State.{HasCleanDisk, Survives};
 ghost use Rattle.zeb_register.specs.Calls.{ChangesNothing};
 ghost use Rattle.zeb_marc.specs.Splits.{next_of, split_of};
-ghost use Rattle.zeb_engine.specs.Folding.{Progress as FoldProgress, folded, file_folded};
-ghost use Rattle.zeb_engine.specs.Holdings.{Kept};
-ghost use Rattle.zeb_engine.specs.Reading.{ReadsNext};
+ghost use Rattle.zeb_engine.specs.Adopting.{StaysOpen};
+ghost use Rattle.zeb_engine.specs.Changing.{BeginsWith, last_of};
+ghost use Rattle.zeb_engine.specs.Conditions.{Conditions};
+ghost use Rattle.zeb_engine.specs.Folding.{Progress as FoldProgress, folded, file_folded, files_folded};
+ghost use Rattle.zeb_engine.specs.Holdings.{Base, Holdings, Kept, base_named};
+ghost use Rattle.zeb_engine.specs.Image.{Keeps};
+ghost use Rattle.zeb_engine.specs.NameOf.{name_bytes};
+ghost use Rattle.zeb_engine.specs.Reading.{HasFailedAt, NoneFailed, NoReadFault, ReadsNext};
+ghost use Rattle.zeb_engine.specs.Steps.{changed_by_files, ready, splits_of, start_of, turned};
 ghost use Rattle.zeb_engine.specs.Transactions.{EnduresRefusal, Stays};
-ghost use Rattle.zeb_engine.specs.Works.{IsFolded, IsUnderWay, Meets, StandsFor, conditions_of};
+ghost use Rattle.zeb_engine.specs.Works.{IsFolded, IsReady, IsUnderWay, Meets, Serves, StandsFor, Works, conditions_of};
 
 use crate::commands::Kind;
 use crate::names::DbName;
@@ -65,6 +71,7 @@ fn take_record<S: Alter, L: Layout>(
         → IsUnderWay L.holds setting.now.profile.now fold.old.progress.database.0 records_of (state S.Store tx.old.conn.now) p.base
         → Meets (λ after _. IsFolded L.holds setting.now.profile.now fold.old.progress.database.0 records_of (state S.Store tx.old.conn.now) (state S.Store tx.new.conn.now) fold.new after)
         (folded (conditions_of version setting.now) setting.now.kind incoming.entry.file incoming.entry.nth incoming.entry.bytes.now p) result }
+    ensures unread { NoReadFault result }
     ensures crash { Survives (state S.Store tx.old.conn.now) (state S.Store tx.new.conn.now) (λ _. ⊥) }
 {
     if fold.tally.records >= setting.limits.records {
@@ -94,6 +101,7 @@ fn fold_file<S: Alter, L: Layout, R: Source>(
         → Meets (λ after _. IsFolded L.holds setting.now.profile.now fold.old.progress.database.0 records_of (state S.Store tx.old.conn.now) (state S.Store tx.new.conn.now) fold.new after)
         (file_folded (conditions_of version setting.now) setting.now.kind file (split_of text) p) result }
     ensures failed { R.has_failed reader.new ≡ true → result ≡ Err (Refusal.ReadFault file) }
+    ensures fault { (other : ℕ) → result ≡ Err (Refusal.ReadFault other) → (other ≡ file) × (R.has_failed reader.new ≡ true) }
     ensures crash { Survives (state S.Store tx.old.conn.now) (state S.Store tx.new.conn.now) (λ _. ⊥) }
 {
     for nth in 1..u64::MAX {
@@ -120,6 +128,15 @@ fn fold_files<S: Alter, L: Layout, R: Source>(
 ) -> Result<(), Refusal>
     ensures same { tx.new.conn.ghost_name ≡ tx.old.conn.ghost_name }
     ensures stays { HasCleanDisk (state S.Store tx.new.conn.now) → IsTrue (state S.Store tx.old.conn.now).in_transaction → Stays (state S.Store tx.old.conn.now) (state S.Store tx.new.conn.now) result }
+    ensures database { fold.new.progress.database ≡ fold.old.progress.database }
+    ensures folded { HasCleanDisk (state S.Store tx.new.conn.now) → IsTrue (state S.Store tx.old.conn.now).in_transaction
+        → (texts : List (List ℕ)) → map R.remaining readers.old ≡ map Some texts → NoneFailed R.has_failed readers.new
+        → (version : List ℕ) (records_of : ℤ → List Kept) (p : FoldProgress) → StandsFor fold.old p
+        → IsUnderWay L.holds setting.now.profile.now fold.old.progress.database.0 records_of (state S.Store tx.old.conn.now) p.base
+        → Meets (λ after _. IsFolded L.holds setting.now.profile.now fold.old.progress.database.0 records_of (state S.Store tx.old.conn.now) (state S.Store tx.new.conn.now) fold.new after)
+        (files_folded (conditions_of version setting.now) setting.now.kind 1 (splits_of texts) p) result }
+    ensures failed { NoneFailed R.has_failed readers.old → (file : ℕ) → HasFailedAt R.has_failed readers.new file → result ≡ Err (Refusal.ReadFault file) }
+    ensures fault { (file : ℕ) → result ≡ Err (Refusal.ReadFault file) → HasFailedAt R.has_failed readers.new file }
     ensures crash { Survives (state S.Store tx.old.conn.now) (state S.Store tx.new.conn.now) (λ _. ⊥) }
 {
     for (index, reader) in readers.iter_mut().enumerate() {
@@ -137,6 +154,15 @@ struct Change<'a> {
     found: Option<Database>,
 }
 
+impl Change<'_> {
+    /// The last system number that the database has given, 0 where it is absent.
+    fn last(&self) -> u64
+        ensures { result ≡ last_of self.now.found }
+    {
+        self.found.map_or(0, |database| database.last)
+    }
+}
+
 /// Makes the database where it is absent, folds in the records, and keeps the last number.
 fn apply<S: Alter, L: Layout, R: Source>(
     tx: &mut Transaction<'_, S>,
@@ -147,10 +173,17 @@ fn apply<S: Alter, L: Layout, R: Source>(
 ) -> Result<Reply, Refusal>
     ensures same { tx.new.conn.ghost_name ≡ tx.old.conn.ghost_name }
     ensures stays { HasCleanDisk (state S.Store tx.new.conn.now) → IsTrue (state S.Store tx.old.conn.now).in_transaction → Stays (state S.Store tx.old.conn.now) (state S.Store tx.new.conn.now) result }
+    ensures works { HasCleanDisk (state S.Store tx.new.conn.now) → IsTrue (state S.Store tx.old.conn.now).in_transaction → IsTrue (state S.Store tx.old.conn.now).is_open
+        → (texts : List (List ℕ)) → map R.remaining readers.old ≡ map Some texts → NoneFailed R.has_failed readers.new → (version : List ℕ)
+        → Works L.holds (conditions_of version change.now.setting) (BeginsWith change.now.setting.kind (name_bytes change.now.name.now) change.now.found (conditions_of version change.now.setting))
+        (turned (conditions_of version change.now.setting) (changed_by_files (conditions_of version change.now.setting) change.now.setting.kind (name_bytes change.now.name.now) (splits_of texts)))
+        (state S.Store tx.old.conn.now) (state S.Store tx.new.conn.now) result }
+    ensures failed { NoneFailed R.has_failed readers.old → (file : ℕ) → HasFailedAt R.has_failed readers.new file → result ≡ Err (Refusal.ReadFault file) }
+    ensures fault { (file : ℕ) → result ≡ Err (Refusal.ReadFault file) → HasFailedAt R.has_failed readers.new file }
     ensures crash { Survives (state S.Store tx.old.conn.now) (state S.Store tx.new.conn.now) (λ _. ⊥) }
 {
     let name = change.name.as_str();
-    let last = change.found.map_or(0, |database| database.last);
+    let last = change.last();
     let database = database_put(tx, name, last)?;
     let mut fold = Fold {
         progress: Progress {
@@ -176,15 +209,48 @@ fn transact<S: Alter, L: Layout, R: Source>(
 ) -> Result<Reply, Refusal>
     requires idle { connection.old.in_transaction ≡ false }
     ensures idle { connection.new.in_transaction ≡ false }
+    ensures open { HasCleanDisk (state S.Store connection.new) → OnOk result (StaysOpen (state S.Store connection.old) (state S.Store connection.new)) }
     ensures refused { HasCleanDisk (state S.Store connection.new) → OnErr result (ChangesNothing (state S.Store connection.old) (state S.Store connection.new)) }
     ensures endures { HasCleanDisk (state S.Store connection.new) → IfErr result (EnduresRefusal (state S.Store connection.old) (state S.Store connection.new)) }
     ensures survives { Survives (state S.Store connection.old) (state S.Store connection.new) (λ _. ⊤) }
+    ensures serves { HasCleanDisk (state S.Store connection.new) → IsTrue (state S.Store connection.old).is_open
+        → (texts : List (List ℕ)) → map R.remaining readers.old ≡ map Some texts → NoneFailed R.has_failed readers.new → (version : List ℕ)
+        → Serves L.holds (conditions_of version change.now.setting) (BeginsWith change.now.setting.kind (name_bytes change.now.name.now) change.now.found (conditions_of version change.now.setting))
+        (turned (conditions_of version change.now.setting) (changed_by_files (conditions_of version change.now.setting) change.now.setting.kind (name_bytes change.now.name.now) (splits_of texts)))
+        (state S.Store connection.old) (state S.Store connection.new) result }
+    ensures failed { NoneFailed R.has_failed readers.old → (file : ℕ) → HasFailedAt R.has_failed readers.new file → result ≡ Err (Refusal.ReadFault file) }
+    ensures fault { (file : ℕ) → result ≡ Err (Refusal.ReadFault file) → HasFailedAt R.has_failed readers.new file }
 {
     let _settled = connection.is_autocommit();
     let mut tx = connection.transaction();
     let reply = apply::<S, L, R>(&mut tx, work, change, buffer, readers)?;
     tx.commit()?;
     Ok(reply)
+}
+
+/// What the tables know of the name. A delete needs the database: where it is absent, diagnostic 235, which names it.
+fn found_for<S: Alter, L: Layout>(
+    connection: &mut Connection<S>,
+    setting: &Setting<'_>,
+    name: &DbName,
+) -> Result<Option<Database>, Refusal>
+    requires idle { connection.old.in_transaction ≡ false }
+    ensures idle { connection.new.in_transaction ≡ false }
+    ensures same { HasCleanDisk (state S.Store connection.new) → ChangesNothing (state S.Store connection.old) (state S.Store connection.new) }
+    ensures begins { HasCleanDisk (state S.Store connection.new) → IsTrue (state S.Store connection.old).is_open
+        → (c : Conditions) (before : Holdings) (bases : List Base) → ready c before ≡ Ok bases → Keeps L.holds c (state S.Store connection.old) before
+        → Meets (λ base found. BeginsWith setting.now.kind (name_bytes name.now) found c (state S.Store connection.old).now.trees before × IsTrue (state S.Store connection.new).is_open)
+        (start_of setting.now.kind (name_bytes name.now) (base_named (name_bytes name.now) bases)) result }
+    ensures unread { NoReadFault result }
+    ensures crash { Survives (state S.Store connection.old) (state S.Store connection.new) (λ _. ⊥) }
+{
+    match setting.kind {
+        Kind::Update => Ok(database_of(connection, name.as_str())?),
+        Kind::Delete | Kind::Adelete => {
+            let database = existing_database::<S, L>(setting.alloc, connection, name)?;
+            Ok(Some(database))
+        }
+    }
 }
 
 /// Changes a database by the records of files. An update makes the database where it is absent; a delete of an
@@ -198,16 +264,19 @@ pub(crate) fn change_database<S: Alter, L: Layout, R: Source>(
 ) -> Result<Reply, Refusal>
     requires idle { connection.old.in_transaction ≡ false }
     ensures idle { connection.new.in_transaction ≡ false }
+    ensures open { HasCleanDisk (state S.Store connection.new) → OnOk result (StaysOpen (state S.Store connection.old) (state S.Store connection.new)) }
     ensures refused { HasCleanDisk (state S.Store connection.new) → OnErr result (ChangesNothing (state S.Store connection.old) (state S.Store connection.new)) }
     ensures endures { HasCleanDisk (state S.Store connection.new) → IfErr result (EnduresRefusal (state S.Store connection.old) (state S.Store connection.new)) }
     ensures survives { Survives (state S.Store connection.old) (state S.Store connection.new) (λ _. ⊤) }
+    ensures serves { HasCleanDisk (state S.Store connection.new) → IsTrue (state S.Store connection.old).is_open
+        → (texts : List (List ℕ)) → map R.remaining readers.old ≡ map Some texts → NoneFailed R.has_failed readers.new → (version : List ℕ)
+        → Serves L.holds (conditions_of version setting.entry) (IsReady (conditions_of version setting.entry))
+        (turned (conditions_of version setting.entry) (changed_by_files (conditions_of version setting.entry) setting.entry.kind (name_bytes name.now) (splits_of texts)))
+        (state S.Store connection.old) (state S.Store connection.new) result }
+    ensures failed { NoneFailed R.has_failed readers.old → (file : ℕ) → HasFailedAt R.has_failed readers.new file → result ≡ Err (Refusal.ReadFault file) }
+    ensures fault { (file : ℕ) → result ≡ Err (Refusal.ReadFault file) → HasFailedAt R.has_failed readers.new file }
 {
-    let found = match setting.kind {
-        Kind::Update => database_of(connection, name.as_str())?,
-        Kind::Delete | Kind::Adelete => {
-            Some(existing_database::<S, L>(setting.alloc, connection, name)?)
-        }
-    };
+    let found = found_for::<S, L>(connection, &setting, name)?;
     let mut buffer = RecordBuf::new(setting.alloc)?;
     let change = Change {
         setting,

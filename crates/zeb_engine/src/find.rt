@@ -1,9 +1,26 @@
 //! Finding records by a query.
 
-ghost use Rattle.std.specs.Prelude.{◌≡◌, false};
+ghost use Rattle.std.specs.Prelude.{◌≡◌, ◌⊎◌, List, false, IfOk, IfErr, OnOk, IsTrue, Ok};
+ghost use Rattle.std.specs.List.Sorted.{IsStrictlySortedBy};
 ghost use Rattle.sqlite.specs.Held.{state};
 ghost use Rattle.sqlite.specs.State.{HasCleanDisk, Survives};
+ghost use Rattle.sqlite.specs.Tree.{Trees};
+ghost use Rattle.zeb_query.specs.Plans.{plan_value};
+ghost use Rattle.zeb_query.specs.Reading.{query_fault};
 ghost use Rattle.zeb_register.specs.Calls.{ChangesNothing};
+ghost use Rattle.zeb_register.specs.Content.{posting_cmp};
+ghost use Rattle.zeb_engine.specs.declared.commands.Limits.{Limits};
+ghost use Rattle.zeb_engine.specs.Adopting.{StaysOpen};
+ghost use Rattle.zeb_engine.specs.Answers.{answer_of, refused, why_of, IsFailure};
+ghost use Rattle.zeb_engine.specs.Conditions.{conditions};
+ghost use Rattle.zeb_engine.specs.Finding.{plain_word, plan_key};
+ghost use Rattle.zeb_engine.specs.Found.{key_or, asked_of, AreNumbersOf, AreShown, KeepsEach, LooksUp, ShowsStore};
+ghost use Rattle.zeb_engine.specs.Holdings.{Holdings, Base};
+ghost use Rattle.zeb_engine.specs.Image.{Keeps};
+ghost use Rattle.zeb_engine.specs.NameOf.{name_bytes};
+ghost use Rattle.zeb_engine.specs.Reading.{NoReadFault};
+ghost use Rattle.zeb_engine.specs.Steps.{ready, FoundAmong};
+ghost use Rattle.zeb_engine.specs.Works.{Meets};
 
 use crate::names::DbName;
 use crate::readiness::existing_database;
@@ -15,6 +32,7 @@ use zeb_extract::{Key, Term};
 use zeb_profile::{Profile, Register};
 use zeb_query::{Plan, TermPlan, plan, read_pqf};
 use zeb_register::{DatabaseId, Layout, Posting, Work, ident_of};
+use zeb_text::Pattern;
 
 /// The Bib-1 diagnostic of a first record past the last hit.
 const PAST_THE_HITS: u32 = 13;
@@ -27,33 +45,45 @@ pub(crate) struct Question<'a> {
     pub count: u32,
 }
 
-/// The key of a plan that asks for one plain word in one index; any other plan is `Unsupported`.
-fn key_of_plan(alloc: Global, plan: &Plan) -> Result<Key, Refusal> {
-    let Plan::Term(
-        TermPlan::Phrase {
-            index,
-            patterns,
-            first: false,
-        },
-    ) = plan
-    else {
-        return Err(Refusal::Unsupported);
-    };
-    let [pattern] = patterns.as_slice() else {
+/// The key of one plain word in an index; any other patterns are `Unsupported`.
+fn key_of_word(alloc: Global, index: u32, patterns: &[Pattern]) -> Result<Key, Refusal>
+    ensures key { Meets (λ wanted key. key ≡ wanted) (key_or (plain_word index patterns.now false)) result }
+    ensures unread { NoReadFault result }
+{
+    let [pattern] = patterns else {
         return Err(Refusal::Unsupported);
     };
     let Some(word) = pattern.literal() else {
         return Err(Refusal::Unsupported);
     };
     Ok(Key {
-        index: *index,
+        index,
         register: Register::Word,
         term: Term::new(String::from_str(alloc, word)?),
     })
 }
 
+/// The key of a plan that asks for one plain word in one index; any other plan is `Unsupported`.
+fn key_of_plan(alloc: Global, plan: &Plan) -> Result<Key, Refusal>
+    ensures key { Meets (λ wanted key. key ≡ wanted) (key_or (plan_key (plan_value plan.now))) result }
+    ensures unread { NoReadFault result }
+{
+    match plan {
+        Plan::Term(
+            TermPlan::Phrase {
+                index,
+                patterns,
+                first: false,
+            },
+        ) => key_of_word(alloc, *index, patterns.as_slice()),
+        _ => Err(Refusal::Unsupported),
+    }
+}
+
 /// The numbers of the records that have a posting, each once; postings rise by number.
-fn numbers_of(alloc: Global, postings: &[Posting]) -> Result<Vec<u64>, AllocError> {
+fn numbers_of(alloc: Global, postings: &[Posting]) -> Result<Vec<u64>, AllocError>
+    ensures { IsStrictlySortedBy posting_cmp postings.now → IfOk result (λ numbers. AreNumbersOf postings.now numbers.items) }
+{
     let mut numbers: Vec<u64> = postings.iter().map(|posting| posting.sysno).collect(alloc)?;
     numbers.dedup();
     Ok(numbers)
@@ -68,8 +98,14 @@ fn show<S: Alter>(
 ) -> Result<Vec<Hit>, Refusal>
     requires idle { connection.old.in_transaction ≡ false }
     ensures idle { connection.new.in_transaction ≡ false }
+    ensures open { HasCleanDisk (state S.Store connection.new) → OnOk result (IsTrue (state S.Store connection.old).is_open → IsTrue (state S.Store connection.new).is_open) }
     ensures same { HasCleanDisk (state S.Store connection.new) → ChangesNothing (state S.Store connection.old) (state S.Store connection.new) }
+    ensures shown { HasCleanDisk (state S.Store connection.new) → (trees : Trees) → ShowsStore (state S.Store connection.old) trees
+        → IfOk result (λ shown. AreShown trees database.0 numbers.now shown.items) }
+    ensures failed { HasCleanDisk (state S.Store connection.new) → (trees : Trees) → ShowsStore (state S.Store connection.old) trees → KeepsEach trees database.0 numbers.now
+        → IfErr result (λ refusal. IsFailure (refused (why_of refusal))) }
     ensures crash { Survives (state S.Store connection.old) (state S.Store connection.new) (λ _. ⊥) }
+    ensures unread { NoReadFault result }
 {
     let mut shown = Vec::with_capacity(alloc, numbers.len())?;
     for number in numbers {
@@ -89,7 +125,10 @@ fn asked_for<'a>(
     alloc: Global,
     hits: &'a [u64],
     question: &Question<'_>,
-) -> Result<&'a [u64], Refusal> {
+) -> Result<&'a [u64], Refusal>
+    ensures asked { Meets (λ wanted asked. asked.now ≡ wanted) (asked_of hits.now question.now.first question.now.count) result }
+    ensures unread { NoReadFault result }
+{
     let first = question.first as usize;
     if first > 1 && first > hits.len() {
         return Err(Refusal::Diagnostic {
@@ -114,8 +153,17 @@ pub(crate) fn find<S: Alter, L: Layout>(
 ) -> Result<Reply, Refusal>
     requires idle { connection.old.in_transaction ≡ false }
     ensures idle { connection.new.in_transaction ≡ false }
+    ensures open { HasCleanDisk (state S.Store connection.new) → OnOk result (StaysOpen (state S.Store connection.old) (state S.Store connection.new)) }
     ensures same { HasCleanDisk (state S.Store connection.new) → ChangesNothing (state S.Store connection.old) (state S.Store connection.new) }
+    ensures found { HasCleanDisk (state S.Store connection.new) → IsTrue (state S.Store connection.old).is_open → (limits : Limits) (before : Holdings) (bases : List Base)
+        → ready (conditions L.version profile.now limits) before ≡ Ok bases → Keeps L.holds (conditions L.version profile.now limits) (state S.Store connection.old) before
+        → FoundAmong (conditions L.version profile.now limits) (name_bytes name.now) question.entry.query.now question.entry.first question.entry.count bases (query_fault question.entry.query.now) (answer_of result)
+        ⊎ IsFailure (answer_of result) }
     ensures crash { Survives (state S.Store connection.old) (state S.Store connection.new) (λ _. ⊥) }
+    ensures unread { NoReadFault result }
+    // The hits are read from the registers, on any tables that hold a content.
+    ensures alone { HasCleanDisk (state S.Store connection.new)
+        → LooksUp L.holds profile.now (name_bytes name.now) question.entry.query.now question.entry.first question.entry.count (state S.Store connection.old) result }
 {
     let query = read_pqf(alloc, question.query)?;
     let database = existing_database::<S, L>(alloc, connection, name)?;

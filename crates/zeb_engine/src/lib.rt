@@ -7,6 +7,7 @@ mod changes;
 mod commands;
 mod faults;
 mod find;
+mod laws;
 mod names;
 mod readiness;
 mod records;
@@ -21,6 +22,7 @@ mod writes;
 
 pub use commands::{Command, Kind, Limits};
 pub use faults::RecordFault;
+pub use laws::worked_examples;
 pub use names::DbName;
 pub use refusals::{Refusal, refusal_line, status};
 pub use replies::{Hit, Reply, render};

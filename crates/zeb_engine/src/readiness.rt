@@ -1,15 +1,17 @@
 //! Whether a register may be used by a session, and which of its databases is meant.
 
-ghost use Rattle.std.specs.Prelude.{◌≡◌, ℕ, List, false, pos, Ok, IsTrue};
+ghost use Rattle.std.specs.Prelude.{◌≡◌, ◌⊎◌, ℕ, List, false, pos, Ok, IsTrue, OnOk, IfOk, IfErr};
 ghost use Rattle.sqlite.specs.Held.{state};
 ghost use Rattle.sqlite.specs.State.{HasCleanDisk, Survives};
 ghost use Rattle.zeb_register.specs.Calls.{ChangesNothing};
-ghost use Rattle.zeb_register.specs.Store.{HasDatabase};
+ghost use Rattle.zeb_register.specs.Store.{IsStore, HasDatabase};
+ghost use Rattle.zeb_engine.specs.Answers.{IsFailure, refused, why_of};
 ghost use Rattle.zeb_engine.specs.Conditions.{Conditions, conditions};
 ghost use Rattle.zeb_engine.specs.declared.commands.Limits.{Limits};
 ghost use Rattle.zeb_engine.specs.Holdings.{Holdings, Base};
 ghost use Rattle.zeb_engine.specs.Image.{Keeps};
 ghost use Rattle.zeb_engine.specs.NameOf.{name_bytes};
+ghost use Rattle.zeb_engine.specs.Reading.{NoReadFault};
 ghost use Rattle.zeb_engine.specs.Steps.{ready, existing};
 ghost use Rattle.zeb_engine.specs.Works.{Meets};
 
@@ -42,6 +44,7 @@ pub(crate) fn check_ready<S: Alter, L: Layout>(
     ensures same { HasCleanDisk (state S.Store connection.new) → ChangesNothing (state S.Store connection.old) (state S.Store connection.new) }
     ensures ready { HasCleanDisk (state S.Store connection.new) → (limits : Limits) (before : Holdings) → Keeps L.holds (conditions L.version profile.now limits) (state S.Store connection.old) before
         → Meets (λ bases _. IsTrue (state S.Store connection.old).is_open × IsTrue (state S.Store connection.new).is_open) (ready (conditions L.version profile.now limits) before) result }
+    ensures unread { NoReadFault result }
     ensures crash { Survives (state S.Store connection.old) (state S.Store connection.new) (λ _. ⊥) }
 {
     let Some(version) = meta_of(connection, VERSION)? else {
@@ -72,7 +75,12 @@ pub(crate) fn existing_database<S: Alter, L: Layout>(
         → (c : Conditions) (before : Holdings) (bases : List Base) → ready c before ≡ Ok bases → Keeps L.holds c (state S.Store connection.old) before
         → Meets (λ base found. HasDatabase (state S.Store connection.old).now.trees found.id.0 base.name (pos base.last) × (found.last ≡ base.last) × IsTrue (state S.Store connection.new).is_open)
         (existing (name_bytes name.now) bases) result }
+    ensures found { HasCleanDisk (state S.Store connection.new) → OnOk result (IsTrue (state S.Store connection.old).is_open) }
+    ensures opened { HasCleanDisk (state S.Store connection.new) → IfErr result (λ refusal. IsFailure (refused (why_of refusal)) ⊎ IsTrue (state S.Store connection.old).is_open) }
+    ensures unread { NoReadFault result }
     ensures crash { Survives (state S.Store connection.old) (state S.Store connection.new) (λ _. ⊥) }
+    ensures row { HasCleanDisk (state S.Store connection.new) → IsStore (state S.Store connection.old)
+        → IfOk result (λ found. HasDatabase (state S.Store connection.old).now.trees found.id.0 (name_bytes name.now) (pos found.last)) }
 {
     match database_of(connection, name.as_str())? {
         Some(database) => Ok(database),

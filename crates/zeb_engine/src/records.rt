@@ -1,17 +1,19 @@
 //! One record of a change: it is added, replaces a kept one, or takes it away.
 
 ghost use Rattle.std.specs.Prelude.{◌≡◌, ◌⊎◌, ℕ, ℤ, List, Some, None, Result, Ok, Err, string_bytes, IsTrue, OnOk, IfOk, IfErr};
+ghost use Rattle.std.specs.List.{Contains};
 ghost use Rattle.sqlite.specs.Held.{state};
-ghost use Rattle.sqlite.specs.State.{HasCleanDisk, Survives};
+ghost use Rattle.sqlite.specs.State.{HasCleanDisk, KeepsCounts, Survives};
 ghost use Rattle.zeb_marc.specs.Records.{first_fault, IsRecord};
 ghost use Rattle.zeb_extract.specs.Order.{IsRising as AreRising};
 ghost use Rattle.zeb_register.specs.Content.{Content, IsRising};
 ghost use Rattle.zeb_register.specs.Store.{IsStore, KeepsLists};
-ghost use Rattle.zeb_engine.specs.ChangedKeys.{ArePostingsOf, IsReposted};
+ghost use Rattle.zeb_engine.specs.ChangedKeys.{ArePostingsOf, AreTheSame, IsReposted};
 ghost use Rattle.zeb_engine.specs.Answers.{Why, why_of, refused, IsFailure};
 ghost use Rattle.zeb_engine.specs.Folding.{Changed, changed_record, updated, deleted, ident_in};
 ghost use Rattle.zeb_engine.specs.Holdings.{Base, Kept, kept_as};
-ghost use Rattle.zeb_engine.specs.Records.{AreOccurrencesOf, IsElderAs, IsNewer, Takes};
+ghost use Rattle.zeb_engine.specs.Reading.{NoReadFault};
+ghost use Rattle.zeb_engine.specs.Records.{AreOccurrencesOf, IsElderAs, IsIdle, IsNewer, Takes};
 ghost use Rattle.zeb_engine.specs.Transactions.{Stays};
 ghost use Rattle.zeb_engine.specs.Works.{IsTaken, IsUnderWay, Meets, conditions_of};
 
@@ -81,6 +83,8 @@ fn change_keys<S: Alter, L: Layout>(
         → AreRising elder.now → AreRising newer.now → result ≡ Err Refusal.Damaged
         → (content : Content) → L.holds (state S.Store tx.old.conn.now).now.trees content → IsRising content → ¬ ArePostingsOf sysno elder.now (content progress.old.database.0) }
     ensures crash { Survives (state S.Store tx.old.conn.now) (state S.Store tx.new.conn.now) (λ _. ⊥) }
+    ensures idle { AreRising elder.now → AreRising newer.now → AreTheSame elder.now newer.now
+        → ((state S.Store tx.new.conn.now).now ≡ (state S.Store tx.old.conn.now).now) × KeepsCounts (state S.Store tx.old.conn.now) (state S.Store tx.new.conn.now) × (progress.new ≡ progress.old) }
 {
     let changed_keys = changed_keys(alloc, elder, newer)?;
     for changed in &changed_keys {
@@ -101,6 +105,7 @@ fn change_keys<S: Alter, L: Layout>(
 fn kept_occurrences(setting: &Setting<'_>, elder: &Elder) -> Result<Vec<Occurrence>, Refusal>
     ensures found { IfOk result (λ found. AreOccurrencesOf setting.now.profile.now elder.now.bytes.items found.items) }
     ensures fails { IfErr result (λ refusal. first_fault elder.now.bytes.items ≡ None → refusal ≡ Refusal.Memory) }
+    ensures unread { NoReadFault result }
 {
     match Marc::read(&elder.bytes) {
         Ok(record) => Ok(occurrences(setting.alloc, &record, setting.profile)?),
@@ -122,6 +127,7 @@ fn insert<S: Alter, L: Layout>(
         → (version : List ℕ) → IsNewer setting.now.profile.now newer.now.ident.now newer.now.bytes.now newer.now.occurrences.items
         → Takes L.holds setting.now.profile.now progress.old.database.0 (state S.Store tx.old.conn.now) (state S.Store tx.new.conn.now) progress.old.last progress.new.last
         (λ base. IsElderAs newer.now.ident.now base None) (λ base. updated (conditions_of version setting.now) newer.now.ident.now newer.now.bytes.now base (kept_as newer.now.ident.now base)) result }
+    ensures unread { NoReadFault result }
     ensures crash { Survives (state S.Store tx.old.conn.now) (state S.Store tx.new.conn.now) (λ _. ⊥) }
 {
     if progress.last >= setting.limits.numbers {
@@ -149,7 +155,11 @@ fn replace<S: Alter, L: Layout>(
         → (version : List ℕ) → IsNewer setting.now.profile.now newer.now.ident.now newer.now.bytes.now newer.now.occurrences.items
         → Takes L.holds setting.now.profile.now progress.old.database.0 (state S.Store tx.old.conn.now) (state S.Store tx.new.conn.now) progress.old.last progress.new.last
         (λ base. IsElderAs newer.now.ident.now base (Some elder.now)) (λ base. updated (conditions_of version setting.now) newer.now.ident.now newer.now.bytes.now base (kept_as newer.now.ident.now base)) result }
+    ensures unread { NoReadFault result }
     ensures crash { Survives (state S.Store tx.old.conn.now) (state S.Store tx.new.conn.now) (λ _. ⊥) }
+    ensures idle { HasCleanDisk (state S.Store tx.new.conn.now) → IsTrue (state S.Store tx.old.conn.now).in_transaction → IsStore (state S.Store tx.old.conn.now)
+        → IsNewer setting.now.profile.now newer.now.ident.now newer.now.bytes.now newer.now.occurrences.items
+        → elder.now.bytes.items ≡ newer.now.bytes.now → IfOk result (λ fate. IsIdle (state S.Store tx.old.conn.now) (state S.Store tx.new.conn.now) fate × (progress.new ≡ progress.old)) }
 {
     let old = kept_occurrences(setting, elder)?;
     let sysno = elder.sysno;
@@ -172,6 +182,7 @@ fn withdraw<S: Alter, L: Layout>(
         → (ident : List ℕ) (absent : Result Changed Why)
         → Takes L.holds setting.now.profile.now progress.old.database.0 (state S.Store tx.old.conn.now) (state S.Store tx.new.conn.now) progress.old.last progress.new.last
         (λ base. IsElderAs ident base (Some elder.now)) (λ base. deleted absent ident base (kept_as ident base)) result }
+    ensures unread { NoReadFault result }
     ensures crash { Survives (state S.Store tx.old.conn.now) (state S.Store tx.new.conn.now) (λ _. ⊥) }
 {
     let old = kept_occurrences(setting, elder)?;
@@ -196,7 +207,11 @@ fn keep<S: Alter, L: Layout>(
         → (version : List ℕ) → IsNewer setting.now.profile.now newer.now.ident.now newer.now.bytes.now newer.now.occurrences.items
         → Takes L.holds setting.now.profile.now progress.old.database.0 (state S.Store tx.old.conn.now) (state S.Store tx.new.conn.now) progress.old.last progress.new.last
         (λ base. IsElderAs newer.now.ident.now base elder) (λ base. updated (conditions_of version setting.now) newer.now.ident.now newer.now.bytes.now base (kept_as newer.now.ident.now base)) result }
+    ensures unread { NoReadFault result }
     ensures crash { Survives (state S.Store tx.old.conn.now) (state S.Store tx.new.conn.now) (λ _. ⊥) }
+    ensures idle { HasCleanDisk (state S.Store tx.new.conn.now) → IsTrue (state S.Store tx.old.conn.now).in_transaction → IsStore (state S.Store tx.old.conn.now)
+        → IsNewer setting.now.profile.now newer.now.ident.now newer.now.bytes.now newer.now.occurrences.items
+        → (same : Elder) → elder ≡ Some same → same.bytes.items ≡ newer.now.bytes.now → IfOk result (λ fate. IsIdle (state S.Store tx.old.conn.now) (state S.Store tx.new.conn.now) fate × (progress.new ≡ progress.old)) }
 {
     match elder {
         Some(elder) => replace::<S, L>(tx, setting, progress, &elder, newer),
@@ -213,6 +228,7 @@ fn sound_record<'a>(
     ensures named { IfOk result (λ sound. ident_in setting.now.profile.now incoming.entry.bytes.now ≡ Ok (string_bytes sound.1)) }
     ensures refused { IfErr result (λ refusal. (version : List ℕ) (kind : Kind) (base : Base) → IsFailure (refused (why_of refusal))
         ⊎ (changed_record (conditions_of version setting.now) kind incoming.entry.file incoming.entry.nth incoming.entry.bytes.now base ≡ Err (why_of refusal))) }
+    ensures unread { NoReadFault result }
 {
     let Incoming { bytes, file, nth } = incoming;
     let record = match Marc::read(bytes) {
@@ -240,7 +256,12 @@ pub(crate) fn change_record<S: Alter, L: Layout>(
         → IsUnderWay L.holds setting.now.profile.now progress.old.database.0 records_of (state S.Store tx.old.conn.now) base
         → Meets (IsTaken L.holds setting.now.profile.now progress.old.database.0 records_of (state S.Store tx.old.conn.now) (state S.Store tx.new.conn.now) progress.new.last)
         (changed_record (conditions_of version setting.now) setting.now.kind incoming.entry.file incoming.entry.nth incoming.entry.bytes.now base) result }
+    ensures unread { NoReadFault result }
     ensures crash { Survives (state S.Store tx.old.conn.now) (state S.Store tx.new.conn.now) (λ _. ⊥) }
+    ensures idle { HasCleanDisk (state S.Store tx.new.conn.now) → IsTrue (state S.Store tx.old.conn.now).in_transaction → setting.now.kind ≡ Kind.Update
+        → (records_of : ℤ → List Kept) (base : Base) → IsUnderWay L.holds setting.now.profile.now progress.old.database.0 records_of (state S.Store tx.old.conn.now) base
+        → (kept : Kept) → Contains base.records kept → kept.bytes ≡ incoming.entry.bytes.now
+        → IfOk result (λ fate. IsIdle (state S.Store tx.old.conn.now) (state S.Store tx.new.conn.now) fate × (progress.new ≡ progress.old)) }
 {
     let Incoming { bytes, file, nth } = incoming;
     let (record, ident) = sound_record(setting, incoming)?;

@@ -1,14 +1,18 @@
 //! A register that commands are given to.
 
-ghost use Rattle.std.specs.Prelude.{◌≡◌, ◌⊎◌, false, IfOk, IfErr, OnOk, OnErr, length, ⊤};
+ghost use Rattle.std.specs.Prelude.{◌≡◌, ◌⊎◌, ℕ, List, [], map, Some, Err, false, IsTrue, IfOk, IfErr, OnOk, OnErr, length, ⊤};
 ghost use Rattle.std.specs.List.{AllByRecursion};
+ghost use Rattle.std.specs.Result.{IsErr};
 ghost use Rattle.sqlite.specs.Held.{state};
 ghost use Rattle.sqlite.specs.State.{HasCleanDisk, Survives};
 ghost use Rattle.zeb_engine.specs.Conditions.{conditions};
+ghost use Rattle.zeb_engine.specs.Found.{LooksUp, LooksUpFor};
 ghost use Rattle.zeb_engine.specs.NameOf.{name_bytes};
-ghost use Rattle.zeb_engine.specs.Steps.{turned, created, dropped, waited};
+ghost use Rattle.zeb_engine.specs.Reading.{HasFailedAt, NoneFailed, NoReadFault};
+ghost use Rattle.zeb_engine.specs.Steps.{changed_by_files, created, dropped, holding, splits_of, turned, waited};
 ghost use Rattle.zeb_engine.specs.Transactions.{EnduresRefusal, IsDurable};
 ghost use Rattle.zeb_register.specs.Calls.{ChangesNothing};
+ghost use Rattle.zeb_register.specs.Store.{IsStore};
 
 use crate::changes::change_database;
 use crate::commands::{Command, Kind, Limits};
@@ -52,11 +56,17 @@ impl<S: Alter + Drop, L: Layout> Drop for Session<S, L> {
 }
 
 impl<S: Alter, L: Layout> Session<S, L> {
-    ghost use Rattle.zeb_engine.specs.Works.{Always, ReadsNoRecord, Serves, ServesCommand};
+    ghost use Rattle.zeb_engine.specs.Works.{Always, Finds, Serves, ServesCommand};
     ghost use Rattle.zeb_engine.specs.Headline.{Headline};
+    ghost use Rattle.zeb_engine.specs.Adopting.{StaysOpen};
+    ghost use Rattle.zeb_engine.specs.Conditions.{Conditions};
+    ghost use Rattle.zeb_engine.specs.Holdings.{Holdings, nothing_yet};
+    ghost use Rattle.zeb_engine.specs.Image.{IsImage, Keeps};
+    ghost use Rattle.zeb_register.specs.Sql.{KeepsTables};
+    ghost use Rattle.zeb_register.specs.Tables.{no_schema, store_schema};
 
-    /// Takes a store over: the tables that are absent are made, and no row changes. Refused (`Store`, `Memory`), it
-    /// gives the connection back, and the tables are as before.
+    /// Takes a store over: the tables that are absent are made, and no row changes. No work is counted yet. Refused
+    /// (`Store`, `Memory`), it gives the connection back, and the tables are as before.
     pub fn adopt(
         alloc: Global,
         connection: Connection<S>,
@@ -64,23 +74,41 @@ impl<S: Alter, L: Layout> Session<S, L> {
         limits: Limits,
     ) -> Result<Session<S, L>, (Connection<S>, Refusal)>
         requires idle { connection.in_transaction ≡ false }
+        // A database without a table is then the store of a register that holds nothing yet.
+        ensures made { IfOk result (λ session. HasCleanDisk (state S.Store session.connection) → (state S.Store connection).now.schema ≡ no_schema
+            → (c : Conditions) → Keeps L.holds c (state S.Store session.connection) nothing_yet) }
+        // A store that has all its tables is as it was, and so it holds what it held.
+        ensures there { IfOk result (λ session. HasCleanDisk (state S.Store session.connection) → (state S.Store connection).now.schema ≡ store_schema
+            → ChangesNothing (state S.Store connection) (state S.Store session.connection)) }
+        ensures keeps { IfOk result (λ session. HasCleanDisk (state S.Store session.connection)
+            → (c : Conditions) (before : Holdings) → Keeps L.holds c (state S.Store connection) before → Keeps L.holds c (state S.Store session.connection) before) }
+        // Whatever tables the store has, each is there still, with the rows that it had.
+        ensures rows { IfOk result (λ session. HasCleanDisk (state S.Store session.connection) → IsTrue (state S.Store session.connection).is_open
+            → KeepsTables (state S.Store connection).now (state S.Store session.connection).now) }
+        ensures open { IfOk result (λ session. HasCleanDisk (state S.Store session.connection) → StaysOpen (state S.Store connection) (state S.Store session.connection)) }
+        ensures durable { IfOk result (λ session. HasCleanDisk (state S.Store session.connection) → IsDurable (state S.Store session.connection)) }
+        ensures survives { IfOk result (λ session. Survives (state S.Store connection) (state S.Store session.connection) (λ _. ⊤)) }
+        ensures given { IfOk result (λ session. (session.profile ≡ profile) × (session.limits ≡ limits)) }
+        ensures fresh { IfOk result (λ session. session.work ≡ record { dict_read = 0; dict_written = 0; block_read = 0; block_written = 0 }) }
         ensures idle { IfErr result (λ back. back.0.in_transaction ≡ false) }
         ensures refused { IfErr result (λ back. HasCleanDisk (state S.Store back.0) → ChangesNothing (state S.Store connection) (state S.Store back.0)) }
         ensures endures { IfErr result (λ back. HasCleanDisk (state S.Store back.0) → EnduresRefusal (state S.Store connection) (state S.Store back.0) back.1) }
         ensures failed { IfErr result (λ back. (back.1 ≡ Refusal.Store) ⊎ (back.1 ≡ Refusal.Memory)) }
     {
         let mut connection = connection;
-        match make_absent_tables(&mut connection) {
-            Ok(()) => Ok(Session {
-                connection,
-                profile,
-                limits,
-                alloc,
-                work: Work::default(),
-                layout: PhantomData,
-            }),
-            Err(refusal) => Err((connection, refusal)),
+        if let Err(refusal) = make_absent_tables(&mut connection) {
+            return Err((connection, refusal));
         }
+        // What is shown is what was committed.
+        let _settled = connection.is_autocommit();
+        Ok(Session {
+            connection,
+            profile,
+            limits,
+            alloc,
+            work: Work::default(),
+            layout: PhantomData,
+        })
     }
 
     /// Gives the connection back.
@@ -109,12 +137,19 @@ impl<S: Alter, L: Layout> Session<S, L> {
     /// Carries out one command. A command that writes is one transaction; refused, it changes nothing.
     pub fn command(&mut self, command: &Command) -> Result<Reply, Refusal>
         ensures durable { HasCleanDisk (state S.Store self.new.connection) → IsDurable (state S.Store self.new.connection) }
+        ensures open { HasCleanDisk (state S.Store self.new.connection) → OnOk result (StaysOpen (state S.Store self.old.connection) (state S.Store self.new.connection)) }
         ensures refused { HasCleanDisk (state S.Store self.new.connection) → OnErr result (ChangesNothing (state S.Store self.old.connection) (state S.Store self.new.connection)) }
         ensures endures { HasCleanDisk (state S.Store self.new.connection) → IfErr result (EnduresRefusal (state S.Store self.old.connection) (state S.Store self.new.connection)) }
         ensures survives { Survives (state S.Store self.old.connection) (state S.Store self.new.connection) (λ _. ⊤) }
         ensures under { (self.new.profile ≡ self.old.profile) × (self.new.limits ≡ self.old.limits) }
-        ensures serves { HasCleanDisk (state S.Store self.new.connection) → ReadsNoRecord command.now
+        ensures serves { HasCleanDisk (state S.Store self.new.connection)
             → ServesCommand L.holds (conditions L.version self.old.profile self.old.limits) command.now (state S.Store self.old.connection) (state S.Store self.new.connection) result }
+        ensures unread { NoReadFault result }
+        // An accepted `init` leaves a register without a database, whatever rows the tables held.
+        ensures begun { HasCleanDisk (state S.Store self.new.connection) → command.now ≡ Command.Init → OnOk result (IsStore (state S.Store self.old.connection)
+            → Keeps L.holds (conditions L.version self.old.profile self.old.limits) (state S.Store self.new.connection) (holding (conditions L.version self.old.profile self.old.limits) [])) }
+        // A find is answered by the registers, on any tables that hold a content.
+        ensures alone { HasCleanDisk (state S.Store self.new.connection) → LooksUpFor L.holds self.old.profile command.now (state S.Store self.old.connection) result }
     {
         let answer = self.carry_out(command);
         // What is shown is what was committed.
@@ -123,12 +158,18 @@ impl<S: Alter, L: Layout> Session<S, L> {
     }
 
     fn carry_out(&mut self, command: &Command) -> Result<Reply, Refusal>
+        ensures open { HasCleanDisk (state S.Store self.new.connection) → OnOk result (StaysOpen (state S.Store self.old.connection) (state S.Store self.new.connection)) }
         ensures refused { HasCleanDisk (state S.Store self.new.connection) → OnErr result (ChangesNothing (state S.Store self.old.connection) (state S.Store self.new.connection)) }
         ensures endures { HasCleanDisk (state S.Store self.new.connection) → IfErr result (EnduresRefusal (state S.Store self.old.connection) (state S.Store self.new.connection)) }
         ensures survives { Survives (state S.Store self.old.connection) (state S.Store self.new.connection) (λ _. ⊤) }
         ensures under { (self.new.profile ≡ self.old.profile) × (self.new.limits ≡ self.old.limits) }
-        ensures serves { HasCleanDisk (state S.Store self.new.connection) → ReadsNoRecord command.now
+        ensures serves { HasCleanDisk (state S.Store self.new.connection)
             → ServesCommand L.holds (conditions L.version self.old.profile self.old.limits) command.now (state S.Store self.old.connection) (state S.Store self.new.connection) result }
+        ensures unread { NoReadFault result }
+        ensures begun { HasCleanDisk (state S.Store self.new.connection) → command.now ≡ Command.Init → OnOk result (IsStore (state S.Store self.old.connection)
+            → IsStore (state S.Store self.new.connection)
+            × IsImage L.holds (conditions L.version self.old.profile self.old.limits) (state S.Store self.new.connection).now.trees (holding (conditions L.version self.old.profile self.old.limits) [])) }
+        ensures alone { HasCleanDisk (state S.Store self.new.connection) → LooksUpFor L.holds self.old.profile command.now (state S.Store self.old.connection) result }
     {
         self.work = Work::default();
         match command {
@@ -165,12 +206,14 @@ impl<S: Alter, L: Layout> Session<S, L> {
 
     /// An empty database, on a register that is ready.
     fn create(&mut self, name: &DbName) -> Result<Reply, Refusal>
+        ensures open { HasCleanDisk (state S.Store self.new.connection) → OnOk result (StaysOpen (state S.Store self.old.connection) (state S.Store self.new.connection)) }
         ensures refused { HasCleanDisk (state S.Store self.new.connection) → OnErr result (ChangesNothing (state S.Store self.old.connection) (state S.Store self.new.connection)) }
         ensures endures { HasCleanDisk (state S.Store self.new.connection) → IfErr result (EnduresRefusal (state S.Store self.old.connection) (state S.Store self.new.connection)) }
         ensures survives { Survives (state S.Store self.old.connection) (state S.Store self.new.connection) (λ _. ⊤) }
         ensures under { (self.new.profile ≡ self.old.profile) × (self.new.limits ≡ self.old.limits) }
         ensures serves { HasCleanDisk (state S.Store self.new.connection)
             → Serves L.holds (conditions L.version self.old.profile self.old.limits) Always (turned (conditions L.version self.old.profile self.old.limits) (created (name_bytes name.now))) (state S.Store self.old.connection) (state S.Store self.new.connection) result }
+        ensures unread { NoReadFault result }
     {
         check_ready::<S, L>(&mut self.connection, &self.profile)?;
         create_database::<S, L>(&mut self.connection, name)
@@ -178,12 +221,14 @@ impl<S: Alter, L: Layout> Session<S, L> {
 
     /// No database of this name any more, on a register that is ready.
     fn take(&mut self, name: &DbName) -> Result<Reply, Refusal>
+        ensures open { HasCleanDisk (state S.Store self.new.connection) → OnOk result (StaysOpen (state S.Store self.old.connection) (state S.Store self.new.connection)) }
         ensures refused { HasCleanDisk (state S.Store self.new.connection) → OnErr result (ChangesNothing (state S.Store self.old.connection) (state S.Store self.new.connection)) }
         ensures endures { HasCleanDisk (state S.Store self.new.connection) → IfErr result (EnduresRefusal (state S.Store self.old.connection) (state S.Store self.new.connection)) }
         ensures survives { Survives (state S.Store self.old.connection) (state S.Store self.new.connection) (λ _. ⊤) }
         ensures under { (self.new.profile ≡ self.old.profile) × (self.new.limits ≡ self.old.limits) }
         ensures serves { HasCleanDisk (state S.Store self.new.connection)
             → Serves L.holds (conditions L.version self.old.profile self.old.limits) Always (turned (conditions L.version self.old.profile self.old.limits) (dropped (name_bytes name.now))) (state S.Store self.old.connection) (state S.Store self.new.connection) result }
+        ensures unread { NoReadFault result }
     {
         check_ready::<S, L>(&mut self.connection, &self.profile)?;
         drop_database::<S, L>(self.alloc, &mut self.connection, name)
@@ -191,12 +236,14 @@ impl<S: Alter, L: Layout> Session<S, L> {
 
     /// A command that is not there yet is refused, on a register that is ready.
     fn wait(&mut self) -> Result<Reply, Refusal>
+        ensures open { HasCleanDisk (state S.Store self.new.connection) → OnOk result (StaysOpen (state S.Store self.old.connection) (state S.Store self.new.connection)) }
         ensures refused { HasCleanDisk (state S.Store self.new.connection) → OnErr result (ChangesNothing (state S.Store self.old.connection) (state S.Store self.new.connection)) }
         ensures endures { HasCleanDisk (state S.Store self.new.connection) → IfErr result (EnduresRefusal (state S.Store self.old.connection) (state S.Store self.new.connection)) }
         ensures survives { Survives (state S.Store self.old.connection) (state S.Store self.new.connection) (λ _. ⊤) }
         ensures under { (self.new.profile ≡ self.old.profile) × (self.new.limits ≡ self.old.limits) }
         ensures serves { HasCleanDisk (state S.Store self.new.connection)
             → Serves L.holds (conditions L.version self.old.profile self.old.limits) Always (waited (conditions L.version self.old.profile self.old.limits)) (state S.Store self.old.connection) (state S.Store self.new.connection) result }
+        ensures unread { NoReadFault result }
     {
         check_ready::<S, L>(&mut self.connection, &self.profile)?;
         Err(Refusal::Unsupported)
@@ -204,10 +251,16 @@ impl<S: Alter, L: Layout> Session<S, L> {
 
     /// Finds the records of a query, on a register that is ready.
     fn find(&mut self, database: &DbName, question: Question<'_>) -> Result<Reply, Refusal>
+        ensures open { HasCleanDisk (state S.Store self.new.connection) → OnOk result (StaysOpen (state S.Store self.old.connection) (state S.Store self.new.connection)) }
         ensures refused { HasCleanDisk (state S.Store self.new.connection) → OnErr result (ChangesNothing (state S.Store self.old.connection) (state S.Store self.new.connection)) }
         ensures endures { HasCleanDisk (state S.Store self.new.connection) → IfErr result (EnduresRefusal (state S.Store self.old.connection) (state S.Store self.new.connection)) }
         ensures survives { Survives (state S.Store self.old.connection) (state S.Store self.new.connection) (λ _. ⊤) }
         ensures under { (self.new.profile ≡ self.old.profile) × (self.new.limits ≡ self.old.limits) }
+        ensures serves { HasCleanDisk (state S.Store self.new.connection)
+            → Finds L.holds (conditions L.version self.old.profile self.old.limits) (name_bytes database.now) question.entry.query.now question.entry.first question.entry.count (state S.Store self.old.connection) (state S.Store self.new.connection) result }
+        ensures unread { NoReadFault result }
+        ensures alone { HasCleanDisk (state S.Store self.new.connection)
+            → LooksUp L.holds self.old.profile (name_bytes database.now) question.entry.query.now question.entry.first question.entry.count (state S.Store self.old.connection) result }
     {
         check_ready::<S, L>(&mut self.connection, &self.profile)?;
         find::<S, L>(
@@ -222,10 +275,15 @@ impl<S: Alter, L: Layout> Session<S, L> {
 
     /// Changes a database by files that are given as their bytes.
     fn change(&mut self, kind: Kind, database: &DbName, files: &[Vec<u8>]) -> Result<Reply, Refusal>
+        ensures open { HasCleanDisk (state S.Store self.new.connection) → OnOk result (StaysOpen (state S.Store self.old.connection) (state S.Store self.new.connection)) }
         ensures refused { HasCleanDisk (state S.Store self.new.connection) → OnErr result (ChangesNothing (state S.Store self.old.connection) (state S.Store self.new.connection)) }
         ensures endures { HasCleanDisk (state S.Store self.new.connection) → IfErr result (EnduresRefusal (state S.Store self.old.connection) (state S.Store self.new.connection)) }
         ensures survives { Survives (state S.Store self.old.connection) (state S.Store self.new.connection) (λ _. ⊤) }
         ensures under { (self.new.profile ≡ self.old.profile) × (self.new.limits ≡ self.old.limits) }
+        ensures serves { HasCleanDisk (state S.Store self.new.connection)
+            → Serves L.holds (conditions L.version self.old.profile self.old.limits) Always (turned (conditions L.version self.old.profile self.old.limits)
+            (changed_by_files (conditions L.version self.old.profile self.old.limits) kind (name_bytes database.now) (splits_of (map (λ file. file.items) files.now)))) (state S.Store self.old.connection) (state S.Store self.new.connection) result }
+        ensures unread { NoReadFault result }
     {
         let mut readers = Vec::with_capacity(self.alloc, files.len())?;
         for file in files {
@@ -243,10 +301,16 @@ impl<S: Alter, L: Layout> Session<S, L> {
         readers: &mut [R],
     ) -> Result<Reply, Refusal>
         ensures durable { HasCleanDisk (state S.Store self.new.connection) → IsDurable (state S.Store self.new.connection) }
+        ensures open { HasCleanDisk (state S.Store self.new.connection) → OnOk result (StaysOpen (state S.Store self.old.connection) (state S.Store self.new.connection)) }
         ensures refused { HasCleanDisk (state S.Store self.new.connection) → OnErr result (ChangesNothing (state S.Store self.old.connection) (state S.Store self.new.connection)) }
         ensures endures { HasCleanDisk (state S.Store self.new.connection) → IfErr result (EnduresRefusal (state S.Store self.old.connection) (state S.Store self.new.connection)) }
         ensures survives { Survives (state S.Store self.old.connection) (state S.Store self.new.connection) (λ _. ⊤) }
         ensures under { (self.new.profile ≡ self.old.profile) × (self.new.limits ≡ self.old.limits) }
+        ensures serves { HasCleanDisk (state S.Store self.new.connection) → (texts : List (List ℕ)) → map R.remaining readers.old ≡ map Some texts → NoneFailed R.has_failed readers.new
+            → Serves L.holds (conditions L.version self.old.profile self.old.limits) Always (turned (conditions L.version self.old.profile self.old.limits)
+            (changed_by_files (conditions L.version self.old.profile self.old.limits) kind (name_bytes database.now) (splits_of texts))) (state S.Store self.old.connection) (state S.Store self.new.connection) result }
+        ensures failed { NoneFailed R.has_failed readers.old → (file : ℕ) → HasFailedAt R.has_failed readers.new file → result ≡ Err (Refusal.ReadFault file) }
+        ensures fault { (file : ℕ) → result ≡ Err (Refusal.ReadFault file) → HasFailedAt R.has_failed readers.new file }
     {
         let answer = self.change_from(database, kind, readers);
         // What is shown is what was committed.
@@ -260,10 +324,16 @@ impl<S: Alter, L: Layout> Session<S, L> {
         kind: Kind,
         readers: &mut [R],
     ) -> Result<Reply, Refusal>
+        ensures open { HasCleanDisk (state S.Store self.new.connection) → OnOk result (StaysOpen (state S.Store self.old.connection) (state S.Store self.new.connection)) }
         ensures refused { HasCleanDisk (state S.Store self.new.connection) → OnErr result (ChangesNothing (state S.Store self.old.connection) (state S.Store self.new.connection)) }
         ensures endures { HasCleanDisk (state S.Store self.new.connection) → IfErr result (EnduresRefusal (state S.Store self.old.connection) (state S.Store self.new.connection)) }
         ensures survives { Survives (state S.Store self.old.connection) (state S.Store self.new.connection) (λ _. ⊤) }
         ensures under { (self.new.profile ≡ self.old.profile) × (self.new.limits ≡ self.old.limits) }
+        ensures serves { HasCleanDisk (state S.Store self.new.connection) → (texts : List (List ℕ)) → map R.remaining readers.old ≡ map Some texts → NoneFailed R.has_failed readers.new
+            → Serves L.holds (conditions L.version self.old.profile self.old.limits) Always (turned (conditions L.version self.old.profile self.old.limits)
+            (changed_by_files (conditions L.version self.old.profile self.old.limits) kind (name_bytes database.now) (splits_of texts))) (state S.Store self.old.connection) (state S.Store self.new.connection) result }
+        ensures failed { NoneFailed R.has_failed readers.old → (file : ℕ) → HasFailedAt R.has_failed readers.new file → result ≡ Err (Refusal.ReadFault file) }
+        ensures fault { (file : ℕ) → result ≡ Err (Refusal.ReadFault file) → HasFailedAt R.has_failed readers.new file }
     {
         self.work = Work::default();
         check_ready::<S, L>(&mut self.connection, &self.profile)?;
@@ -286,10 +356,13 @@ impl<S: Alter, L: Layout> Session<S, L> {
     /// for the answers: nothing was carried out then.
     pub fn run_all(&mut self, commands: &[Command]) -> Result<Vec<Result<Reply, Refusal>>, Refusal>
         ensures durable { HasCleanDisk (state S.Store self.new.connection) → OnOk result (IsDurable (state S.Store self.new.connection)) }
-        ensures run { IfOk result (λ answers. AllByRecursion ReadsNoRecord commands.now
-            → Headline L.holds (conditions L.version self.old.profile self.old.limits) commands.now answers.items (state S.Store self.old.connection) (state S.Store self.new.connection)) }
+        ensures run { IfOk result (λ answers. Headline L.holds (conditions L.version self.old.profile self.old.limits) commands.now answers.items (state S.Store self.old.connection) (state S.Store self.new.connection)) }
         ensures count { IfOk result (λ answers. length answers.items ≡ length commands.now) }
         ensures memory { IfErr result (λ refusal. (refusal ≡ Refusal.Memory) × (self.new.connection ≡ self.old.connection)) }
+        ensures under { (self.new.profile ≡ self.old.profile) × (self.new.limits ≡ self.old.limits) }
+        ensures survives { Survives (state S.Store self.old.connection) (state S.Store self.new.connection) (λ _. ⊤) }
+        // Where each command is refused, nothing changes, whatever the tables hold.
+        ensures refused { HasCleanDisk (state S.Store self.new.connection) → IfOk result (λ answers. AllByRecursion IsErr answers.items → ChangesNothing (state S.Store self.old.connection) (state S.Store self.new.connection)) }
     {
         let Ok(mut answers) = Vec::with_capacity(self.alloc, commands.len()) else {
             return Err(Refusal::Memory);

@@ -5,10 +5,13 @@ ghost use Rattle.std.specs.Prelude.{◌≤◌, length};
 use crate::{Command, DbName, Kind, Limits, Refusal, Reply, Session, refusal_line, render, status};
 use sqlite::{Connection, MemStore};
 use std::alloc::{AllocError, Global};
+use std::process::Abort;
 use std::test::Fail;
-use zeb_marc::{ReadFailed, Slice, Source};
 use zeb_profile::Profile;
 use zeb_register::Rows;
+
+mod refused_memory;
+mod streams;
 
 /// Titles by their words, records named by their control number.
 const TITLES: &str = "store books.db\nidentifier 001\natt 4 Title\nmelm 245 Title\n";
@@ -25,18 +28,21 @@ const DOCK: &[u8] =
 const CAFE: &[u8] =
     b"00064nam a2200049 a 4500001000300000245001100003\x1eb2\x1e00\x1faCafe\xcc\x81\x1e\x1d";
 
+/// The first 60 bytes of `MOBY`: its leader and its directory's entries.
+const CUT: &[u8] = b"00109nam a2200061 a 4500001000300000245003300003260001100036";
+
 type Memory = Session<MemStore, Rows>;
 
-fn opened(alloc: Global, profile: &str, limits: Limits) -> Result<Memory, Fail> {
+fn opened(alloc: Global, profile: &str, limits: Limits) -> Result<Memory, Refusal> {
     let connection = Connection::open_in_memory(alloc)?;
-    let profile = Profile::read(alloc, profile)?;
-    let session = Memory::adopt(alloc, connection, profile, limits).map_err(|back| back.1)?;
-    Ok(session)
+    let Ok(profile) = Profile::read(alloc, profile) else {
+        return Err(Refusal::Memory);
+    };
+    Memory::adopt(alloc, connection, profile, limits).map_err(|back| back.1)
 }
 
-fn name(text: &str) -> Result<DbName, Fail> {
-    let name = DbName::read(text).ok_or("no name")?;
-    Ok(name)
+fn name(text: &str) -> Result<DbName, Refusal> {
+    DbName::read(text).ok_or(Refusal::Unsupported)
 }
 
 /// The files, each the slices one after the other.
@@ -52,7 +58,7 @@ fn files(alloc: Global, all: &[&[&[u8]]]) -> Result<Vec<Vec<u8>>, AllocError> {
     Ok(files)
 }
 
-fn change(alloc: Global, kind: Kind, all: &[&[&[u8]]]) -> Result<Command, Fail> {
+fn change(alloc: Global, kind: Kind, all: &[&[&[u8]]]) -> Result<Command, Refusal> {
     Ok(Command::Change {
         kind,
         database: name("Default")?,
@@ -60,7 +66,7 @@ fn change(alloc: Global, kind: Kind, all: &[&[&[u8]]]) -> Result<Command, Fail> 
     })
 }
 
-fn find(alloc: Global, query: &str) -> Result<Command, Fail> {
+fn find(alloc: Global, query: &str) -> Result<Command, Refusal> {
     Ok(Command::Find {
         database: name("Default")?,
         query: String::from_str(alloc, query)?,
@@ -83,28 +89,70 @@ fn printed(alloc: Global, session: &mut Memory, command: &Command) -> Result<Str
     told(alloc, &answer)
 }
 
-/// Asserts what is printed for each command in turn.
-macro_rules! tells {
-    ($rt:expr, $session:expr, $($command:expr => $text:expr),+ $(,)?) => {
-        $(
-            assert_eq!($rt; printed($rt.alloc(), &mut $session, &$command)?.as_str(), $text);
-        )+
-    };
+/// What a test asks of a session.
+#[derive(Clone, Copy)]
+enum Step<'a> {
+    Init,
+    Check,
+    Create(&'a str),
+    Drop(&'a str),
+    Update(&'a [&'a [&'a [u8]]]),
+    Delete(&'a [&'a [&'a [u8]]]),
+    Adelete(&'a [&'a [&'a [u8]]]),
+    Find(&'a str),
+}
+
+fn command_of(alloc: Global, step: Step<'_>) -> Result<Command, Refusal> {
+    match step {
+        Step::Init => Ok(Command::Init),
+        Step::Check => Ok(Command::Check),
+        Step::Create(text) => Ok(Command::Create(name(text)?)),
+        Step::Drop(text) => Ok(Command::Drop(name(text)?)),
+        Step::Update(all) => change(alloc, Kind::Update, all),
+        Step::Delete(all) => change(alloc, Kind::Delete, all),
+        Step::Adelete(all) => change(alloc, Kind::Adelete, all),
+        Step::Find(query) => find(alloc, query),
+    }
+}
+
+/// Asserts what is printed for each step in turn.
+fn tell(
+    rt: &impl Abort,
+    alloc: Global,
+    session: &mut Memory,
+    steps: &[(Step<'_>, &str)],
+) -> Result<(), Fail> {
+    for (step, text) in steps {
+        let command = command_of(alloc, *step)?;
+        assert_eq!(rt; printed(alloc, session, &command)?.as_str(), *text);
+    }
+    Ok(())
 }
 
 #[test]
 fn a_record_is_found_by_a_word(rt: HostRuntime) -> Result<(), Fail> {
     let alloc = rt.alloc();
     let mut session = opened(alloc, TITLES, Limits::GREATEST)?;
-    tells!(rt, session,
-        find(alloc, "@attr 1=4 whale")? => "zebraidx: register not initialised",
-        Command::Init => "ok\n",
-        change(alloc, Kind::Update, &[&[MOBY]])? => "inserted 1 updated 0 deleted 0\n",
-        find(alloc, "@attr 1=4 whale")? => "hits 1\n1 a1\n",
-        find(alloc, "@attr 1=4 dock")? => "hits 0\n",
-        find(alloc, "whale")? => "zebraidx: diagnostic 116 at 0",
-        find(alloc, "@attr 1=5 whale")? => "zebraidx: diagnostic 114 at 10: 5",
-    );
+    tell(
+        &rt,
+        alloc,
+        &mut session,
+        &[
+            (
+                Step::Find("@attr 1=4 whale"),
+                "zebraidx: register not initialised",
+            ),
+            (Step::Init, "ok\n"),
+            (Step::Update(&[&[MOBY]]), "inserted 1 updated 0 deleted 0\n"),
+            (Step::Find("@attr 1=4 whale"), "hits 1\n1 a1\n"),
+            (Step::Find("@attr 1=4 dock"), "hits 0\n"),
+            (Step::Find("whale"), "zebraidx: diagnostic 116 at 0"),
+            (
+                Step::Find("@attr 1=5 whale"),
+                "zebraidx: diagnostic 114 at 10: 5",
+            ),
+        ],
+    )?;
     Ok(())
 }
 
@@ -112,16 +160,30 @@ fn a_record_is_found_by_a_word(rt: HostRuntime) -> Result<(), Fail> {
 fn a_replacement_keeps_its_number(rt: HostRuntime) -> Result<(), Fail> {
     let alloc = rt.alloc();
     let mut session = opened(alloc, TITLES, Limits::GREATEST)?;
-    tells!(rt, session,
-        Command::Init => "ok\n",
-        change(alloc, Kind::Update, &[&[MOBY], &[CAFE]])? => "inserted 2 updated 0 deleted 0\n",
-        change(alloc, Kind::Update, &[&[DOCK, DOCK]])? => "inserted 0 updated 2 deleted 0\n",
-        find(alloc, "@attr 1=4 dick")? => "hits 0\n",
-        find(alloc, "@attr 1=4 dock")? => "hits 1\n1 a1\n",
-        change(alloc, Kind::Update, &[&[MOBY, DOCK, MOBY]])? => "inserted 0 updated 3 deleted 0\n",
-        find(alloc, "@attr 1=4 dock")? => "hits 0\n",
-        find(alloc, "@attr 1=4 dick")? => "hits 1\n1 a1\n",
-    );
+    tell(
+        &rt,
+        alloc,
+        &mut session,
+        &[
+            (Step::Init, "ok\n"),
+            (
+                Step::Update(&[&[MOBY], &[CAFE]]),
+                "inserted 2 updated 0 deleted 0\n",
+            ),
+            (
+                Step::Update(&[&[DOCK, DOCK]]),
+                "inserted 0 updated 2 deleted 0\n",
+            ),
+            (Step::Find("@attr 1=4 dick"), "hits 0\n"),
+            (Step::Find("@attr 1=4 dock"), "hits 1\n1 a1\n"),
+            (
+                Step::Update(&[&[MOBY, DOCK, MOBY]]),
+                "inserted 0 updated 3 deleted 0\n",
+            ),
+            (Step::Find("@attr 1=4 dock"), "hits 0\n"),
+            (Step::Find("@attr 1=4 dick"), "hits 1\n1 a1\n"),
+        ],
+    )?;
     Ok(())
 }
 
@@ -129,19 +191,33 @@ fn a_replacement_keeps_its_number(rt: HostRuntime) -> Result<(), Fail> {
 fn a_number_is_not_used_again(rt: HostRuntime) -> Result<(), Fail> {
     let alloc = rt.alloc();
     let mut session = opened(alloc, TITLES, Limits::GREATEST)?;
-    tells!(rt, session,
-        Command::Init => "ok\n",
-        change(alloc, Kind::Update, &[&[MOBY]])? => "inserted 1 updated 0 deleted 0\n",
-        change(alloc, Kind::Delete, &[&[MOBY]])? => "inserted 0 updated 0 deleted 1\n",
-        find(alloc, "@attr 1=4 moby")? => "hits 0\n",
-        change(alloc, Kind::Delete, &[&[MOBY]])? => "zebraidx: file 1 record 1: unknown identifier",
-        change(alloc, Kind::Adelete, &[&[MOBY]])? => "inserted 0 updated 0 deleted 0\n",
-        change(alloc, Kind::Update, &[&[MOBY]])? => "inserted 1 updated 0 deleted 0\n",
-        find(alloc, "@attr 1=4 moby")? => "hits 1\n2 a1\n",
-        change(alloc, Kind::Update, &[&[CAFE]])? => "inserted 1 updated 0 deleted 0\n",
-        change(alloc, Kind::Delete, &[&[MOBY, MOBY]])? => "zebraidx: file 1 record 2: unknown identifier",
-        find(alloc, "@attr 1=4 moby")? => "hits 1\n2 a1\n",
-    );
+    tell(
+        &rt,
+        alloc,
+        &mut session,
+        &[
+            (Step::Init, "ok\n"),
+            (Step::Update(&[&[MOBY]]), "inserted 1 updated 0 deleted 0\n"),
+            (Step::Delete(&[&[MOBY]]), "inserted 0 updated 0 deleted 1\n"),
+            (Step::Find("@attr 1=4 moby"), "hits 0\n"),
+            (
+                Step::Delete(&[&[MOBY]]),
+                "zebraidx: file 1 record 1: unknown identifier",
+            ),
+            (
+                Step::Adelete(&[&[MOBY]]),
+                "inserted 0 updated 0 deleted 0\n",
+            ),
+            (Step::Update(&[&[MOBY]]), "inserted 1 updated 0 deleted 0\n"),
+            (Step::Find("@attr 1=4 moby"), "hits 1\n2 a1\n"),
+            (Step::Update(&[&[CAFE]]), "inserted 1 updated 0 deleted 0\n"),
+            (
+                Step::Delete(&[&[MOBY, MOBY]]),
+                "zebraidx: file 1 record 2: unknown identifier",
+            ),
+            (Step::Find("@attr 1=4 moby"), "hits 1\n2 a1\n"),
+        ],
+    )?;
     Ok(())
 }
 
@@ -149,16 +225,27 @@ fn a_number_is_not_used_again(rt: HostRuntime) -> Result<(), Fail> {
 fn a_refused_change_leaves_nothing(rt: HostRuntime) -> Result<(), Fail> {
     let alloc = rt.alloc();
     let mut session = opened(alloc, TITLES, Limits::GREATEST)?;
-    tells!(rt, session,
-        Command::Init => "ok\n",
-        change(alloc, Kind::Update, &[&[MOBY]])? => "inserted 1 updated 0 deleted 0\n",
-        change(alloc, Kind::Update, &[&[DOCK, b"\r\n", &MOBY[..60]]])? => "zebraidx: file 1 record 2: Truncated",
-        find(alloc, "@attr 1=4 dick")? => "hits 1\n1 a1\n",
-        change(alloc, Kind::Update, &[&[CAFE], &[b"00026nam a2200025 a 4500\x1e\x1d"]])? => "zebraidx: file 2 record 1: NoIdentifier",
-        find(alloc, "@attr 1=4 cafe")? => "hits 0\n",
-        change(alloc, Kind::Update, &[&[CAFE]])? => "inserted 1 updated 0 deleted 0\n",
-        find(alloc, "@attr 1=4 cafe")? => "hits 1\n2 b2\n",
-    );
+    tell(
+        &rt,
+        alloc,
+        &mut session,
+        &[
+            (Step::Init, "ok\n"),
+            (Step::Update(&[&[MOBY]]), "inserted 1 updated 0 deleted 0\n"),
+            (
+                Step::Update(&[&[DOCK, b"\r\n", CUT]]),
+                "zebraidx: file 1 record 2: Truncated",
+            ),
+            (Step::Find("@attr 1=4 dick"), "hits 1\n1 a1\n"),
+            (
+                Step::Update(&[&[CAFE], &[b"00026nam a2200025 a 4500\x1e\x1d"]]),
+                "zebraidx: file 2 record 1: NoIdentifier",
+            ),
+            (Step::Find("@attr 1=4 cafe"), "hits 0\n"),
+            (Step::Update(&[&[CAFE]]), "inserted 1 updated 0 deleted 0\n"),
+            (Step::Find("@attr 1=4 cafe"), "hits 1\n2 b2\n"),
+        ],
+    )?;
     Ok(())
 }
 
@@ -166,17 +253,28 @@ fn a_refused_change_leaves_nothing(rt: HostRuntime) -> Result<(), Fail> {
 fn a_database_is_made_where_it_is_absent(rt: HostRuntime) -> Result<(), Fail> {
     let alloc = rt.alloc();
     let mut session = opened(alloc, TITLES, Limits::GREATEST)?;
-    tells!(rt, session,
-        Command::Init => "ok\n",
-        find(alloc, "@attr 1=4 moby")? => "zebraidx: diagnostic 235 at 0: Default",
-        change(alloc, Kind::Delete, &[&[MOBY]])? => "zebraidx: diagnostic 235 at 0: Default",
-        change(alloc, Kind::Update, &[&[]])? => "inserted 0 updated 0 deleted 0\n",
-        find(alloc, "@attr 1=4 moby")? => "hits 0\n",
-        Command::Create(name("Default")?) => "zebraidx: database exists",
-        Command::Create(name("Y")?) => "ok\n",
-        Command::Create(name("Y")?) => "zebraidx: database exists",
-        Command::Check => "zebraidx: not supported",
-    );
+    tell(
+        &rt,
+        alloc,
+        &mut session,
+        &[
+            (Step::Init, "ok\n"),
+            (
+                Step::Find("@attr 1=4 moby"),
+                "zebraidx: diagnostic 235 at 0: Default",
+            ),
+            (
+                Step::Delete(&[&[MOBY]]),
+                "zebraidx: diagnostic 235 at 0: Default",
+            ),
+            (Step::Update(&[&[]]), "inserted 0 updated 0 deleted 0\n"),
+            (Step::Find("@attr 1=4 moby"), "hits 0\n"),
+            (Step::Create("Default"), "zebraidx: database exists"),
+            (Step::Create("Y"), "ok\n"),
+            (Step::Create("Y"), "zebraidx: database exists"),
+            (Step::Check, "zebraidx: not supported"),
+        ],
+    )?;
     Ok(())
 }
 
@@ -184,14 +282,27 @@ fn a_database_is_made_where_it_is_absent(rt: HostRuntime) -> Result<(), Fail> {
 fn a_dropped_database_is_gone(rt: HostRuntime) -> Result<(), Fail> {
     let alloc = rt.alloc();
     let mut session = opened(alloc, TITLES, Limits::GREATEST)?;
-    tells!(rt, session,
-        Command::Init => "ok\n",
-        change(alloc, Kind::Update, &[&[MOBY]])? => "inserted 1 updated 0 deleted 0\n",
-        Command::Drop(name("Default")?) => "ok\n",
-        Command::Drop(name("Default")?) => "zebraidx: diagnostic 235 at 0: Default",
-        Command::Create(name("Default")?) => "ok\n",
-        find(alloc, "@attr 1=4 whale")? => "hits 0\n",
-    );
+    tell(
+        &rt,
+        alloc,
+        &mut session,
+        &[
+            (Step::Init, "ok\n"),
+            (Step::Update(&[&[MOBY]]), "inserted 1 updated 0 deleted 0\n"),
+            (Step::Drop("Default"), "ok\n"),
+            (
+                Step::Drop("Default"),
+                "zebraidx: diagnostic 235 at 0: Default",
+            ),
+            (Step::Create("Default"), "ok\n"),
+            (Step::Find("@attr 1=4 whale"), "hits 0\n"),
+            (
+                Step::Update(&[&[CAFE, MOBY]]),
+                "inserted 2 updated 0 deleted 0\n",
+            ),
+            (Step::Find("@attr 1=4 cafe"), "hits 1\n1 b2\n"),
+        ],
+    )?;
     Ok(())
 }
 
@@ -199,13 +310,18 @@ fn a_dropped_database_is_gone(rt: HostRuntime) -> Result<(), Fail> {
 fn limits_are_kept(rt: HostRuntime) -> Result<(), Fail> {
     let alloc = rt.alloc();
     let mut session = opened(alloc, TITLES, Limits::new(1, 1))?;
-    tells!(rt, session,
-        Command::Init => "ok\n",
-        change(alloc, Kind::Update, &[&[MOBY]])? => "inserted 1 updated 0 deleted 0\n",
-        change(alloc, Kind::Update, &[&[MOBY, MOBY]])? => "zebraidx: too many records",
-        change(alloc, Kind::Update, &[&[CAFE]])? => "zebraidx: database full",
-        change(alloc, Kind::Update, &[&[MOBY]])? => "inserted 0 updated 1 deleted 0\n",
-    );
+    tell(
+        &rt,
+        alloc,
+        &mut session,
+        &[
+            (Step::Init, "ok\n"),
+            (Step::Update(&[&[MOBY]]), "inserted 1 updated 0 deleted 0\n"),
+            (Step::Update(&[&[MOBY, MOBY]]), "zebraidx: too many records"),
+            (Step::Update(&[&[CAFE]]), "zebraidx: database full"),
+            (Step::Update(&[&[MOBY]]), "inserted 0 updated 1 deleted 0\n"),
+        ],
+    )?;
     Ok(())
 }
 
@@ -213,7 +329,7 @@ fn limits_are_kept(rt: HostRuntime) -> Result<(), Fail> {
 fn another_profile_is_refused(rt: HostRuntime) -> Result<(), Fail> {
     let alloc = rt.alloc();
     let mut session = opened(alloc, TITLES, Limits::GREATEST)?;
-    tells!(rt, session, Command::Init => "ok\n");
+    tell(&rt, alloc, &mut session, &[(Step::Init, "ok\n")])?;
     let connection = session.release();
     let other = Profile::read(
         alloc,
@@ -222,11 +338,22 @@ fn another_profile_is_refused(rt: HostRuntime) -> Result<(), Fail> {
     let mut session = Memory::adopt(alloc, connection, other, Limits::GREATEST).map_err(
         |back| back.1,
     )?;
-    tells!(rt, session,
-        find(alloc, "@attr 1=21 moby")? => "zebraidx: profile differs from the register's",
-        Command::Init => "ok\n",
-        find(alloc, "@attr 1=21 moby")? => "zebraidx: diagnostic 235 at 0: Default",
-    );
+    tell(
+        &rt,
+        alloc,
+        &mut session,
+        &[
+            (
+                Step::Find("@attr 1=21 moby"),
+                "zebraidx: profile differs from the register's",
+            ),
+            (Step::Init, "ok\n"),
+            (
+                Step::Find("@attr 1=21 moby"),
+                "zebraidx: diagnostic 235 at 0: Default",
+            ),
+        ],
+    )?;
     Ok(())
 }
 
@@ -250,58 +377,9 @@ fn commands_run_on_after_a_refusal(rt: HostRuntime) -> Result<(), Fail> {
     Ok(())
 }
 
-/// Gives bytes up to a place, and fails there.
-#[derive(Drop)]
-struct Failing<'a> {
-    bytes: &'a [u8],
-    failed: bool,
-}
-
-impl Source for Failing<'_> {
-    ghost use Rattle.std.specs.Prelude.{None};
-
-    ghost remaining = { λ _. None };
-
-    ghost has_failed = { λ s. s.failed };
-
-    fn read(&mut self, buffer: &mut [u8]) -> Result<usize, ReadFailed> {
-        if self.bytes.is_empty() || buffer.is_empty() {
-            self.failed = true;
-            return Err(ReadFailed);
-        }
-        buffer[0] = self.bytes[0];
-        self.bytes = &self.bytes[1..];
-        Ok(1)
-    }
-
-    fn has_failed(&self) -> bool {
-        self.failed
-    }
-}
-
 #[test]
-fn a_reader_that_fails_is_named(rt: HostRuntime) -> Result<(), Fail> {
-    let alloc = rt.alloc();
-    let mut session = opened(alloc, TITLES, Limits::GREATEST)?;
-    tells!(rt, session, Command::Init => "ok\n");
-    for place in 0..=MOBY.len() {
-        let mut readers = [Failing {
-            bytes: &MOBY[..place],
-            failed: false,
-        }];
-        let answer = session.update_from(&name("Default")?, Kind::Update, &mut readers);
-        assert_eq!(rt;
-            told(alloc, &answer)?.as_str(),
-            "zebraidx: file 1: read fault"
-        );
-        assert!(rt; matches!(&answer, Err(refusal) if status(refusal) == 3));
-    }
-    let mut readers = [Slice::new(MOBY)];
-    let answer = session.update_from(&name("Default")?, Kind::Update, &mut readers);
-    assert_eq!(rt;
-        told(alloc, &answer)?.as_str(),
-        "inserted 1 updated 0 deleted 0\n"
-    );
+fn the_greatest_limits_are_a_million_records_and_nine_digits(rt: HostRuntime) -> Result<(), Fail> {
+    assert_eq!(rt; Limits::GREATEST, Limits::new(1_000_000, 999_999_999));
     Ok(())
 }
 

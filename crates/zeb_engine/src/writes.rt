@@ -7,10 +7,12 @@ ghost use Rattle.zeb_register.specs.Calls.{ChangesNothing, GoesOn};
 ghost use Rattle.zeb_register.specs.Sql.{Replaces};
 ghost use Rattle.zeb_register.specs.Store.{IsStore, meta_tree, entry, IsEntryOf};
 ghost use Rattle.zeb_engine.specs.declared.commands.Limits.{Limits};
+ghost use Rattle.zeb_engine.specs.Adopting.{StaysOpen};
 ghost use Rattle.zeb_engine.specs.Answers.{IsFailure, refused, why_of};
 ghost use Rattle.zeb_engine.specs.Conditions.{Conditions, conditions};
 ghost use Rattle.zeb_engine.specs.Image.{IsImage};
 ghost use Rattle.zeb_engine.specs.NameOf.{name_bytes};
+ghost use Rattle.zeb_engine.specs.Reading.{NoReadFault};
 ghost use Rattle.zeb_engine.specs.Steps.{holding, initialised, turned, created, dropped};
 ghost use Rattle.zeb_engine.specs.Transactions.{EnduresRefusal, Stays};
 ghost use Rattle.zeb_engine.specs.Works.{IsReady, Serves, Works};
@@ -53,6 +55,7 @@ fn put_texts<S: Alter>(
         → OnOk result (PutsTexts version.now text.now pattern.now (state S.Store tx.old.conn.now) (state S.Store tx.new.conn.now)) }
     ensures failed { IfErr result (λ refusal. IsFailure (refused (why_of refusal))) }
     ensures crash { Survives (state S.Store tx.old.conn.now) (state S.Store tx.new.conn.now) (λ _. ⊥) }
+    ensures unread { NoReadFault result }
 {
     meta_put(tx, VERSION, version)?;
     meta_put(tx, PROFILE, text)?;
@@ -73,6 +76,7 @@ fn init<S: Alter, L: Layout>(
         → OnOk result (IsStore (state S.Store tx.new.conn.now) × ((c : Conditions) → AreOf L.version profile.now pattern.now c → IsImage L.holds c (state S.Store tx.new.conn.now).now.trees (holding c []))) }
     ensures failed { IfErr result (λ refusal. IsFailure (refused (why_of refusal))) }
     ensures crash { Survives (state S.Store tx.old.conn.now) (state S.Store tx.new.conn.now) (λ _. ⊥) }
+    ensures unread { NoReadFault result }
 {
     wipe(tx)?;
     put_texts(tx, L::version(), profile.text(), pattern)?;
@@ -86,6 +90,7 @@ fn create<S: Alter, L: Layout>(tx: &mut Transaction<'_, S>, name: &DbName) -> Re
     ensures works { HasCleanDisk (state S.Store tx.new.conn.now) → IsTrue (state S.Store tx.old.conn.now).in_transaction → IsTrue (state S.Store tx.old.conn.now).is_open → (c : Conditions)
         → Works L.holds c (IsFree (name_bytes name.now) c) (turned c (created (name_bytes name.now))) (state S.Store tx.old.conn.now) (state S.Store tx.new.conn.now) result }
     ensures crash { Survives (state S.Store tx.old.conn.now) (state S.Store tx.new.conn.now) (λ _. ⊥) }
+    ensures unread { NoReadFault result }
 {
     database_put(tx, name.as_str(), 0)?;
     Ok(Reply::Done)
@@ -102,6 +107,7 @@ fn take<S: Alter, L: Layout>(
     ensures works { HasCleanDisk (state S.Store tx.new.conn.now) → IsTrue (state S.Store tx.old.conn.now).in_transaction → (c : Conditions)
         → Works L.holds c (IsKnown (name_bytes name.now) id.0 c) (turned c (dropped (name_bytes name.now))) (state S.Store tx.old.conn.now) (state S.Store tx.new.conn.now) result }
     ensures crash { Survives (state S.Store tx.old.conn.now) (state S.Store tx.new.conn.now) (λ _. ⊥) }
+    ensures unread { NoReadFault result }
 {
     L::database_take(tx, id)?;
     Ok(Reply::Done)
@@ -117,6 +123,7 @@ fn apply<S: Alter, L: Layout>(
         → Works L.holds c (Fits L.version c write.now) (written c write.now) (state S.Store tx.old.conn.now) (state S.Store tx.new.conn.now) result }
     ensures begun { HasCleanDisk (state S.Store tx.new.conn.now) → IsTrue (state S.Store tx.old.conn.now).in_transaction → OnOk result (Begins L.holds L.version write.now (state S.Store tx.old.conn.now) (state S.Store tx.new.conn.now)) }
     ensures crash { Survives (state S.Store tx.old.conn.now) (state S.Store tx.new.conn.now) (λ _. ⊥) }
+    ensures unread { NoReadFault result }
 {
     match write {
         Write::Init { profile, pattern } => init::<S, L>(tx, profile, pattern),
@@ -132,12 +139,14 @@ fn transact<S: Alter, L: Layout>(
 ) -> Result<Reply, Refusal>
     requires idle { connection.old.in_transaction ≡ false }
     ensures idle { connection.new.in_transaction ≡ false }
+    ensures open { HasCleanDisk (state S.Store connection.new) → OnOk result (StaysOpen (state S.Store connection.old) (state S.Store connection.new)) }
     ensures refused { HasCleanDisk (state S.Store connection.new) → OnErr result (ChangesNothing (state S.Store connection.old) (state S.Store connection.new)) }
     ensures endures { HasCleanDisk (state S.Store connection.new) → IfErr result (EnduresRefusal (state S.Store connection.old) (state S.Store connection.new)) }
     ensures survives { Survives (state S.Store connection.old) (state S.Store connection.new) (λ _. ⊤) }
     ensures begun { HasCleanDisk (state S.Store connection.new) → OnOk result (Begins L.holds L.version write.now (state S.Store connection.old) (state S.Store connection.new)) }
     ensures serves { HasCleanDisk (state S.Store connection.new) → (c : Conditions) → IsReached write.now (state S.Store connection.old)
         → Serves L.holds c (Fits L.version c write.now) (written c write.now) (state S.Store connection.old) (state S.Store connection.new) result }
+    ensures unread { NoReadFault result }
 {
     let _settled = connection.is_autocommit();
     let mut tx = connection.transaction();
@@ -154,6 +163,7 @@ pub(crate) fn init_register<S: Alter, L: Layout>(
 ) -> Result<Reply, Refusal>
     requires idle { connection.old.in_transaction ≡ false }
     ensures idle { connection.new.in_transaction ≡ false }
+    ensures open { HasCleanDisk (state S.Store connection.new) → OnOk result (StaysOpen (state S.Store connection.old) (state S.Store connection.new)) }
     ensures refused { HasCleanDisk (state S.Store connection.new) → OnErr result (ChangesNothing (state S.Store connection.old) (state S.Store connection.new)) }
     ensures endures { HasCleanDisk (state S.Store connection.new) → IfErr result (EnduresRefusal (state S.Store connection.old) (state S.Store connection.new)) }
     ensures survives { Survives (state S.Store connection.old) (state S.Store connection.new) (λ _. ⊤) }
@@ -161,6 +171,7 @@ pub(crate) fn init_register<S: Alter, L: Layout>(
         → IsStore (state S.Store connection.new) × IsImage L.holds (conditions L.version profile.now limits) (state S.Store connection.new).now.trees (holding (conditions L.version profile.now limits) [])) }
     ensures serves { HasCleanDisk (state S.Store connection.new) → (limits : Limits)
         → Serves L.holds (conditions L.version profile.now limits) (λ _ _. Unit {0}) (initialised (conditions L.version profile.now limits)) (state S.Store connection.old) (state S.Store connection.new) result }
+    ensures unread { NoReadFault result }
 {
     let pattern = profile.identifier_rule().to_string(alloc)?;
     transact::<S, L>(
@@ -179,11 +190,13 @@ pub(crate) fn create_database<S: Alter, L: Layout>(
 ) -> Result<Reply, Refusal>
     requires idle { connection.old.in_transaction ≡ false }
     ensures idle { connection.new.in_transaction ≡ false }
+    ensures open { HasCleanDisk (state S.Store connection.new) → OnOk result (StaysOpen (state S.Store connection.old) (state S.Store connection.new)) }
     ensures refused { HasCleanDisk (state S.Store connection.new) → OnErr result (ChangesNothing (state S.Store connection.old) (state S.Store connection.new)) }
     ensures endures { HasCleanDisk (state S.Store connection.new) → IfErr result (EnduresRefusal (state S.Store connection.old) (state S.Store connection.new)) }
     ensures survives { Survives (state S.Store connection.old) (state S.Store connection.new) (λ _. ⊤) }
-    ensures serves { HasCleanDisk (state S.Store connection.new) → IsTrue (state S.Store connection.old).is_open → (c : Conditions)
+    ensures serves { HasCleanDisk (state S.Store connection.new) → (c : Conditions)
         → Serves L.holds c (IsReady c) (turned c (created (name_bytes name.now))) (state S.Store connection.old) (state S.Store connection.new) result }
+    ensures unread { NoReadFault result }
 {
     let found = database_of(connection, name.as_str())?;
     match found {
@@ -200,11 +213,13 @@ pub(crate) fn drop_database<S: Alter, L: Layout>(
 ) -> Result<Reply, Refusal>
     requires idle { connection.old.in_transaction ≡ false }
     ensures idle { connection.new.in_transaction ≡ false }
+    ensures open { HasCleanDisk (state S.Store connection.new) → OnOk result (StaysOpen (state S.Store connection.old) (state S.Store connection.new)) }
     ensures refused { HasCleanDisk (state S.Store connection.new) → OnErr result (ChangesNothing (state S.Store connection.old) (state S.Store connection.new)) }
     ensures endures { HasCleanDisk (state S.Store connection.new) → IfErr result (EnduresRefusal (state S.Store connection.old) (state S.Store connection.new)) }
     ensures survives { Survives (state S.Store connection.old) (state S.Store connection.new) (λ _. ⊤) }
-    ensures serves { HasCleanDisk (state S.Store connection.new) → IsTrue (state S.Store connection.old).is_open → (c : Conditions)
+    ensures serves { HasCleanDisk (state S.Store connection.new) → (c : Conditions)
         → Serves L.holds c (IsReady c) (turned c (dropped (name_bytes name.now))) (state S.Store connection.old) (state S.Store connection.new) result }
+    ensures unread { NoReadFault result }
 {
     let database = existing_database::<S, L>(alloc, connection, name)?;
     transact::<S, L>(connection, &Write::Drop(name, database.id))

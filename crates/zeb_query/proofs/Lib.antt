@@ -7,4 +7,12 @@ pub mod GrammarPlaces
 pub mod GrammarRoom
 pub mod GrammarFaults
 pub mod HoldingLemmas
-pub mod RefusalLemmas
+pub mod WordReading
+pub mod WordFinding
+pub mod WordStretches
+pub mod CheckLemmas
+pub mod ValueLemmas
+pub mod TermCheckLemmas
+pub mod PlanCheckLemmas
+pub mod QueryCheckLemmas
+pub mod LookLemmas

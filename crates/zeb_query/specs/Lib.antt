@@ -1,5 +1,6 @@
 pub mod Digits
 pub mod Words
+pub mod WordLists
 pub mod Cutting
 pub mod Keywords
 pub mod Queries
@@ -11,6 +12,8 @@ pub mod Reading
 pub mod Laws
 pub mod Attributes
 pub mod Holding
+pub mod TermChecks
 pub mod Terms
 pub mod Plans
-pub mod Refusals
+pub mod TermPlans
+pub mod QueryChecks

@@ -1,8 +1,12 @@
 -- What a query asks for over a profile (ANSI/NISO Z39.50-2003, attribute set Bib-1): its plan, or its first diagnostic. The
--- query is walked from left to right, an operator before its operands.
-use Rattle.std.specs.Prelude.{ℕ, Bool, List, [], ◌∷◌, Option, Some, None, Result, Ok, map, chars, string_bytes, encode_utf8_all, if◌then◌else◌, codes}
+-- query is walked from left to right, an operator before its operands. A term is refused by the first of its checks that
+-- applies; where none does, its plan follows from the attributes that hold over it.
+use Rattle.std.specs.Prelude.{◌≡◌, ℕ, true, false, not, List, [], ◌∷◌, Option, Some, None, Bool, Result, Ok, Err, map, chars, string_bytes, encode_utf8_all, if◌then◌else◌, codes}
+use Rattle.std.specs.Option.{unwrap_or}
 use Rattle.std.specs.List.{join_with_byte}
+use Rattle.std.specs.Str.Parse.{digits_value}
 use Rattle.zeb_profile.specs.declared.Register.{Register}
+use Rattle.zeb_profile.specs.declared.Register.TheVariants as register
 use Rattle.zeb_profile.specs.declared.Profile.{Profile}
 use Rattle.zeb_profile.specs.Indexes.{has_pair}
 use Rattle.zeb_text.specs.Symbols.{Symbol}
@@ -12,22 +16,18 @@ use Rattle.zeb_text.specs.Truncation.{joined_patterns}
 use Rattle.zeb_query.specs.declared.plans.Operator.{Operator}
 use Rattle.zeb_query.specs.declared.plans.Operator.TheVariants as operator
 use Rattle.zeb_query.specs.declared.plans.Relation.{Relation}
+use Rattle.zeb_query.specs.declared.plans.Relation.TheVariants.{Less, LessOrEqual, Equal, GreaterOrEqual, Greater}
 use Rattle.zeb_query.specs.declared.plans.TermPlan.{TermPlan}
 use Rattle.zeb_query.specs.declared.plans.TermPlan.TheVariants as term
 use Rattle.zeb_query.specs.declared.plans.Plan.{Plan, Term, Pair'}
 use Rattle.zeb_query.specs.declared.plans.ScanPlan.{ScanPlan}
 use Rattle.zeb_query.specs.declared.queries.Connective.{Connective}
 use Rattle.zeb_query.specs.declared.queries.Connective.TheVariants.{And, Or, Not, Proximity}
-use Rattle.zeb_query.specs.declared.attributes.Asked.{Asked}
-use Rattle.zeb_query.specs.declared.attributes.Asked.TheVariants.{Compared, Always}
-use Rattle.zeb_query.specs.declared.attributes.Structure.{Structure}
-use Rattle.zeb_query.specs.declared.attributes.Structure.TheVariants.{Phrase, WordList, FreeForm, LocalNumber, Numeric}
-use Rattle.zeb_query.specs.declared.terms.Values.{Values}
-use Rattle.zeb_query.specs.Digits.{number_of}
+use Rattle.zeb_query.specs.Attributes.{value_of}
 use Rattle.zeb_query.specs.Queries.{HeadValue, TreeValue, TermValue, NamedValue, PairValue, QueryValue}
 use Rattle.zeb_query.specs.Grammar.{heads, no_head}
-use Rattle.zeb_query.specs.Holding.{holding_of}
-use Rattle.zeb_query.specs.Terms.{clashes, clashes_in_scan, register_of, is_numeric, is_complete, is_equal, is_first, kept_or, term_of}
+use Rattle.zeb_query.specs.Holding.{HoldingValue, holding_of}
+use Rattle.zeb_query.specs.TermChecks.{first_that_applies, relation_is, position_is, structure_is, completeness_is, index_used, register_searched, patterns_held, find_checks, scan_checks}
 use Rattle.zeb_query.specs.Faults.{Refusal, ◌>>=◌, refused}
 
 -- what a term asks for, without where texts and lists lie in memory
@@ -64,6 +64,17 @@ abbrev pub plan_value : Plan → PlanValue
 plan_value (Term plan) = TermOf (term_plan_value plan)
 plan_value (Pair' p op left right) = PairOf op (plan_value left) (plan_value right)
 
+-- the index and the register in which a term's plan looks; a record's own number is looked up in none
+abbrev pub plan_register : TermPlanValue → Option (ℕ × Register)
+plan_register (RecordNumberOf number) = None
+plan_register (AlwaysOf index r) = Some (index, r)
+plan_register (NumberOf index relation number) = Some (index, register.Number)
+plan_register (OrderedOf index r relation start) = Some (index, r)
+plan_register (CompleteOf index pattern) = Some (index, register.Phrase)
+plan_register (PhraseOf index patterns first) = Some (index, register.Word)
+plan_register (AllWordsOf index patterns) = Some (index, register.Word)
+plan_register (AnyWordOf index patterns) = Some (index, register.Word)
+
 abbrev pub scan_value : ScanPlan → ScanValue
 scan_value plan = record { index = plan.index; register = plan.register; start = string_bytes plan.start }
 
@@ -71,42 +82,46 @@ scan_value plan = record { index = plan.index; register = plan.register; start =
 abbrev pub joined_words : List ℕ → List ℕ
 joined_words text = join_with_byte 32 (map encode_utf8_all (words_of (chars text)))
 
--- a term that has to be a number of at most so many digits
-abbrev pub number_in : ℕ → ℕ → List ℕ → Result ℕ Refusal
-number_in most place text = kept_or 126 place (Some text) (number_of most text)
-
 abbrev pub joined_if_any : List (List Symbol) → Option (List Symbol)
 joined_if_any [] = None
 joined_if_any (pattern ∷ patterns) = Some (joined_patterns (pattern ∷ patterns))
 
-abbrev pub words_plan : Values → ℕ → List (List Symbol) → Structure → TermPlanValue
-words_plan v index patterns WordList = AllWordsOf index patterns
-words_plan v index patterns FreeForm = AnyWordOf index patterns
-words_plan v index patterns Phrase = PhraseOf index patterns (is_first v.position)
-words_plan v index patterns LocalNumber = PhraseOf index patterns (is_first v.position)
-words_plan v index patterns Numeric = PhraseOf index patterns (is_first v.position)
+-- the relations that compare
+abbrev pub comparisons : List (ℕ × Relation)
+comparisons = (1, Less) ∷ (2, LessOrEqual) ∷ (3, Equal) ∷ (4, GreaterOrEqual) ∷ (5, Greater) ∷ []
 
-unfoldable pub compared_plan : ℕ → List ℕ → Values → ℕ → List (List Symbol) → Relation → Result TermPlanValue Refusal
-compared_plan place text v index patterns relation =
-    if is_numeric v.structure then (number_in 18 place text >>= λ number. Ok (NumberOf index relation number)) else (
-    if is_equal (Compared relation) then (
-    if is_complete v.completeness then Ok (CompleteOf index (joined_if_any patterns)) else
-    Ok (words_plan v index patterns v.structure)) else
-    Ok (OrderedOf index (register_of v) relation (joined_words text)))
+-- the relation and the index that hold; where there is none, a check applies
+abbrev pub relation_held : HoldingValue → Relation
+relation_held h = unwrap_or (value_of comparisons 3 h.relation) Equal
 
-abbrev pub related_plan : ℕ → List ℕ → Values → ℕ → List (List Symbol) → Asked → Result TermPlanValue Refusal
-related_plan place text v index patterns Always = Ok (AlwaysOf index (register_of v))
-related_plan place text v index patterns (Compared relation) = compared_plan place text v index patterns relation
+abbrev pub index_held : Profile → HoldingValue → ℕ
+index_held profile h = unwrap_or (index_used profile h.use_attribute) 0
 
-abbrev pub indexed_plan : Profile → ℕ → List ℕ → Values → List (List Symbol) → Option ℕ → Result TermPlanValue Refusal
-indexed_plan profile place text v patterns None = number_in 9 place text >>= λ number. Ok (RecordNumberOf number)
-indexed_plan profile place text v patterns (Some index) =
-    if has_pair profile (index, register_of v) then related_plan place text v index patterns v.relation else refused 123 place []
+-- what a term asks for, where none of its checks applies
+unfoldable pub plan_asked : Profile → HoldingValue → List ℕ → TermPlanValue
+plan_asked profile h text =
+    let index = index_held profile h in
+    let patterns = patterns_held h text in
+    if structure_is h (107 ∷ []) then RecordNumberOf (digits_value 10 text) else (
+    if relation_is h (103 ∷ []) then AlwaysOf index (register_searched h) else (
+    if structure_is h (109 ∷ []) then NumberOf index (relation_held h) (digits_value 10 text) else (
+    if not (relation_is h (3 ∷ [])) then OrderedOf index (register_searched h) (relation_held h) (joined_words text) else (
+    if completeness_is h (2 ∷ 3 ∷ []) then CompleteOf index (joined_if_any patterns) else (
+    if structure_is h (6 ∷ []) then AllWordsOf index patterns else (
+    if structure_is h (105 ∷ []) then AnyWordOf index patterns else
+    PhraseOf index patterns (position_is h (1 ∷ 2 ∷ []))))))))
 
--- the plan of a term that was read
-unfoldable pub term_plan : Profile → ℕ → List ℕ → Values × List (List Symbol) → Result TermPlanValue Refusal
-term_plan profile place text read =
-    if clashes read.0 then refused 123 place [] else indexed_plan profile place text read.0 read.1 read.0.index
+-- the diagnostic, if one applies
+abbrev pub answered : {A : Type 0} → Option Refusal → A → Result A Refusal
+answered None x = Ok x
+answered (Some refusal) x = Err refusal
+
+-- a plan looks into the register that the attributes ask for, at an index that has a target with it; with structure 107 into
+-- none
+pub record LooksInto (profile : Profile) (h : HoldingValue) (looked : Option (ℕ × Register)) : Type 0 where
+  pub none : structure_is h (107 ∷ []) ≡ true → looked ≡ None
+  pub one : structure_is h (107 ∷ []) ≡ false → looked ≡ Some (index_held profile h, register_searched h)
+  pub found : structure_is h (107 ∷ []) ≡ false → has_pair profile (index_held profile h, register_searched h) ≡ true
 
 abbrev pub operator_of : ℕ → Connective → Result Operator Refusal
 operator_of place And = Ok operator.And
@@ -114,10 +129,11 @@ operator_of place Or = Ok operator.Or
 operator_of place Not = Ok operator.Not
 operator_of place Proximity = refused 110 place (codes "@prox")
 
+-- a term over which the set is named and the head stands
 unfoldable pub leaf_plan : Profile → Option (List ℕ) → HeadValue → ℕ → List ℕ → Result TermPlanValue Refusal
-leaf_plan profile set head place text = do
-  read ← term_of profile place text (holding_of set head)
-  term_plan profile place text read
+leaf_plan profile set head place text =
+    let h = holding_of set head in
+    answered (first_that_applies (find_checks profile place h text)) (plan_asked profile h text)
 
 -- the plan of a structure, over which the set is named and the head stands
 abbrev pub tree_plan : Profile → Option (List ℕ) → HeadValue → TreeValue → Result PlanValue Refusal
@@ -140,26 +156,18 @@ operator_word Or = codes "@or"
 operator_word Not = codes "@not"
 operator_word Proximity = codes "@prox"
 
--- where a scan begins: at the key of a number, or at the words
-unfoldable pub scan_start : ℕ → List ℕ → Values → Result (List ℕ) Refusal
-scan_start place text v =
-    if is_numeric v.structure then (number_in 18 place text >>= λ number. Ok (number_key number)) else Ok (joined_words text)
-
-abbrev pub indexed_scan : Profile → ℕ → List ℕ → Values → Option ℕ → Result ScanValue Refusal
-indexed_scan profile place text v None = refused 123 place []
-indexed_scan profile place text v (Some index) =
-    if has_pair profile (index, register_of v)
-    then (scan_start place text v >>= λ start. Ok (record { index = index; register = register_of v; start = start }))
-    else refused 123 place []
-
-unfoldable pub term_scan : Profile → ℕ → List ℕ → Values → Result ScanValue Refusal
-term_scan profile place text v =
-    if clashes_in_scan v then refused 123 place [] else indexed_scan profile place text v v.index
+-- where a scan begins, where none of the term's checks applies: at the key of a number, or at the words
+unfoldable pub scan_asked : Profile → HoldingValue → List ℕ → ScanValue
+scan_asked profile h text = record {
+  index = index_held profile h;
+  register = register_searched h;
+  start = if structure_is h (109 ∷ []) then number_key (digits_value 10 text) else joined_words text;
+}
 
 unfoldable pub leaf_scan : Profile → Option (List ℕ) → HeadValue → ℕ → List ℕ → Result ScanValue Refusal
-leaf_scan profile set head place text = do
-  read ← term_of profile place text (holding_of set head)
-  term_scan profile place text read.0
+leaf_scan profile set head place text =
+    let h = holding_of set head in
+    answered (first_that_applies (scan_checks profile place h text)) (scan_asked profile h text)
 
 abbrev pub tree_scan : Profile → Option (List ℕ) → TreeValue → Result ScanValue Refusal
 tree_scan profile set (TermValue place head text) = leaf_scan profile set (heads no_head head) place text

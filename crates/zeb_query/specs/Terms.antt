@@ -1,11 +1,11 @@
--- How a term is read (ANSI/NISO Z39.50-2003, attribute set Bib-1): its type, the sets and types of the attributes over it,
--- their values, and its words, in this order; the first fault is answered, at the term's place.
-use Rattle.std.specs.Prelude.{ℕ, ◌||◌, ◌&&◌, Bool, true, false, not, List, [], Option, Some, None, Result, Ok, length, nat_lt, chars, if◌then◌else◌, codes}
-use Rattle.std.specs.Str.{bytes_eq}
+-- How a term is read, step by step: its type, the sets and types of the attributes over it, their values as kept ones, and
+-- its words, in this order. This is what the private functions below `plan` and `plan_scan` give; which diagnostic a term
+-- has is said by the table of its checks, and proved to be the same.
+use Rattle.std.specs.Prelude.{ℕ, ◌||◌, ◌&&◌, Bool, true, false, not, List, [], Option, Some, None, Result, Ok, length, nat_lt, chars, if◌then◌else◌}
 use Rattle.std.specs.Fmt.{decimal}
 use Rattle.zeb_profile.specs.declared.Register.{Register}
 use Rattle.zeb_profile.specs.declared.Register.TheVariants as register
-use Rattle.zeb_profile.specs.Indexes.{index_by_use, index_by_name}
+use Rattle.zeb_profile.specs.Indexes.{index_by_use}
 use Rattle.zeb_profile.specs.declared.Profile.{Profile}
 use Rattle.zeb_text.specs.declared.Cut.{Cut}
 use Rattle.zeb_text.specs.declared.Cut.TheVariants as cut
@@ -26,6 +26,7 @@ use Rattle.zeb_query.specs.declared.terms.Values.{Values}
 use Rattle.zeb_query.specs.Digits.{number_of}
 use Rattle.zeb_query.specs.Attributes.{relations, positions, structures, truncations, completenesses, value_of}
 use Rattle.zeb_query.specs.Holding.{HoldingValue}
+use Rattle.zeb_query.specs.TermChecks.{written, is_known_type, index_named}
 use Rattle.zeb_query.specs.Faults.{Refusal, ◌>>=◌, refused}
 
 abbrev pub is_first : Position → Bool
@@ -119,9 +120,6 @@ spread_of LocalNumber = Ends
 spread_of Numeric = Ends
 
 -- the fault of a term's type, and of the sets and types of the attributes over it
-abbrev pub is_known_type : List ℕ → Bool
-is_known_type type = bytes_eq type (codes "general") || bytes_eq type (codes "string")
-
 abbrev pub type_checked : ℕ → Option (List ℕ) → Result (Unit {0}) Refusal
 type_checked place None = Ok tt
 type_checked place (Some type) = if is_known_type type then Ok tt else refused 229 place type
@@ -141,17 +139,9 @@ checked place holding = do
   kind_checked place holding.other_kind
 
 -- a kept value, or the diagnostic about the value as written
-abbrev pub written : Option (List ℕ) → List ℕ
-written None = []
-written (Some text) = text
-
 abbrev pub kept_or : {A : Type 0} → ℕ → ℕ → Option (List ℕ) → Option A → Result A Refusal
 kept_or number place value (Some x) = Ok x
 kept_or number place value None = refused number place (written value)
-
-abbrev pub index_named : Profile → List ℕ → Option ℕ → Option ℕ
-index_named profile name (Some number) = index_by_use profile number
-index_named profile name None = index_by_name profile name
 
 -- the index of a use attribute, by its number, or by its name where it is none; 1016 where there is no attribute
 unfoldable pub index_of : Profile → ℕ → Option (List ℕ) → Result ℕ Refusal

@@ -20,9 +20,11 @@ mod words;
 
 pub use faults::QueryFault;
 pub use laws::{
-    a_query_has_no_fault, no_text_spells_two_queries,
-    operators_are_too_many_where_no_query_has_room, the_first_diagnostic_is_told,
+    a_plan_looks_into_its_register, a_query_has_no_fault, a_text_has_one_list_of_words,
+    no_text_spells_two_queries, operators_are_too_many_where_no_query_has_room,
+    the_first_diagnostic_is_told, the_first_diagnostic_of_a_scan_is_told,
     words_are_a_query_or_have_a_fault, words_are_unspelled_where_no_query_goes_on,
+    words_at_examples,
 };
 pub use planning::plan;
 pub use plans::{Operator, PairPlan, Plan, Relation, ScanPlan, TermPlan};

@@ -5,6 +5,7 @@ ghost use Rattle.zeb_query.specs.Faults.{Gives};
 ghost use Rattle.zeb_query.specs.Holding.{holding_of, holding_value};
 ghost use Rattle.zeb_query.specs.Terms.{term_of};
 ghost use Rattle.zeb_query.specs.Plans as plans;
+ghost use Rattle.zeb_query.specs.TermPlans as steps;
 
 use crate::attributes::{Asked, Completeness, Position, Structure};
 use crate::digits::number_of;
@@ -88,7 +89,7 @@ fn operator_of(alloc: Global, connective: Connective, place: usize) -> Result<Op
     }
 }
 
-#[tactic(auto, unfolding(crate::specs::Plans::leaf_plan))]
+#[tactic(auto, using(crate::proofs::PlanCheckLemmas::leaf_steps))]
 fn plan_leaf(
     alloc: Global,
     leaf: &Leaf,
@@ -104,7 +105,7 @@ fn plan_leaf(
     plan_term(alloc, leaf, values, patterns, profile)
 }
 
-#[tactic(auto, unfolding(crate::specs::Plans::term_plan))]
+#[tactic(auto, unfolding(crate::specs::TermPlans::term_plan))]
 fn plan_term(
     alloc: Global,
     leaf: &Leaf,
@@ -113,7 +114,7 @@ fn plan_term(
     profile: &Profile,
 ) -> Result<TermPlan, QueryFault>
     ensures { Gives plans.term_plan_value result
-        (plans.term_plan profile.now leaf.now.place (string_bytes leaf.now.text) (values, patterns.items)) }
+        (steps.term_plan profile.now leaf.now.place (string_bytes leaf.now.text) (values, patterns.items)) }
 {
     if values.clashes() {
         return Err(QueryFault::diagnostic(alloc, 123, leaf.place));
@@ -136,7 +137,7 @@ fn plan_term(
 /// The number that a term has to be, of at most so many digits.
 pub(crate) fn number_in(alloc: Global, leaf: &Leaf, most: usize) -> Result<u64, QueryFault>
     requires { most ≤ 18 }
-    ensures gives { Gives (λ x. x) result (plans.number_in most leaf.now.place (string_bytes leaf.now.text)) }
+    ensures gives { Gives (λ x. x) result (steps.number_in most leaf.now.place (string_bytes leaf.now.text)) }
     ensures small { IfOk result (λ number. number < 10 ^ most) }
 {
     let text = leaf.text.as_str();
@@ -154,7 +155,7 @@ pub(crate) fn joined_words(alloc: Global, leaf: &Leaf) -> Result<String, AllocEr
 }
 
 /// The plan of a term that is compared with the entries of an index.
-#[tactic(auto, unfolding(crate::specs::Plans::compared_plan))]
+#[tactic(auto, unfolding(crate::specs::TermPlans::compared_plan))]
 fn compared(
     alloc: Global,
     leaf: &Leaf,
@@ -164,7 +165,7 @@ fn compared(
     patterns: Vec<Pattern>,
 ) -> Result<TermPlan, QueryFault>
     ensures { Gives plans.term_plan_value result
-        (plans.compared_plan leaf.now.place (string_bytes leaf.now.text) values.now index patterns.items relation) }
+        (steps.compared_plan leaf.now.place (string_bytes leaf.now.text) values.now index patterns.items relation) }
 {
     if values.is_numeric() {
         let number = number_in(alloc, leaf, 18)?;
@@ -202,7 +203,7 @@ fn joined_if_any(alloc: Global, patterns: &[Pattern]) -> Result<Option<Pattern>,
 }
 
 fn words_plan(values: &Values, index: u32, patterns: Vec<Pattern>) -> TermPlan
-    ensures { plans.term_plan_value result ≡ plans.words_plan values.now index patterns.items values.now.structure }
+    ensures { plans.term_plan_value result ≡ steps.words_plan values.now index patterns.items values.now.structure }
 {
     match values.structure {
         Structure::WordList => TermPlan::AllWords { index, patterns },

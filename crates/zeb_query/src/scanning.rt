@@ -3,6 +3,7 @@ ghost use Rattle.zeb_query.specs.Queries.{query_value, head_value};
 ghost use Rattle.zeb_query.specs.Grammar.{heads, no_head};
 ghost use Rattle.zeb_query.specs.Faults.{Gives};
 ghost use Rattle.zeb_query.specs.Plans as plans;
+ghost use Rattle.zeb_query.specs.TermPlans as steps;
 
 use crate::holding::Holding;
 use crate::planning::{joined_words, number_in};
@@ -31,7 +32,7 @@ pub fn plan_scan(alloc: Global, query: &Query, profile: &Profile) -> Result<Scan
     }
 }
 
-#[tactic(auto, unfolding(crate::specs::Plans::leaf_scan))]
+#[tactic(auto, using(crate::proofs::PlanCheckLemmas::scan_steps))]
 fn scan_leaf(
     alloc: Global,
     leaf: &Leaf,
@@ -46,7 +47,7 @@ fn scan_leaf(
     scan_term(alloc, leaf, values, profile)
 }
 
-#[tactic(auto, unfolding(crate::specs::Plans::term_scan))]
+#[tactic(auto, unfolding(crate::specs::TermPlans::term_scan))]
 fn scan_term(
     alloc: Global,
     leaf: &Leaf,
@@ -54,7 +55,7 @@ fn scan_term(
     profile: &Profile,
 ) -> Result<ScanPlan, QueryFault>
     ensures { Gives plans.scan_value result
-        (plans.term_scan profile.now leaf.now.place (string_bytes leaf.now.text) values) }
+        (steps.term_scan profile.now leaf.now.place (string_bytes leaf.now.text) values) }
 {
     if values.clashes_in_scan() {
         return Err(QueryFault::diagnostic(alloc, 123, leaf.place));
@@ -75,10 +76,10 @@ fn scan_term(
 }
 
 /// The entry to begin with.
-#[tactic(auto, unfolding(crate::specs::Plans::scan_start))]
+#[tactic(auto, unfolding(crate::specs::TermPlans::scan_start))]
 fn start_of(alloc: Global, leaf: &Leaf, values: &Values) -> Result<String, QueryFault>
     ensures { Gives (λ start. string_bytes start) result
-        (plans.scan_start leaf.now.place (string_bytes leaf.now.text) values.now) }
+        (steps.scan_start leaf.now.place (string_bytes leaf.now.text) values.now) }
 {
     if values.is_numeric() {
         let number = number_in(alloc, leaf, 18)?;

@@ -29,7 +29,7 @@ use Rattle.zeb_register.specs.Terms.{Reads}
 abbrev pub IsSilent : List ℕ → Type 0
 IsSilent text = (schema : Schema) (base : ℕ) → and_then (first text) (λ p. returning schema base p.statement) ≡ Ok None
 
-got : {A B : Type 0} (r : Result A CompileError) (f : A → Result B CompileError) (b : B) → and_then r f ≡ Ok b → (a : A) × (r ≡ Ok a) × (f a ≡ Ok b)
+pub got : {A B : Type 0} (r : Result A CompileError) (f : A → Result B CompileError) (b : B) → and_then r f ≡ Ok b → (a : A) × (r ≡ Ok a) × (f a ≡ Ok b)
 got (Ok a) f b h = (a, refl, h)
 got (Err e) f b h = absurd (cc)
 

@@ -37,7 +37,7 @@ use Rattle.zeb_register.proofs.RowLemmas.{shares_alone}
 abbrev pub databases : Table
 databases = record databases_table { tree = 2 }
 
-databases_static : IsPlainTable store_schema 1 databases
+pub databases_static : IsPlainTable store_schema 1 databases
 databases_static = record { there = refl; whole = refl; free = λ olds news. refl; uncounted = refl; unstamped = refl }
 
 abbrev pub last_text : List ℕ

@@ -10,9 +10,11 @@ pub mod Creates
 pub mod Makes
 pub mod Chains
 pub mod Calls
+pub mod Creating
 pub mod TextStatements
 pub mod DatabaseStatements
 pub mod RecordStatements
+pub mod Singles
 pub mod PostingStatements
 pub mod TermStatements
 pub mod WipeStatements

@@ -13,6 +13,7 @@ use Rattle.sqlite.proofs.Callers.{IsPlain, command_of, statement_of}
 use Rattle.zeb_register.specs.Tables.{no_schema, with_meta, with_databases, with_records, with_postings, with_blocks, store_schema, meta_table, databases_table, records_table, postings_table, blocks_table, dict_table}
 use Rattle.zeb_register.specs.Sql.{IsMade}
 use Rattle.zeb_register.proofs.Creates.{creates, spares}
+use Rattle.zeb_register.proofs.Creating.{IsCreate}
 
 -- what the text makes of a schema, and that it does nothing where the tables are there
 record Makes (before : Schema) (table : Table) (sql : List ℕ) : Type 0 where
@@ -111,3 +112,29 @@ dict_made = next_made with_blocks dict_table dict_text makes_dict
 
 pub dict_there : (old new : State) (count : ℕ) → Executes dict_text [] old new (Ok count) → old.now.schema ≡ store_schema → IsUnchanged old new
 dict_there = still_there with_blocks dict_table dict_text makes_dict
+
+-- ---- the same under any schema
+
+pub meta_creates : IsCreate meta_text
+unfolding everything
+meta_creates = refl
+
+pub databases_creates : IsCreate databases_text
+unfolding everything
+databases_creates = refl
+
+pub records_creates : IsCreate records_text
+unfolding everything
+records_creates = refl
+
+pub postings_creates : IsCreate postings_text
+unfolding everything
+postings_creates = refl
+
+pub blocks_creates : IsCreate blocks_text
+unfolding everything
+blocks_creates = refl
+
+pub dict_creates : IsCreate dict_text
+unfolding everything
+dict_creates = refl

@@ -7,7 +7,9 @@ use Rattle.std.specs.List.Sorted.{IsStrictlySortedBy}
 use Rattle.std.specs.List.{AllByRecursion}
 use Rattle.std.specs.Ordering.{nat_cmp, ordering_then}
 use Rattle.sqlite.specs.Order.{row_cmp}
-use Rattle.sqlite.specs.Tree.{Trees}
+use Rattle.sqlite.specs.Tree.{Trees, rowid}
+use Rattle.sqlite.specs.View.{is_int}
+use Rattle.sqlite_rules.proofs.ListLemmas.{all_has}
 use Rattle.sqlite_rules.specs.Lists.{Has}
 use Rattle.sqlite_rules.proofs.ProbeLemmas.{has_mapped, mapped_has}
 use Rattle.sqlite_value.proofs.OrderLemmas.{value_cmp-Int}
@@ -23,11 +25,11 @@ use Rattle.sqlite.specs.State.{State}
 use Rattle.sqlite_value.proofs.OrderLemmas.{value_cmp_total}
 use Rattle.std.proofs.lemmas.Cmp.{tied_itself}
 use Rattle.zeb_register.specs.Tables.{store_schema}
-use Rattle.zeb_register.specs.Sql.{KeepsOthers, Gains, Loses}
-use Rattle.zeb_register.specs.Store.{Changes, databases_tree, records_tree, TakesDatabase, IsRecordIn, IsPostingIn}
+use Rattle.zeb_register.specs.Sql.{KeepsOthers, IsKeyed, Gains, Loses}
+use Rattle.zeb_register.specs.Store.{Changes, blocks_tree, dict_tree, databases_tree, records_tree, TakesDatabase, IsRecordIn, IsPostingIn}
 use Rattle.zeb_register.specs.Kinds.{code, is_exact}
 use Rattle.zeb_register.proofs.RowLemmas.{tied_is}
-use Rattle.zeb_register.specs.Content.{IsWithout, TakesWhole, IsChangedAt, KeepsBesidePostings, GainsPlaces, Puts, posting_columns, IsPlaceIn, code_of_register, key_row}
+use Rattle.zeb_register.specs.Content.{IsWithout, TakesWhole, DropsRegisters, IsChangedAt, KeepsBesidePostings, GainsPlaces, Puts, posting_columns, IsPlaceIn, code_of_register, key_row}
 use Rattle.zeb_register.proofs.ContentLemmas.{told_apart, one_list, ints_order, same_key}
 
 pub both_more : (xs : List Row) (ys : List Place) (i : ℕ) (x : Row) (d : Place) → x ≡ get_or xs i x → i < length xs → i < length ys → map first_two (take i xs) ≡ map place_row (take i ys) → first_two x ≡ place_row (get_or ys i d)
@@ -244,13 +246,69 @@ rows_changed old mid new db key sysno places before after holds lost left gained
   alone = (kept.1 ∙ left.1 ∙ holds.alone.0, kept.2 ∙ left.2 ∙ holds.alone.1);
 }
 
+-- ---- rows of the registers taken
+
+loses_before : (P : Row → Type 0) (tree : ℕ) (a b c : Trees) → b tree ≡ a tree → Loses P tree b c → Loses P tree a c
+loses_before P tree a b c same lost columns = (
+  λ h. let was = (lost columns).0 h in ((was.0.0, subst (λ rows. Has rows (Int was.0.0 ∷ columns)) same was.0.1), was.1),
+  λ h. (lost columns).1 ((h.0.0, subst (λ rows. Has rows (Int h.0.0 ∷ columns)) (sym same) h.0.1), h.1),
+)
+
+loses_after : (P : Row → Type 0) (tree : ℕ) (a b c : Trees) → Loses P tree a b → c tree ≡ b tree → Loses P tree a c
+loses_after P tree a b c lost same columns = (
+  λ h. (lost columns).0 (h.0, subst (λ rows. Has rows (Int h.0 ∷ columns)) same h.1),
+  λ h. let is = (lost columns).1 h in (is.0, subst (λ rows. Has rows (Int is.0 ∷ columns)) (sym same) is.1),
+)
+
+int_row : (r : Row) → is_int (rowid r) ≡ true → (id : ℤ) × (columns : Row) × (r ≡ Int id ∷ columns)
+int_row [] is = absurd cc
+int_row (Int id ∷ columns) is = (id, columns, refl)
+int_row (v ∷ columns) is = absurd cc
+
+none_left : (P : Row → Type 0) (tree : ℕ) (old new : Trees) → IsKeyed (new tree) → Loses P tree old new → old tree ≡ [] → new tree ≡ []
+none_left P tree old new keyed lost none = at (new tree) refl
+  where
+    at : (rows : List Row) → new tree ≡ rows → new tree ≡ []
+    at [] is = is
+    at (r ∷ rows) is =
+        let here : Has (new tree) r = subst (λ l. Has l r) (sym is) (inl refl) in
+        let int = int_row r (all_has _ (new tree) r keyed.1 here) in
+        let was = ((lost int.1).0 (int.0, subst (Has (new tree)) int.2 here)).0 in
+        absurd (subst (λ l. Has l (Int was.0 ∷ int.1)) none was.1)
+
+pub drops : (db : ℤ) (a b c d : State) → Changes postings_tree (Loses (IsPostingIn db)) a b → Changes blocks_tree (Loses (IsPostingIn db)) b c → Changes dict_tree (Loses (IsPostingIn db)) c d → DropsRegisters db a d
+drops db a b c d one two three = record {
+  store = three.layout;
+  lists = (
+    three.others.0 (λ e. absurd (omega (arith, e))) ∙ two.others.0 (λ e. absurd (omega (arith, e))) ∙ one.others.0 (λ e. absurd (omega (arith, e))),
+    three.others.1.0 (λ e. absurd (omega (arith, e))) ∙ two.others.1.0 (λ e. absurd (omega (arith, e))) ∙ one.others.1.0 (λ e. absurd (omega (arith, e))),
+    three.others.1.1.0 (λ e. absurd (omega (arith, e))) ∙ two.others.1.1.0 (λ e. absurd (omega (arith, e))) ∙ one.others.1.1.0 (λ e. absurd (omega (arith, e))),
+  );
+  postings = loses_after (IsPostingIn db) postings_tree a.now.trees b.now.trees d.now.trees one.rows
+      (three.others.1.1.1.0 (λ e. absurd (omega (arith, e))) ∙ two.others.1.1.1.0 (λ e. absurd (omega (arith, e))));
+  blocks = loses_after (IsPostingIn db) blocks_tree a.now.trees c.now.trees d.now.trees
+      (loses_before (IsPostingIn db) blocks_tree a.now.trees b.now.trees c.now.trees (one.others.1.1.1.1.0 (λ e. absurd (omega (arith, e)))) two.rows)
+      (three.others.1.1.1.1.0 (λ e. absurd (omega (arith, e))));
+  dict = loses_before (IsPostingIn db) dict_tree a.now.trees c.now.trees d.now.trees
+      (two.others.1.1.1.1.1.0 (λ e. absurd (omega (arith, e))) ∙ one.others.1.1.1.1.1.0 (λ e. absurd (omega (arith, e)))) three.rows;
+}
+
 -- ---- a database taken
 
-module _ (db : ℤ) (a b c d : State) (one : Changes postings_tree (Loses (IsPostingIn db)) a b) (two : Changes records_tree (Loses (IsRecordIn db)) b c) (three : Changes databases_tree (TakesDatabase db) c d) where
+module _ (db : ℤ) (a b c d : State) (one : DropsRegisters db a b) (two : Changes records_tree (Loses (IsRecordIn db)) b c) (three : Changes databases_tree (TakesDatabase db) c d) where
+  same7 : d.now.trees 7 ≡ b.now.trees 7
+  same7 = three.others.1.1.1.0 (λ e. absurd (omega (arith, e))) ∙ two.others.1.1.1.0 (λ e. absurd (omega (arith, e)))
+
+  same9 : d.now.trees 9 ≡ b.now.trees 9
+  same9 = three.others.1.1.1.1.0 (λ e. absurd (omega (arith, e))) ∙ two.others.1.1.1.1.0 (λ e. absurd (omega (arith, e)))
+
+  same11 : d.now.trees 11 ≡ b.now.trees 11
+  same11 = three.others.1.1.1.1.1.0 (λ e. absurd (omega (arith, e))) ∙ two.others.1.1.1.1.1.0 (λ e. absurd (omega (arith, e)))
+
   pub taken_whole : TakesWhole db a d
   taken_whole =
-      let same2 : c.now.trees 2 ≡ a.now.trees 2 = two.others.1.0 (λ e. absurd (omega (arith, e))) ∙ one.others.1.0 (λ e. absurd (omega (arith, e))) in
-      let before4 : b.now.trees 4 ≡ a.now.trees 4 = one.others.1.1.0 (λ e. absurd (omega (arith, e))) in
+      let same2 : c.now.trees 2 ≡ a.now.trees 2 = two.others.1.0 (λ e. absurd (omega (arith, e))) ∙ one.lists.1 in
+      let before4 : b.now.trees 4 ≡ a.now.trees 4 = one.lists.2 in
       let after4 : d.now.trees 4 ≡ c.now.trees 4 = three.others.1.1.0 (λ e. absurd (omega (arith, e))) in
       record {
         store = three.layout;
@@ -266,25 +324,28 @@ module _ (db : ℤ) (a b c d : State) (one : Changes postings_tree (Loses (IsPos
               let is = (two.rows columns).1 ((h.0.0, subst (λ rows. Has rows (Int h.0.0 ∷ columns)) (sym before4) h.0.1), h.1) in
               (is.0, subst (λ rows. Has rows (Int is.0 ∷ columns)) (sym after4) is.1),
         );
-        texts = three.others.0 (λ e. absurd (omega (arith, e))) ∙ two.others.0 (λ e. absurd (omega (arith, e))) ∙ one.others.0 (λ e. absurd (omega (arith, e)));
+        texts = three.others.0 (λ e. absurd (omega (arith, e))) ∙ two.others.0 (λ e. absurd (omega (arith, e))) ∙ one.lists.0;
+        postings = loses_after (IsPostingIn db) postings_tree a.now.trees b.now.trees d.now.trees one.postings same7;
+        blocks = loses_after (IsPostingIn db) blocks_tree a.now.trees b.now.trees d.now.trees one.blocks same9;
+        dict = loses_after (IsPostingIn db) dict_tree a.now.trees b.now.trees d.now.trees one.dict same11;
       }
 
   pub rows_without : (before after : Content) → HoldsRows a.now.trees before → IsWithout db before after → HoldsRows d.now.trees after
   rows_without before after holds without =
-      let same7 : d.now.trees 7 ≡ b.now.trees 7 = three.others.1.1.1.0 (λ e. absurd (omega (arith, e))) ∙ two.others.1.1.1.0 (λ e. absurd (omega (arith, e))) in
-      let same9 : d.now.trees 9 ≡ a.now.trees 9 = three.others.1.1.1.1.0 (λ e. absurd (omega (arith, e))) ∙ two.others.1.1.1.1.0 (λ e. absurd (omega (arith, e))) ∙ one.others.1.1.1.1.0 (λ e. absurd (omega (arith, e))) in
-      let same11 : d.now.trees 11 ≡ a.now.trees 11 = three.others.1.1.1.1.1.0 (λ e. absurd (omega (arith, e))) ∙ two.others.1.1.1.1.1.0 (λ e. absurd (omega (arith, e))) ∙ one.others.1.1.1.1.1.0 (λ e. absurd (omega (arith, e))) in
       record {
         rising = without.rising;
         each = λ row. (
           λ h.
-              let was = (one.rows row).0 (h.0, subst (λ rows. Has rows (Int h.0 ∷ row)) same7 h.1) in
+              let was = (one.postings row).0 (h.0, subst (λ rows. Has rows (Int h.0 ∷ row)) same7 h.1) in
               let p = (holds.each row).0 was.0 in
               (p.0, p.1, p.2, (without.left p.0 p.1 p.2).1 (p.3, λ same. was.1 (ap (λ (r : Row). column r 0) p.4 ∙ ap Int same)), p.4),
           λ p.
               let was = (without.left p.0 p.1 p.2).0 p.3 in
-              let is = (one.rows row).1 ((holds.each row).1 (p.0, p.1, p.2, was.0, p.4), λ in_it. was.1 (let e : Int p.0 ≡ Int db = ap (λ (r : Row). column r 0) (sym p.4) ∙ in_it in cc)) in
+              let is = (one.postings row).1 ((holds.each row).1 (p.0, p.1, p.2, was.0, p.4), λ in_it. was.1 (let e : Int p.0 ≡ Int db = ap (λ (r : Row). column r 0) (sym p.4) ∙ in_it in cc)) in
               (is.0, subst (λ rows. Has rows (Int is.0 ∷ row)) (sym same7) is.1),
         );
-        alone = (same9 ∙ holds.alone.0, same11 ∙ holds.alone.1);
+        alone = (
+          same9 ∙ none_left (IsPostingIn db) blocks_tree a.now.trees b.now.trees one.store.keyed.1.1.1.1.0 one.blocks holds.alone.0,
+          same11 ∙ none_left (IsPostingIn db) dict_tree a.now.trees b.now.trees one.store.keyed.1.1.1.1.1.0 one.dict holds.alone.1,
+        );
       }

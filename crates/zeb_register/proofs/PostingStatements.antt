@@ -8,11 +8,11 @@ use Rattle.sqlite.specs.Term.{Term, lit, col}
 use Rattle.sqlite.specs.Listing.{understood, reads_listing}
 use Rattle.sqlite.proofs.Callers.{IsPlain, command_of}
 use Rattle.sqlite_tied.specs.Compute.{everything}
-use Rattle.zeb_register.specs.Tables.{store_schema, postings_table}
+use Rattle.zeb_register.specs.Tables.{store_schema, postings_table, blocks_table, dict_table}
 use Rattle.zeb_register.specs.Sql.{Condition, equals, reading, alone, keyed_from, shows, no_limit, Loses, Gains, IsListOf}
 use Rattle.zeb_register.specs.Kinds.{IsPlainTable, HasKeys}
 use Rattle.sqlite.specs.Table.{Table}
-use Rattle.zeb_register.specs.Store.{IsStore, Changes, postings_tree, posting, key_of, place_key, IsPlaceOf, IsPostingIn, IsRest}
+use Rattle.zeb_register.specs.Store.{IsStore, Changes, postings_tree, blocks_tree, dict_tree, posting, key_of, place_key, IsPlaceOf, IsPostingIn, IsRest}
 use Rattle.zeb_register.proofs.Writes.{deletes, inserts, loses, gains}
 use Rattle.zeb_register.proofs.Selects.{list_so}
 use Rattle.zeb_register.proofs.Prefix.{IsAfter, lists_after}
@@ -41,6 +41,54 @@ takes db old new count store ran =
     let wheres = equals 1 0 ∷ [] in
     loses store_schema 7 old new (Int db ∷ []) wheres (IsPostingIn db) (λ id columns. (λ m. m.0, λ p. (p, tt)))
     (deletes store_schema 3 postings postings_static take_text (Int db ∷ []) wheres take_is take_plain refl old new count store ran)
+
+-- ---- the same of the tables of packed registers
+
+abbrev blocks : Table
+blocks = record blocks_table { tree = 9 }
+
+blocks_static : IsPlainTable store_schema 4 blocks
+blocks_static = record { there = refl; whole = refl; free = λ olds news. refl; uncounted = refl; unstamped = refl }
+
+abbrev pub blocks_text : List ℕ
+blocks_text = codes "DELETE FROM blocks WHERE db = ?1"
+
+blocks_is : command_of (understood store_schema blocks_text) ≡ Delete 4 (alone (reading 9 (equals 1 0 ∷ []) (shows (0 ∷ [])) [] no_limit))
+unfolding understood everything
+blocks_is = refl
+
+blocks_plain : IsPlain (understood store_schema blocks_text)
+unfolding understood everything
+blocks_plain = (refl, refl)
+
+pub takes_blocks : (db : ℤ) (old new : State) (count : ℕ) → IsStore old → Executes blocks_text (Int db ∷ []) old new (Ok count) → Changes blocks_tree (Loses (IsPostingIn db)) old new
+takes_blocks db old new count store ran =
+    let wheres = equals 1 0 ∷ [] in
+    loses store_schema 9 old new (Int db ∷ []) wheres (IsPostingIn db) (λ id columns. (λ m. m.0, λ p. (p, tt)))
+    (deletes store_schema 4 blocks blocks_static blocks_text (Int db ∷ []) wheres blocks_is blocks_plain refl old new count store ran)
+
+abbrev dict : Table
+dict = record dict_table { tree = 11 }
+
+dict_static : IsPlainTable store_schema 5 dict
+dict_static = record { there = refl; whole = refl; free = λ olds news. refl; uncounted = refl; unstamped = refl }
+
+abbrev pub dict_text : List ℕ
+dict_text = codes "DELETE FROM dict WHERE db = ?1"
+
+dict_is : command_of (understood store_schema dict_text) ≡ Delete 5 (alone (reading 11 (equals 1 0 ∷ []) (shows (0 ∷ [])) [] no_limit))
+unfolding understood everything
+dict_is = refl
+
+dict_plain : IsPlain (understood store_schema dict_text)
+unfolding understood everything
+dict_plain = (refl, refl)
+
+pub takes_dict : (db : ℤ) (old new : State) (count : ℕ) → IsStore old → Executes dict_text (Int db ∷ []) old new (Ok count) → Changes dict_tree (Loses (IsPostingIn db)) old new
+takes_dict db old new count store ran =
+    let wheres = equals 1 0 ∷ [] in
+    loses store_schema 11 old new (Int db ∷ []) wheres (IsPostingIn db) (λ id columns. (λ m. m.0, λ p. (p, tt)))
+    (deletes store_schema 5 dict dict_static dict_text (Int db ∷ []) wheres dict_is dict_plain refl old new count store ran)
 
 -- ---- INSERT
 

@@ -26,10 +26,10 @@ use Rattle.sqlite_rules.specs.Lists.{Has}
 abbrev pub records : Table
 records = record records_table { tree = 4 }
 
-records_static : IsPlainTable store_schema 2 records
+pub records_static : IsPlainTable store_schema 2 records
 records_static = record { there = refl; whole = refl; free = λ olds news. refl; uncounted = refl; unstamped = refl }
 
-records_keys : HasKeys store_schema records ((1 ∷ 2 ∷ []) ∷ (1 ∷ 3 ∷ []) ∷ [])
+pub records_keys : HasKeys store_schema records ((1 ∷ 2 ∷ []) ∷ (1 ∷ 3 ∷ []) ∷ [])
 records_keys = record { are = λ r new. refl; comparable = refl }
 
 -- a row of the table, whose columns are known

@@ -37,10 +37,10 @@ set_plain : IsPlain (understood store_schema set_text)
 unfolding understood everything
 set_plain = (refl, refl)
 
-meta_static : IsPlainTable store_schema 0 meta_table
+pub meta_static : IsPlainTable store_schema 0 meta_table
 meta_static = record { there = refl; whole = refl; free = λ olds news. refl; uncounted = refl; unstamped = refl }
 
-meta_keys : HasKeys store_schema meta_table ((1 ∷ []) ∷ [])
+pub meta_keys : HasKeys store_schema meta_table ((1 ∷ []) ∷ [])
 meta_keys = record { are = λ r new. refl; comparable = refl }
 
 pub sets : (name value : List ℕ) (old new : State) (count : ℕ) → IsStore old → Executes set_text (entry name value) old new (Ok count) → Changes meta_tree (Replaces (IsEntryOf name) (entry name value)) old new

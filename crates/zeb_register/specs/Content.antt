@@ -15,7 +15,7 @@ use Rattle.zeb_register.specs.declared.registers.Place.{Place}
 use Rattle.zeb_register.specs.declared.registers.Posting.{Posting}
 use Rattle.zeb_register.specs.Sql.{HasRow, Loses}
 use Rattle.std.proofs.Common.{sym, subst, ◌∙◌}
-use Rattle.zeb_register.specs.Store.{IsStore, meta_tree, databases_tree, records_tree, TakesDatabase, IsRecordIn, postings_tree, key_of, place_key, IsPlaceOf, KeepsLists, KeepsRegisters, LacksRegisters}
+use Rattle.zeb_register.specs.Store.{IsStore, meta_tree, databases_tree, records_tree, TakesDatabase, IsRecordIn, IsPostingIn, postings_tree, blocks_tree, dict_tree, key_of, place_key, IsPlaceOf, KeepsLists, KeepsRegisters, LacksRegisters}
 
 abbrev pub Content : Type 0
 Content = ℤ → Key → List Posting
@@ -117,11 +117,22 @@ pub record IsWithout (db : ℤ) (old new : Content) : Type 0 where
   pub rising : IsRising new
   pub left : (d : ℤ) (k : Key) (p : Posting) → Has (new d k) p ↔ (Has (old d k) p × (d ≢ db))
 
--- a database is taken with its records, and no other database, record or text is changed
+-- the rows of the database are taken out of the tables of the registers, and the lists are as they were
+pub record DropsRegisters (db : ℤ) (old new : State) : Type 0 where
+  pub store : IsStore new
+  pub lists : KeepsLists old.now.trees new.now.trees
+  pub postings : Loses (IsPostingIn db) postings_tree old.now.trees new.now.trees
+  pub blocks : Loses (IsPostingIn db) blocks_tree old.now.trees new.now.trees
+  pub dict : Loses (IsPostingIn db) dict_tree old.now.trees new.now.trees
+
+-- a database is taken with its records and its rows in the tables of the registers, and no other database, record, row or text is changed
 pub record TakesWhole (db : ℤ) (old new : State) : Type 0 where
   pub store : IsStore new
   pub databases : TakesDatabase db databases_tree old.now.trees new.now.trees
   pub records : Loses (IsRecordIn db) records_tree old.now.trees new.now.trees
+  pub postings : Loses (IsPostingIn db) postings_tree old.now.trees new.now.trees
+  pub blocks : Loses (IsPostingIn db) blocks_tree old.now.trees new.now.trees
+  pub dict : Loses (IsPostingIn db) dict_tree old.now.trees new.now.trees
   pub texts : new.now.trees meta_tree ≡ old.now.trees meta_tree
 
 -- what the tables hold is told by the tables of the registers alone

@@ -27,7 +27,13 @@ meta_tree = 0
 abbrev pub postings_tree : ℕ
 postings_tree = 7
 
--- a posting of the database
+abbrev pub blocks_tree : ℕ
+blocks_tree = 9
+
+abbrev pub dict_tree : ℕ
+dict_tree = 11
+
+-- a row of the database, in a table of the registers
 abbrev pub IsPostingIn : ℤ → Row → Type 0
 IsPostingIn db columns = column columns 0 ≡ Int db
 

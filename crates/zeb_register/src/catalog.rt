@@ -48,6 +48,7 @@ pub fn database_of<S: Alter>(
     ensures same { HasCleanDisk (state S.Store conn.new) → conn.old.in_transaction ≡ false → ChangesNothing (state S.Store conn.old) (state S.Store conn.new) }
     ensures value { HasCleanDisk (state S.Store conn.new) → IsStore (state S.Store conn.old) → IfOk result (IsDatabaseOf (state S.Store conn.old).now.trees name.now) }
     ensures honest { HasCleanDisk (state S.Store conn.new) → IsStore (state S.Store conn.old) → result ≡ Err RegFault.Damaged → ¬ AreCountedDatabases (state S.Store conn.old).now.trees name.now }
+    ensures opened { HasCleanDisk (state S.Store conn.new) → result ≡ Err RegFault.Damaged → IsTrue (state S.Store conn.old).is_open }
     ensures crash { Survives (state S.Store conn.old) (state S.Store conn.new) (λ _. ⊥) }
 {
     let rows = database_rows(conn, name)?;
@@ -74,6 +75,7 @@ pub fn database_put<S: Alter>(
     ensures err { HasCleanDisk (state S.Store tx.new.conn.now) → IsTrue (state S.Store tx.old.conn.now).in_transaction → OnErr result (KeepsCommit (state S.Store tx.old.conn.now) (state S.Store tx.new.conn.now)) }
     ensures put { HasCleanDisk (state S.Store tx.new.conn.now) → IsTrue (state S.Store tx.old.conn.now).in_transaction → IsStore (state S.Store tx.old.conn.now) → IfOk result (λ id. Changes databases_tree (PutsDatabase id.0 name.now (pos last)) (state S.Store tx.old.conn.now) (state S.Store tx.new.conn.now)) }
     ensures honest { HasCleanDisk (state S.Store tx.new.conn.now) → IsTrue (state S.Store tx.old.conn.now).in_transaction → IsStore (state S.Store tx.old.conn.now) → result ≢ Err RegFault.Damaged }
+    ensures opened { HasCleanDisk (state S.Store tx.new.conn.now) → IsTrue (state S.Store tx.old.conn.now).in_transaction → result ≡ Err RegFault.Damaged → IsTrue (state S.Store tx.old.conn.now).is_open }
     ensures crash { Survives (state S.Store tx.old.conn.now) (state S.Store tx.new.conn.now) (λ _. ⊥) }
 {
     let last = stored(last)?;

@@ -16,12 +16,18 @@ pub enum RegFault {
 }
 
 impl fmt::Display for RegFault {
+    ghost use Rattle.std.specs.Prelude.{Some};
+    ghost use Rattle.zeb_register.specs.Faults.{fault_name};
+
+    ghost output = { λ fault. Some (fault_name fault) };
+
     fn fmt<W: fmt::Write>(&self, f: &mut fmt::Formatter<W>) -> fmt::Result {
-        f.write_str(match self {
+        let name = match self {
             RegFault::Damaged => "Damaged",
             RegFault::Store => "Store",
             RegFault::Memory => "Memory",
-        })
+        };
+        write!(f, "{name}")
     }
 }
 

@@ -90,6 +90,7 @@ pub fn record_of_ident<S: Alter>(
     ensures err { HasCleanDisk (state S.Store tx.new.conn.now) → IsTrue (state S.Store tx.old.conn.now).in_transaction → OnErr result (KeepsCommit (state S.Store tx.old.conn.now) (state S.Store tx.new.conn.now)) }
     ensures value { HasCleanDisk (state S.Store tx.new.conn.now) → IsTrue (state S.Store tx.old.conn.now).in_transaction → IsStore (state S.Store tx.old.conn.now) → IfOk result (IsElderOf (state S.Store tx.old.conn.now).now.trees db.0 ident.now) }
     ensures honest { HasCleanDisk (state S.Store tx.new.conn.now) → IsTrue (state S.Store tx.old.conn.now).in_transaction → IsStore (state S.Store tx.old.conn.now) → result ≡ Err RegFault.Damaged → ¬ AreNumbered (state S.Store tx.old.conn.now).now.trees db.0 ident.now }
+    ensures opened { HasCleanDisk (state S.Store tx.new.conn.now) → IsTrue (state S.Store tx.old.conn.now).in_transaction → result ≡ Err RegFault.Damaged → IsTrue (state S.Store tx.old.conn.now).is_open }
     ensures crash { Survives (state S.Store tx.old.conn.now) (state S.Store tx.new.conn.now) (λ _. ⊥) }
 {
     let rows = elder_rows(tx, db.column(), ident)?;
@@ -115,6 +116,7 @@ pub fn ident_of<S: Alter>(
     ensures same { HasCleanDisk (state S.Store conn.new) → conn.old.in_transaction ≡ false → ChangesNothing (state S.Store conn.old) (state S.Store conn.new) }
     ensures value { HasCleanDisk (state S.Store conn.new) → IsStore (state S.Store conn.old) → IfOk result (IsIdentOf (state S.Store conn.old).now.trees db.0 (pos sysno)) }
     ensures honest { HasCleanDisk (state S.Store conn.new) → IsStore (state S.Store conn.old) → result ≡ Err RegFault.Damaged → ¬ AreReadableIdents (state S.Store conn.old).now.trees db.0 (pos sysno) }
+    ensures opened { HasCleanDisk (state S.Store conn.new) → result ≡ Err RegFault.Damaged → IsTrue (state S.Store conn.old).is_open }
     ensures crash { Survives (state S.Store conn.old) (state S.Store conn.new) (λ _. ⊥) }
 {
     // What is seen outside a transaction is what was committed.
@@ -140,6 +142,7 @@ pub fn records<S: Alter>(
     ensures same { HasCleanDisk (state S.Store conn.new) → conn.old.in_transaction ≡ false → ChangesNothing (state S.Store conn.old) (state S.Store conn.new) }
     ensures value { HasCleanDisk (state S.Store conn.new) → IsStore (state S.Store conn.old) → IfOk result (λ list. IsListOf (IsRest records_tree (Int db.0 ∷ []) (state S.Store conn.old).now.trees) (map record_shown list.items)) }
     ensures honest { HasCleanDisk (state S.Store conn.new) → IsStore (state S.Store conn.old) → result ≡ Err RegFault.Damaged → ¬ AreReadable (state S.Store conn.old).now.trees db.0 }
+    ensures opened { HasCleanDisk (state S.Store conn.new) → result ≡ Err RegFault.Damaged → IsTrue (state S.Store conn.old).is_open }
     ensures crash { Survives (state S.Store conn.old) (state S.Store conn.new) (λ _. ⊥) }
 {
     let rows = record_rows(conn, db.column())?;

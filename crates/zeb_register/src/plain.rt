@@ -5,8 +5,8 @@ ghost use Rattle.std.specs.Int.{w64};
 ghost use Rattle.sqlite.specs.Tree.{Trees};
 ghost use Rattle.sqlite_rules.specs.Lists.{Has};
 ghost use Rattle.sqlite.specs.Held.{state};
-ghost use Rattle.sqlite.specs.State.{HasCleanDisk, KeepsCommit, Survives};
-ghost use Rattle.zeb_register.specs.Content.{Content, HoldsRows, ArePlacesOf, place_cmp, place_row, first_two, IsTwoNumbers, IsPlaceIn, posting_columns, Puts, code_of_register, posting_row, first_three, IsThreeNumbers};
+ghost use Rattle.sqlite.specs.State.{HasCleanDisk, IsUnchanged, KeepsCommit, Survives};
+ghost use Rattle.zeb_register.specs.Content.{Content, HoldsRows, ArePlacesOf, place_cmp, place_row, first_two, IsTwoNumbers, IsPlaceIn, posting_columns, Puts, DropsRegisters, code_of_register, posting_row, first_three, IsThreeNumbers};
 ghost use Rattle.std.specs.List.Sorted.{IsStrictlySortedBy};
 ghost use Rattle.zeb_register.specs.Sql.{Loses, Gains};
 ghost use Rattle.zeb_register.specs.Store.{IsStore, postings_tree};
@@ -16,6 +16,7 @@ ghost use Rattle.zeb_register.specs.Terms.{key_in, AreTermsOf};
 use crate::catalog::database_drop;
 use crate::kept::records_drop;
 use crate::registers::{Layout, Place, Posting, TermCount, Totals, Work};
+use crate::statements::packed::{blocks_clear, dict_clear};
 use crate::statements::postings::{
     place_rows, places_lift, posting_put, posting_rows, postings_clear, register_rows,
 };
@@ -72,7 +73,7 @@ impl Layout for Rows {
         tx: &mut Transaction<'_, S>,
         db: DatabaseId,
     ) -> Result<(), RegFault> {
-        postings_clear(tx, db.column())?;
+        registers_drop(tx, db)?;
         records_drop(tx, db)?;
         database_drop(tx, db)
     }
@@ -174,6 +175,21 @@ pub fn registers_have_one_list_of_terms()
     ensures held { (trees : Trees) (content : Content) (db : ℤ) (index : ℕ) (register : _) → HoldsRows trees content → (terms : List _) × AreTermsOf content db index register terms }
 {}
 
+/// Takes the rows of the database out of each table of the registers.
+fn registers_drop<S: Alter>(tx: &mut Transaction<'_, S>, db: DatabaseId) -> Result<(), RegFault>
+    ensures same { tx.new.conn.ghost_name ≡ tx.old.conn.ghost_name }
+    ensures ok { HasCleanDisk (state S.Store tx.new.conn.now) → IsTrue (state S.Store tx.old.conn.now).in_transaction
+        → OnOk result (GoesOn (state S.Store tx.old.conn.now) (state S.Store tx.new.conn.now) × (IsStore (state S.Store tx.old.conn.now) → DropsRegisters db.0 (state S.Store tx.old.conn.now) (state S.Store tx.new.conn.now))) }
+    ensures err { HasCleanDisk (state S.Store tx.new.conn.now) → IsTrue (state S.Store tx.old.conn.now).in_transaction → OnErr result (KeepsCommit (state S.Store tx.old.conn.now) (state S.Store tx.new.conn.now)) }
+    ensures honest { result ≢ Err RegFault.Damaged }
+    ensures crash { Survives (state S.Store tx.old.conn.now) (state S.Store tx.new.conn.now) (λ _. ⊥) }
+{
+    postings_clear(tx, db.column())?;
+    blocks_clear(tx, db.column())?;
+    dict_clear(tx, db.column())?;
+    Ok(())
+}
+
 /// The number by which the tables know a register.
 pub(crate) fn code_of(register: Register) -> i64
     ensures value { result ≡ pos (code_of_register register) }
@@ -196,6 +212,7 @@ pub(crate) fn postings_under<S: Alter>(
     term: &str,
 ) -> Result<Vec<Posting>, RegFault>
     ensures idle { conn.old.in_transaction ≡ false → conn.new.in_transaction ≡ false }
+    ensures ok { HasCleanDisk (state S.Store conn.new) → OnOk result (IsUnchanged (state S.Store conn.old) (state S.Store conn.new)) }
     ensures same { HasCleanDisk (state S.Store conn.new) → conn.old.in_transaction ≡ false → ChangesNothing (state S.Store conn.old) (state S.Store conn.new) }
     ensures still { HasCleanDisk (state S.Store conn.new) → OnOk result ((state S.Store conn.new).now ≡ (state S.Store conn.old).now) }
     ensures value { HasCleanDisk (state S.Store conn.new) → IsStore (state S.Store conn.old)

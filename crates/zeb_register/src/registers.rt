@@ -2,7 +2,7 @@
 
 ghost use Rattle.std.specs.Prelude.{◌≡◌, ◌≢◌, ◌↔◌, ◌+◌, ◌*◌, ℕ, ℤ, false, List, [], length, IsUtf8, IsTrue, OnOk, OnErr, IfOk};
 ghost use Rattle.sqlite.specs.Held.{state};
-ghost use Rattle.sqlite.specs.State.{HasCleanDisk, KeepsCommit, Survives};
+ghost use Rattle.sqlite.specs.State.{HasCleanDisk, IsUnchanged, KeepsCommit, Survives};
 ghost use Rattle.sqlite_rules.specs.Lists.{Has};
 ghost use Rattle.zeb_register.specs.Calls.{ChangesNothing, GoesOn};
 ghost use Rattle.zeb_register.specs.Content.{Content, IsRising, IsChangedAt, IsWithout};
@@ -107,7 +107,7 @@ pub trait Layout {
         ensures no_work { row_work ≡ 0 → work.new ≡ work.old }
         ensures crash { Survives (state S.Store tx.old.conn.now) (state S.Store tx.new.conn.now) (λ _. ⊥) };
 
-    /// Takes a database out, with its records and all its postings.
+    /// Takes a database out, with its records and its rows in every table of the registers.
     fn database_take<S: Alter>(tx: &mut Transaction<'_, S>, db: DatabaseId) -> Result<(), RegFault>
         ensures same { tx.new.conn.ghost_name ≡ tx.old.conn.ghost_name }
         ensures ok { HasCleanDisk (state S.Store tx.new.conn.now) → IsTrue (state S.Store tx.old.conn.now).in_transaction → OnOk result (GoesOn (state S.Store tx.old.conn.now) (state S.Store tx.new.conn.now)) }
@@ -127,6 +127,7 @@ pub trait Layout {
         key: &Key,
     ) -> Result<Vec<Posting>, RegFault>
         ensures idle { conn.old.in_transaction ≡ false → conn.new.in_transaction ≡ false }
+        ensures ok { HasCleanDisk (state S.Store conn.new) → OnOk result (IsUnchanged (state S.Store conn.old) (state S.Store conn.new)) }
         ensures same { HasCleanDisk (state S.Store conn.new) → conn.old.in_transaction ≡ false → ChangesNothing (state S.Store conn.old) (state S.Store conn.new) }
         ensures value { HasCleanDisk (state S.Store conn.new) → IsStore (state S.Store conn.old)
             → IfOk result (λ list. (content : Content) → holds (state S.Store conn.old).now.trees content → list.items ≡ content db.0 key.now) }

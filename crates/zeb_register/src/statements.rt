@@ -1,6 +1,7 @@
 //! The statements on the tables, each in a function of its own.
 
 pub(crate) mod databases;
+pub(crate) mod packed;
 pub(crate) mod postings;
 pub(crate) mod records;
 pub(crate) mod texts;

@@ -1,9 +1,10 @@
 -- The answers of a script, at each of its ends.
-use Rattle.std.proofs.Common.{◌≡◌, ℕ, Bool, true, false, List, [], ◌∷◌, ◌++◌, inl, inr, refl, sym, subst, ◌∙◌}
+use Rattle.std.proofs.Common.{◌≡◌, ℕ, Bool, true, false, List, [], ◌∷◌, ◌++◌, ◌⊎◌, inl, inr, refl, sym, ap, subst, ◌∙◌}
 use Rattle.std.specs.Prelude.{Option, Some, None, Result, Ok, Err, IfOk, IfNone, IfSome, IsOk}
 use Rattle.std.specs.declared.alloc.AllocError.{AllocError}
 use Rattle.std.specs.Io.KnownBytes.{Appends, Keeps}
 use Rattle.zeb_engine.specs.declared.refusals.Refusal.{Refusal}
+use Rattle.zeb_engine.specs.declared.refusals.Refusal.TheVariants.{Store, Memory}
 use Rattle.zeb_engine.specs.Refusals.{refusal_text, status_of}
 use Rattle.zeb_profile.specs.declared.faults.ProfileFault.{ProfileFault}
 use Rattle.zeb_profile.specs.Outcomes.{FailsPlaced}
@@ -12,23 +13,28 @@ use Rattle.zebraidx.specs.declared.script.Batch.{Batch}
 use Rattle.zebraidx.specs.Inputs.{IsInput}
 use Rattle.zebraidx.specs.Scripts.{DividesAt, HasNoDivider}
 use Rattle.zebraidx.specs.Answers.{Writes, AnswersBatch}
-use Rattle.zebraidx.specs.ScriptAnswers.{AnswersScript, unreadable, faulty, alone, ran, AnswersOpened, IsRefusal, IsProfileOf, unreadable_line, fault_status}
+use Rattle.zebraidx.specs.ScriptAnswers.{AnswersScript, unreadable, faulty, alone, ran, AnswersOpened, IsUnopened, IsProfileOf, unreadable_line, refusal_line, fault_line, fault_status}
 use Rattle.zebraidx.proofs.AnswerLemmas.{Appends-nil}
 
-pub refused_opening : (failed : Bool) (old new : Option (List ℕ)) (n : ℕ) (batch : List ℕ) (refusal : Refusal) (r : Result ℕ AllocError)
+unopened : (refusal : Refusal) (bytes : List ℕ) (status : ℕ) → (refusal ≡ Store) ⊎ (refusal ≡ Memory) → (bytes ≡ refusal_line refusal) × (status ≡ status_of refusal) → IsUnopened bytes status
+unopened refusal bytes status (inl is) said = (inl (said.0 ∙ ap refusal_line is), said.1 ∙ ap status_of is)
+unopened refusal bytes status (inr is) said = (inr (said.0 ∙ ap refusal_line is), said.1 ∙ ap status_of is)
+
+pub refused_opening : (failed : Bool) (old new : Option (List ℕ)) (n : ℕ) (batch : List ℕ) (refusal : Refusal) (r : Result ℕ AllocError) → (refusal ≡ Store) ⊎ (refusal ≡ Memory)
     → IfOk r (λ status. failed ≡ false → Writes old new (λ bytes. (bytes ≡ refusal_text refusal ++ 10 ∷ []) × (status ≡ status_of refusal)))
     → IfOk r (λ status. failed ≡ false → AnswersOpened n batch old new status)
-refused_opening failed old new n batch refusal (Err e) h = h
-refused_opening failed old new n batch refusal (Ok status) h = λ sound. let w = h sound in inr (w.0, (refusal, w.1.0, w.1.1), w.2)
+refused_opening failed old new n batch refusal (Err e) is h = h
+refused_opening failed old new n batch refusal (Ok status) is h = λ sound. let w = h sound in inr (w.0, unopened refusal w.0 status is w.1, w.2)
 
 pub unreadable_script : (told old new : Option (List ℕ)) → IfSome told (λ text. ¬ IsInput text) → Appends old new unreadable_line → IfSome told (λ text. AnswersScript text old new 3)
 unreadable_script None old new h grew = h
 unreadable_script (Some text) old new h grew = unreadable h (unreadable_line, refl, grew)
 
 pub faulty_script : (told old new : Option (List ℕ)) (read profile : List ℕ) (fault : ProfileFault) (status : ℕ) → IfSome told (λ text. read ≡ text) → IsProfileOf read profile
-    → FailsPlaced fault (profile_of profile) → status ≡ fault_status fault.kind → IfSome told (λ text. AnswersScript text old new status)
-faulty_script None old new read profile fault status h is fails e = tt
-faulty_script (Some text) old new read profile fault status h is fails e = subst (AnswersScript text old new) (sym e) (faulty fault (subst (λ t. IsProfileOf t profile) h is) fails)
+    → FailsPlaced fault (profile_of profile) → status ≡ fault_status fault.kind → Appends old new (fault_line fault) → IfSome told (λ text. AnswersScript text old new status)
+faulty_script None old new read profile fault status h is fails e grew = tt
+faulty_script (Some text) old new read profile fault status h is fails e grew =
+    subst (AnswersScript text old new) (sym e) (faulty fault (subst (λ t. IsProfileOf t profile) h is) fails (fault_line fault, refl, grew))
 
 -- what is given is there
 pub is_given : {A E : Type 0} (said : Result A E) (x : A) → said ≡ Ok x → IsOk said
@@ -62,11 +68,11 @@ Writes-kept old mid new P kept w = (w.0, w.1, Appends-kept old mid new w.0 w.2 k
 
 AnswersOpened-kept : (n : ℕ) (batch : List ℕ) (old mid new : Option (List ℕ)) (status : ℕ) → Keeps mid new → AnswersOpened n batch old mid status → AnswersOpened n batch old new status
 AnswersOpened-kept n batch old mid new status kept (inl w) = inl (Writes-kept old mid new (λ bytes. AnswersBatch n batch bytes status) kept w)
-AnswersOpened-kept n batch old mid new status kept (inr w) = inr (Writes-kept old mid new (λ bytes. IsRefusal bytes status) kept w)
+AnswersOpened-kept n batch old mid new status kept (inr w) = inr (Writes-kept old mid new (λ bytes. IsUnopened bytes status) kept w)
 
 AnswersScript-kept : (text : List ℕ) (old mid new : Option (List ℕ)) (status : ℕ) → Keeps mid new → AnswersScript text old mid status → AnswersScript text old new status
 AnswersScript-kept text old mid new _ kept (unreadable long w) = unreadable long (Writes-kept old mid new (λ bytes. bytes ≡ unreadable_line) kept w)
-AnswersScript-kept text old mid new _ kept (faulty fault is fails) = faulty fault is fails
+AnswersScript-kept text old mid new _ kept (faulty fault is fails w) = faulty fault is fails (Writes-kept old mid new (λ bytes. bytes ≡ fault_line fault) kept w)
 AnswersScript-kept text old mid new _ kept (alone none sound w) = alone none sound (Writes-kept old mid new (λ bytes. bytes ≡ []) kept w)
 AnswersScript-kept text old mid new status kept (ran {batch = batch} {n = n} divides given w) = ran divides given (AnswersOpened-kept n batch old mid new status kept w)
 

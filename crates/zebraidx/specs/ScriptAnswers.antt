@@ -1,10 +1,12 @@
 -- What a script writes, and its status (this program's own).
 use Rattle.std.specs.Prelude.{◌≡◌, ◌⊎◌, ℕ, Option, IsOk, List, [], ◌∷◌, ◌++◌, codes}
 use Rattle.zeb_engine.specs.declared.refusals.Refusal.{Refusal}
-use Rattle.zeb_engine.specs.Refusals.{refusal_text, status_of}
+use Rattle.zeb_engine.specs.declared.refusals.Refusal.TheVariants as refusal
+use Rattle.zeb_engine.specs.Refusals.{refusal_text}
 use Rattle.zeb_profile.specs.declared.faults.ProfileFault.{ProfileFault}
 use Rattle.zeb_profile.specs.declared.faults.ProfileFaultKind.{ProfileFaultKind}
 use Rattle.zeb_profile.specs.declared.faults.ProfileFaultKind.TheVariants.{Memory}
+use Rattle.zeb_profile.specs.Faults.{fault_text}
 use Rattle.zeb_profile.specs.Outcomes.{FailsPlaced}
 use Rattle.zeb_profile.specs.Profiles.{profile_of}
 use Rattle.zebraidx.specs.Inputs.{IsInput}
@@ -12,10 +14,11 @@ use Rattle.zebraidx.specs.Scripts.{DividesAt, HasNoDivider}
 use Rattle.zebraidx.specs.Answers.{Writes, AnswersBatch}
 
 abbrev pub refusal_line : Refusal → List ℕ
-refusal_line refusal = refusal_text refusal ++ 10 ∷ []
+refusal_line why = refusal_text why ++ 10 ∷ []
 
-abbrev pub IsRefusal : List ℕ → ℕ → Type 0
-IsRefusal bytes status = (refusal : Refusal) × (bytes ≡ refusal_line refusal) × (status ≡ status_of refusal)
+-- a register can't be opened: the store or the memory failed
+abbrev pub IsUnopened : List ℕ → ℕ → Type 0
+IsUnopened bytes status = ((bytes ≡ refusal_line refusal.Store) ⊎ (bytes ≡ refusal_line refusal.Memory)) × (status ≡ 3)
 
 abbrev pub unreadable_line : List ℕ
 unreadable_line = codes "zebraidx: cannot read input" ++ 10 ∷ []
@@ -23,14 +26,18 @@ unreadable_line = codes "zebraidx: cannot read input" ++ 10 ∷ []
 abbrev pub usage_line : List ℕ
 usage_line = codes "zebraidx: bad usage" ++ 10 ∷ []
 
+-- what is written for a profile that is refused
+abbrev pub fault_line : ProfileFault → List ℕ
+fault_line fault = codes "zebraidx: input " ++ fault_text fault ++ 10 ∷ []
+
 -- the status for a profile that is refused
 abbrev pub fault_status : ProfileFaultKind → ℕ
 fault_status Memory = 3
 fault_status _ = 1
 
--- what the lines of a batch add to a writer's known bytes: their answers, or the refusal of a register that can't be opened
+-- what the lines of a batch add to a writer's known bytes: their answers, or the failure of the store or the memory by which no register was opened
 abbrev pub AnswersOpened : ℕ → List ℕ → Option (List ℕ) → Option (List ℕ) → ℕ → Type 0
-AnswersOpened n batch old new status = Writes old new (λ bytes. AnswersBatch n batch bytes status) ⊎ Writes old new (λ bytes. IsRefusal bytes status)
+AnswersOpened n batch old new status = Writes old new (λ bytes. AnswersBatch n batch bytes status) ⊎ Writes old new (λ bytes. IsUnopened bytes status)
 
 -- the profile of a script: what stands before its divider, or the whole text
 abbrev pub IsProfileOf : List ℕ → List ℕ → Type 0
@@ -41,7 +48,8 @@ pub data AnswersScript : List ℕ → Option (List ℕ) → Option (List ℕ) �
   -- an input that is too long or no text
   unreadable : {text : List ℕ} {old new : Option (List ℕ)} → ¬ IsInput text → Writes old new (λ bytes. bytes ≡ unreadable_line) → AnswersScript text old new 3
   -- a profile that is refused: for its first fault, or for want of memory
-  faulty : {text profile : List ℕ} {old new : Option (List ℕ)} → (fault : ProfileFault) → IsProfileOf text profile → FailsPlaced fault (profile_of profile) → AnswersScript text old new (fault_status fault.kind)
+  faulty : {text profile : List ℕ} {old new : Option (List ℕ)} → (fault : ProfileFault) → IsProfileOf text profile → FailsPlaced fault (profile_of profile) → Writes old new (λ bytes. bytes ≡ fault_line fault)
+      → AnswersScript text old new (fault_status fault.kind)
   -- a profile alone
   alone : {text : List ℕ} {old new : Option (List ℕ)} → HasNoDivider text → IsOk (profile_of text) → Writes old new (λ bytes. bytes ≡ []) → AnswersScript text old new 0
   -- a profile, and the lines of a batch

@@ -2,7 +2,7 @@
 
 ghost use Rattle.std.specs.Prelude.{◌≡◌, ◌≢◌, ◌≤◌, ◌<◌, [], true, false, IfOk, IfSome};
 ghost use Rattle.std.specs.Io.KnownBytes.{Appends, Keeps};
-ghost use Rattle.zebraidx.specs.ScriptAnswers.{AnswersScript, fault_status, usage_line};
+ghost use Rattle.zebraidx.specs.ScriptAnswers.{AnswersScript, fault_line, fault_status, usage_line};
 
 use crate::batch::run_batch;
 use crate::input::{InputFault, read_text};
@@ -129,6 +129,7 @@ fn run_script<R: Source, W: Write>(
 fn refuse_profile<W: Write>(fault: ProfileFault, output: &mut Sink<W>) -> u8
     ensures range { result ≤ FAILED }
     ensures status { result ≡ fault_status fault.kind }
+    ensures line { output.new.failed ≡ false → Appends (W.contents output.old.writer) (W.contents output.new.writer) (fault_line fault) }
     ensures sound { output.new.failed ≡ false → output.old.failed ≡ false }
 {
     output.write_line(format_args!("zebraidx: input {fault}"));

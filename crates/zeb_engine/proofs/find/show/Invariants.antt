@@ -1,7 +1,9 @@
-use Rattle.std.proofs.Common.{◌≡◌, ◌≤◌, false, length, vec_capacity}
+use Rattle.std.proofs.Common.{◌≡◌, ◌≤◌, false, length, take, vec_capacity, IsTrue}
 use Rattle.sqlite.specs.Held.{state}
 use Rattle.sqlite.specs.State.{HasCleanDisk, Survives}
+use Rattle.sqlite.specs.Tree.{Trees}
 use Rattle.zeb_register.specs.Calls.{ChangesNothing}
+use Rattle.zeb_engine.specs.Found.{AreShown, ShowsStore}
 use Rattle.zeb_engine.proofs.find.show.Given as goal
 
 abbrev pub invariant-loop-number : goal.invariant-loop-number
@@ -13,5 +15,7 @@ invariant-loop-number g l =
       count : length l.shown.items ≡ l.number-index;
       room : length l.numbers ≤ vec_capacity l.shown;
       crash : Survives old now (λ _. ⊥);
+      open_still : HasCleanDisk now → IsTrue old.is_open → IsTrue now.is_open;
       same : HasCleanDisk now → ChangesNothing old now;
+      shown : HasCleanDisk now → (trees : Trees) → ShowsStore old trees → AreShown trees l.fn.database.0 (take l.number-index l.numbers) l.shown.items;
     }

@@ -12,7 +12,7 @@ use Rattle.zeb_engine.specs.NameOf.{name_bytes}
 use Rattle.zeb_engine.specs.Outcomes.{register_refusal}
 use Rattle.zeb_engine.specs.Steps.{found_or, existing}
 use Rattle.zeb_engine.specs.Works.{Meets}
-use Rattle.zeb_engine.proofs.Listed.{fault_meets, image_ready, counted, row_named, none_named}
+use Rattle.zeb_engine.proofs.Listed.{fault_meets, fault_fails_or, image_ready, counted, row_named, none_named}
 use Rattle.zeb_engine.proofs.readiness.existing_database.Goals as goal
 
 pub returns-in_err-database-clause-exists : goal.returns-in_err-database-clause-exists
@@ -53,3 +53,19 @@ returns-in_ok-from_str-in-None-clause-exists g c clean opened under before bases
     let none = none_named old.now.trees bases all.2.id_of all.2.listed name there in
     let text : string_bytes c.in_ok-from_str-in-None.field-0 ≡ name = search rules in
     inr (ap (found_or name) none ∙ ap (λ t. Err (diagnostic 235 0 t)) (sym text))
+
+pub returns-in_err-database-clause-opened : goal.returns-in_err-database-clause-opened
+returns-in_err-database-clause-opened g c clean =
+    let fault = c.in_err-database.field-0.0 in
+    let told : c.from_residual.result ≡ Err (register_refusal fault) = search rules in
+    rw told (fault_fails_or (IsTrue (state g.S.Store c.args.connection.now).is_open) fault (λ is.
+    let damaged : ◌≡◌ {A = Result (Option Database) RegFault} (Err fault) (Err register.Damaged) = ap Err is in
+    c.in_err-database.ensures.opened clean damaged))
+
+pub returns-in-Some-clause-row : goal.returns-in-Some-clause-row
+returns-in-Some-clause-row g c clean store =
+    let old = state g.S.Store c.args.connection.now in
+    let found = c.in-Some.database in
+    let value = c.in_ok-database.ensures.value clean store in
+    let there : IsDatabaseOf old.now.trees c.as_str.result.now (Some found) = subst (IsDatabaseOf old.now.trees c.as_str.result.now) c.in-Some.is value in
+    subst (λ n. HasDatabase old.now.trees found.id.0 n (pos found.last)) c.as_str.ensures there

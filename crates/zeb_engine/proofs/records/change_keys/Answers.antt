@@ -12,6 +12,7 @@ use Rattle.zeb_register.proofs.ContentChanges.{changed_at, change_is}
 use Rattle.zeb_engine.specs.declared.changed_keys.ChangedKey.{ChangedKey}
 use Rattle.zeb_engine.specs.ChangedKeys.{AreChangedKeys, key_in}
 use Rattle.zeb_engine.proofs.Moved.{moved, moved_none, moved_more, moved_rises, moved_is, one_reposted, still_old, keeps_then, only_damaged}
+use Rattle.zeb_engine.proofs.Idle.{none_changed}
 use Rattle.zeb_engine.proofs.records.change_keys.Goals as goal
 
 pub loop-changed-init : goal.loop-changed-init
@@ -22,6 +23,7 @@ loop-changed-init g c = record {
   place = (refl, refl);
   store = λ clean mode store. (store, (refl, refl, refl));
   held = λ clean mode store before up holds. subst (g.L.Layout.holds _) (sym (moved_none c.args.progress.now.database.0 c.args.sysno before)) holds;
+  idle = λ none. (refl, record { changes = refl; last_rowid = refl }, refl);
 }
 
 pub loop-changed-preserved : goal.loop-changed-preserved
@@ -58,6 +60,7 @@ loop-changed-preserved g c =
           let told : IsChangedAt c.loop-changed.progress.database.0 (key_in item) sysno c.deref-in-loop-changed.result.now content (changed_at db (key_in item) sysno item.new.items content) =
           subst₂ (λ d places. IsChangedAt d (key_in item) sysno places content (changed_at db (key_in item) sysno item.new.items content)) (sym same_db) (sym c.deref-in-loop-changed.ensures.value) is in
           subst (g.L.Layout.holds _) (sym more) (change.2 content (changed_at db (key_in item) sysno item.new.items content) held told);
+      idle = λ none. absurd (omega (arith, c.loop-changed-test.true, ap length none));
     }
 
 pub returns-clause-moved : goal.returns-clause-moved
@@ -101,3 +104,13 @@ returns-in_err-key_change-clause-honest g c = λ clean mode store up_elder up_ne
     let fault : c.key_change.result ≡ Err register.Damaged = c.in_err-key_change.was ∙ ap Err (only_damaged c.in_err-key_change.field-0.0 is) in
     c.key_change.ensures.damaged clean stays.mode kept.0 fault (subst (IsStrictlySortedBy place_cmp) (sym c.deref.ensures.value) rising) (moved db sysno (take index items) content) held
     (subst₂ (λ d ps. ArePlacesOf sysno ps (moved db sysno (take index items) content d (key_in item))) (sym same_db) (sym c.deref.ensures.value) places)
+
+pub returns-clause-idle : goal.returns-clause-idle
+returns-clause-idle g c = λ up_elder up_newer same.
+    c.loop-changed.invariant.idle (c.deref-changed-items.ensures.value ∙ none_changed c.args.elder.now c.args.newer.now c.in_ok-changed_keys.changed_keys.items (c.in_ok-changed_keys.ensures up_elder up_newer) same)
+
+-- with no changed key no list is written, and so none fails
+pub returns-in_err-key_change-clause-idle : goal.returns-in_err-key_change-clause-idle
+returns-in_err-key_change-clause-idle g c = λ up_elder up_newer same.
+    let none = c.deref-changed-items.ensures.value ∙ none_changed c.args.elder.now c.args.newer.now c.in_ok-changed_keys.changed_keys.items (c.in_ok-changed_keys.ensures up_elder up_newer) same in
+    absurd (omega (arith, c.loop-changed-test.true, ap length none))

@@ -1,6 +1,6 @@
-use Rattle.std.proofs.Common.{◌≡◌, IsTrue, take}
+use Rattle.std.proofs.Common.{◌≡◌, IsTrue, [], take}
 use Rattle.sqlite.specs.Held.{state}
-use Rattle.sqlite.specs.State.{HasCleanDisk, Survives}
+use Rattle.sqlite.specs.State.{HasCleanDisk, KeepsCounts, Survives}
 use Rattle.zeb_register.specs.Content.{Content, IsRising}
 use Rattle.zeb_register.specs.Store.{IsStore, KeepsLists}
 use Rattle.zeb_engine.specs.Transactions.{Continues}
@@ -19,4 +19,5 @@ invariant-loop-changed g l =
       store : HasCleanDisk now → IsTrue old.in_transaction → IsStore old → IsStore now × KeepsLists old.now.trees now.now.trees;
       held : HasCleanDisk now → IsTrue old.in_transaction → IsStore old
           → (before : Content) → IsRising before → g.L.Layout.holds old.now.trees before → g.L.Layout.holds now.now.trees (moved l.fn.progress.database.0 l.fn.sysno (take l.changed-index l.changed-items) before);
+      idle : l.changed-items ≡ [] → (now.now ≡ old.now) × KeepsCounts old now × (l.progress ≡ l.fn.progress);
     }

@@ -21,6 +21,8 @@ use Rattle.zeb_engine.specs.Records.{IsNewer, IsElderAs}
 use Rattle.zeb_engine.specs.Works.{Meets, IsTaken, conditions_of}
 use Rattle.zeb_engine.proofs.BaseLemmas.{one_ident}
 use Rattle.zeb_engine.proofs.FoldLemmas.{named_record}
+use Rattle.zeb_engine.proofs.Idle.{elder_alike, idle_after}
+use Rattle.zeb_register.proofs.Calls.{store_same}
 use Rattle.zeb_engine.proofs.StoredLemmas.{elder_is, are_numbered}
 use Rattle.zeb_engine.proofs.TurnLemmas.{passed_on, turned_so, passed_over}
 use Rattle.zeb_engine.proofs.UnderWay.{fault_fails, same_way}
@@ -151,3 +153,33 @@ returns-clause-taken g c clean mode version records_of base last under =
     ∙ ap (deleted absent ident base) none in
     subst (λ (x : Result Changed Why). Meets (IsTaken g.L.Layout.holds profile id records_of old mid c.args.progress.now.last) x (Ok PassedOver)) (sym said)
     (passed_over g.L.Layout.holds profile id records_of old mid c.args.progress.now.last base PassedOver reads.now_is last under)
+
+pub returns-in-Update-default-clause-idle : goal.returns-in-Update-default-clause-idle
+returns-in-Update-default-clause-idle g c clean mode update records_of base under kept contained alike =
+    let old = state g.S.Store c.args.tx.now.conn.now in
+    let mid = state g.S.Store c.record_of_ident.new.tx.conn.now in
+    let new = state g.S.Store c.keep.new.tx.conn.now in
+    let profile = c.args.setting.now.profile.now in
+    let id = c.args.progress.now.database.0 in
+    let bytes = c.args.incoming.bytes.now in
+    let ident = c.as_str-in-Update-default.result.now in
+    let items = c.in_ok-occurrences-in-Update-default.field-0.items in
+    let clean_mid : HasCleanDisk mid = omega (arith, c.keep.ensures.crash.clean) in
+    let reads = c.in_ok-elder.ensures.ok clean_mid mode in
+    let same : c.as_str.result.now ≡ ident = c.as_str.ensures.value ∙ sym c.as_str-in-Update-default.ensures.value in
+    let found = subst (λ (i : List _). IsElderOf old.now.trees id i c.in_ok-elder.elder) same (c.in_ok-elder.ensures.value clean_mid mode under.0) in
+    let there = elder_is id records_of old.now.trees base under.1.kept ident (one_ident profile base under.2) c.in_ok-elder.elder found in
+    let named = c.in_ok-record.ensures.named ∙ ap Ok (sym c.as_str-in-Update-default.ensures.value) in
+    let is : IsNewer profile ident bytes items = record {
+      whole = c.in_ok-record.ensures.whole.sound;
+      named = named;
+      text = c.as_str-in-Update-default.utf8;
+      found = record {
+        rising = c.in_ok-occurrences-in-Update-default.ensures.rising;
+        each = subst (λ (fields : List FieldText). (o : Occurrence) → Contains items o ↔ IsOccurrence (unit_targets profile) (units_of fields) o) c.in_ok-record.ensures.whole.fields_are
+            c.in_ok-occurrences-in-Update-default.ensures.members;
+      };
+    } in
+    let elder = elder_alike profile base under.2 ident bytes named kept contained alike c.in_ok-elder.elder there in
+    let idle = c.keep.ensures.idle clean reads.mode (store_same old mid reads.now_is under.0) is elder.0 elder.1 elder.2 in
+    idle_after old mid new (c.keep.new.progress ≡ c.args.progress.now) c.keep.result reads.now_is idle

@@ -1,4 +1,4 @@
-use Rattle.std.proofs.Common.{◌≡◌, rules, arith, Err, inl, inr, ap, sym, subst, ◌∙◌}
+use Rattle.std.proofs.Common.{◌≡◌, rules, arith, List, ℕ, Err, inl, inr, refl, ap, sym, subst, ◌∙◌}
 use Rattle.sqlite.specs.State.{HasCleanDisk}
 use Rattle.sqlite.specs.Held.{state}
 use Rattle.zeb_engine.specs.declared.refusals.Refusal.{Refusal}
@@ -8,6 +8,8 @@ use Rattle.zeb_engine.specs.Holdings.{kept_as}
 use Rattle.zeb_engine.specs.Works.{IsTaken, conditions_of}
 use Rattle.zeb_engine.specs.Records.{AreOccurrencesOf, IsNewer}
 use Rattle.zeb_engine.proofs.TurnLemmas.{passed_on, elder_whole, replaced_at, replaced}
+use Rattle.zeb_engine.proofs.Idle.{one_analysis}
+use Rattle.zeb_engine.proofs.UnderWay.{registers_still}
 use Rattle.zeb_engine.proofs.records.replace.Goals as goal
 
 -- the elder's bytes are those of a kept record, so memory ran out
@@ -57,3 +59,20 @@ returns-in_err-change_keys-clause-taken g c clean mode version is records_of bas
     ] in
     passed_on {A = Changed} (IsTaken g.L.Layout.holds profile c.args.progress.now.database.0 records_of old new c.change_keys.new.progress.last)
     (updated (conditions_of version c.args.setting.now) ident bytes base (kept_as ident base)) c.from_residual-in_err-change_keys.result c.in_err-change_keys.field-0.0 told failed
+
+-- the same bytes have the same occurrences, and so no list is written
+pub returns-clause-idle : goal.returns-clause-idle
+returns-clause-idle g c clean mode store is alike =
+    let old = state g.S.Store c.args.tx.now.conn.now in
+    let mid = state g.S.Store c.record_put.new.tx.conn.now in
+    let profile = c.args.setting.now.profile.now in
+    let bytes = c.args.newer.now.bytes.now in
+    let clean_mid : HasCleanDisk mid = omega (arith, c.change_keys.ensures.crash.clean) in
+    let put = c.in_ok-record_put.ensures.ok clean_mid mode in
+    let kept = registers_still old mid _ (put.rows store) in
+    let was = subst (AreOccurrencesOf profile c.args.elder.now.bytes.items) (sym c.deref.ensures.value) c.in_ok-old.ensures.found in
+    let are = subst (IsNewer profile c.args.newer.now.ident.now bytes) (sym c.deref-2.ensures.value) is in
+    let found = subst (λ (b : List ℕ). AreOccurrencesOf profile b c.deref.result.now) alike was in
+    let idle = c.change_keys.ensures.idle was.rising are.found.rising (one_analysis profile bytes c.deref.result.now c.deref-2.result.now found are.found) in
+    let still = ap (λ db. db.trees) idle.0 in
+    ((refl, (ap (λ trees. trees 7) still ∙ kept.0, ap (λ trees. trees 9) still ∙ kept.1, ap (λ trees. trees 11) still ∙ kept.2)), idle.2)

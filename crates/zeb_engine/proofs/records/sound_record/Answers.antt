@@ -6,7 +6,11 @@ use Rattle.zeb_engine.specs.declared.refusals.Refusal.{Refusal}
 use Rattle.zeb_engine.specs.Answers.{why_of, refused, IsFailure}
 use Rattle.zeb_engine.specs.Folding.{changed_record, ident_in}
 use Rattle.zeb_engine.specs.Works.{conditions_of}
+use Rattle.zeb_engine.specs.declared.refusals.Refusal.TheVariants.{ReadFault}
+use Rattle.zeb_engine.specs.Outcomes.{marc_refusal}
+use Rattle.zeb_marc.proofs.FaultLaws.{record_faults}
 use Rattle.zeb_engine.proofs.FoldLemmas.{no_record, no_ident}
+use Rattle.zeb_engine.proofs.ReadFaults.{no_read_fault}
 use Rattle.zeb_engine.proofs.records.sound_record.Goals as goal
 
 pub returns-in-Err-clause-refused : goal.returns-in-Err-clause-refused
@@ -22,3 +26,9 @@ returns-in-Err-identifier-clause-refused c version kind base =
     ap (λ fields. identifier_of c.args.setting.now.profile.now (units_of fields)) (sym c.in-Ok.ensures.fields_are) ∙ c.in-Err-identifier.ensures.err other in
     subst (λ (r : Refusal). IsFailure (refused (why_of r)) ⊎ (changed_record (conditions_of version c.args.setting.now) kind c.args.incoming.file c.args.incoming.nth bytes base ≡ Err (why_of r))) (sym c.of_identifier.ensures)
     (no_ident (conditions_of version c.args.setting.now) kind c.args.incoming.file c.args.incoming.nth bytes base fault c.in-Ok.ensures.sound said)
+
+pub returns-in-Err-clause-unread : goal.returns-in-Err-clause-unread
+returns-in-Err-clause-unread c file told =
+    let given = c.of_marc.ensures in
+    let same : marc_refusal c.args.incoming.file c.args.incoming.nth c.in-Err.fault ≡ ReadFault file = cc in
+    no_read_fault c.args.incoming.file c.args.incoming.nth c.in-Err.fault (record_faults c.args.incoming.bytes.now c.in-Err.fault c.in-Err.ensures) file same

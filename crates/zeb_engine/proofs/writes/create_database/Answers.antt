@@ -17,7 +17,7 @@ use Rattle.zeb_engine.proofs.Turns.{step_exists}
 use Rattle.zeb_engine.proofs.writes.create_database.Goals as goal
 
 pub returns-in_err-found-clause-serves : goal.returns-in_err-found-clause-serves
-returns-in_err-found-clause-serves g c clean opened k =
+returns-in_err-found-clause-serves g c clean k =
     let old = state g.S.Store c.args.connection.now in
     let new = state g.S.Store c.database_of.new.conn in
     let turn = created (name_bytes c.args.name.now) in
@@ -25,19 +25,21 @@ returns-in_err-found-clause-serves g c clean opened k =
     let told : c.from_residual.result ≡ Err (register_refusal fault) = search rules in
     subst (Serves g.L.Layout.holds k (IsReady k) (turned k turn) old new) (sym told)
     (early_serves g.L.Layout.holds k (turned k turn) (IsReady k) old new (register_refusal fault) (c.database_of.ensures.same clean c.requires.idle) (λ before fits keeps.
+    inl (fault_fails fault (λ is.
+    let damaged : ◌≡◌ {A = Result (Option Database) RegFault} (Err fault) (Err register.Damaged) = ap Err is in
+    let opened = c.in_err-found.ensures.opened clean damaged in
     let at = keeps opened in
     let ready = fits opened in
     let all = (image_ready g.L.Layout.holds k old.now.trees before ready.0 ready.1 at.0.1).2 refl refl in
-    inl (fault_fails fault (λ is.
-    let damaged : ◌≡◌ {A = Result (Option Database) RegFault} (Err fault) (Err register.Damaged) = ap Err is in
     c.in_err-found.ensures.honest clean at.0.0 damaged (counted old.now.trees ready.0 all.2.id_of all.2.listed c.as_str.result.now)))))
 
 pub returns-in-Some-clause-serves : goal.returns-in-Some-clause-serves
-returns-in-Some-clause-serves g c clean opened k =
+returns-in-Some-clause-serves g c clean k =
     let old = state g.S.Store c.args.connection.now in
     let new = state g.S.Store c.database_of.new.conn in
     let name = name_bytes c.args.name.now in
     early_serves g.L.Layout.holds k (turned k (created name)) (IsReady k) old new Exists (c.database_of.ensures.same clean c.requires.idle) (λ before fits keeps.
+    let opened = (c.in_ok-found.ensures.ok clean).0.was_open in
     let at = keeps opened in
     let ready = fits opened in
     let all = (image_ready g.L.Layout.holds k old.now.trees before ready.0 ready.1 at.0.1).2 refl refl in
@@ -46,14 +48,14 @@ returns-in-Some-clause-serves g c clean opened k =
     inr (step_exists k before name ready.0 ready.1 base.0 base.1))
 
 pub returns-in-None-clause-serves : goal.returns-in-None-clause-serves
-returns-in-None-clause-serves g c clean opened k before fits keeps =
+returns-in-None-clause-serves g c clean k before fits keeps =
     let old = state g.S.Store c.args.connection.now in
     let mid = state g.S.Store c.database_of.new.conn in
     let name = name_bytes c.args.name.now in
     let first : HasCleanDisk mid = omega (arith, c.transact.ensures.survives.clean) in
     let still = c.in_ok-found.ensures.ok first in
-    let at = keeps opened in
-    let ready = fits opened in
+    let at = keeps still.0.was_open in
+    let ready = fits still.0.was_open in
     let all = (image_ready g.L.Layout.holds k old.now.trees before ready.0 ready.1 at.0.1).2 refl refl in
     let value = c.in_ok-found.ensures.value first at.0.0 in
     let there : IsDatabaseOf old.now.trees name None = subst (λ n. IsDatabaseOf old.now.trees n None) c.as_str.ensures (subst (IsDatabaseOf old.now.trees c.as_str.result.now) c.in-None.is value) in

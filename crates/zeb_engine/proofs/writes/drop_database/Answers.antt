@@ -14,26 +14,29 @@ use Rattle.zeb_engine.proofs.Turns.{step_missing, existing_known}
 use Rattle.zeb_engine.proofs.writes.drop_database.Goals as goal
 
 pub returns-in_err-database-clause-serves : goal.returns-in_err-database-clause-serves
-returns-in_err-database-clause-serves g c clean opened k =
+returns-in_err-database-clause-serves g c clean k =
     let old = state g.S.Store c.args.connection.now in
     let new = state g.S.Store c.existing_database.new.connection in
     let name = name_bytes c.args.name.now in
     let refusal = c.in_err-database.field-0.0 in
     let told : c.from_residual.result ≡ Err refusal = search rules in
     subst (Serves g.L.Layout.holds k (IsReady k) (turned k (dropped name)) old new) (sym told)
-    (early_serves g.L.Layout.holds k (turned k (dropped name)) (IsReady k) old new refusal (c.existing_database.ensures.same clean) (λ before fits keeps.
-    let ready = fits opened in
-    elim (c.in_err-database.ensures.exists clean opened k before ready.0 ready.1 keeps) [
+    (early_serves g.L.Layout.holds k (turned k (dropped name)) (IsReady k) old new refusal (c.existing_database.ensures.same clean) (λ before fits keeps. elim (c.in_err-database.ensures.opened clean) [
       | inl failed ↦ inl failed
-      | inr said ↦ inr (step_missing k before name ready.0 ready.1 (why_of refusal) said)
+      | inr opened ↦
+          let ready = fits opened in elim (c.in_err-database.ensures.exists clean opened k before ready.0 ready.1 keeps) [
+            | inl failed ↦ inl failed
+            | inr said ↦ inr (step_missing k before name ready.0 ready.1 (why_of refusal) said)
+          ]
     ]))
 
 pub returns-clause-serves : goal.returns-clause-serves
-returns-clause-serves g c clean opened k before fits keeps =
+returns-clause-serves g c clean k before fits keeps =
     let old = state g.S.Store c.args.connection.now in
     let mid = state g.S.Store c.existing_database.new.connection in
     let name = name_bytes c.args.name.now in
     let first : HasCleanDisk mid = omega (arith, c.transact.ensures.survives.clean) in
+    let opened = c.in_ok-database.ensures.found first in
     let ready = fits opened in
     let met = c.in_ok-database.ensures.exists first opened k before ready.0 ready.1 keeps in
     let known = existing_known {X = Database} (λ (base : Base) (found : Database). HasDatabase old.now.trees found.id.0 base.name (pos base.last) × (found.last ≡ base.last) × IsTrue mid.is_open) name ready.0 c.in_ok-database.database met in

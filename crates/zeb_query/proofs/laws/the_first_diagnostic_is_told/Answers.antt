@@ -1,4 +1,4 @@
-use Rattle.zeb_query.proofs.RefusalLemmas.{first_of_query}
+use Rattle.zeb_query.proofs.QueryCheckLemmas.{first_of_query}
 use Rattle.zeb_query.proofs.laws.the_first_diagnostic_is_told.Goals as goal
 
 pub returns : goal.returns

@@ -1,4 +1,6 @@
 use Rattle.zeb_register.proofs.Makes.{meta_made, meta_there}
+use Rattle.zeb_register.proofs.Makes.{meta_creates}
+use Rattle.zeb_register.proofs.Creating.{create_keeps}
 use Rattle.zeb_register.proofs.Chains.{inside_keeps}
 use Rattle.zeb_register.proofs.Calls.{on_err}
 use Rattle.zeb_register.proofs.tables.make_meta.Goals as goal
@@ -11,3 +13,6 @@ returns-clause-there g c clean inside has = meta_there _ _ _ (c.in_ok-execute.en
 
 pub returns-in_err-execute-clause-err : goal.returns-in_err-execute-clause-err
 returns-in_err-execute-clause-err g c clean inside = on_err _ _ (inside_keeps _ _ _ _ _ (c.execute.ensures.runs clean inside))
+
+pub returns-clause-kept : goal.returns-clause-kept
+returns-clause-kept g c clean inside = create_keeps _ meta_creates _ _ _ (c.in_ok-execute.ensures.runs clean inside).0

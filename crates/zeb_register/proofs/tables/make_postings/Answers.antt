@@ -3,6 +3,8 @@ use Rattle.zeb_register.proofs.Makes.{postings_made, postings_there}
 use Rattle.zeb_register.proofs.Chains.{still_unchanged, quiet_then}
 use Rattle.zeb_register.proofs.Chains.{inside_keeps}
 use Rattle.zeb_register.proofs.Calls.{goes_then, goes_keeps, on_err}
+use Rattle.zeb_register.proofs.Makes.{postings_creates}
+use Rattle.zeb_register.proofs.Creating.{create_keeps, keeps_then}
 use Rattle.zeb_register.proofs.tables.make_postings.Goals as goal
 
 pub returns-clause-made : goal.returns-clause-made
@@ -27,3 +29,9 @@ returns-clause-ok g c clean inside =
 pub returns-in_err-execute-clause-err : goal.returns-in_err-execute-clause-err
 returns-in_err-execute-clause-err g c clean inside =
     let was = c.in_ok-make_records.ensures.ok (omega (arith, c.execute.ensures.survives.clean)) inside in on_err _ _ (goes_keeps _ _ _ was (inside_keeps _ _ _ _ _ (c.execute.ensures.runs clean was.mode)))
+
+pub returns-clause-kept : goal.returns-clause-kept
+returns-clause-kept g c clean inside =
+    let was = c.in_ok-make_records.ensures.ok (omega (arith, c.execute.ensures.survives.clean)) inside in
+    let first = c.in_ok-make_records.ensures.kept (omega (arith, c.execute.ensures.survives.clean)) inside in
+    keeps_then _ _ _ first (create_keeps _ postings_creates _ _ _ (c.in_ok-execute.ensures.runs clean was.mode).0)

@@ -25,4 +25,4 @@ returns-in-Ok-read-clause-answer g c = λ read sound.
 pub returns-clause-answer : goal.returns-clause-answer
 returns-clause-answer g c = λ read sound.
     let is = subst (λ t. IsProfileOf t c.cut-script.result.profile.now) c.as_str.ensures.value (cut_profile c.cut-script.result.batch c.as_str.result.now c.cut-script.result.profile.now c.cut-script.ensures.undivided c.cut-script.ensures.divided) in
-    faulty_script _ _ _ (string_bytes c.in-Ok.text) c.cut-script.result.profile.now c.in-Err.fault c.refuse_profile.result c.in-Ok.ensures.text is c.in-Err.ensures c.refuse_profile.ensures.status
+    faulty_script _ _ _ (string_bytes c.in-Ok.text) c.cut-script.result.profile.now c.in-Err.fault c.refuse_profile.result c.in-Ok.ensures.text is c.in-Err.ensures c.refuse_profile.ensures.status (c.refuse_profile.ensures.line sound)

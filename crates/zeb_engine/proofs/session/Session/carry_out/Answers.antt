@@ -1,59 +1,116 @@
-use Rattle.std.proofs.Common.{◌≡◌, rules, subst}
+use Rattle.std.proofs.Common.{◌≡◌, ◌∙◌, [], ap, map, refl, rules, string_bytes, subst, sym}
 use Rattle.sqlite.specs.Held.{state}
-use Rattle.zeb_engine.specs.declared.commands.Command.TheVariants.{Init, Create, Drop}
+use Rattle.zeb_register.specs.Store.{IsStore}
+use Rattle.zeb_engine.specs.declared.commands.Command.{Command}
+use Rattle.zeb_engine.specs.declared.commands.Limits.{Limits}
+use Rattle.zeb_engine.specs.declared.commands.Command.TheVariants.{Init, Create, Drop, Change, Find}
 use Rattle.zeb_engine.specs.Conditions.{conditions}
+use Rattle.zeb_engine.specs.Image.{IsImage}
 use Rattle.zeb_engine.specs.NameOf.{name_bytes}
-use Rattle.zeb_engine.specs.Steps.{turned, created, dropped}
+use Rattle.zeb_engine.specs.Steps.{turned, changed_by_files, created, dropped, holding, initialised, splits_of}
 use Rattle.zeb_engine.specs.Works.{Always, Serves}
-use Rattle.zeb_engine.proofs.Commanding.{command_serves, wait_serves, analysis_serves}
+use Rattle.zeb_engine.proofs.Commanding.{command_serves, find_serves, looks_same, wait_serves}
+use Rattle.zeb_engine.proofs.Serving.{on_ok}
 use Rattle.zeb_engine.proofs.session.Session.carry_out.Goals as goal
 
 pub returns-in-Init-clause-serves : goal.returns-in-Init-clause-serves
-returns-in-Init-clause-serves g c clean reads =
+returns-in-Init-clause-serves g c clean =
     let limits = c.args.self.now.limits in
     let k = conditions g.L.Layout.version c.args.self.now.profile limits in
-    rw c.in-Init.is (command_serves g.L.Layout.holds k (state g.S.Store c.args.self.now.connection) (state g.S.Store c.init_register.new.connection) c.init_register.result Init (λ before answer is. is) (λ before fits keeps. c.init_register.ensures.serves clean limits before (λ _. tt) keeps))
+    rw c.in-Init.is (command_serves g.L.Layout.holds k (state g.S.Store c.args.self.now.connection) (state g.S.Store c.init_register.new.connection) c.init_register.result Init (initialised k) (λ before answer is. is) (λ before. refl) (λ before fits keeps. c.init_register.ensures.serves clean limits before (λ _. tt) keeps))
 
 pub returns-in-Create-clause-serves : goal.returns-in-Create-clause-serves
-returns-in-Create-clause-serves g c clean reads =
+returns-in-Create-clause-serves g c clean =
     let k = conditions g.L.Layout.version c.args.self.now.profile c.args.self.now.limits in
     let old = state g.S.Store c.args.self.now.connection in
     let new = state g.S.Store c.create.new.self.connection in
     let same : c.in-Create.name-1-own.given.0.0 ≡ c.in-Create.name = search rules in
     let serves = subst (λ n. Serves g.L.Layout.holds k Always (turned k (created (name_bytes n))) old new c.create.result) same (c.create.ensures.serves clean) in
-    rw c.in-Create.is (command_serves g.L.Layout.holds k old new c.create.result (Create c.in-Create.name) (λ before answer is. is) serves)
+    rw c.in-Create.is (command_serves g.L.Layout.holds k old new c.create.result (Create c.in-Create.name) (turned k (created (name_bytes c.in-Create.name))) (λ before answer is. is) (λ before. refl) serves)
 
 pub returns-in-Drop-clause-serves : goal.returns-in-Drop-clause-serves
-returns-in-Drop-clause-serves g c clean reads =
+returns-in-Drop-clause-serves g c clean =
     let k = conditions g.L.Layout.version c.args.self.now.profile c.args.self.now.limits in
     let old = state g.S.Store c.args.self.now.connection in
     let new = state g.S.Store c.take.new.self.connection in
     let same : c.in-Drop.name-in-Drop-1-own.given.0.0 ≡ c.in-Drop.name = search rules in
     let serves = subst (λ n. Serves g.L.Layout.holds k Always (turned k (dropped (name_bytes n))) old new c.take.result) same (c.take.ensures.serves clean) in
-    rw c.in-Drop.is (command_serves g.L.Layout.holds k old new c.take.result (Drop c.in-Drop.name) (λ before answer is. is) serves)
+    rw c.in-Drop.is (command_serves g.L.Layout.holds k old new c.take.result (Drop c.in-Drop.name) (turned k (dropped (name_bytes c.in-Drop.name))) (λ before answer is. is) (λ before. refl) serves)
 
 pub returns-in-Change-clause-serves : goal.returns-in-Change-clause-serves
-returns-in-Change-clause-serves g c clean reads = absurd (rw c.in-Change.is at reads)
+returns-in-Change-clause-serves g c clean =
+    let k = conditions g.L.Layout.version c.args.self.now.profile c.args.self.now.limits in
+    let old = state g.S.Store c.args.self.now.connection in
+    let new = state g.S.Store c.change.new.self.connection in
+    let kind = c.in-Change.kind-1-own.given.0.0 in
+    let named = c.in-Change.database-1-own.given.0.1.0 in
+    let same_kind : kind ≡ c.in-Change.kind = search rules in
+    let same_name : named ≡ c.in-Change.database = search rules in
+    let same_files : c.deref.result.now ≡ c.in-Change.files.items = search rules in
+    let of_kind = subst (λ x. Serves g.L.Layout.holds k Always (turned k (changed_by_files k x (name_bytes named) (splits_of (map (λ file. file.items) c.deref.result.now)))) old new c.change.result) same_kind (c.change.ensures.serves clean) in
+    let of_name = subst (λ n. Serves g.L.Layout.holds k Always (turned k (changed_by_files k c.in-Change.kind (name_bytes n) (splits_of (map (λ file. file.items) c.deref.result.now)))) old new c.change.result) same_name of_kind in
+    let serves = subst (λ files. Serves g.L.Layout.holds k Always (turned k (changed_by_files k c.in-Change.kind (name_bytes c.in-Change.database) (splits_of (map (λ file. file.items) files)))) old new c.change.result) same_files of_name in
+    rw c.in-Change.is (command_serves g.L.Layout.holds k old new c.change.result (Change c.in-Change.kind c.in-Change.database c.in-Change.files)
+    (turned k (changed_by_files k c.in-Change.kind (name_bytes c.in-Change.database) (splits_of (map (λ file. file.items) c.in-Change.files.items)))) (λ before answer is. is) (λ before. refl) serves)
 
 pub returns-in-Find-clause-serves : goal.returns-in-Find-clause-serves
-returns-in-Find-clause-serves g c clean reads = absurd (rw c.in-Find.is at reads)
+returns-in-Find-clause-serves g c clean =
+    let k = conditions g.L.Layout.version c.args.self.now.profile c.args.self.now.limits in
+    let old = state g.S.Store c.args.self.now.connection in
+    let new = state g.S.Store c.find.new.self.connection in
+    let of = c.in-Find.database-in-Find-1-own.given.0.0 in
+    let from = c.in-Find.first-1-own.given.0.1.1.0 in
+    let many = c.in-Find.count-1-own.given.0.1.1.1.0 in
+    let same_name : of ≡ c.in-Find.database = search rules in
+    let same_query : c.in-Find.query-1-own.given.0.1.0 ≡ c.in-Find.query = search rules in
+    let same_first : from ≡ c.in-Find.first = search rules in
+    let same_count : many ≡ c.in-Find.count = search rules in
+    rw c.in-Find.is (find_serves g.L.Layout.holds k old new c.find.result c.in-Find.database c.in-Find.query c.in-Find.first c.in-Find.count (name_bytes of) c.as_str.result.now from many
+    (ap name_bytes same_name) (c.as_str.ensures.value ∙ ap string_bytes same_query) same_first same_count (c.find.ensures.serves clean))
 
 pub returns-in-Check-clause-serves : goal.returns-in-Check-clause-serves
-returns-in-Check-clause-serves g c clean reads =
+returns-in-Check-clause-serves g c clean =
     let k = conditions g.L.Layout.version c.args.self.now.profile c.args.self.now.limits in
     wait_serves g.L.Layout.holds k (state g.S.Store c.args.self.now.connection) (state g.S.Store c.wait.new.self.connection) c.wait.result c.args.command.now (rw c.in-Check.is tt) (c.wait.ensures.serves clean)
 
 pub returns-in-Stat-clause-serves : goal.returns-in-Stat-clause-serves
-returns-in-Stat-clause-serves g c clean reads =
+returns-in-Stat-clause-serves g c clean =
     let k = conditions g.L.Layout.version c.args.self.now.profile c.args.self.now.limits in
     wait_serves g.L.Layout.holds k (state g.S.Store c.args.self.now.connection) (state g.S.Store c.wait-in-Stat.new.self.connection) c.wait-in-Stat.result c.args.command.now (rw c.in-Stat.is tt) (c.wait-in-Stat.ensures.serves clean)
 
 pub returns-in-Dump-clause-serves : goal.returns-in-Dump-clause-serves
-returns-in-Dump-clause-serves g c clean reads =
+returns-in-Dump-clause-serves g c clean =
     let k = conditions g.L.Layout.version c.args.self.now.profile c.args.self.now.limits in
     wait_serves g.L.Layout.holds k (state g.S.Store c.args.self.now.connection) (state g.S.Store c.wait-in-Dump.new.self.connection) c.wait-in-Dump.result c.args.command.now (rw c.in-Dump.is tt) (c.wait-in-Dump.ensures.serves clean)
 
 pub returns-in-Scan-clause-serves : goal.returns-in-Scan-clause-serves
-returns-in-Scan-clause-serves g c clean reads =
+returns-in-Scan-clause-serves g c clean =
     let k = conditions g.L.Layout.version c.args.self.now.profile c.args.self.now.limits in
     wait_serves g.L.Layout.holds k (state g.S.Store c.args.self.now.connection) (state g.S.Store c.wait-in-Scan.new.self.connection) c.wait-in-Scan.result c.args.command.now (rw c.in-Scan.is tt) (c.wait-in-Scan.ensures.serves clean)
+
+pub returns-in-Init-clause-begun : goal.returns-in-Init-clause-begun
+returns-in-Init-clause-begun g c clean is =
+    let of = conditions g.L.Layout.version c.args.self.now.profile in
+    let k = of c.args.self.now.limits in
+    let old = state g.S.Store c.args.self.now.connection in
+    let new = state g.S.Store c.init_register.new.connection in
+    on_ok c.init_register.result (IsStore old → (limits : Limits) → IsStore new × IsImage g.L.Layout.holds (of limits) new.now.trees (holding (of limits) [])) (IsStore old → IsStore new × IsImage g.L.Layout.holds k new.now.trees (holding k []))
+    (λ did store. did store c.args.self.now.limits) (c.init_register.ensures.begun clean)
+
+pub returns-in-Find-clause-alone : goal.returns-in-Find-clause-alone
+returns-in-Find-clause-alone g c clean name query first count is =
+    let old = state g.S.Store c.args.self.now.connection in
+    let of = c.in-Find.database-in-Find-1-own.given.0.0 in
+    let from = c.in-Find.first-1-own.given.0.1.1.0 in
+    let many = c.in-Find.count-1-own.given.0.1.1.1.0 in
+    let same_name : of ≡ c.in-Find.database = search rules in
+    let same_query : c.in-Find.query-1-own.given.0.1.0 ≡ c.in-Find.query = search rules in
+    let same_first : from ≡ c.in-Find.first = search rules in
+    let same_count : many ≡ c.in-Find.count = search rules in
+    let both : ◌≡◌ {A = Command} (Find c.in-Find.database c.in-Find.query c.in-Find.first c.in-Find.count) (Find name query first count) = sym c.in-Find.is ∙ is in
+    let is_name : c.in-Find.database ≡ name = cc in
+    let is_query : c.in-Find.query ≡ query = cc in
+    let is_first : c.in-Find.first ≡ first = cc in
+    let is_count : c.in-Find.count ≡ count = cc in
+    looks_same g.L.Layout.holds c.args.self.now.profile old c.find.result (name_bytes of) (name_bytes name) c.as_str.result.now (string_bytes query) from first many count
+    (ap name_bytes (same_name ∙ is_name)) (c.as_str.ensures.value ∙ ap string_bytes (same_query ∙ is_query)) (same_first ∙ is_first) (same_count ∙ is_count) (c.find.ensures.alone clean)

@@ -1,12 +1,15 @@
 use Rattle.std.proofs.Common.{◌≡◌, ◌∙◌, ◌++◌, ◌∷◌, ◌+◌, [], rules, arith, sym, ap, map, take, subst, subst₂}
+use Rattle.std.specs.Bool.{⊤}
+use Rattle.std.specs.List.{AllByRecursion}
+use Rattle.std.specs.Result.{IsErr}
 use Rattle.std.proofs.lemmas.List.{take_more, map-append}
 use Rattle.sqlite.specs.Held.{state}
-use Rattle.sqlite_rules.proofs.ListLemmas.{all_has, has_at}
+use Rattle.sqlite.proofs.StateLemmas.{survives_then}
 use Rattle.zeb_query.proofs.HoldingLemmas.{take_whole}
 use Rattle.zeb_engine.specs.Answers.{answer_of}
 use Rattle.zeb_engine.specs.Conditions.{conditions}
-use Rattle.zeb_engine.specs.Works.{ReadsNoRecord, Runs, ServesCommand}
-use Rattle.zeb_engine.proofs.RunLemmas.{runs_more}
+use Rattle.zeb_engine.specs.Works.{Runs, ServesCommand}
+use Rattle.zeb_engine.proofs.RunLemmas.{refused_more, runs_more}
 use Rattle.zeb_engine.proofs.session.Session.run_all.Goals as goal
 
 pub loop-command-preserved : goal.loop-command-preserved
@@ -26,17 +29,20 @@ loop-command-preserved g c =
       count = search rules;
       room = search rules;
       under = (c.command.ensures.under.0 ∙ same.0, c.command.ensures.under.1 ∙ same.1);
-      run = λ clean plain.
-          let was = c.loop-command.invariant.run (omega (arith, c.command.ensures.survives.clean)) plain in
-          let reads = all_has ReadsNoRecord all item plain (has_at all index item c.loop-command-test.true c.command-item.is) in
-          let served = subst₂ (λ p l. ServesCommand holds (conditions g.L.Layout.version p l) item now next c.command.result) same.0 same.1 (c.command.ensures.serves clean reads) in
+      survives = survives_then old now next (λ _. ⊤) (λ _. ⊤) (λ _. ⊤) (λ _ db any. any) (λ _ db any. any) c.loop-command.invariant.survives c.command.ensures.survives;
+      refused = λ clean all.
+          let was = c.loop-command.invariant.refused (omega (arith, c.command.ensures.survives.clean)) in
+          refused_more old now next c.loop-command.answers.items c.command.result was (c.command.ensures.refused clean) (subst (AllByRecursion IsErr) c.push_reserved.ensures.items all);
+      run = λ clean.
+          let was = c.loop-command.invariant.run (omega (arith, c.command.ensures.survives.clean)) in
+          let served = subst₂ (λ p l. ServesCommand holds (conditions g.L.Layout.version p l) item now next c.command.result) same.0 same.1 (c.command.ensures.serves clean) in
           let more = runs_more holds k old now next (take index all) answers item c.command.result was served in
           subst₂ (λ commands told. Runs holds k commands told old next) (sym last) (sym (ap (map answer_of) c.push_reserved.ensures.items ∙ map-append answer_of _ _)) more;
     }
 
 pub returns-clause-run : goal.returns-clause-run
-returns-clause-run g c plain clean =
+returns-clause-run g c clean =
     let k = conditions g.L.Layout.version c.args.self.now.profile c.args.self.now.limits in
     let whole : take c.loop-command.command-index c.args.commands.now ≡ c.args.commands.now = take_whole c.args.commands.now c.loop-command.command-index (omega arith) in
     subst (λ commands. Runs g.L.Layout.holds k commands (map answer_of c.loop-command.answers.items) (state g.S.Store c.args.self.now.connection) (state g.S.Store c.loop-command.self.connection)) whole
-    (c.loop-command.invariant.run clean plain)
+    (c.loop-command.invariant.run clean)

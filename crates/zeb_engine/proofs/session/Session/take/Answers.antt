@@ -30,4 +30,4 @@ returns-clause-serves g c clean before fits keeps =
     let mid = state g.S.Store c.check_ready.new.connection in
     let first : HasCleanDisk mid = omega (arith, c.drop_database.ensures.survives.clean) in
     let met = ready_met {X = Unit {0}} (λ (bases : List Base) x. IsTrue old.is_open × IsTrue mid.is_open) (ready k before) tt (c.in_ok-check_ready.ensures.ready first limits before keeps) in
-    c.drop_database.ensures.serves clean met.2.1 k before (λ _. (met.0, met.1)) (keeps_still g.L.Layout.holds k before old mid (c.check_ready.ensures.same first) keeps)
+    c.drop_database.ensures.serves clean k before (λ _. (met.0, met.1)) (keeps_still g.L.Layout.holds k before old mid (c.check_ready.ensures.same first) keeps)

@@ -1,10 +1,7 @@
-use Rattle.std.proofs.Common.{◌≡◌, ◌∙◌, arith, subst, w64, to_z, of_z}
-use Rattle.std.proofs.Math.Facts.{to_z-of_z}
+use Rattle.std.proofs.Common.{arith}
 use Rattle.std.proofs.lemmas.Result.{IfOk-weaker}
 use Rattle.sqlite.specs.Held.{state}
 use Rattle.sqlite.specs.State.{HasCleanDisk}
-use Rattle.zeb_register.specs.Sql.{Loses}
-use Rattle.zeb_register.specs.Store.{Changes, postings_tree, IsPostingIn}
 use Rattle.zeb_register.proofs.PlaceLemmas.{taken_whole, rows_without}
 use Rattle.zeb_register.proofs.plain.RowsLayout.database_take.Goals as goal
 
@@ -12,16 +9,15 @@ pub returns-clause-taken : goal.returns-clause-taken
 returns-clause-taken g c clean inside store =
     let db = c.args.db.0 in
     let first = state g.S.Store c.args.tx.now.conn.now in
-    let second = state g.S.Store c.postings_clear.new.tx.conn.now in
+    let second = state g.S.Store c.registers_drop.new.tx.conn.now in
     let third = state g.S.Store c.records_drop.new.tx.conn.now in
     let last = state g.S.Store c.database_drop.new.tx.conn.now in
     let clean2 : HasCleanDisk third = omega (arith, c.database_drop.ensures.crash.clean) in
     let clean1 : HasCleanDisk second = omega (arith, c.database_drop.ensures.crash.clean, c.records_drop.ensures.crash.clean) in
-    let known : to_z w64 (of_z w64 c.column.result) ≡ db = to_z-of_z {w = w64} {z = c.column.result} c.column.ensures.fits ∙ c.column.ensures.value in
-    let done1 = c.in_ok-postings_clear.ensures.ok clean1 inside in
-    let one = subst (λ d. Changes postings_tree (Loses (IsPostingIn d)) first second) known (done1.rows store) in
-    let done2 = c.in_ok-records_drop.ensures.ok clean2 done1.on.mode in
-    let two = done2.rows one.layout in
+    let done1 = c.in_ok-registers_drop.ensures.ok clean1 inside in
+    let one = done1.1 store in
+    let done2 = c.in_ok-records_drop.ensures.ok clean2 done1.0.mode in
+    let two = done2.rows one.store in
     IfOk-weaker c.database_drop.result _ _ (λ _ done3.
     let three = done3.rows two.layout in (
       taken_whole db first second third last one two three,

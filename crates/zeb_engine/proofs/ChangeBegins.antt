@@ -1,0 +1,54 @@
+-- What the tables know of a name, and the database that a change begins with.
+use Rattle.std.proofs.Common.{◌≡◌, ◌⊎◌, ◌∙◌, ℕ, pos, List, Option, Some, None, Result, Ok, Err, refl, sym, subst, inl, inr}
+use Rattle.sqlite.specs.Tree.{Trees}
+use Rattle.sqlite.specs.State.{State}
+use Rattle.zeb_marc.specs.Splits.{Split}
+use Rattle.zeb_register.specs.declared.catalog.Database.{Database}
+use Rattle.zeb_register.specs.Catalog.{IsDatabaseOf}
+use Rattle.zeb_register.specs.Content.{Content}
+use Rattle.zeb_register.specs.Store.{HasDatabase}
+use Rattle.zeb_engine.specs.declared.commands.Kind.{Kind}
+use Rattle.zeb_engine.specs.declared.commands.Kind.TheVariants.{Update}
+use Rattle.zeb_engine.specs.declared.refusals.Refusal.{Refusal}
+use Rattle.zeb_engine.specs.Answers.{Why, why_of, refused, IsFailure}
+use Rattle.zeb_engine.specs.Changing.{BeginsWith}
+use Rattle.zeb_engine.specs.Conditions.{Conditions}
+use Rattle.zeb_engine.specs.Holdings.{Holdings, Base, base_named}
+use Rattle.zeb_engine.specs.Image.{IsImage}
+use Rattle.zeb_engine.specs.Steps.{changed_by_files, ready, start_of, turned}
+use Rattle.zeb_engine.specs.Works.{Meets}
+use Rattle.zeb_engine.proofs.Listed.{image_ready, none_named, row_named}
+use Rattle.zeb_engine.proofs.Turns.{step_unbegun}
+
+-- a call that gave what it was to give
+pub start_met : {A X : Type 0} (Good : A → X → Type 0) (said : Result A Why) (x : X) → Meets Good said (Ok x) → (a : A) × Good a x
+start_met Good (Ok a) x met = (a, met)
+start_met Good (Err why) x met = absurd met
+
+-- there is no database to begin with
+pub start_refused : {X : Type 0} (Good : Base → X → Type 0) (c : Conditions) (before : Holdings) (name : List ℕ) (bases : List Base) → ready c before ≡ Ok bases → (kind : Kind) (files : List Split) (refusal : Refusal)
+    → Meets Good (start_of kind name (base_named name bases)) (Err refusal)
+    → IsFailure (refused (why_of refusal)) ⊎ (turned c (changed_by_files c kind name files) before ≡ (refused (why_of refusal), before))
+start_refused Good c before name bases is kind files refusal met = by (start_of kind name (base_named name bases)) refl met
+  where
+    by : (said : Result Base Why) → start_of kind name (base_named name bases) ≡ said → Meets Good said (Err refusal)
+        → IsFailure (refused (why_of refusal)) ⊎ (turned c (changed_by_files c kind name files) before ≡ (refused (why_of refusal), before))
+    by (Ok base) starts (inl failed) = inl failed
+    by (Ok base) starts (inr said) = inr (step_unbegun c before name bases is kind files (why_of refusal) (starts ∙ said))
+    by (Err why) starts (inl failed) = inl failed
+    by (Err why) starts (inr said) = inr (step_unbegun c before name bases is kind files (why_of refusal) (starts ∙ said))
+
+module _ (holds : Trees → Content → Type 0) (c : Conditions) (old : State) (before : Holdings) (bases : List Base) (is : ready c before ≡ Ok bases) (image : IsImage holds c old.now.trees before) (name : List ℕ) (Opened : Type 0) (opened : Opened) where
+  abbrev pub Begins : Kind → Base → Option Database → Type 0
+  Begins kind base found = BeginsWith kind name found c old.now.trees before × Opened
+
+  pub update_begins : (found : Option Database) → IsDatabaseOf old.now.trees name found → Meets (Begins Update) (start_of Update name (base_named name bases)) (Ok found)
+  update_begins None absent =
+      let all = (image_ready holds c old.now.trees before bases is image).2 refl refl in
+      let none = none_named old.now.trees bases all.2.id_of all.2.listed name absent in
+      subst (λ o. Meets (Begins Update) (start_of Update name o) (Ok None)) (sym none) ((bases, is, none, refl), opened)
+  update_begins (Some found) row =
+      let all = (image_ready holds c old.now.trees before bases is image).2 refl refl in
+      let base = row_named old.now.trees bases all.2.id_of all.2.listed c.profile all.1 found.id.0 name found.last row in
+      let there = subst (λ n. HasDatabase old.now.trees found.id.0 n (pos base.0.last)) base.3 (subst (λ (l : ℕ). HasDatabase old.now.trees found.id.0 name (pos l)) base.4 row) in
+      subst (λ o. Meets (Begins Update) (start_of Update name o) (Ok (Some found))) (sym base.1) ((bases, base.0, is, base.1, there, base.4), opened)

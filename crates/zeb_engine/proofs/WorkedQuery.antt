@@ -1,0 +1,118 @@
+-- The word of a title, asked for by a query's text.
+use Rattle.std.proofs.Common.{◌≡◌, ◌↔◌, ℕ, false, List, [], ◌∷◌, map, None, Ok, refl, sym, subst, codes, string_bytes}
+use Rattle.std.specs.Str.{chars, is_utf8}
+use lib.Utf8.{encode}
+use Rattle.ucd_category.proofs.Computing.{ucd_category}
+use Rattle.caseless.proofs.Computing.{caseless}
+use Rattle.zeb_text.specs.Folding.{folded}
+use Rattle.zeb_text.specs.Words.{is_word_character, runs_of}
+use Rattle.zeb_text.specs.Symbols.{Char}
+use Rattle.zeb_text.specs.Truncation.{truncated}
+use Rattle.zeb_query.specs.Words.{Word, words_at, unquoted}
+use Rattle.zeb_query.specs.Queries.{QueryValue, TermValue}
+use Rattle.zeb_query.specs.Grammar.{IsQuery, is_term, is_attribute, is_structure, kind_and_value, no_head, under, with_attribute}
+use Rattle.zeb_query.proofs.GrammarOnce.{same_query}
+use Rattle.zeb_query.specs.Reading.{SpellsQuery, query_fault}
+use Rattle.zeb_query.specs.Holding.{holding_of}
+use Rattle.zeb_query.specs.Plans.{PlanValue, TermOf, PhraseOf, leaf_plan, plan_asked, plan_of}
+use Rattle.zeb_extract.specs.Sample.{title_profile}
+use Rattle.zeb_engine.specs.declared.commands.Command.{Command}
+use Rattle.zeb_engine.specs.declared.commands.Command.TheVariants.{Init, Check, Create, Drop, Stat, Dump, Change, Find, Scan, Analyse}
+use Rattle.zeb_engine.specs.declared.commands.Limits.{Limits}
+use Rattle.zeb_engine.specs.NameOf.{name_bytes}
+use Rattle.zeb_engine.specs.Answers.{Answer}
+use Rattle.zeb_engine.specs.Conditions.{Conditions}
+use Rattle.zeb_engine.specs.Finding.{IsFound, IsPlanned, IsAnswered, word_key}
+use Rattle.zeb_engine.specs.Steps.{Answers, FoundFrom, FoundAmong, ready}
+use Rattle.zeb_engine.specs.Worked.{book_base, book_conditions, one_book, title_word, IsFindBy}
+use Rattle.zeb_engine.proofs.Worked.{one_found, word_found}
+use Rattle.zeb_engine.proofs.WorkedLemmas.{ready_held}
+
+abbrev text : List ℕ
+text = codes "@attr 1=4 whale"
+
+abbrev plain : ℕ → List ℕ → Word
+plain place word = record { place = place; spelling = unquoted word; text = word }
+
+abbrev term : Word
+term = plain 10 (codes "whale")
+
+abbrev query : QueryValue
+query = record { attribute_set = None; tree = under (with_attribute None (1, codes "4")) (TermValue 10 no_head (codes "whale")) }
+
+abbrev plan : PlanValue
+plan = TermOf (PhraseOf 0 (map Char (codes "whale") ∷ []) false)
+
+words_are : words_at 0 (chars text) ≡ plain 0 (codes "@attr") ∷ plain 6 (codes "1=4") ∷ term ∷ []
+unfolding chars is_utf8 encode
+words_are = refl
+
+spells_words : IsQuery (plain 0 (codes "@attr") ∷ plain 6 (codes "1=4") ∷ term ∷ []) query
+unfolding kind_and_value
+spells_words = is_structure _ _ (is_attribute (plain 0 (codes "@attr")) (plain 6 (codes "1=4")) (term ∷ []) _ (1, codes "4") refl refl refl (is_term term refl refl))
+
+spells : SpellsQuery text query
+spells = subst (λ words. IsQuery words query) (sym words_are) spells_words
+
+sound : query_fault text ≡ None
+unfolding chars is_utf8 encode kind_and_value
+sound = refl
+
+planned : plan_of title_profile query ≡ Ok plan
+unfolding leaf_plan plan_asked holding_of chars is_utf8 encode caseless ucd_category folded is_word_character runs_of truncated
+planned = refl
+
+key_is : word_key 0 (codes "whale") ≡ title_word (codes "whale")
+unfolding encode
+key_is = refl
+
+answered : IsAnswered title_profile text 1 20 book_base one_found
+answered =
+    let by_key = subst (λ key. IsFound title_profile key 1 20 book_base one_found) (sym key_is) ((word_found one_found).1 refl) in
+    (query, spells, subst (λ p. IsPlanned title_profile p 1 20 book_base one_found) (sym planned) by_key)
+
+-- no other query is spelled, and so nothing else is answered
+answered_once : (answer : Answer) → IsAnswered title_profile text 1 20 book_base answer → answer ≡ one_found
+answered_once answer is =
+    let same : is.0 ≡ query = same_query (words_at 0 (chars text)) is.0 query is.1 spells in
+    let by_query = subst (λ q. IsPlanned title_profile (plan_of title_profile q) 1 20 book_base answer) same is.2 in
+    let by_plan = subst (λ p. IsPlanned title_profile p 1 20 book_base answer) planned by_query in
+    (word_found answer).0 (subst (λ key. IsFound title_profile key 1 20 book_base answer) key_is by_plan)
+
+module _ (version : List ℕ) (limits : Limits) (answer : Answer) where
+  abbrev c : Conditions
+  c = book_conditions version limits
+
+  -- the text has no fault, and the database is there
+  here : IsAnswered title_profile text 1 20 book_base answer → FoundFrom c (codes "Default") text 1 20 (ready c (one_book version)) answer
+  here is =
+      let among = subst (λ fault. FoundAmong c (codes "Default") text 1 20 (book_base ∷ []) fault answer) (sym sound) is in
+      subst (λ bases. FoundFrom c (codes "Default") text 1 20 bases answer) (sym (ready_held c (book_base ∷ []))) among
+
+  there : FoundFrom c (codes "Default") text 1 20 (ready c (one_book version)) answer → IsAnswered title_profile text 1 20 book_base answer
+  there is =
+      let among = subst (λ bases. FoundFrom c (codes "Default") text 1 20 bases answer) (ready_held c (book_base ∷ [])) is in
+      subst (λ fault. FoundAmong c (codes "Default") text 1 20 (book_base ∷ []) fault answer) sound among
+
+  -- asked under any names for the four parts of the command
+  asked_as : (name words : List ℕ) (first count : ℕ) → name ≡ codes "Default" → words ≡ text → first ≡ 1 → count ≡ 20
+      → FoundFrom c name words first count (ready c (one_book version)) answer ↔ (answer ≡ one_found)
+  asked_as name words first count is_name is_text is_first is_count =
+      let asked_here : FoundFrom c (codes "Default") text 1 20 (ready c (one_book version)) answer ↔ (answer ≡ one_found) =
+      (λ h. answered_once answer (there h), λ same. here (subst (λ a. IsAnswered title_profile text 1 20 book_base a) (sym same) answered)) in
+      let by_name = subst (λ n. FoundFrom c n text 1 20 (ready c (one_book version)) answer ↔ (answer ≡ one_found)) (sym is_name) asked_here in
+      let by_text = subst (λ t. FoundFrom c name t 1 20 (ready c (one_book version)) answer ↔ (answer ≡ one_found)) (sym is_text) by_name in
+      let by_first = subst (λ n. FoundFrom c name words n 20 (ready c (one_book version)) answer ↔ (answer ≡ one_found)) (sym is_first) by_text in
+      subst (λ n. FoundFrom c name words first n (ready c (one_book version)) answer ↔ (answer ≡ one_found)) (sym is_count) by_first
+
+  pub asked : (command : Command) → IsFindBy text command → Answers c command (one_book version) answer ↔ (answer ≡ one_found)
+  asked (Find name asked_for first count) is = asked_as (name_bytes name) (string_bytes asked_for) first count is.0 is.1 is.2 is.3
+  asked (Change kind name files) is = absurd is
+  asked Init is = absurd is
+  asked Check is = absurd is
+  asked (Create name) is = absurd is
+  asked (Drop name) is = absurd is
+  asked (Stat name) is = absurd is
+  asked (Dump name) is = absurd is
+  asked (Scan name asked_for number position) is = absurd is
+  asked (Analyse files) is = absurd is

@@ -1,0 +1,61 @@
+use Rattle.std.proofs.Common.{◌≡◌, ◌∙◌, Result, Ok, Err, IsTrue, rules, arith, refl, sym, subst, subst₂}
+use Rattle.sqlite.specs.Held.{Held, state}
+use Rattle.sqlite.specs.State.{HasCleanDisk}
+use Rattle.zeb_engine.specs.declared.refusals.Refusal.{Refusal}
+use Rattle.zeb_engine.specs.declared.refusals.Refusal.TheVariants.{ReadFault}
+use Rattle.zeb_engine.specs.declared.replies.Reply.{Reply}
+use Rattle.zeb_engine.specs.Changing.{BeginsWith}
+use Rattle.zeb_engine.specs.NameOf.{name_bytes}
+use Rattle.zeb_engine.specs.Steps.{changed_by_files, splits_of, turned}
+use Rattle.zeb_engine.specs.Works.{Serves, conditions_of}
+use Rattle.zeb_engine.proofs.Serving.{refusal_serves, reply_serves}
+use Rattle.zeb_engine.proofs.changes.transact.Goals as goal
+
+pub returns-in_err-reply-clause-serves : goal.returns-in_err-reply-clause-serves
+returns-in_err-reply-clause-serves g c = λ clean opened texts told fine version.
+    let begun = c.transaction-tx.ensures.begun in
+    let change = c.args.change.now in
+    let k = conditions_of version change.setting in
+    let name = name_bytes change.name.now in
+    let outcome = turned k (changed_by_files k change.setting.kind name (splits_of texts)) in
+    let fits = BeginsWith change.setting.kind name change.found k in
+    let old = c.args.connection.now in
+    let inside = c.transaction-tx.result.conn.now in
+    let end = c.drop-tx.new.self.0 in
+    let late : HasCleanDisk (state g.S.Store end) = search rules in
+    let same : end ≡ c.connection-1.given.0 = search rules in
+    let result : c.from_residual.result ≡ Err c.in_err-reply.field-0.0 = search rules in
+    let open_inside : IsTrue (state g.S.Store inside).is_open = subst (λ (held : Held _). IsTrue (state g.S.Store held).is_open) (sym begun) opened in
+    let works = c.in_err-reply.ensures.works (omega (arith, c.drop-tx.ensures.survives.clean)) (rw begun refl) open_inside texts told fine version in
+    subst₂ (λ h r. Serves g.L.Layout.holds k fits outcome (state g.S.Store old) (state g.S.Store h) r) same (sym result)
+    (refusal_serves g.L.Layout.holds k outcome g.S.Store fits old inside (state g.S.Store c.apply.new.tx.conn.now) (state g.S.Store end) c.in_err-reply.field-0.0 begun works (c.drop-tx.ensures.undone late))
+
+pub returns-clause-serves : goal.returns-clause-serves
+returns-clause-serves g c = λ clean opened texts told fine version.
+    let begun = c.transaction-tx.ensures.begun in
+    let change = c.args.change.now in
+    let k = conditions_of version change.setting in
+    let name = name_bytes change.name.now in
+    let outcome = turned k (changed_by_files k change.setting.kind name (splits_of texts)) in
+    let fits = BeginsWith change.setting.kind name change.found k in
+    let old = c.args.connection.now in
+    let inside = c.transaction-tx.result.conn.now in
+    let end = c.commit.new.self.0 in
+    let late : HasCleanDisk (state g.S.Store end) = search rules in
+    let same : end ≡ c.connection-2-1.given.0 = search rules in
+    let open_inside : IsTrue (state g.S.Store inside).is_open = subst (λ (held : Held _). IsTrue (state g.S.Store held).is_open) (sym begun) opened in
+    let works = c.in_ok-reply.ensures.works (omega (arith, c.commit.ensures.survives.clean)) (rw begun refl) open_inside texts told fine version in
+    subst (λ h. Serves g.L.Layout.holds k fits outcome (state g.S.Store old) (state g.S.Store h) (Ok c.in_ok-reply.reply)) same
+    (reply_serves g.L.Layout.holds k outcome g.S.Store fits old inside (state g.S.Store c.apply.new.tx.conn.now) (state g.S.Store end) c.in_ok-reply.reply begun works (c.in_ok-commit.ensures.ok late).1)
+
+pub returns-in_err-reply-clause-failed : goal.returns-in_err-reply-clause-failed
+returns-in_err-reply-clause-failed g c = λ none file at.
+    let refusal = c.in_err-reply.field-0.0 in
+    let result : c.from_residual.result ≡ Err refusal = search rules in
+    let is : ◌≡◌ {A = Result Reply Refusal} (Err refusal) (Err (ReadFault file)) = c.in_err-reply.ensures.failed none file at in
+    result ∙ is
+
+pub returns-in_err-commit-clause-failed : goal.returns-in_err-commit-clause-failed
+returns-in_err-commit-clause-failed g c = λ none file at.
+    let is : ◌≡◌ {A = Result Reply Refusal} (Ok c.in_ok-reply.reply) (Err (ReadFault file)) = c.in_ok-reply.ensures.failed none file at in
+    absurd cc

@@ -1,0 +1,65 @@
+use Rattle.std.proofs.Common.{rules, ◌≡◌, Option, Result, Err, String, arith, ap, get_or, refl, subst, subst₂, sym, take, pos, ◌+◌}
+use Rattle.std.specs.declared.alloc.Global.{Global}
+use Rattle.sqlite.specs.Held.{state}
+use Rattle.sqlite.specs.State.{HasCleanDisk}
+use Rattle.zeb_register.specs.Kept.{IsIdentOf, AreReadableIdents}
+use Rattle.zeb_register.specs.declared.RegFault.{RegFault}
+use Rattle.zeb_register.specs.declared.RegFault.TheVariants as register
+use Rattle.zeb_engine.specs.Found.{AreShown}
+use Rattle.zeb_engine.specs.Outcomes.{register_refusal}
+use Rattle.zeb_query.proofs.HoldingLemmas.{take_whole}
+use Rattle.zeb_engine.proofs.Listed.{fault_fails}
+use Rattle.zeb_engine.proofs.Showing.{still_shows, shown_more, each_kept, each_readable}
+use Rattle.zeb_engine.proofs.find.show.Goals as goal
+
+pub loop-number-preserved : goal.loop-number-preserved
+loop-number-preserved g c =
+    let old = state g.S.Store c.args.connection.now in
+    let now = state g.S.Store c.loop-number.connection in
+    let new = state g.S.Store c.ident_of.new.conn in
+    let index = c.loop-number.number-index in
+    record {
+      idle = search rules;
+      count = search rules;
+      room = search rules;
+      crash = search rules;
+      same = search rules;
+      open_still = λ clean was. (c.in_ok-ident.ensures.ok clean).0.is_open;
+      shown = λ clean trees shows.
+          let first : HasCleanDisk now = omega (arith, c.ident_of.ensures.crash.clean) in
+          let opened = (c.in_ok-ident.ensures.ok clean).0.was_open in
+          let at = still_shows old now trees (c.loop-number.invariant.same first) shows opened in
+          let value = subst₂ (λ db found. IsIdentOf db c.args.database.0 (pos (get_or c.args.numbers.now index 0)) found) at.1 c.in-Some.is (c.in_ok-ident.ensures.value clean at.0) in
+          let more = shown_more trees c.args.database.0 c.args.numbers.now index (get_or c.args.numbers.now index 0) c.loop-number.shown.items c.in-Some.ident c.loop-number-test.true refl value (c.loop-number.invariant.shown first trees shows) in
+          subst (AreShown trees c.args.database.0 (take (index + 1) c.args.numbers.now)) (sym c.push_reserved.ensures.items) more;
+    }
+
+pub returns-clause-shown : goal.returns-clause-shown
+returns-clause-shown g c clean trees shows =
+    let whole = take_whole c.args.numbers.now c.loop-number.number-index (omega (arith, c.loop-number-test.false)) in
+    subst (λ numbers. AreShown trees c.args.database.0 numbers c.loop-number.shown.items) whole (c.loop-number.invariant.shown clean trees shows)
+
+pub returns-in_default-clause-failed : goal.returns-in_default-clause-failed
+returns-in_default-clause-failed g c clean trees shows keeps =
+    let old = state g.S.Store c.args.connection.now in
+    let now = state g.S.Store c.loop-number.connection in
+    let index = c.loop-number.number-index in
+    let first : HasCleanDisk now = omega (arith, c.ident_of.ensures.crash.clean) in
+    let opened = (c.in_ok-ident.ensures.ok clean).0.was_open in
+    let at = still_shows old now trees (c.loop-number.invariant.same first) shows opened in
+    let value = subst (λ db. IsIdentOf db c.args.database.0 (pos (get_or c.args.numbers.now index 0)) c.in_ok-ident.field-0) at.1 (c.in_ok-ident.ensures.value clean at.0) in
+    absurd (each_kept trees c.args.database.0 c.args.numbers.now index (get_or c.args.numbers.now index 0) c.in_ok-ident.field-0 c.loop-number-test.true refl keeps value c.in_default.is)
+
+pub returns-in_err-ident-clause-failed : goal.returns-in_err-ident-clause-failed
+returns-in_err-ident-clause-failed g c clean trees shows keeps =
+    let old = state g.S.Store c.args.connection.now in
+    let now = state g.S.Store c.loop-number.connection in
+    let index = c.loop-number.number-index in
+    let first : HasCleanDisk now = omega (arith, c.ident_of.ensures.crash.clean) in
+    let fault = c.in_err-ident.field-0.0 in
+    let told : c.from_residual-in_err-ident.result ≡ Err (register_refusal fault) = search rules in
+    rw told (fault_fails fault (λ is.
+    let damaged : ◌≡◌ {A = Result (Option (String Global)) RegFault} (Err fault) (Err register.Damaged) = ap Err is in
+    let at = still_shows old now trees (c.loop-number.invariant.same first) shows (c.in_err-ident.ensures.opened clean damaged) in
+    c.in_err-ident.ensures.honest clean at.0 damaged
+    (subst (λ db. AreReadableIdents db c.args.database.0 (pos (get_or c.args.numbers.now index 0))) (sym at.1) (each_readable trees c.args.database.0 c.args.numbers.now index (get_or c.args.numbers.now index 0) c.loop-number-test.true refl keeps))))

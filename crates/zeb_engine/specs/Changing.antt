@@ -1,0 +1,21 @@
+-- A change of one database by the records of files: what was found out before it began.
+use Rattle.std.specs.Prelude.{◌≡◌, ℕ, pos, List, Option, Some, None, Ok}
+use Rattle.sqlite.specs.Tree.{Trees}
+use Rattle.zeb_register.specs.declared.catalog.Database.{Database}
+use Rattle.zeb_register.specs.Store.{HasDatabase}
+use Rattle.zeb_engine.specs.declared.commands.Kind.{Kind}
+use Rattle.zeb_engine.specs.declared.commands.Kind.TheVariants.{Update}
+use Rattle.zeb_engine.specs.Conditions.{Conditions}
+use Rattle.zeb_engine.specs.Holdings.{Holdings, Base, base_named}
+use Rattle.zeb_engine.specs.Steps.{ready}
+
+-- the register is ready, and this is what the tables know of the name: a database, or none, with which only an update begins
+abbrev pub BeginsWith : Kind → List ℕ → Option Database → Conditions → Trees → Holdings → Type 0
+BeginsWith kind name None c trees before = (bases : List Base) × (ready c before ≡ Ok bases) × (base_named name bases ≡ None) × (kind ≡ Update)
+BeginsWith kind name (Some found) c trees before =
+    (bases : List Base) × (base : Base) × (ready c before ≡ Ok bases) × (base_named name bases ≡ Some base) × HasDatabase trees found.id.0 base.name (pos base.last) × (found.last ≡ base.last)
+
+-- the last number that a change begins with: 0 where there is no database
+abbrev pub last_of : Option Database → ℕ
+last_of None = 0
+last_of (Some found) = found.last

@@ -1,0 +1,51 @@
+-- Worked commands: "Moby Dick" is kept in a database, and again, and found by a word of its title; behind it in a file stands a
+-- record of five letters.
+use Rattle.std.specs.Prelude.{◌≡◌, ℕ, List, [], ◌∷◌, ◌++◌, map, codes, string_bytes}
+use Rattle.zeb_profile.specs.declared.registers.Register.TheVariants.{Word}
+use Rattle.zeb_profile.specs.Canonical.{canonical_text}
+use Rattle.zeb_marc.specs.Worked.{worked_record}
+use Rattle.zeb_extract.specs.declared.keys.Key.{Key}
+use Rattle.zeb_extract.specs.Sample.{title_profile}
+use Rattle.zeb_engine.specs.declared.commands.Command.{Command}
+use Rattle.zeb_engine.specs.declared.commands.Command.TheVariants.{Change, Find}
+use Rattle.zeb_engine.specs.declared.commands.Kind.TheVariants.{Update}
+use Rattle.zeb_engine.specs.declared.commands.Limits.{Limits}
+use Rattle.zeb_engine.specs.NameOf.{name_bytes}
+use Rattle.zeb_engine.specs.Conditions.{Conditions, conditions}
+use Rattle.zeb_engine.specs.Holdings.{Holdings, under, Base, Kept}
+
+-- a session under the profile of titles, dates and any words
+abbrev pub book_conditions : List ℕ → Limits → Conditions
+book_conditions version limits = conditions version title_profile limits
+
+-- the record under its first number, and its database
+abbrev pub book : Kept
+book = record { sysno = 1; ident = codes "a1"; bytes = worked_record }
+
+abbrev pub book_base : Base
+book_base = record { name = codes "Default"; last = 1; records = book ∷ [] }
+
+-- what is held without a database, and with this one
+abbrev pub no_books : List ℕ → Holdings
+no_books version = under version (canonical_text title_profile) []
+
+abbrev pub one_book : List ℕ → Holdings
+one_book version = under version (canonical_text title_profile) (book_base ∷ [])
+
+-- the record, and then five bytes that are no length
+abbrev pub faulty_file : List ℕ
+faulty_file = worked_record ++ codes "xxxxx"
+
+-- a word in the index of titles
+abbrev pub title_word : List ℕ → Key
+title_word word = record { index = 0; register = Word; term = word }
+
+-- the command updates the database `Default` by files of these bytes
+abbrev pub IsUpdateBy : List (List ℕ) → Command → Type 0
+IsUpdateBy texts (Change Update name files) = (name_bytes name ≡ codes "Default") × (map (λ file. file.items) files.items ≡ texts)
+IsUpdateBy texts other = ⊥
+
+-- the command asks for the first 20 records of the database `Default` that a query of this text finds
+abbrev pub IsFindBy : List ℕ → Command → Type 0
+IsFindBy text (Find name query first count) = (name_bytes name ≡ codes "Default") × (string_bytes query ≡ text) × (first ≡ 1) × (count ≡ 20)
+IsFindBy text other = ⊥

@@ -1,0 +1,63 @@
+-- In a table no two rows share a key: so what its rows say is a list.
+use Rattle.std.proofs.Common.{◌≡◌, ◌∙◌, ℕ, ℤ, List, [], ◌∷◌, true, Ordering, Less, Equal, Greater, refl, ap, subst, inl, inr}
+use Rattle.std.specs.Ordering.{ordering_reverse}
+use Rattle.sqlite.specs.declared.types.Value.TheVariants.{Int, Text, Blob}
+use Rattle.sqlite.specs.Effect.{IsDatabase}
+use Rattle.sqlite.specs.Order.{Row, column, value_cmp}
+use Rattle.sqlite.specs.State.{State}
+use Rattle.sqlite.specs.Table.{Table}
+use Rattle.sqlite.specs.Tree.{rowid}
+use Rattle.sqlite.specs.View.{is_int}
+use Rattle.sqlite_rules.specs.Lists.{Has}
+use Rattle.sqlite_rules.proofs.ListLemmas.{has_got}
+use Rattle.sqlite_rules.proofs.PlaceLemmas.{tied_same}
+use Rattle.sqlite_value.proofs.OrderLemmas.{value_cmp_total}
+use Rattle.std.proofs.lemmas.Cmp.{tied_itself}
+use Rattle.zeb_register.specs.Kinds.{IsPlainTable, HasKeys, SharesKey}
+use Rattle.zeb_register.specs.Sql.{HasRow}
+use Rattle.zeb_register.specs.Store.{IsStore, meta_tree, entry, HasDatabase, HasRecord}
+use Rattle.zeb_register.specs.Tables.{store_schema, meta_table}
+use Rattle.zeb_register.proofs.RowLemmas.{shares_alone}
+use Rattle.zeb_register.proofs.Writes.{keyed_there, codes_there}
+use Rattle.zeb_register.proofs.TextStatements.{meta_static, meta_keys}
+use Rattle.zeb_register.proofs.DatabaseStatements.{databases, databases_static}
+use Rattle.zeb_register.proofs.RecordStatements.{records, records_static, records_keys}
+
+module _ (at : ℕ) (table : Table) (static : IsPlainTable store_schema at table) (keys : List (List ℕ)) (has : HasKeys store_schema table keys) (s : State) (store : IsStore s) where
+  single : (i j : ℤ) (a b : Row) → Has (s.now.trees table.tree) (Int i ∷ a) → Has (s.now.trees table.tree) (Int j ∷ b) → SharesKey keys (Int i ∷ a) (Int j ∷ b) → SharesKey keys (Int j ∷ b) (Int i ∷ a) → ◌≡◌ {A = Row} (Int i ∷ a) (Int j ∷ b)
+  single i j a b here there left right = from (value_cmp (Int i) (Int j)) refl
+    where
+      alone : (r t : Row) → Has (s.now.trees table.tree) r → Has (s.now.trees table.tree) t → is_int (rowid r) ≡ true → is_int (rowid t) ≡ true → SharesKey keys r t → value_cmp (rowid r) (rowid t) ≡ Less → ⊥
+      alone r t r_there t_there r_int t_int same lower =
+          let sound = subst (λ c. IsDatabase (record { schema = c; trees = s.now.trees })) store.is store.sound in
+          shares_alone store_schema s.now.trees table keys sound (has_got store_schema.tables at table static.there) has r t r_there t_there r_int t_int (codes_there store_schema at table static s r store r_there)
+          (codes_there store_schema at table static s t store t_there) same lower
+
+      from : (o : Ordering) → value_cmp (Int i) (Int j) ≡ o → ◌≡◌ {A = Row} (Int i ∷ a) (Int j ∷ b)
+      from Less is = absurd (alone (Int i ∷ a) (Int j ∷ b) here there refl refl left is)
+      from Greater is = absurd (alone (Int j ∷ b) (Int i ∷ a) there here refl refl right (value_cmp_total.antisymm (Int j) (Int i) ∙ ap ordering_reverse is))
+      from Equal is = tied_same (s.now.trees table.tree) _ _ (keyed_there store_schema at table static s store).0 here there is
+
+module _ (s : State) (store : IsStore s) where
+  pub one_text : (name one two : List ℕ) → HasRow s.now.trees meta_tree (entry name one) → HasRow s.now.trees meta_tree (entry name two) → one ≡ two
+  one_text name one two here there =
+      let same = single 0 meta_table meta_static ((1 ∷ []) ∷ []) meta_keys s store here.0 there.0 (entry name one) (entry name two) here.1 there.1 (inl (refl, tt)) (inl (refl, tt)) in
+      let value : Text one ≡ Text two = ap (λ (r : Row). column r 2) same in cc
+
+  pub one_last : (id : ℤ) (n m : List ℕ) (l k : ℤ) → HasDatabase s.now.trees id n l → HasDatabase s.now.trees id m k → (n ≡ m) × (l ≡ k)
+  one_last id n m l k here there =
+      let same = tied_same (s.now.trees 2) _ _ (keyed_there store_schema 1 databases databases_static s store).0 here there (tied_itself value_cmp_total (Int id)) in
+      let name : Text n ≡ Text m = ap (λ (r : Row). column r 2) same in
+      let last : Int l ≡ Int k = ap (λ (r : Row). column r 3) same in (cc, cc)
+
+  pub one_number : (db sysno : ℤ) (i j a b : List ℕ) → HasRecord s.now.trees db sysno i a → HasRecord s.now.trees db sysno j b → (i ≡ j) × (a ≡ b)
+  one_number db sysno i j a b here there =
+      let same = single 2 records records_static ((1 ∷ 2 ∷ []) ∷ (1 ∷ 3 ∷ []) ∷ []) records_keys s store here.0 there.0 _ _ here.1 there.1 (inl (refl, (refl, tt))) (inl (refl, (refl, tt))) in
+      let ident : Text i ≡ Text j = ap (λ (r : Row). column r 3) same in
+      let bytes : Blob a ≡ Blob b = ap (λ (r : Row). column r 4) same in (cc, cc)
+
+  pub one_ident : (db n m : ℤ) (ident a b : List ℕ) → HasRecord s.now.trees db n ident a → HasRecord s.now.trees db m ident b → (n ≡ m) × (a ≡ b)
+  one_ident db n m ident a b here there =
+      let same = single 2 records records_static ((1 ∷ 2 ∷ []) ∷ (1 ∷ 3 ∷ []) ∷ []) records_keys s store here.0 there.0 _ _ here.1 there.1 (inr (inl (refl, (refl, tt)))) (inr (inl (refl, (refl, tt)))) in
+      let number : Int n ≡ Int m = ap (λ (r : Row). column r 2) same in
+      let bytes : Blob a ≡ Blob b = ap (λ (r : Row). column r 4) same in (cc, cc)
