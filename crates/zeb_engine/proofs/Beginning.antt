@@ -1,6 +1,5 @@
 -- The texts of a register, and the tables that `init` leaves.
-use Rattle.std.proofs.Common.{◌≡◌, ◌≢◌, ◌↔◌, ◌⊎◌, ◌∙◌, ℕ, ℤ, pos, List, [], ◌∷◌, codes, get_or, Some, refl, sym, ap, subst, inl, inr, arith, IsUtf8}
-use Rattle.std.specs.List.{Contains}
+use Rattle.std.proofs.Common.{◌≡◌, ◌≢◌, ◌⊎◌, ◌∙◌, ℕ, pos, List, [], ◌∷◌, codes, get_or, Some, refl, sym, ap, subst, inl, inr, arith, IsUtf8}
 use Rattle.std.specs.List.Sorted.{IsStrictlySortedBy}
 use Rattle.std.specs.Option.{option_map}
 use Rattle.sqlite.specs.declared.types.Value.TheVariants.{Int, Null, Text}
@@ -13,9 +12,8 @@ use Rattle.zeb_profile.specs.Indexes.{identifier_pattern}
 use Rattle.zeb_profile.specs.Canonical.{canonical_text, pattern_text}
 use Rattle.zeb_register.specs.Content.{Content, posting_cmp}
 use Rattle.zeb_register.specs.Sql.{HasRow, Replaces}
-use Rattle.zeb_register.specs.Store.{IsStore, IsEmptyStore, Changes, LacksRegisters, meta_tree, entry, IsEntryOf, record_row}
+use Rattle.zeb_register.specs.Store.{IsEmptyStore, Changes, LacksRegisters, meta_tree, entry, IsEntryOf, record_row}
 use Rattle.zeb_engine.specs.Conditions.{Conditions}
-use Rattle.zeb_engine.specs.Holdings.{Base, Kept}
 use Rattle.zeb_engine.specs.Image.{HasTexts, AreBases, IsImage, IsImageOf}
 use Rattle.zeb_engine.specs.Steps.{holding}
 use Rattle.zeb_engine.specs.Writing.{AreOf, PutsTexts}

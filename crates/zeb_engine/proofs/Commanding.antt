@@ -103,11 +103,11 @@ IsWaiting Init = ⊥
 IsWaiting Check = Unit {0}
 IsWaiting (Create name) = ⊥
 IsWaiting (Drop name) = ⊥
-IsWaiting (Stat name) = Unit {0}
-IsWaiting (Dump name) = Unit {0}
+IsWaiting (Stat name) = ⊥
+IsWaiting (Dump name) = ⊥
 IsWaiting (Change kind name files) = ⊥
 IsWaiting (Find name query first count) = ⊥
-IsWaiting (Scan name query number position) = Unit {0}
+IsWaiting (Scan name query number position) = ⊥
 IsWaiting (Analyse files) = ⊥
 
 abbrev pub IsAnalysis : Command → Type 0
@@ -128,11 +128,11 @@ module _ (holds : Trees → Content → Type 0) (c : Conditions) (old new : Stat
   wait_serves result Check waiting serves = command_serves holds c old new result Check (waited c) (λ before answer is. is) (λ before. refl) serves
   wait_serves result (Create name) waiting serves = absurd waiting
   wait_serves result (Drop name) waiting serves = absurd waiting
-  wait_serves result (Stat name) waiting serves = command_serves holds c old new result (Stat name) (waited c) (λ before answer is. is) (λ before. refl) serves
-  wait_serves result (Dump name) waiting serves = command_serves holds c old new result (Dump name) (waited c) (λ before answer is. is) (λ before. refl) serves
+  wait_serves result (Stat name) waiting serves = absurd waiting
+  wait_serves result (Dump name) waiting serves = absurd waiting
   wait_serves result (Change kind name files) waiting serves = absurd waiting
   wait_serves result (Find name query first count) waiting serves = absurd waiting
-  wait_serves result (Scan name query number position) waiting serves = command_serves holds c old new result (Scan name query number position) (waited c) (λ before answer is. is) (λ before. refl) serves
+  wait_serves result (Scan name query number position) waiting serves = absurd waiting
   wait_serves result (Analyse files) waiting serves = absurd waiting
 
   -- nothing is looked at, and nothing changes

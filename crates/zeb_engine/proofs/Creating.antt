@@ -1,11 +1,10 @@
 -- A database is made: the tables are then the image of one database more.
-use Rattle.std.proofs.Common.{◌≡◌, ◌≢◌, ◌↔◌, ◌⊎◌, ◌∙◌, ℕ, ℤ, pos, Bool, true, false, cond, List, [], ◌∷◌, Option, Some, None, refl, sym, ap, subst, inl, inr, arith}
+use Rattle.std.proofs.Common.{◌≡◌, ◌≢◌, ◌⊎◌, ◌∙◌, ℕ, ℤ, pos, cond, List, [], ◌∷◌, None, refl, sym, ap, subst, inl, inr, arith}
 use Rattle.std.specs.List.{Contains}
 use Rattle.std.specs.List.Sorted.{IsStrictlySortedBy}
 use Rattle.std.specs.Str.{bytes_eq}
 use Rattle.std.proofs.lemmas.Slice.Eq.{bytes_eq-Decides}
 use Rattle.sqlite.specs.declared.types.Value.TheVariants.{Int}
-use Rattle.sqlite.specs.Order.{Row}
 use Rattle.sqlite.specs.Tree.{Trees}
 use Rattle.sqlite_rules.specs.Lists.{Has}
 use Rattle.sqlite_rules.proofs.ListLemmas.{has_contained, contains_had}
@@ -13,9 +12,9 @@ use Rattle.zeb_profile.specs.declared.directives.Directive.{Directive}
 use Rattle.zeb_register.specs.Content.{Content}
 use Rattle.zeb_register.specs.Catalog.{PutsDatabase}
 use Rattle.zeb_register.specs.Store.{HasDatabase, KeepsRegisters, record_row}
-use Rattle.zeb_engine.specs.Holdings.{Base, Kept, new_base, base_named, with_base}
-use Rattle.zeb_engine.specs.Image.{AreBases, AreListed, AreStored, AreKept, IsBase, IsImageOf}
-use Rattle.zeb_engine.proofs.Bases.{bytes_told, bytes_other, named_none, with_base_has, with_base_in_order}
+use Rattle.zeb_engine.specs.Holdings.{Base, new_base, base_named, with_base}
+use Rattle.zeb_engine.specs.Image.{AreBases, AreListed, AreKept, IsBase, IsImageOf}
+use Rattle.zeb_engine.proofs.Bases.{bytes_other, named_none, with_base_has, with_base_in_order}
 use Rattle.zeb_engine.proofs.Ids.{none_in}
 
 -- what a new database has

@@ -1,5 +1,5 @@
 -- A database is taken away with its records and postings: the tables are then the image of one database less.
-use Rattle.std.proofs.Common.{◌≡◌, ◌≢◌, ◌↔◌, ◌⊎◌, ◌∙◌, ℕ, ℤ, pos, Bool, true, false, cond, List, [], ◌∷◌, Option, Some, None, refl, sym, ap, subst, inl, inr}
+use Rattle.std.proofs.Common.{◌≡◌, ◌≢◌, ◌↔◌, ◌∙◌, ℕ, ℤ, pos, cond, List, [], Some, sym, ap, subst, inl, inr}
 use Rattle.std.specs.List.{Contains}
 use Rattle.std.specs.List.Sorted.{IsStrictlySortedBy}
 use Rattle.std.specs.Ordering.{int_eq}
@@ -13,10 +13,9 @@ use Rattle.zeb_register.specs.declared.registers.Posting.{Posting}
 use Rattle.zeb_register.specs.Content.{Content, IsRising, IsWithout, posting_cmp}
 use Rattle.zeb_register.specs.Sql.{Loses}
 use Rattle.zeb_register.specs.Store.{HasDatabase, IsRecordIn, TakesDatabase, record_row}
-use Rattle.zeb_engine.specs.Finding.{OccursIn}
 use Rattle.zeb_engine.specs.Holdings.{Base, Kept, base_named, without_base}
-use Rattle.zeb_engine.specs.Image.{AreBases, AreListed, AreStored, AreKept, ArePosted, IsImageOf}
-use Rattle.zeb_engine.proofs.Bases.{named_found, named_there, without_base_has, without_base_in_order}
+use Rattle.zeb_engine.specs.Image.{AreBases, AreListed, AreKept, ArePosted, IsImageOf}
+use Rattle.zeb_engine.proofs.Bases.{named_found, without_base_has, without_base_in_order}
 use Rattle.zeb_engine.proofs.Ids.{id_same, id_other, ids_told}
 
 pub without_bases : (profile : List Directive) (name : List ℕ) (bases : List Base) → AreBases profile bases → AreBases profile (without_base name bases)

@@ -21,6 +21,7 @@ use Rattle.zeb_register.specs.declared.catalog.Database.{Database}
 use Rattle.zeb_register.specs.declared.registers.Posting.{Posting}
 use Rattle.zeb_register.specs.Content.{Content, IsRising}
 use Rattle.zeb_register.specs.Store.{HasDatabase, HasRecord}
+use Rattle.zeb_register.specs.Terms.{HasTexts}
 use Rattle.zeb_engine.specs.declared.refusals.Refusal.{Refusal}
 use Rattle.zeb_engine.specs.declared.replies.Hit.{Hit}
 use Rattle.zeb_engine.specs.Answers.{Answer, Why, found, refused, diagnostic, unsupported, why_of, IsFailure}
@@ -35,6 +36,7 @@ use Rattle.zeb_engine.specs.Works.{Meets}
 use Rattle.zeb_engine.proofs.Bases.{named_found}
 use Rattle.zeb_engine.proofs.KeptLemmas.{one_number}
 use Rattle.zeb_engine.proofs.Listed.{image_ready}
+use Rattle.zeb_engine.proofs.TermTexts.{posted_texts}
 use Rattle.zeb_engine.proofs.Picking.{ArePicked, AreOfKey, picked, has_taken, has_dropped}
 
 -- ---- what the tables hold of one database
@@ -47,6 +49,7 @@ pub record IsHeld (holds : Trees → Content → Type 0) (profile : List Directi
   pub kept : (sysno : ℤ) (ident bytes : List ℕ) → HasRecord trees id sysno ident bytes
       ↔ ((k : Kept) × Contains base.records k × (sysno ≡ pos k.sysno) × (ident ≡ k.ident) × (bytes ≡ k.bytes))
   pub sound : IsBase profile base
+  pub texts : HasTexts content
 
 pub base_held : (holds : Trees → Content → Type 0) (profile : List Directive) (trees : Trees) (bases : List Base) → AreBases profile bases → (image : IsImageOf holds profile trees bases)
     → (id : ℤ) (base : Base) → Contains bases base → HasDatabase trees id base.name (pos base.last) → IsHeld holds profile trees id base
@@ -62,6 +65,7 @@ base_held holds profile trees bases are image id base there row =
       kept = λ sysno ident bytes. subst (λ (records : List Kept). HasRecord trees id sysno ident bytes
           ↔ ((k : Kept) × Contains records k × (sysno ≡ pos k.sysno) × (ident ≡ k.ident) × (bytes ≡ k.bytes))) same (image.stored.kept id sysno ident bytes);
       sound = are.each base there;
+      texts = posted_texts profile image.records_of image.stored.content image.stored.posted;
     }
 
 module _ (holds : Trees → Content → Type 0) (profile : List Directive) (trees : Trees) (id : ℤ) (base : Base) (held : IsHeld holds profile trees id base) where

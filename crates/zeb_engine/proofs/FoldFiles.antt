@@ -1,5 +1,5 @@
 -- A file that is folded record by record: what the definition says of what is left of it.
-use Rattle.std.proofs.Common.{◌≡◌, ◌⊎◌, ◌∙◌, ◌+◌, ℕ, ℤ, List, [], Bool, true, false, Option, Some, Result, Ok, Err, refl, sym, ap, subst, inl, inr}
+use Rattle.std.proofs.Common.{◌≡◌, ◌∙◌, ◌+◌, ℕ, ℤ, List, Bool, true, false, Option, Some, Result, Ok, Err, refl, sym, ap, subst}
 use Rattle.sqlite.specs.Tree.{Trees}
 use Rattle.sqlite.specs.State.{State}
 use Rattle.zeb_marc.specs.declared.faults.MarcFault.{MarcFault}
@@ -9,7 +9,7 @@ use Rattle.zeb_register.specs.Content.{Content}
 use Rattle.zeb_engine.specs.declared.changes.Fold.{Fold}
 use Rattle.zeb_engine.specs.declared.commands.Kind.{Kind}
 use Rattle.zeb_engine.specs.declared.refusals.Refusal.{Refusal}
-use Rattle.zeb_engine.specs.Answers.{Why, why_of, refused, IsFailure}
+use Rattle.zeb_engine.specs.Answers.{Why, why_of}
 use Rattle.zeb_engine.specs.Conditions.{Conditions}
 use Rattle.zeb_engine.specs.Folding.{Progress, folded, slices_folded, file_folded, ◌then◌}
 use Rattle.zeb_engine.specs.Holdings.{Kept}

@@ -1,5 +1,5 @@
 -- One record more of a change: what the definition says of it, and that the code counts the same.
-use Rattle.std.proofs.Common.{◌≡◌, ◌⊎◌, ◌∙◌, ◌+◌, ℕ, ℤ, List, Bool, true, false, Result, Ok, Err, nat_le, refl, sym, ap, subst, inl, inr}
+use Rattle.std.proofs.Common.{◌≡◌, ◌∙◌, ◌+◌, ℕ, ℤ, List, true, false, Result, Ok, Err, nat_le, refl, sym, ap, subst}
 use Rattle.sqlite.specs.Tree.{Trees}
 use Rattle.sqlite.specs.State.{State}
 use Rattle.zeb_register.specs.Content.{Content}
@@ -8,13 +8,12 @@ use Rattle.zeb_engine.specs.declared.commands.Kind.{Kind}
 use Rattle.zeb_engine.specs.declared.tally.Fate.{Fate}
 use Rattle.zeb_engine.specs.declared.tally.Fate.TheVariants.{Inserted, Updated, Deleted, PassedOver}
 use Rattle.zeb_engine.specs.declared.tally.Tally.{Tally}
-use Rattle.zeb_engine.specs.declared.refusals.Refusal.{Refusal}
-use Rattle.zeb_engine.specs.Answers.{Why, why_of, refused, too_many_records, IsFailure}
+use Rattle.zeb_engine.specs.Answers.{Why, too_many_records}
 use Rattle.zeb_engine.specs.Conditions.{Conditions}
 use Rattle.zeb_engine.specs.Folding.{Changed, Progress, changed_record, counted, folded}
 use Rattle.zeb_engine.specs.Holdings.{Base, Kept}
 use Rattle.zeb_engine.specs.Tallies.{IsCounted}
-use Rattle.zeb_engine.specs.Works.{IsTaken, IsFolded, IsUnderWay, KeepsNames, Meets, StandsFor}
+use Rattle.zeb_engine.specs.Works.{IsTaken, IsFolded, IsUnderWay, Meets, StandsFor}
 
 module _ (c : Conditions) (kind : Kind) (file nth : ℕ) (bytes : List ℕ) (p : Progress) where
   pub too_many : nat_le c.limits.records p.taken ≡ true → folded c kind file nth bytes p ≡ Err too_many_records

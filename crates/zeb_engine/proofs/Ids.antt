@@ -1,5 +1,5 @@
 -- Tests of the ids of databases, and lists that have nothing in them.
-use Rattle.std.proofs.Common.{◌≡◌, ◌≢◌, ◌⊎◌, ◌∙◌, ℤ, Bool, true, false, cond, List, [], ◌∷◌, refl, sym, ap, inl, inr, Ordering, Less, Equal, Greater, int_cmp}
+use Rattle.std.proofs.Common.{◌≡◌, ◌≢◌, ◌⊎◌, ◌∙◌, ℤ, true, false, List, [], ◌∷◌, refl, sym, ap, inl, inr, Ordering, Less, Equal, Greater, int_cmp}
 use Rattle.std.specs.Ordering.{int_eq, is_eq}
 use Rattle.std.specs.Cmp.{tied_itself, int_cmp_total}
 use Rattle.std.specs.List.{Contains}

@@ -1,6 +1,5 @@
 -- Two rising lists of occurrences, cut key by key: what is known of the keys that were cut off so far.
-use Rattle.std.proofs.Common.{◌≡◌, ◌≢◌, ◌↔◌, ◌⊎◌, ◌∙◌, ℕ, List, [], ◌∷◌, ◌++◌, map, refl, sym, ap, subst, subst₂, inl, inr, Less, Equal, Greater, Ordering, slice_get, Some}
-use Rattle.std.specs.List.{Contains, AllByRecursion}
+use Rattle.std.proofs.Common.{◌≡◌, ◌≢◌, ◌↔◌, ◌⊎◌, ◌∙◌, List, [], ◌∷◌, ◌++◌, map, refl, sym, ap, subst, subst₂, inl, inr, Less, Equal, Greater, Ordering, slice_get, Some}
 use Rattle.std.specs.List.Sorted.{IsStrictlySortedBy}
 use Rattle.std.specs.Ordering.{ordering_then, nat_cmp}
 use Rattle.std.proofs.lemmas.Cmp.{tied_itself}
@@ -9,13 +8,13 @@ use Rattle.sqlite_rules.specs.Lists.{Has}
 use Rattle.sqlite_rules.proofs.ListLemmas.{has_left, has_right, has_either, contains_had, has_contained, all_has, all_from}
 use Rattle.zeb_extract.specs.declared.keys.Key.{Key}
 use Rattle.zeb_extract.specs.declared.keys.Occurrence.{Occurrence}
-use Rattle.zeb_extract.specs.Order.{key_order, occurrence_order, IsRising}
+use Rattle.zeb_extract.specs.Order.{key_order, occurrence_order}
 use Rattle.zeb_extract.proofs.Rising.{key_total, keys_apart}
 use Rattle.zeb_register.specs.declared.registers.Place.{Place}
 use Rattle.zeb_register.specs.Content.{place_cmp}
 use Rattle.zeb_register.proofs.RisingLists.{never_itself}
 use Rattle.zeb_engine.specs.declared.changed_keys.ChangedKey.{ChangedKey}
-use Rattle.zeb_engine.specs.ChangedKeys.{ArePlacesIn, AreChangedKeys, IsNoted, key_in, occurrence_at, place_in}
+use Rattle.zeb_engine.specs.ChangedKeys.{AreChangedKeys, IsNoted, key_in, occurrence_at, place_in}
 use Rattle.zeb_engine.specs.KeyRuns.{AreOf, BeginsWith, Stops, IsNotAbove}
 
 -- all of one key

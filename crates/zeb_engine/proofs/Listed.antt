@@ -1,5 +1,5 @@
 -- The rows of databases, and the databases that they are the image of.
-use Rattle.std.proofs.Common.{◌≡◌, ◌≢◌, ◌∙◌, ◌⊎◌, ℕ, ℤ, pos, List, [], ◌∷◌, Option, Some, None, Result, Ok, Err, refl, sym, ap, subst, subst₂, inl, inr}
+use Rattle.std.proofs.Common.{◌≡◌, ◌⊎◌, ℕ, ℤ, pos, List, Option, Some, None, Result, Ok, Err, refl, sym, subst, inl, inr}
 use Rattle.sqlite.specs.Tree.{Trees}
 use Rattle.sqlite_rules.proofs.ListLemmas.{has_contained, contains_had}
 use Rattle.zeb_profile.specs.declared.directives.Directive.{Directive}
@@ -12,7 +12,7 @@ use Rattle.zeb_register.specs.declared.RegFault.TheVariants as register
 use Rattle.zeb_engine.specs.Answers.{Why, IsFailure, refused, why_of}
 use Rattle.zeb_engine.specs.Conditions.{Conditions}
 use Rattle.zeb_engine.specs.Holdings.{Holdings, Base, base_named}
-use Rattle.zeb_engine.specs.Image.{IsImage, IsImageOf, AreBases, AreListed, HasTexts}
+use Rattle.zeb_engine.specs.Image.{IsImage, AreBases, AreListed}
 use Rattle.zeb_engine.specs.Outcomes.{register_refusal}
 use Rattle.zeb_engine.specs.Steps.{ready, holding}
 use Rattle.zeb_engine.specs.Works.{Meets}

@@ -1,7 +1,9 @@
 -- Readers of which none has failed.
-use Rattle.std.proofs.Common.{◌≡◌, ◌∙◌, ℕ, Bool, true, false, List, [], ◌∷◌, refl, sym, ap}
-use Rattle.zeb_engine.specs.Reading.{HasFailedAt, NoneFailed}
-use Rattle.zeb_engine.proofs.FoldAll.{fine_at}
+use Rattle.std.proofs.Common.{◌≡◌, ◌⊎◌, ◌∙◌, ℕ, Bool, true, false, List, [], ◌∷◌, Result, Err, IsErrAnd, inl, inr, refl, subst, sym, ap}
+use Rattle.zeb_engine.specs.declared.refusals.Refusal.{Refusal}
+use Rattle.zeb_engine.specs.declared.refusals.Refusal.TheVariants.{ReadFault}
+use Rattle.zeb_engine.specs.Reading.{HasFailedAt, NamesFailed, NoneFailed}
+use Rattle.zeb_engine.proofs.FoldAll.{fine_at, one_failed}
 
 pub no_file_failed : {R : Type 0} (failed : R → Bool) (readers : List R) → NoneFailed failed readers → (file : ℕ) → HasFailedAt failed readers file → ⊥
 no_file_failed failed readers none file at =
@@ -12,3 +14,11 @@ no_file_failed failed readers none file at =
 pub none_fails : {R : Type 0} (readers : List R) → NoneFailed (λ reader. false) readers
 none_fails [] = tt
 none_fails (x ∷ xs) = (refl, none_fails xs)
+
+-- one that has failed is named where each is, and so is one where they are looked at
+pub named_or_none : {T R : Type 0} (failed : R → Bool) (readers : List R) (result : Result T Refusal) → ((file : ℕ) → HasFailedAt failed readers file → result ≡ Err (ReadFault file))
+    → NoneFailed failed readers ⊎ IsErrAnd result (NamesFailed failed readers)
+named_or_none failed readers result each = elim (one_failed failed readers) [
+  | inl none ↦ inl none
+  | inr some ↦ inr (subst (λ r. IsErrAnd r (NamesFailed failed readers)) (sym (each some.0 some.1)) (some.0, some.1, refl))
+]

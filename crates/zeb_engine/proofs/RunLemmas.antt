@@ -1,5 +1,5 @@
 -- A run goes on by one command.
-use Rattle.std.proofs.Common.{◌≡◌, ◌⊎◌, List, [], ◌∷◌, ◌++◌, Result, Ok, Err, OnErr, rules, inl, inr, refl, subst}
+use Rattle.std.proofs.Common.{List, [], ◌∷◌, ◌++◌, Result, Ok, Err, OnOk, OnErr, IsTrue, rules, inl, inr, refl, subst}
 use Rattle.std.specs.List.{AllByRecursion}
 use Rattle.std.specs.Result.{IsErr}
 use Rattle.sqlite.specs.Tree.{Trees}
@@ -10,13 +10,15 @@ use Rattle.zeb_register.proofs.Calls.{nothing_then}
 use Rattle.zeb_engine.specs.declared.commands.Command.{Command}
 use Rattle.zeb_engine.specs.declared.replies.Reply.{Reply}
 use Rattle.zeb_engine.specs.declared.refusals.Refusal.{Refusal}
-use Rattle.zeb_engine.specs.Answers.{Answer, answer_of, IsFailure}
+use Rattle.zeb_engine.specs.Adopting.{StaysOpen}
+use Rattle.zeb_engine.specs.Answers.{Answer, answer_of}
 use Rattle.zeb_engine.specs.Conditions.{Conditions}
 use Rattle.zeb_engine.specs.Holdings.{Holdings}
-use Rattle.zeb_engine.specs.Steps.{Answers, Run, after}
-use Rattle.zeb_engine.specs.Works.{Runs, ServesCommand}
+use Rattle.zeb_engine.specs.Steps.{Run, after}
+use Rattle.zeb_engine.specs.Works.{FindOpen, Runs, ServesCommand}
+use Rattle.zeb_engine.proofs.Serving.{on_ok}
 
-run_more : (c : Conditions) (commands : List Command) (answers : List Answer) (before mid last : Holdings) (command : Command) (answer : Answer) → Run c before commands answers mid → Run c mid (command ∷ []) (answer ∷ []) last
+pub run_more : (c : Conditions) (commands : List Command) (answers : List Answer) (before mid last : Holdings) (command : Command) (answer : Answer) → Run c before commands answers mid → Run c mid (command ∷ []) (answer ∷ []) last
     → Run c before (commands ++ command ∷ []) (answers ++ answer ∷ []) last
 run_more c [] [] before mid last command answer run took = subst (λ held. Run c held (command ∷ []) (answer ∷ []) last) run took
 run_more c (first ∷ commands) (told ∷ answers) before mid last command answer (inl run) took = inl (run.0, run_more c commands answers (after c first before) mid last command answer run.1 took)
@@ -49,3 +51,17 @@ pub refused_more : (old now next : State) (results : List (Result Reply Refusal)
 refused_more old now next results result so_far refused all =
     let split = all_last IsErr results result all in
     nothing_then old now next (so_far split.0) (on_err result (ChangesNothing now next) split.1 refused)
+
+-- ---- commands that are accepted
+
+pub open_before : (old now next : State) (result : Result Reply Refusal) → (IsTrue now.is_open → IsTrue old.is_open) → OnOk result (StaysOpen now next) → OnErr result (ChangesNothing now next)
+    → IsTrue next.is_open → IsTrue old.is_open
+open_before old now next (Ok reply) was stays nothing is_open = was stays.0
+open_before old now next (Err refusal) was stays nothing is_open = was (nothing is_open).0
+
+pub open_more : (old now next : State) (results : List (Result Reply Refusal)) (result : Result Reply Refusal) → (IsTrue now.is_open → IsTrue old.is_open) → FindOpen results old now → OnOk result (StaysOpen now next)
+    → FindOpen (results ++ result ∷ []) old next
+open_more old now next [] result was so_far stays = on_ok result (StaysOpen now next) (StaysOpen old next) (λ both. (was both.0, both.1)) stays
+open_more old now next (one ∷ []) result was so_far stays =
+    (on_ok one (StaysOpen old now) (IsTrue old.is_open) (λ both. both.0) so_far, open_more old now next [] result was tt stays)
+open_more old now next (one ∷ another ∷ more) result was so_far stays = (so_far.0, open_more old now next (another ∷ more) result was so_far.1 stays)

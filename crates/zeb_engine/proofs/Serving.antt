@@ -1,5 +1,5 @@
 -- How a command ends that was refused, and what follows where it began with a look at the tables.
-use Rattle.std.proofs.Common.{◌≡◌, ◌⊎◌, ◌∙◌, ℕ, true, false, List, [], Result, Ok, Err, OnOk, inl, inr, refl, sym, ap, subst, IsTrue}
+use Rattle.std.proofs.Common.{◌≡◌, ◌⊎◌, ◌∙◌, ℕ, true, false, List, [], Result, Ok, Err, OnOk, inl, inr, sym, ap, subst, IsTrue}
 use Rattle.sqlite.specs.Tree.{Trees}
 use Rattle.sqlite.specs.Store.{Ghosts}
 use Rattle.sqlite.specs.Effect.{Database}
@@ -7,7 +7,6 @@ use Rattle.sqlite.specs.State.{State, IsRolledBack, Shows}
 use Rattle.sqlite.specs.Held.{Held, state}
 use Rattle.zeb_register.specs.Calls.{ChangesNothing}
 use Rattle.zeb_register.specs.Content.{Content}
-use Rattle.zeb_register.specs.Store.{IsStore}
 use Rattle.zeb_register.proofs.Calls.{store_same}
 use Rattle.zeb_engine.specs.declared.replies.Reply.{Reply}
 use Rattle.zeb_engine.specs.declared.refusals.Refusal.{Refusal}

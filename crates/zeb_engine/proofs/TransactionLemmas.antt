@@ -1,5 +1,5 @@
 -- Work inside a transaction, one step after the other.
-use Rattle.std.proofs.Common.{◌≡◌, ◌∙◌}
+use Rattle.std.proofs.Common.{◌∙◌}
 use Rattle.sqlite.specs.State.{State, KeepsCommit}
 use Rattle.zeb_register.specs.Calls.{GoesOn}
 use Rattle.zeb_engine.specs.Transactions.{Continues}

@@ -6,7 +6,7 @@ use Rattle.zeb_engine.specs.Answers.{Why, done, changed, refused, exists}
 use Rattle.zeb_engine.specs.Conditions.{Conditions}
 use Rattle.zeb_engine.specs.Folding.{Progress, at_first, files_folded}
 use Rattle.zeb_engine.specs.Holdings.{Holdings, Base, new_base, base_named, with_base, without_base}
-use Rattle.zeb_engine.specs.Steps.{Turn, Outcome, ready, holding, ends, turned, turned_from, created, created_in, dropped, dropped_in, changed_by_files, change_from, change_ends, start_of, no_database, found_or, existing, initialised}
+use Rattle.zeb_engine.specs.Steps.{Turn, ready, holding, ends, turned, turned_from, created, created_in, dropped, dropped_in, changed_by_files, change_from, change_ends, start_of, no_database, found_or, existing, initialised}
 use Rattle.zeb_engine.specs.Works.{Meets}
 
 module _ (c : Conditions) (before : Holdings) where

@@ -1,5 +1,5 @@
 -- What each command that writes leaves in the tables is the image of its outcome.
-use Rattle.std.proofs.Common.{◌≡◌, ◌∙◌, ℕ, ℤ, pos, List, [], Option, Some, None, Result, Ok, Err, IfErr, OnOk, refl, sym, ap, subst, inl, inr, arith, IsTrue}
+use Rattle.std.proofs.Common.{◌≡◌, ℕ, ℤ, pos, List, [], Result, Ok, Err, IfErr, OnOk, refl, sym, ap, subst, inl, arith}
 use Rattle.sqlite.specs.Tree.{Trees}
 use Rattle.sqlite.specs.State.{State}
 use Rattle.zeb_profile.specs.declared.directives.Directive.{Directive}
@@ -10,9 +10,9 @@ use Rattle.zeb_register.specs.Store.{IsStore, Changes, KeepsRegisters, databases
 use Rattle.zeb_engine.specs.declared.replies.Reply.{Reply}
 use Rattle.zeb_engine.specs.declared.replies.Reply.TheVariants.{Done}
 use Rattle.zeb_engine.specs.declared.refusals.Refusal.{Refusal}
-use Rattle.zeb_engine.specs.Answers.{Answer, done, refused, why_of, reply_answer, IsFailure}
+use Rattle.zeb_engine.specs.Answers.{refused, why_of, reply_answer, IsFailure}
 use Rattle.zeb_engine.specs.Conditions.{Conditions}
-use Rattle.zeb_engine.specs.Holdings.{Holdings, Base, new_base, with_base, without_base}
+use Rattle.zeb_engine.specs.Holdings.{Holdings}
 use Rattle.zeb_engine.specs.Image.{IsImage}
 use Rattle.zeb_engine.specs.Steps.{Outcome, holding, initialised, turned, created, dropped}
 use Rattle.zeb_engine.specs.Transactions.{Stays}

@@ -1,10 +1,19 @@
 -- What a command answers.
 use Rattle.std.specs.Prelude.{◌≡◌, ◌⊎◌, ℕ, List, map, Result, Ok, Err, string_bytes}
+use Rattle.zeb_profile.specs.declared.registers.Register.{Register}
 use Rattle.zeb_engine.specs.declared.faults.RecordFault.{RecordFault}
 use Rattle.zeb_engine.specs.declared.refusals.Refusal.{Refusal}
 use Rattle.zeb_engine.specs.declared.refusals.Refusal.TheVariants as refusal
+use Rattle.zeb_engine.specs.declared.replies.Holding.{Holding}
 use Rattle.zeb_engine.specs.declared.replies.Reply.{Reply}
 use Rattle.zeb_engine.specs.declared.replies.Reply.TheVariants as reply
+
+-- how much the records of a database have in one register: the index's name and the register, its terms and its occurrences
+pub record Extent : Type 0 where
+  pub name : List ℕ
+  pub register : Register
+  pub terms : ℕ
+  pub occurrences : ℕ
 
 -- why a command is refused
 pub data Why : Type 0 where
@@ -32,6 +41,12 @@ pub data Answer : Type 0 where
   changed : ℕ → ℕ → ℕ → Answer
   -- how many records are found, and the numbers and identifiers of those that are shown
   found : ℕ → List (ℕ × List ℕ) → Answer
+  -- a register, and terms of it with the number of records that have each
+  scanned : Register → List (List ℕ × ℕ) → Answer
+  -- how many records there are, the last number, and how much each register has of them
+  counted : ℕ → ℕ → List Extent → Answer
+  -- the bytes of records
+  dumped : List ℕ → Answer
   refused : Why → Answer
 
 abbrev pub why_of : Refusal → Why
@@ -51,10 +66,16 @@ why_of refusal.Store = store_failed
 why_of refusal.Memory = out_of_memory
 why_of refusal.Unsupported = unsupported
 
+abbrev pub extent_of : Holding → Extent
+extent_of holding = record { name = string_bytes holding.index; register = holding.register; terms = holding.terms; occurrences = holding.occurrences }
+
 abbrev pub reply_answer : Reply → Answer
 reply_answer reply.Done = done
 reply_answer (reply.Changed inserted updated deleted) = changed inserted updated deleted
 reply_answer (reply.Found hits shown) = found hits (map (λ hit. (hit.sysno, string_bytes hit.ident)) shown.items)
+reply_answer (reply.Scanned register entries) = scanned register (map (λ entry. (entry.term, entry.records)) entries.items)
+reply_answer (reply.Counted records last holdings) = counted records last (map extent_of holdings.items)
+reply_answer (reply.Dumped bytes) = dumped bytes.items
 
 abbrev pub answer_of : Result Reply Refusal → Answer
 answer_of (Ok reply) = reply_answer reply

@@ -1,6 +1,6 @@
 -- What a query finds, by reading all kept records from nothing (Z39.50 Bib-1: a word in an index). No register is
 -- looked into: a record is found where the word is among the occurrences of its bytes.
-use Rattle.std.specs.Prelude.{◌≡◌, ◌⊎◌, ℕ, ◌-◌, Bool, false, List, [], ◌∷◌, Option, None, Some, Result, Ok, Err, length, map, take, drop, nat_lt, ◌&&◌, codes, encode_utf8_all, if◌then◌else◌}
+use Rattle.std.specs.Prelude.{◌≡◌, ◌⊎◌, ℕ, ◌-◌, Bool, false, List, [], ◌∷◌, Option, None, Some, Result, Ok, Err, length, map, take, drop, nat_lt, ◌&&◌, encode_utf8_all, if◌then◌else◌}
 use Rattle.std.specs.Option.{option_map}
 use Rattle.std.specs.Fmt.{decimal}
 use Rattle.zeb_marc.specs.Records.{fields_of}

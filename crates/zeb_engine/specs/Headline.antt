@@ -1,7 +1,7 @@
 -- The headline: after any list of commands the kept records are those that the accepted commands leave, each replacement
--- keeping its number; the registers hold exactly the kept records' postings; every answered find is what reading all kept
--- records from nothing gives; and a refused command changes nothing.
-use Rattle.std.specs.Prelude.{List, map, Result, Vec}
+-- keeping its number; the registers hold exactly the kept records' postings; every answered find and scan is what reading
+-- all kept records from nothing gives; and a refused command changes nothing.
+use Rattle.std.specs.Prelude.{List, map, Result}
 use Rattle.sqlite.specs.Tree.{Trees}
 use Rattle.sqlite.specs.State.{State, HasCleanDisk}
 use Rattle.zeb_register.specs.Content.{Content}

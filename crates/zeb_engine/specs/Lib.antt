@@ -10,7 +10,11 @@ pub mod Holdings
 pub mod Answers
 pub mod Conditions
 pub mod Folding
+pub mod Counts
 pub mod Finding
+pub mod Scanning
+pub mod Counting
+pub mod Counted
 pub mod Steps
 pub mod Image
 pub mod Works
@@ -23,4 +27,8 @@ pub mod Headline
 pub mod Adopting
 pub mod Records
 pub mod Found
+pub mod Scanned
 pub mod Worked
+pub mod Crashes
+pub mod Matching
+pub mod Lasting

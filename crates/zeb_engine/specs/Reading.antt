@@ -25,6 +25,10 @@ pub record HasFailedAt {R : Type 0} (has_failed : R → Bool) (readers : List R)
   pub numbered : file ≡ index + 1
   pub failed : has_failed reader ≡ true
 
+-- this refusal names the file of a reader that has failed
+abbrev pub NamesFailed : {R : Type 0} → (R → Bool) → List R → Refusal → Type 0
+NamesFailed has_failed readers refusal = (file : ℕ) × HasFailedAt has_failed readers file × (refusal ≡ ReadFault file)
+
 -- this is no refusal for a reader that failed
 abbrev pub NoReadFault : {T : Type 0} → Result T Refusal → Type 0
 NoReadFault result = (file : ℕ) → result ≢ Err (ReadFault file)

@@ -1,6 +1,7 @@
 -- What each command answers, and what the register holds then. A refusal gives back what it held. The order of refusals is
 -- that of the cases: the register, the query's text, the database, the query's meaning, and then record after record.
 use Rattle.std.specs.Prelude.{◌≡◌, ◌⊎◌, ℕ, List, [], ◌∷◌, map, Option, Some, None, Result, Ok, Err, string_bytes, if◌then◌else◌}
+use Rattle.std.specs.List.{flat_map}
 use Rattle.std.specs.Str.{bytes_eq}
 use Rattle.zeb_profile.specs.Canonical.{canonical_text}
 use Rattle.zeb_query.specs.Reading.{query_fault}
@@ -10,11 +11,13 @@ use Rattle.zeb_engine.specs.declared.commands.Command.TheVariants.{Init, Check, 
 use Rattle.zeb_engine.specs.declared.commands.Kind.{Kind}
 use Rattle.zeb_engine.specs.declared.commands.Kind.TheVariants.{Update, Delete, Adelete}
 use Rattle.zeb_engine.specs.NameOf.{name_bytes}
-use Rattle.zeb_engine.specs.Answers.{Answer, Why, done, changed, refused, not_initialised, old_format, profile_changed, diagnostic, exists, unsupported, IsFailure}
+use Rattle.zeb_engine.specs.Answers.{Answer, Why, done, changed, dumped, refused, not_initialised, old_format, profile_changed, diagnostic, exists, unsupported, IsFailure}
 use Rattle.zeb_engine.specs.Holdings.{Holdings, nothing_yet, under, Base, new_base, base_named, with_base, without_base}
 use Rattle.zeb_engine.specs.Conditions.{Conditions}
 use Rattle.zeb_engine.specs.Folding.{Progress, at_first, files_folded}
+use Rattle.zeb_engine.specs.Counting.{IsCounted}
 use Rattle.zeb_engine.specs.Finding.{IsAnswered}
+use Rattle.zeb_engine.specs.Scanning.{IsScanned}
 
 -- an answer, and what is held then
 abbrev pub Outcome : Type 0
@@ -93,19 +96,56 @@ change_from c kind files bases (Ok base) = change_ends bases (files_folded c kin
 unfoldable pub changed_by_files : Conditions → Kind → List ℕ → List Split → Turn
 changed_by_files c kind name files bases = change_from c kind files bases (start_of kind name (base_named name bases))
 
--- ---- the command that finds
+-- ---- the commands that ask a database by a query
+
+-- `Says` is the answer of a database that is there
+abbrev pub AskedIn : (Says : Base → Answer → Type 0) → List ℕ → Option Base → Answer → Type 0
+AskedIn Says name None answer = answer ≡ refused (no_database name)
+AskedIn Says name (Some base) answer = Says base answer
+
+abbrev pub AskedAmong : (Says : Base → Answer → Type 0) → List ℕ → List Base → Option (ℕ × ℕ) → Answer → Type 0
+AskedAmong Says name bases (Some fault) answer = answer ≡ refused (diagnostic fault.0 fault.1 [])
+AskedAmong Says name bases None answer = AskedIn Says name (base_named name bases) answer
+
+abbrev pub AskedFrom : (Says : Base → Answer → Type 0) → (name query : List ℕ) → Result (List Base) Why → Answer → Type 0
+AskedFrom Says name query (Err why) answer = answer ≡ refused why
+AskedFrom Says name query (Ok bases) answer = AskedAmong Says name bases (query_fault query) answer
 
 abbrev pub FoundIn : Conditions → List ℕ → List ℕ → ℕ → ℕ → Option Base → Answer → Type 0
-FoundIn c name query first count None answer = answer ≡ refused (no_database name)
-FoundIn c name query first count (Some base) answer = IsAnswered c.profile query first count base answer
+FoundIn c name query first count = AskedIn (IsAnswered c.profile query first count) name
 
 abbrev pub FoundAmong : Conditions → List ℕ → List ℕ → ℕ → ℕ → List Base → Option (ℕ × ℕ) → Answer → Type 0
-FoundAmong c name query first count bases (Some fault) answer = answer ≡ refused (diagnostic fault.0 fault.1 [])
-FoundAmong c name query first count bases None answer = FoundIn c name query first count (base_named name bases) answer
+FoundAmong c name query first count = AskedAmong (IsAnswered c.profile query first count) name
 
 abbrev pub FoundFrom : Conditions → List ℕ → List ℕ → ℕ → ℕ → Result (List Base) Why → Answer → Type 0
-FoundFrom c name query first count (Err why) answer = answer ≡ refused why
-FoundFrom c name query first count (Ok bases) answer = FoundAmong c name query first count bases (query_fault query) answer
+FoundFrom c name query first count = AskedFrom (IsAnswered c.profile query first count) name query
+
+abbrev pub ScannedFrom : Conditions → List ℕ → List ℕ → ℕ → ℕ → Result (List Base) Why → Answer → Type 0
+ScannedFrom c name query number position = AskedFrom (IsScanned c.profile query number position) name query
+
+-- ---- the command that counts
+
+abbrev pub CountedIn : Conditions → List ℕ → Option Base → Answer → Type 0
+CountedIn c name None answer = answer ≡ refused (no_database name)
+CountedIn c name (Some base) answer = IsCounted c.profile base answer
+
+abbrev pub CountedFrom : Conditions → List ℕ → Result (List Base) Why → Answer → Type 0
+CountedFrom c name (Err why) answer = answer ≡ refused why
+CountedFrom c name (Ok bases) answer = CountedIn c name (base_named name bases) answer
+
+-- ---- the command that dumps
+
+-- the records' bytes, joined in the order of their numbers
+abbrev pub dumped_in : List ℕ → Option Base → Answer
+dumped_in name None = refused (no_database name)
+dumped_in name (Some base) = dumped (flat_map (λ kept. kept.bytes) base.records)
+
+abbrev pub dumped_from : List ℕ → Result (List Base) Why → Answer
+dumped_from name (Err why) = refused why
+dumped_from name (Ok bases) = dumped_in name (base_named name bases)
+
+abbrev pub dumped_by : Conditions → List ℕ → Holdings → Outcome
+dumped_by c name before = (dumped_from name (ready c before), before)
 
 -- ---- one command
 
@@ -122,7 +162,7 @@ waited c before = (waits (ready c before), before)
 abbrev pub splits_of : List (List ℕ) → List Split
 splits_of files = map split_of files
 
--- What a command answers and leaves. A find has none: what it answers is said by the records that it finds.
+-- What a command answers and leaves. A find, a scan and a stat have none: what they answer is said by the records that are kept.
 abbrev pub outcome : Conditions → Command → Holdings → Option Outcome
 outcome c Init before = Some (initialised c before)
 outcome c (Create name) before = Some (turned c (created (name_bytes name)) before)
@@ -130,16 +170,16 @@ outcome c (Drop name) before = Some (turned c (dropped (name_bytes name)) before
 outcome c (Change kind name files) before = Some (turned c (changed_by_files c kind (name_bytes name) (splits_of (map (λ file. file.items) files.items))) before)
 outcome c (Find name query first count) before = None
 outcome c Check before = Some (waited c before)
-outcome c (Stat name) before = Some (waited c before)
-outcome c (Dump name) before = Some (waited c before)
-outcome c (Scan name query number position) before = Some (waited c before)
+outcome c (Stat name) before = None
+outcome c (Dump name) before = Some (dumped_by c (name_bytes name) before)
+outcome c (Scan name query number position) before = None
 outcome c (Analyse files) before = Some (refused unsupported, before)
 
 abbrev pub left_by : Holdings → Option Outcome → Holdings
 left_by before None = before
 left_by before (Some told) = told.1
 
--- what is held after a command; a find leaves what was held
+-- what is held after a command; a find, a scan and a stat leave what was held
 abbrev pub after : Conditions → Command → Holdings → Holdings
 after c command before = left_by before (outcome c command before)
 
@@ -147,10 +187,25 @@ abbrev pub IsTold : Option Outcome → Answer → Type 0
 IsTold None answer = ⊥
 IsTold (Some told) answer = answer ≡ told.0
 
--- what a command answers: a find by the records that it finds, each other by its outcome
+-- what a command answers: a find, a scan and a stat by the kept records, each other by its outcome
 abbrev pub Answers : Conditions → Command → Holdings → Answer → Type 0
 Answers c (Find name query first count) before answer = FoundFrom c (name_bytes name) (string_bytes query) first count (ready c before) answer
+Answers c (Scan name query number position) before answer = ScannedFrom c (name_bytes name) (string_bytes query) number position (ready c before) answer
+Answers c (Stat name) before answer = CountedFrom c (name_bytes name) (ready c before) answer
 Answers c command before answer = IsTold (outcome c command before) answer
+
+-- the commands that change nothing that is held, whatever it is
+abbrev pub OnlyAsks : Command → Type 0
+OnlyAsks Init = ⊥
+OnlyAsks (Create name) = ⊥
+OnlyAsks (Drop name) = ⊥
+OnlyAsks (Change kind name files) = ⊥
+OnlyAsks (Find name query first count) = Unit {0}
+OnlyAsks Check = Unit {0}
+OnlyAsks (Stat name) = Unit {0}
+OnlyAsks (Dump name) = Unit {0}
+OnlyAsks (Scan name query number position) = Unit {0}
+OnlyAsks (Analyse files) = Unit {0}
 
 -- ---- a list of commands: each takes its step, or the store or the memory fails and nothing changes
 

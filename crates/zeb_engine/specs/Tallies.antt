@@ -1,5 +1,5 @@
 -- What a tally counts.
-use Rattle.std.specs.Prelude.{◌≡◌, ◌+◌, ℕ}
+use Rattle.std.specs.Prelude.{◌≡◌, ◌+◌}
 use Rattle.zeb_engine.specs.declared.tally.Fate.{Fate}
 use Rattle.zeb_engine.specs.declared.tally.Fate.TheVariants.{Inserted, Updated, Deleted, PassedOver}
 use Rattle.zeb_engine.specs.declared.tally.Tally.{Tally}

@@ -1,5 +1,5 @@
 -- What commands do to a connection, and to what its tables hold.
-use Rattle.std.specs.Prelude.{◌≡◌, ◌⊎◌, ◌+◌, ℕ, ℤ, List, take, Result, Ok, Err, IsTrue, if◌then◌else◌}
+use Rattle.std.specs.Prelude.{◌≡◌, ◌⊎◌, ℕ, ℤ, List, [], ◌∷◌, Result, Ok, Err, IsTrue, OnOk, if◌then◌else◌}
 use Rattle.std.specs.Ordering.{int_eq}
 use Rattle.sqlite.specs.Tree.{Trees}
 use Rattle.sqlite.specs.State.{State, KeepsCommit}
@@ -8,10 +8,9 @@ use Rattle.zeb_register.specs.Calls.{GoesOn}
 use Rattle.zeb_register.specs.Content.{Content}
 use Rattle.zeb_register.specs.Store.{IsStore, meta_tree, databases_tree}
 use Rattle.zeb_engine.specs.declared.commands.Command.{Command}
-use Rattle.zeb_engine.specs.declared.commands.Command.TheVariants.{Init, Check, Create, Drop, Stat, Dump, Change, Find, Scan, Analyse}
 use Rattle.zeb_engine.specs.declared.replies.Reply.{Reply}
 use Rattle.zeb_engine.specs.declared.refusals.Refusal.{Refusal}
-use Rattle.zeb_engine.specs.declared.refusals.Refusal.TheVariants.{Store, Memory}
+use Rattle.zeb_engine.specs.Adopting.{StaysOpen}
 use Rattle.zeb_engine.specs.Answers.{Answer, Why, refused, why_of, reply_answer, answer_of, IsFailure}
 use Rattle.zeb_engine.specs.Conditions.{Conditions, conditions}
 use Rattle.zeb_engine.specs.Holdings.{Holdings, Base, Kept}
@@ -20,7 +19,7 @@ use Rattle.zeb_engine.specs.declared.changes.Fold.{Fold}
 use Rattle.zeb_engine.specs.declared.records.Setting.{Setting}
 use Rattle.zeb_engine.specs.declared.tally.Fate.{Fate}
 use Rattle.zeb_engine.specs.Folding.{Changed, Progress}
-use Rattle.zeb_engine.specs.Steps.{Outcome, Answers, FoundFrom, Run, after, ready}
+use Rattle.zeb_engine.specs.Steps.{Outcome, Answers, FoundFrom, ScannedFrom, Run, after, ready}
 
 -- ---- a value or a refusal, as a definition says
 
@@ -97,11 +96,17 @@ Serves holds c Fits outcome old new result =
     (before : Holdings) → (IsTrue old.is_open → Fits old.now.trees before) → Keeps holds c old before
     → (((outcome before).0 ≡ answer_of result) × Keeps holds c new (outcome before).1) ⊎ (IsFailure (answer_of result) × Keeps holds c new before)
 
--- a find: it answers what is found, or it fails, and the tables hold what they held
-abbrev pub Finds : (holds : Trees → Content → Type 0) → Conditions → (name query : List ℕ) → (first count : ℕ) → State → State → Result Reply Refusal → Type 0
-Finds holds c name query first count old new result =
+-- a command that reads: it answers what is said of what is held, or it fails, and the tables hold what they held
+abbrev pub Asks : (holds : Trees → Content → Type 0) → Conditions → (Answered : Holdings → Answer → Type 0) → State → State → Result Reply Refusal → Type 0
+Asks holds c Answered old new result =
     (before : Holdings) → Keeps holds c old before
-    → (FoundFrom c name query first count (ready c before) (answer_of result) × Keeps holds c new before) ⊎ (IsFailure (answer_of result) × Keeps holds c new before)
+    → (Answered before (answer_of result) × Keeps holds c new before) ⊎ (IsFailure (answer_of result) × Keeps holds c new before)
+
+abbrev pub Finds : (holds : Trees → Content → Type 0) → Conditions → (name query : List ℕ) → (first count : ℕ) → State → State → Result Reply Refusal → Type 0
+Finds holds c name query first count = Asks holds c (λ before answer. FoundFrom c name query first count (ready c before) answer)
+
+abbrev pub ScansFrom : (holds : Trees → Content → Type 0) → Conditions → (name query : List ℕ) → (number position : ℕ) → State → State → Result Reply Refusal → Type 0
+ScansFrom holds c name query number position = Asks holds c (λ before answer. ScannedFrom c name query number position (ready c before) answer)
 
 -- the same of any command
 abbrev pub ServesCommand : (holds : Trees → Content → Type 0) → Conditions → Command → State → State → Result Reply Refusal → Type 0
@@ -114,20 +119,8 @@ abbrev pub Runs : (holds : Trees → Content → Type 0) → Conditions → List
 Runs holds c commands answers old new =
     (before : Holdings) → Keeps holds c old before → (last : Holdings) × Run c before commands answers last × Keeps holds c new last
 
--- ---- crashes
-
--- a crash now leaves the image of these holdings alone
-abbrev pub Leaves : (holds : Trees → Content → Type 0) → Conditions → State → Holdings → Type 0
-Leaves holds c s held = (db : Trees) → s.may_leave db → IsImage holds c db held
-
--- what a command may commit: the image of its outcome
-abbrev pub Commits : (holds : Trees → Content → Type 0) → Conditions → (Holdings → Holdings) → State → Trees → Type 0
-Commits holds c next old db = (before : Holdings) → Keeps holds c old before → IsImage holds c db (next before)
-
--- A crash after a command leaves what was there before it, or its outcome: only the outcome once it is accepted, and only what
--- was there once it is refused, but for a failure of the store.
-abbrev pub Endures : (holds : Trees → Content → Type 0) → Conditions → (Holdings → Holdings) → State → State → Result Reply Refusal → Type 0
-Endures holds c next old new (Ok reply) = (before : Holdings) → Keeps holds c old before → Leaves holds c old before → Leaves holds c new (next before)
-Endures holds c next old new (Err Store) =
-    (before : Holdings) → Keeps holds c old before → Leaves holds c old before → (db : Trees) → new.may_leave db → IsImage holds c db before ⊎ IsImage holds c db (next before)
-Endures holds c next old new (Err refusal) = (before : Holdings) → Leaves holds c old before → Leaves holds c new before
+-- where one of the commands is accepted, the connection was open, and where the last one is, it is open still
+abbrev pub FindOpen : List (Result Reply Refusal) → State → State → Type 0
+FindOpen [] old new = Unit {0}
+FindOpen (result ∷ []) old new = OnOk result (StaysOpen old new)
+FindOpen (result ∷ another ∷ more) old new = OnOk result (IsTrue old.is_open) × FindOpen (another ∷ more) old new

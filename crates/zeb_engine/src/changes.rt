@@ -1,6 +1,6 @@
 //! Updates and deletes: the records of files, folded into a database in one transaction.
 
-ghost use Rattle.std.specs.Prelude.{◌≡◌, ◌⊎◌, ◌+◌, ℕ, ℤ, List, map, Some, Ok, Err, true, false, IsTrue, OnErr, IfErr, OnOk, ⊤};
+ghost use Rattle.std.specs.Prelude.{◌≡◌, ◌⊎◌, ◌+◌, ℕ, ℤ, List, map, Some, Ok, Err, true, false, IsTrue, OnErr, IfErr, OnOk};
 ghost use Rattle.sqlite.specs.Held.{state};
 ghost use Rattle.sqlite.specs.State.{HasCleanDisk, Survives};
 ghost use Rattle.zeb_register.specs.Calls.{ChangesNothing};
@@ -8,11 +8,12 @@ ghost use Rattle.zeb_marc.specs.Splits.{next_of, split_of};
 ghost use Rattle.zeb_engine.specs.Adopting.{StaysOpen};
 ghost use Rattle.zeb_engine.specs.Changing.{BeginsWith, last_of};
 ghost use Rattle.zeb_engine.specs.Conditions.{Conditions};
+ghost use Rattle.zeb_engine.specs.Crashes.{Commits};
 ghost use Rattle.zeb_engine.specs.Folding.{Progress as FoldProgress, folded, file_folded, files_folded};
 ghost use Rattle.zeb_engine.specs.Holdings.{Base, Holdings, Kept, base_named};
 ghost use Rattle.zeb_engine.specs.Image.{Keeps};
 ghost use Rattle.zeb_engine.specs.NameOf.{name_bytes};
-ghost use Rattle.zeb_engine.specs.Reading.{HasFailedAt, NoneFailed, NoReadFault, ReadsNext};
+ghost use Rattle.zeb_engine.specs.Reading.{HasFailedAt, NamesFailed, NoneFailed, NoReadFault, ReadsNext};
 ghost use Rattle.zeb_engine.specs.Steps.{changed_by_files, ready, splits_of, start_of, turned};
 ghost use Rattle.zeb_engine.specs.Transactions.{EnduresRefusal, Stays};
 ghost use Rattle.zeb_engine.specs.Works.{IsFolded, IsReady, IsUnderWay, Meets, Serves, StandsFor, Works, conditions_of};
@@ -46,6 +47,21 @@ fn read_record<R: Source>(
         Ok(found) => Ok(found.is_some()),
         Err(fault) => Err(Refusal::of_marc(file, nth, fault)),
     }
+}
+
+/// Refused where a reader has failed already: no record is to be read then.
+pub(crate) fn check_readers<R: Source>(readers: &[R]) -> Result<(), Refusal>
+    ensures none { OnOk result (NoneFailed R.has_failed readers.now) }
+    ensures named { IfErr result (λ refusal. NamesFailed R.has_failed readers.now refusal) }
+{
+    for (index, reader) in readers.iter().enumerate() {
+        if reader.has_failed() {
+            return Err(Refusal::ReadFault {
+                file: index as u64 + 1,
+            });
+        }
+    }
+    Ok(())
 }
 
 /// A change on its way: how far it has come, and what became of its records.
@@ -212,7 +228,11 @@ fn transact<S: Alter, L: Layout, R: Source>(
     ensures open { HasCleanDisk (state S.Store connection.new) → OnOk result (StaysOpen (state S.Store connection.old) (state S.Store connection.new)) }
     ensures refused { HasCleanDisk (state S.Store connection.new) → OnErr result (ChangesNothing (state S.Store connection.old) (state S.Store connection.new)) }
     ensures endures { HasCleanDisk (state S.Store connection.new) → IfErr result (EnduresRefusal (state S.Store connection.old) (state S.Store connection.new)) }
-    ensures survives { Survives (state S.Store connection.old) (state S.Store connection.new) (λ _. ⊤) }
+    ensures survives { Survives (state S.Store connection.old) (state S.Store connection.new) (λ db. IsTrue (state S.Store connection.old).is_open
+        → (texts : List (List ℕ)) → map R.remaining readers.old ≡ map Some texts → NoneFailed R.has_failed readers.new → (version : List ℕ)
+        → Commits L.holds (conditions_of version change.now.setting) (BeginsWith change.now.setting.kind (name_bytes change.now.name.now) change.now.found (conditions_of version change.now.setting))
+        (turned (conditions_of version change.now.setting) (changed_by_files (conditions_of version change.now.setting) change.now.setting.kind (name_bytes change.now.name.now) (splits_of texts)))
+        (state S.Store connection.old) db) }
     ensures serves { HasCleanDisk (state S.Store connection.new) → IsTrue (state S.Store connection.old).is_open
         → (texts : List (List ℕ)) → map R.remaining readers.old ≡ map Some texts → NoneFailed R.has_failed readers.new → (version : List ℕ)
         → Serves L.holds (conditions_of version change.now.setting) (BeginsWith change.now.setting.kind (name_bytes change.now.name.now) change.now.found (conditions_of version change.now.setting))
@@ -267,7 +287,11 @@ pub(crate) fn change_database<S: Alter, L: Layout, R: Source>(
     ensures open { HasCleanDisk (state S.Store connection.new) → OnOk result (StaysOpen (state S.Store connection.old) (state S.Store connection.new)) }
     ensures refused { HasCleanDisk (state S.Store connection.new) → OnErr result (ChangesNothing (state S.Store connection.old) (state S.Store connection.new)) }
     ensures endures { HasCleanDisk (state S.Store connection.new) → IfErr result (EnduresRefusal (state S.Store connection.old) (state S.Store connection.new)) }
-    ensures survives { Survives (state S.Store connection.old) (state S.Store connection.new) (λ _. ⊤) }
+    ensures survives { Survives (state S.Store connection.old) (state S.Store connection.new) (λ db. IsTrue (state S.Store connection.old).is_open
+        → (texts : List (List ℕ)) → map R.remaining readers.old ≡ map Some texts → NoneFailed R.has_failed readers.new → (version : List ℕ)
+        → Commits L.holds (conditions_of version setting.entry) (IsReady (conditions_of version setting.entry))
+        (turned (conditions_of version setting.entry) (changed_by_files (conditions_of version setting.entry) setting.entry.kind (name_bytes name.now) (splits_of texts)))
+        (state S.Store connection.old) db) }
     ensures serves { HasCleanDisk (state S.Store connection.new) → IsTrue (state S.Store connection.old).is_open
         → (texts : List (List ℕ)) → map R.remaining readers.old ≡ map Some texts → NoneFailed R.has_failed readers.new → (version : List ℕ)
         → Serves L.holds (conditions_of version setting.entry) (IsReady (conditions_of version setting.entry))

@@ -4,6 +4,9 @@ ghost use Rattle.std.specs.Prelude.{◌≡◌, ◌++◌, ◌∷◌, [], IfOk, ta
 ghost use Rattle.std.specs.List.{flat_map};
 
 use std::alloc::{AllocError, Global};
+use zeb_profile::Register;
+use zeb_register::TermCount;
+use zeb_text::number_of_key;
 
 /// A record that a find shows.
 #[derive(Debug, Drop)]
@@ -12,6 +15,19 @@ pub struct Hit {
     pub sysno: u64,
     /// Its identifier.
     pub ident: String,
+}
+
+/// How much a database has in one register.
+#[derive(Debug, Drop)]
+pub struct Holding {
+    /// The name of the index.
+    pub index: String,
+    /// Which of the index's registers it is.
+    pub register: Register,
+    /// How many terms it has.
+    pub terms: u64,
+    /// How many occurrences its terms have.
+    pub occurrences: u64,
 }
 
 /// What an accepted command answers.
@@ -30,9 +46,23 @@ pub enum Reply {
         hits: u64,
         shown: Vec<Hit>,
     },
+    /// Terms of a register in the order of their bytes, each with the number of records that have it.
+    Scanned {
+        register: Register,
+        entries: Vec<TermCount>,
+    },
+    /// How many records a database has, the last number that it gave, and how much it has in each register that the
+    /// profile names.
+    Counted {
+        records: u64,
+        last: u64,
+        holdings: Vec<Holding>,
+    },
+    /// The bytes of a database's records, one after the other.
+    Dumped(Vec<u8>),
 }
 
-ghost use Rattle.zeb_engine.specs.Replies.{reply_text, hits_text, changed_text, hit_line};
+ghost use Rattle.zeb_engine.specs.Replies.{reply_text, hits_text, changed_text, hit_line, entry_line, shown_number, shown_term, holding_line, records_text};
 
 fn changed_line(
     alloc: Global,
@@ -63,7 +93,73 @@ fn found_lines(alloc: Global, hits: u64, shown: &[Hit]) -> Result<String, AllocE
     Ok(text)
 }
 
-/// The bytes that are printed for a reply, each line ended by LF.
+/// The number of a key without leading zeros; another text as it is.
+fn number_text(alloc: Global, term: &str) -> Result<String, AllocError>
+    ensures { IfOk result (λ text. string_bytes text ≡ shown_number term.now) }
+{
+    match number_of_key(term) {
+        Some(number) => number.to_string(alloc),
+        None => String::from_str(alloc, term),
+    }
+}
+
+fn term_text(alloc: Global, register: Register, term: &str) -> Result<String, AllocError>
+    ensures { IfOk result (λ text. string_bytes text ≡ shown_term register term.now) }
+{
+    match register {
+        Register::Word | Register::Phrase => String::from_str(alloc, term),
+        Register::Number => number_text(alloc, term),
+    }
+}
+
+fn entry_text(alloc: Global, register: Register, entry: &TermCount) -> Result<String, AllocError>
+    ensures { IfOk result (λ text. string_bytes text ≡ entry_line register entry.now) }
+{
+    let shown = term_text(alloc, register, entry.term.as_str())?;
+    let term = shown.as_str();
+    let records = entry.records;
+    format!(in alloc; "{term} {records}\n")
+}
+
+fn entry_lines(
+    alloc: Global,
+    register: Register,
+    entries: &[TermCount],
+) -> Result<String, AllocError>
+    ensures { IfOk result (λ text. string_bytes text ≡ flat_map (entry_line register) entries.now) }
+{
+    let mut text = String::new(alloc);
+    for entry in entries {
+        text.push_str(entry_text(alloc, register, entry)?.as_str())?;
+    }
+    Ok(text)
+}
+
+fn holding_text(alloc: Global, holding: &Holding) -> Result<String, AllocError>
+    ensures { IfOk result (λ text. string_bytes text ≡ holding_line holding.now) }
+{
+    let index = holding.index.as_str();
+    let register = holding.register;
+    let (terms, occurrences) = (holding.terms, holding.occurrences);
+    format!(in alloc; "{index}:{register} {terms} {occurrences}\n")
+}
+
+fn counted_lines(
+    alloc: Global,
+    records: u64,
+    last: u64,
+    holdings: &[Holding],
+) -> Result<String, AllocError>
+    ensures { IfOk result (λ text. string_bytes text ≡ records_text records last ++ flat_map holding_line holdings.now) }
+{
+    let mut text = format!(in alloc; "records {records}\nlast {last}\n")?;
+    for holding in holdings {
+        text.push_str(holding_text(alloc, holding)?.as_str())?;
+    }
+    Ok(text)
+}
+
+/// The bytes that are printed for a reply: lines, each ended by LF, or the bytes of a dump alone.
 pub fn render(alloc: Global, reply: &Reply) -> Result<Vec<u8>, AllocError>
     ensures { IfOk result (λ bytes. bytes.items ≡ reply_text reply.now) }
 {
@@ -75,6 +171,13 @@ pub fn render(alloc: Global, reply: &Reply) -> Result<Vec<u8>, AllocError>
             deleted,
         } => changed_line(alloc, *inserted, *updated, *deleted)?,
         Reply::Found { hits, shown } => found_lines(alloc, *hits, shown)?,
+        Reply::Scanned { register, entries } => entry_lines(alloc, *register, entries)?,
+        Reply::Counted {
+            records,
+            last,
+            holdings,
+        } => counted_lines(alloc, *records, *last, holdings)?,
+        Reply::Dumped(bytes) => return Vec::from_slice(alloc, bytes),
     };
     Ok(text.into_bytes())
 }

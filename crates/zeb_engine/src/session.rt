@@ -1,27 +1,32 @@
 //! A register that commands are given to.
 
-ghost use Rattle.std.specs.Prelude.{◌≡◌, ◌⊎◌, ℕ, List, [], map, Some, Err, false, IsTrue, IfOk, IfErr, OnOk, OnErr, length, ⊤};
+ghost use Rattle.std.specs.Prelude.{◌≡◌, ◌⊎◌, ℕ, List, [], map, Some, Err, false, IsTrue, IfOk, IfErr, IsErrAnd, OnOk, OnErr, length};
 ghost use Rattle.std.specs.List.{AllByRecursion};
 ghost use Rattle.std.specs.Result.{IsErr};
 ghost use Rattle.sqlite.specs.Held.{state};
-ghost use Rattle.sqlite.specs.State.{HasCleanDisk, Survives};
+ghost use Rattle.sqlite.specs.State.{HasCleanDisk, IsLive, Opens, Survives};
+ghost use Rattle.zeb_engine.specs.Answers.{answer_of};
 ghost use Rattle.zeb_engine.specs.Conditions.{conditions};
-ghost use Rattle.zeb_engine.specs.Found.{LooksUp, LooksUpFor};
+ghost use Rattle.zeb_engine.specs.Found.{LooksUpFor};
 ghost use Rattle.zeb_engine.specs.NameOf.{name_bytes};
-ghost use Rattle.zeb_engine.specs.Reading.{HasFailedAt, NoneFailed, NoReadFault};
-ghost use Rattle.zeb_engine.specs.Steps.{changed_by_files, created, dropped, holding, splits_of, turned, waited};
+ghost use Rattle.zeb_engine.specs.Scanned.{ScansFor};
+ghost use Rattle.zeb_engine.specs.Reading.{HasFailedAt, NamesFailed, NoneFailed, NoReadFault};
+ghost use Rattle.zeb_engine.specs.Steps.{after, changed_by_files, created, dropped, holding, OnlyAsks, splits_of, turned};
 ghost use Rattle.zeb_engine.specs.Transactions.{EnduresRefusal, IsDurable};
 ghost use Rattle.zeb_register.specs.Calls.{ChangesNothing};
 ghost use Rattle.zeb_register.specs.Store.{IsStore};
 
-use crate::changes::change_database;
+use crate::changes::{change_database, check_readers};
 use crate::commands::{Command, Kind, Limits};
-use crate::find::{Question, find};
+use crate::dump::dump;
+use crate::find::Question;
 use crate::names::DbName;
 use crate::readiness::check_ready;
 use crate::records::Setting;
 use crate::refusals::Refusal;
 use crate::replies::Reply;
+use crate::scan::Around;
+use crate::stat::stat;
 use crate::tables::make_absent_tables;
 use crate::writes::{create_database, drop_database, init_register};
 use sqlite::{Alter, Connection};
@@ -30,6 +35,8 @@ use std::marker::PhantomData;
 use zeb_marc::{Slice, Source};
 use zeb_profile::Profile;
 use zeb_register::{Layout, Work};
+
+mod asking;
 
 /// A register under a profile. No transaction is open between two commands.
 pub struct Session<S: Alter, L: Layout> {
@@ -56,7 +63,8 @@ impl<S: Alter + Drop, L: Layout> Drop for Session<S, L> {
 }
 
 impl<S: Alter, L: Layout> Session<S, L> {
-    ghost use Rattle.zeb_engine.specs.Works.{Always, Finds, Serves, ServesCommand};
+    ghost use Rattle.zeb_engine.specs.Works.{Always, FindOpen, Serves, ServesCommand};
+    ghost use Rattle.zeb_engine.specs.Crashes.{Commits, CommitsCommand, CommitsAdopted, CommitsSome, Endures, EnduresRun, held_after, Stands};
     ghost use Rattle.zeb_engine.specs.Headline.{Headline};
     ghost use Rattle.zeb_engine.specs.Adopting.{StaysOpen};
     ghost use Rattle.zeb_engine.specs.Conditions.{Conditions};
@@ -82,12 +90,17 @@ impl<S: Alter, L: Layout> Session<S, L> {
             → ChangesNothing (state S.Store connection) (state S.Store session.connection)) }
         ensures keeps { IfOk result (λ session. HasCleanDisk (state S.Store session.connection)
             → (c : Conditions) (before : Holdings) → Keeps L.holds c (state S.Store connection) before → Keeps L.holds c (state S.Store session.connection) before) }
+        // So it holds what the disk stands for that an open has found.
+        ensures reopened { IfOk result (λ session. HasCleanDisk (state S.Store session.connection) → IsLive (state S.Store connection) → Opens (state S.Store connection)
+            → (c : Conditions) (before : Holdings) → Stands L.holds c (state S.Store connection).now.trees before → Keeps L.holds c (state S.Store session.connection) before) }
         // Whatever tables the store has, each is there still, with the rows that it had.
         ensures rows { IfOk result (λ session. HasCleanDisk (state S.Store session.connection) → IsTrue (state S.Store session.connection).is_open
             → KeepsTables (state S.Store connection).now (state S.Store session.connection).now) }
         ensures open { IfOk result (λ session. HasCleanDisk (state S.Store session.connection) → StaysOpen (state S.Store connection) (state S.Store session.connection)) }
         ensures durable { IfOk result (λ session. HasCleanDisk (state S.Store session.connection) → IsDurable (state S.Store session.connection)) }
-        ensures survives { IfOk result (λ session. Survives (state S.Store connection) (state S.Store session.connection) (λ _. ⊤)) }
+        // Taken over or refused: a crash leaves what it left before, or the store of the holdings that were there.
+        ensures survives { IfOk result (λ session. Survives (state S.Store connection) (state S.Store session.connection) (CommitsAdopted L.holds (state S.Store connection))) }
+        ensures survives_refused { IfErr result (λ back. Survives (state S.Store connection) (state S.Store back.0) (CommitsAdopted L.holds (state S.Store connection))) }
         ensures given { IfOk result (λ session. (session.profile ≡ profile) × (session.limits ≡ limits)) }
         ensures fresh { IfOk result (λ session. session.work ≡ record { dict_read = 0; dict_written = 0; block_read = 0; block_written = 0 }) }
         ensures idle { IfErr result (λ back. back.0.in_transaction ≡ false) }
@@ -140,7 +153,9 @@ impl<S: Alter, L: Layout> Session<S, L> {
         ensures open { HasCleanDisk (state S.Store self.new.connection) → OnOk result (StaysOpen (state S.Store self.old.connection) (state S.Store self.new.connection)) }
         ensures refused { HasCleanDisk (state S.Store self.new.connection) → OnErr result (ChangesNothing (state S.Store self.old.connection) (state S.Store self.new.connection)) }
         ensures endures { HasCleanDisk (state S.Store self.new.connection) → IfErr result (EnduresRefusal (state S.Store self.old.connection) (state S.Store self.new.connection)) }
-        ensures survives { Survives (state S.Store self.old.connection) (state S.Store self.new.connection) (λ _. ⊤) }
+        ensures survives { Survives (state S.Store self.old.connection) (state S.Store self.new.connection) (CommitsCommand L.holds (conditions L.version self.old.profile self.old.limits) command.now (state S.Store self.old.connection)) }
+        // A crash then leaves what the command left, or what was there before it.
+        ensures crash { HasCleanDisk (state S.Store self.new.connection) → Endures L.holds (conditions L.version self.old.profile self.old.limits) (after (conditions L.version self.old.profile self.old.limits) command.now) (state S.Store self.old.connection) (state S.Store self.new.connection) result }
         ensures under { (self.new.profile ≡ self.old.profile) × (self.new.limits ≡ self.old.limits) }
         ensures serves { HasCleanDisk (state S.Store self.new.connection)
             → ServesCommand L.holds (conditions L.version self.old.profile self.old.limits) command.now (state S.Store self.old.connection) (state S.Store self.new.connection) result }
@@ -148,8 +163,14 @@ impl<S: Alter, L: Layout> Session<S, L> {
         // An accepted `init` leaves a register without a database, whatever rows the tables held.
         ensures begun { HasCleanDisk (state S.Store self.new.connection) → command.now ≡ Command.Init → OnOk result (IsStore (state S.Store self.old.connection)
             → Keeps L.holds (conditions L.version self.old.profile self.old.limits) (state S.Store self.new.connection) (holding (conditions L.version self.old.profile self.old.limits) [])) }
-        // A find is answered by the registers, on any tables that hold a content.
+        // A find and a scan are answered by the registers, on any tables that hold a content.
         ensures alone { HasCleanDisk (state S.Store self.new.connection) → LooksUpFor L.holds self.old.profile command.now (state S.Store self.old.connection) result }
+        // Damage is answered only where the tables are the image of nothing that can be held.
+        ensures honest { HasCleanDisk (state S.Store self.new.connection) → result ≡ Err Refusal.Damaged
+            → (before : Holdings) → ¬ Keeps L.holds (conditions L.version self.old.profile self.old.limits) (state S.Store self.old.connection) before }
+        // A command that only asks changes nothing, whatever it answers and whatever the tables hold.
+        ensures reads { HasCleanDisk (state S.Store self.new.connection) → OnlyAsks command.now → ChangesNothing (state S.Store self.old.connection) (state S.Store self.new.connection) }
+        ensures scans { HasCleanDisk (state S.Store self.new.connection) → ScansFor L.holds self.old.profile command.now (state S.Store self.old.connection) result }
     {
         let answer = self.carry_out(command);
         // What is shown is what was committed.
@@ -161,7 +182,7 @@ impl<S: Alter, L: Layout> Session<S, L> {
         ensures open { HasCleanDisk (state S.Store self.new.connection) → OnOk result (StaysOpen (state S.Store self.old.connection) (state S.Store self.new.connection)) }
         ensures refused { HasCleanDisk (state S.Store self.new.connection) → OnErr result (ChangesNothing (state S.Store self.old.connection) (state S.Store self.new.connection)) }
         ensures endures { HasCleanDisk (state S.Store self.new.connection) → IfErr result (EnduresRefusal (state S.Store self.old.connection) (state S.Store self.new.connection)) }
-        ensures survives { Survives (state S.Store self.old.connection) (state S.Store self.new.connection) (λ _. ⊤) }
+        ensures survives { Survives (state S.Store self.old.connection) (state S.Store self.new.connection) (CommitsCommand L.holds (conditions L.version self.old.profile self.old.limits) command.now (state S.Store self.old.connection)) }
         ensures under { (self.new.profile ≡ self.old.profile) × (self.new.limits ≡ self.old.limits) }
         ensures serves { HasCleanDisk (state S.Store self.new.connection)
             → ServesCommand L.holds (conditions L.version self.old.profile self.old.limits) command.now (state S.Store self.old.connection) (state S.Store self.new.connection) result }
@@ -170,6 +191,8 @@ impl<S: Alter, L: Layout> Session<S, L> {
             → IsStore (state S.Store self.new.connection)
             × IsImage L.holds (conditions L.version self.old.profile self.old.limits) (state S.Store self.new.connection).now.trees (holding (conditions L.version self.old.profile self.old.limits) [])) }
         ensures alone { HasCleanDisk (state S.Store self.new.connection) → LooksUpFor L.holds self.old.profile command.now (state S.Store self.old.connection) result }
+        ensures reads { HasCleanDisk (state S.Store self.new.connection) → OnlyAsks command.now → ChangesNothing (state S.Store self.old.connection) (state S.Store self.new.connection) }
+        ensures scans { HasCleanDisk (state S.Store self.new.connection) → ScansFor L.holds self.old.profile command.now (state S.Store self.old.connection) result }
     {
         self.work = Work::default();
         match command {
@@ -197,9 +220,29 @@ impl<S: Alter, L: Layout> Session<S, L> {
                 },
             ),
             Command::Check => self.wait(),
-            Command::Stat(_) => self.wait(),
-            Command::Dump(_) => self.wait(),
-            Command::Scan { .. } => self.wait(),
+            Command::Stat(name) => stat::<S, L>(
+                self.alloc,
+                &mut self.connection,
+                &mut self.work,
+                &self.profile,
+                name,
+            ),
+            Command::Dump(name) => {
+                dump::<S, L>(self.alloc, &mut self.connection, &self.profile, name)
+            }
+            Command::Scan {
+                database,
+                query,
+                number,
+                position,
+            } => self.scan(
+                database,
+                Around {
+                    query: query.as_str(),
+                    number: *number,
+                    position: *position,
+                },
+            ),
             Command::Analyse { .. } => Err(Refusal::Unsupported),
         }
     }
@@ -209,7 +252,7 @@ impl<S: Alter, L: Layout> Session<S, L> {
         ensures open { HasCleanDisk (state S.Store self.new.connection) → OnOk result (StaysOpen (state S.Store self.old.connection) (state S.Store self.new.connection)) }
         ensures refused { HasCleanDisk (state S.Store self.new.connection) → OnErr result (ChangesNothing (state S.Store self.old.connection) (state S.Store self.new.connection)) }
         ensures endures { HasCleanDisk (state S.Store self.new.connection) → IfErr result (EnduresRefusal (state S.Store self.old.connection) (state S.Store self.new.connection)) }
-        ensures survives { Survives (state S.Store self.old.connection) (state S.Store self.new.connection) (λ _. ⊤) }
+        ensures survives { Survives (state S.Store self.old.connection) (state S.Store self.new.connection) (Commits L.holds (conditions L.version self.old.profile self.old.limits) Always (turned (conditions L.version self.old.profile self.old.limits) (created (name_bytes name.now))) (state S.Store self.old.connection)) }
         ensures under { (self.new.profile ≡ self.old.profile) × (self.new.limits ≡ self.old.limits) }
         ensures serves { HasCleanDisk (state S.Store self.new.connection)
             → Serves L.holds (conditions L.version self.old.profile self.old.limits) Always (turned (conditions L.version self.old.profile self.old.limits) (created (name_bytes name.now))) (state S.Store self.old.connection) (state S.Store self.new.connection) result }
@@ -224,7 +267,7 @@ impl<S: Alter, L: Layout> Session<S, L> {
         ensures open { HasCleanDisk (state S.Store self.new.connection) → OnOk result (StaysOpen (state S.Store self.old.connection) (state S.Store self.new.connection)) }
         ensures refused { HasCleanDisk (state S.Store self.new.connection) → OnErr result (ChangesNothing (state S.Store self.old.connection) (state S.Store self.new.connection)) }
         ensures endures { HasCleanDisk (state S.Store self.new.connection) → IfErr result (EnduresRefusal (state S.Store self.old.connection) (state S.Store self.new.connection)) }
-        ensures survives { Survives (state S.Store self.old.connection) (state S.Store self.new.connection) (λ _. ⊤) }
+        ensures survives { Survives (state S.Store self.old.connection) (state S.Store self.new.connection) (Commits L.holds (conditions L.version self.old.profile self.old.limits) Always (turned (conditions L.version self.old.profile self.old.limits) (dropped (name_bytes name.now))) (state S.Store self.old.connection)) }
         ensures under { (self.new.profile ≡ self.old.profile) × (self.new.limits ≡ self.old.limits) }
         ensures serves { HasCleanDisk (state S.Store self.new.connection)
             → Serves L.holds (conditions L.version self.old.profile self.old.limits) Always (turned (conditions L.version self.old.profile self.old.limits) (dropped (name_bytes name.now))) (state S.Store self.old.connection) (state S.Store self.new.connection) result }
@@ -234,51 +277,13 @@ impl<S: Alter, L: Layout> Session<S, L> {
         drop_database::<S, L>(self.alloc, &mut self.connection, name)
     }
 
-    /// A command that is not there yet is refused, on a register that is ready.
-    fn wait(&mut self) -> Result<Reply, Refusal>
-        ensures open { HasCleanDisk (state S.Store self.new.connection) → OnOk result (StaysOpen (state S.Store self.old.connection) (state S.Store self.new.connection)) }
-        ensures refused { HasCleanDisk (state S.Store self.new.connection) → OnErr result (ChangesNothing (state S.Store self.old.connection) (state S.Store self.new.connection)) }
-        ensures endures { HasCleanDisk (state S.Store self.new.connection) → IfErr result (EnduresRefusal (state S.Store self.old.connection) (state S.Store self.new.connection)) }
-        ensures survives { Survives (state S.Store self.old.connection) (state S.Store self.new.connection) (λ _. ⊤) }
-        ensures under { (self.new.profile ≡ self.old.profile) × (self.new.limits ≡ self.old.limits) }
-        ensures serves { HasCleanDisk (state S.Store self.new.connection)
-            → Serves L.holds (conditions L.version self.old.profile self.old.limits) Always (waited (conditions L.version self.old.profile self.old.limits)) (state S.Store self.old.connection) (state S.Store self.new.connection) result }
-        ensures unread { NoReadFault result }
-    {
-        check_ready::<S, L>(&mut self.connection, &self.profile)?;
-        Err(Refusal::Unsupported)
-    }
-
-    /// Finds the records of a query, on a register that is ready.
-    fn find(&mut self, database: &DbName, question: Question<'_>) -> Result<Reply, Refusal>
-        ensures open { HasCleanDisk (state S.Store self.new.connection) → OnOk result (StaysOpen (state S.Store self.old.connection) (state S.Store self.new.connection)) }
-        ensures refused { HasCleanDisk (state S.Store self.new.connection) → OnErr result (ChangesNothing (state S.Store self.old.connection) (state S.Store self.new.connection)) }
-        ensures endures { HasCleanDisk (state S.Store self.new.connection) → IfErr result (EnduresRefusal (state S.Store self.old.connection) (state S.Store self.new.connection)) }
-        ensures survives { Survives (state S.Store self.old.connection) (state S.Store self.new.connection) (λ _. ⊤) }
-        ensures under { (self.new.profile ≡ self.old.profile) × (self.new.limits ≡ self.old.limits) }
-        ensures serves { HasCleanDisk (state S.Store self.new.connection)
-            → Finds L.holds (conditions L.version self.old.profile self.old.limits) (name_bytes database.now) question.entry.query.now question.entry.first question.entry.count (state S.Store self.old.connection) (state S.Store self.new.connection) result }
-        ensures unread { NoReadFault result }
-        ensures alone { HasCleanDisk (state S.Store self.new.connection)
-            → LooksUp L.holds self.old.profile (name_bytes database.now) question.entry.query.now question.entry.first question.entry.count (state S.Store self.old.connection) result }
-    {
-        check_ready::<S, L>(&mut self.connection, &self.profile)?;
-        find::<S, L>(
-            self.alloc,
-            &mut self.connection,
-            &mut self.work,
-            &self.profile,
-            database,
-            question,
-        )
-    }
-
     /// Changes a database by files that are given as their bytes.
     fn change(&mut self, kind: Kind, database: &DbName, files: &[Vec<u8>]) -> Result<Reply, Refusal>
         ensures open { HasCleanDisk (state S.Store self.new.connection) → OnOk result (StaysOpen (state S.Store self.old.connection) (state S.Store self.new.connection)) }
         ensures refused { HasCleanDisk (state S.Store self.new.connection) → OnErr result (ChangesNothing (state S.Store self.old.connection) (state S.Store self.new.connection)) }
         ensures endures { HasCleanDisk (state S.Store self.new.connection) → IfErr result (EnduresRefusal (state S.Store self.old.connection) (state S.Store self.new.connection)) }
-        ensures survives { Survives (state S.Store self.old.connection) (state S.Store self.new.connection) (λ _. ⊤) }
+        ensures survives { Survives (state S.Store self.old.connection) (state S.Store self.new.connection) (Commits L.holds (conditions L.version self.old.profile self.old.limits) Always (turned (conditions L.version self.old.profile self.old.limits)
+            (changed_by_files (conditions L.version self.old.profile self.old.limits) kind (name_bytes database.now) (splits_of (map (λ file. file.items) files.now)))) (state S.Store self.old.connection)) }
         ensures under { (self.new.profile ≡ self.old.profile) × (self.new.limits ≡ self.old.limits) }
         ensures serves { HasCleanDisk (state S.Store self.new.connection)
             → Serves L.holds (conditions L.version self.old.profile self.old.limits) Always (turned (conditions L.version self.old.profile self.old.limits)
@@ -304,13 +309,24 @@ impl<S: Alter, L: Layout> Session<S, L> {
         ensures open { HasCleanDisk (state S.Store self.new.connection) → OnOk result (StaysOpen (state S.Store self.old.connection) (state S.Store self.new.connection)) }
         ensures refused { HasCleanDisk (state S.Store self.new.connection) → OnErr result (ChangesNothing (state S.Store self.old.connection) (state S.Store self.new.connection)) }
         ensures endures { HasCleanDisk (state S.Store self.new.connection) → IfErr result (EnduresRefusal (state S.Store self.old.connection) (state S.Store self.new.connection)) }
-        ensures survives { Survives (state S.Store self.old.connection) (state S.Store self.new.connection) (λ _. ⊤) }
+        ensures survives { Survives (state S.Store self.old.connection) (state S.Store self.new.connection) (λ db. (texts : List (List ℕ)) → map R.remaining readers.old ≡ map Some texts → NoneFailed R.has_failed readers.new
+            → Commits L.holds (conditions L.version self.old.profile self.old.limits) Always (turned (conditions L.version self.old.profile self.old.limits)
+            (changed_by_files (conditions L.version self.old.profile self.old.limits) kind (name_bytes database.now) (splits_of texts))) (state S.Store self.old.connection) db) }
+        // A crash then leaves what the change left, or what was there before it.
+        ensures crash { HasCleanDisk (state S.Store self.new.connection) → (texts : List (List ℕ)) → map R.remaining readers.old ≡ map Some texts → NoneFailed R.has_failed readers.new
+            → Endures L.holds (conditions L.version self.old.profile self.old.limits) (held_after (turned (conditions L.version self.old.profile self.old.limits)
+            (changed_by_files (conditions L.version self.old.profile self.old.limits) kind (name_bytes database.now) (splits_of texts)))) (state S.Store self.old.connection) (state S.Store self.new.connection) result }
         ensures under { (self.new.profile ≡ self.old.profile) × (self.new.limits ≡ self.old.limits) }
         ensures serves { HasCleanDisk (state S.Store self.new.connection) → (texts : List (List ℕ)) → map R.remaining readers.old ≡ map Some texts → NoneFailed R.has_failed readers.new
             → Serves L.holds (conditions L.version self.old.profile self.old.limits) Always (turned (conditions L.version self.old.profile self.old.limits)
             (changed_by_files (conditions L.version self.old.profile self.old.limits) kind (name_bytes database.now) (splits_of texts))) (state S.Store self.old.connection) (state S.Store self.new.connection) result }
-        ensures failed { NoneFailed R.has_failed readers.old → (file : ℕ) → HasFailedAt R.has_failed readers.new file → result ≡ Err (Refusal.ReadFault file) }
+        // A reader that has failed, also before the call, is named, whatever else would be refused.
+        ensures sound { NoneFailed R.has_failed readers.new ⊎ IsErrAnd result (NamesFailed R.has_failed readers.new) }
         ensures fault { (file : ℕ) → result ≡ Err (Refusal.ReadFault file) → HasFailedAt R.has_failed readers.new file }
+        // Damage is answered only where the tables are the image of nothing that can be held.
+        ensures honest { HasCleanDisk (state S.Store self.new.connection) → (texts : List (List ℕ)) → map R.remaining readers.old ≡ map Some texts → NoneFailed R.has_failed readers.new
+            → result ≡ Err Refusal.Damaged
+            → (before : Holdings) → ¬ Keeps L.holds (conditions L.version self.old.profile self.old.limits) (state S.Store self.old.connection) before }
     {
         let answer = self.change_from(database, kind, readers);
         // What is shown is what was committed.
@@ -327,15 +343,18 @@ impl<S: Alter, L: Layout> Session<S, L> {
         ensures open { HasCleanDisk (state S.Store self.new.connection) → OnOk result (StaysOpen (state S.Store self.old.connection) (state S.Store self.new.connection)) }
         ensures refused { HasCleanDisk (state S.Store self.new.connection) → OnErr result (ChangesNothing (state S.Store self.old.connection) (state S.Store self.new.connection)) }
         ensures endures { HasCleanDisk (state S.Store self.new.connection) → IfErr result (EnduresRefusal (state S.Store self.old.connection) (state S.Store self.new.connection)) }
-        ensures survives { Survives (state S.Store self.old.connection) (state S.Store self.new.connection) (λ _. ⊤) }
+        ensures survives { Survives (state S.Store self.old.connection) (state S.Store self.new.connection) (λ db. (texts : List (List ℕ)) → map R.remaining readers.old ≡ map Some texts → NoneFailed R.has_failed readers.new
+            → Commits L.holds (conditions L.version self.old.profile self.old.limits) Always (turned (conditions L.version self.old.profile self.old.limits)
+            (changed_by_files (conditions L.version self.old.profile self.old.limits) kind (name_bytes database.now) (splits_of texts))) (state S.Store self.old.connection) db) }
         ensures under { (self.new.profile ≡ self.old.profile) × (self.new.limits ≡ self.old.limits) }
         ensures serves { HasCleanDisk (state S.Store self.new.connection) → (texts : List (List ℕ)) → map R.remaining readers.old ≡ map Some texts → NoneFailed R.has_failed readers.new
             → Serves L.holds (conditions L.version self.old.profile self.old.limits) Always (turned (conditions L.version self.old.profile self.old.limits)
             (changed_by_files (conditions L.version self.old.profile self.old.limits) kind (name_bytes database.now) (splits_of texts))) (state S.Store self.old.connection) (state S.Store self.new.connection) result }
-        ensures failed { NoneFailed R.has_failed readers.old → (file : ℕ) → HasFailedAt R.has_failed readers.new file → result ≡ Err (Refusal.ReadFault file) }
+        ensures sound { NoneFailed R.has_failed readers.new ⊎ IsErrAnd result (NamesFailed R.has_failed readers.new) }
         ensures fault { (file : ℕ) → result ≡ Err (Refusal.ReadFault file) → HasFailedAt R.has_failed readers.new file }
     {
         self.work = Work::default();
+        check_readers(readers)?;
         check_ready::<S, L>(&mut self.connection, &self.profile)?;
         let setting = Setting {
             alloc: self.alloc,
@@ -360,7 +379,11 @@ impl<S: Alter, L: Layout> Session<S, L> {
         ensures count { IfOk result (λ answers. length answers.items ≡ length commands.now) }
         ensures memory { IfErr result (λ refusal. (refusal ≡ Refusal.Memory) × (self.new.connection ≡ self.old.connection)) }
         ensures under { (self.new.profile ≡ self.old.profile) × (self.new.limits ≡ self.old.limits) }
-        ensures survives { Survives (state S.Store self.old.connection) (state S.Store self.new.connection) (λ _. ⊤) }
+        ensures survives { Survives (state S.Store self.old.connection) (state S.Store self.new.connection) (CommitsSome L.holds (conditions L.version self.old.profile self.old.limits) commands.now (state S.Store self.old.connection)) }
+        // A crash then leaves what the run left, but that a command whose store failed may have been carried out.
+        ensures crash { HasCleanDisk (state S.Store self.new.connection) → IfOk result (λ answers. EnduresRun L.holds (conditions L.version self.old.profile self.old.limits) commands.now (map answer_of answers.items) (state S.Store self.old.connection) (state S.Store self.new.connection)) }
+        // A command is accepted on an open connection only, and leaves it open.
+        ensures open { HasCleanDisk (state S.Store self.new.connection) → IfOk result (λ answers. FindOpen answers.items (state S.Store self.old.connection) (state S.Store self.new.connection)) }
         // Where each command is refused, nothing changes, whatever the tables hold.
         ensures refused { HasCleanDisk (state S.Store self.new.connection) → IfOk result (λ answers. AllByRecursion IsErr answers.items → ChangesNothing (state S.Store self.old.connection) (state S.Store self.new.connection)) }
     {

@@ -1,9 +1,10 @@
 //! The tables of a store that is taken over.
 
-ghost use Rattle.std.specs.Prelude.{◌≡◌, ◌⊎◌, false, OnOk, OnErr, IfErr, IsTrue, ⊤};
+ghost use Rattle.std.specs.Prelude.{◌≡◌, ◌⊎◌, false, OnOk, OnErr, IfErr, IsTrue};
 ghost use Rattle.sqlite.specs.Held.{state};
 ghost use Rattle.sqlite.specs.State.{HasCleanDisk, Survives};
 ghost use Rattle.zeb_engine.specs.Adopting.{HoldsNothing, StaysOpen};
+ghost use Rattle.zeb_engine.specs.Crashes.{CommitsTables};
 ghost use Rattle.zeb_engine.specs.Transactions.{EnduresRefusal};
 ghost use Rattle.zeb_register.specs.Calls.{ChangesNothing};
 ghost use Rattle.zeb_register.specs.Sql.{KeepsTables};
@@ -23,7 +24,7 @@ pub(crate) fn make_absent_tables<S: Alter>(connection: &mut Connection<S>) -> Re
     ensures rows { HasCleanDisk (state S.Store connection.new) → OnOk result (IsTrue (state S.Store connection.new).is_open → KeepsTables (state S.Store connection.old).now (state S.Store connection.new).now) }
     ensures refused { HasCleanDisk (state S.Store connection.new) → OnErr result (ChangesNothing (state S.Store connection.old) (state S.Store connection.new)) }
     ensures endures { HasCleanDisk (state S.Store connection.new) → IfErr result (EnduresRefusal (state S.Store connection.old) (state S.Store connection.new)) }
-    ensures survives { Survives (state S.Store connection.old) (state S.Store connection.new) (λ _. ⊤) }
+    ensures survives { Survives (state S.Store connection.old) (state S.Store connection.new) (CommitsTables (state S.Store connection.old)) }
     ensures failed { IfErr result (λ refusal. (refusal ≡ Refusal.Store) ⊎ (refusal ≡ Refusal.Memory)) }
 {
     let _settled = connection.is_autocommit();

@@ -10,7 +10,11 @@ use std::test::Fail;
 use zeb_profile::Profile;
 use zeb_register::Rows;
 
+mod failing_disk;
+mod limits;
+mod reads;
 mod refused_memory;
+mod scans;
 mod streams;
 
 /// Titles by their words, records named by their control number.
@@ -100,6 +104,10 @@ enum Step<'a> {
     Delete(&'a [&'a [&'a [u8]]]),
     Adelete(&'a [&'a [&'a [u8]]]),
     Find(&'a str),
+    /// The database, the number of terms, the start's place among them, and the query that names it.
+    Scan(&'a str, u32, u32, &'a str),
+    Stat(&'a str),
+    Dump(&'a str),
 }
 
 fn command_of(alloc: Global, step: Step<'_>) -> Result<Command, Refusal> {
@@ -112,6 +120,14 @@ fn command_of(alloc: Global, step: Step<'_>) -> Result<Command, Refusal> {
         Step::Delete(all) => change(alloc, Kind::Delete, all),
         Step::Adelete(all) => change(alloc, Kind::Adelete, all),
         Step::Find(query) => find(alloc, query),
+        Step::Scan(database, number, position, query) => Ok(Command::Scan {
+            database: name(database)?,
+            query: String::from_str(alloc, query)?,
+            number,
+            position,
+        }),
+        Step::Stat(text) => Ok(Command::Stat(name(text)?)),
+        Step::Dump(text) => Ok(Command::Dump(name(text)?)),
     }
 }
 
@@ -307,25 +323,6 @@ fn a_dropped_database_is_gone(rt: HostRuntime) -> Result<(), Fail> {
 }
 
 #[test]
-fn limits_are_kept(rt: HostRuntime) -> Result<(), Fail> {
-    let alloc = rt.alloc();
-    let mut session = opened(alloc, TITLES, Limits::new(1, 1))?;
-    tell(
-        &rt,
-        alloc,
-        &mut session,
-        &[
-            (Step::Init, "ok\n"),
-            (Step::Update(&[&[MOBY]]), "inserted 1 updated 0 deleted 0\n"),
-            (Step::Update(&[&[MOBY, MOBY]]), "zebraidx: too many records"),
-            (Step::Update(&[&[CAFE]]), "zebraidx: database full"),
-            (Step::Update(&[&[MOBY]]), "inserted 0 updated 1 deleted 0\n"),
-        ],
-    )?;
-    Ok(())
-}
-
-#[test]
 fn another_profile_is_refused(rt: HostRuntime) -> Result<(), Fail> {
     let alloc = rt.alloc();
     let mut session = opened(alloc, TITLES, Limits::GREATEST)?;
@@ -374,22 +371,5 @@ fn commands_run_on_after_a_refusal(rt: HostRuntime) -> Result<(), Fail> {
         told(alloc, &answers[2])?.as_str(),
         "inserted 1 updated 0 deleted 0\n"
     );
-    Ok(())
-}
-
-#[test]
-fn the_greatest_limits_are_a_million_records_and_nine_digits(rt: HostRuntime) -> Result<(), Fail> {
-    assert_eq!(rt; Limits::GREATEST, Limits::new(1_000_000, 999_999_999));
-    Ok(())
-}
-
-#[test]
-fn names_have_1_to_64_bytes(rt: HostRuntime) -> Result<(), Fail> {
-    for text in ["", "a b", "caf\u{e9}", "/"] {
-        assert!(rt; DbName::read(text).is_none(), "{text}");
-    }
-    for text in ["a", "Default", "A-1_b.c"] {
-        assert_eq!(rt; name(text)?.as_str(), text);
-    }
     Ok(())
 }

@@ -1,6 +1,6 @@
 //! The commands that write without reading records, each in one transaction.
 
-ghost use Rattle.std.specs.Prelude.{◌≡◌, false, [], IsTrue, OnOk, OnErr, IfErr, ⊤};
+ghost use Rattle.std.specs.Prelude.{◌≡◌, false, [], IsTrue, OnOk, OnErr, IfErr};
 ghost use Rattle.sqlite.specs.Held.{state};
 ghost use Rattle.sqlite.specs.State.{HasCleanDisk, KeepsCommit, Survives};
 ghost use Rattle.zeb_register.specs.Calls.{ChangesNothing, GoesOn};
@@ -10,12 +10,13 @@ ghost use Rattle.zeb_engine.specs.declared.commands.Limits.{Limits};
 ghost use Rattle.zeb_engine.specs.Adopting.{StaysOpen};
 ghost use Rattle.zeb_engine.specs.Answers.{IsFailure, refused, why_of};
 ghost use Rattle.zeb_engine.specs.Conditions.{Conditions, conditions};
+ghost use Rattle.zeb_engine.specs.Crashes.{Commits};
 ghost use Rattle.zeb_engine.specs.Image.{IsImage};
 ghost use Rattle.zeb_engine.specs.NameOf.{name_bytes};
 ghost use Rattle.zeb_engine.specs.Reading.{NoReadFault};
 ghost use Rattle.zeb_engine.specs.Steps.{holding, initialised, turned, created, dropped};
 ghost use Rattle.zeb_engine.specs.Transactions.{EnduresRefusal, Stays};
-ghost use Rattle.zeb_engine.specs.Works.{IsReady, Serves, Works};
+ghost use Rattle.zeb_engine.specs.Works.{Always, IsReady, Serves, Works};
 ghost use Rattle.zeb_engine.specs.Writing.{AreOf, Begins, IsFree, IsKnown, Fits, IsReached, PutsTexts, written};
 
 use crate::names::DbName;
@@ -142,7 +143,8 @@ fn transact<S: Alter, L: Layout>(
     ensures open { HasCleanDisk (state S.Store connection.new) → OnOk result (StaysOpen (state S.Store connection.old) (state S.Store connection.new)) }
     ensures refused { HasCleanDisk (state S.Store connection.new) → OnErr result (ChangesNothing (state S.Store connection.old) (state S.Store connection.new)) }
     ensures endures { HasCleanDisk (state S.Store connection.new) → IfErr result (EnduresRefusal (state S.Store connection.old) (state S.Store connection.new)) }
-    ensures survives { Survives (state S.Store connection.old) (state S.Store connection.new) (λ _. ⊤) }
+    ensures survives { Survives (state S.Store connection.old) (state S.Store connection.new) (λ db. (c : Conditions) → IsReached write.now (state S.Store connection.old)
+        → Commits L.holds c (Fits L.version c write.now) (written c write.now) (state S.Store connection.old) db) }
     ensures begun { HasCleanDisk (state S.Store connection.new) → OnOk result (Begins L.holds L.version write.now (state S.Store connection.old) (state S.Store connection.new)) }
     ensures serves { HasCleanDisk (state S.Store connection.new) → (c : Conditions) → IsReached write.now (state S.Store connection.old)
         → Serves L.holds c (Fits L.version c write.now) (written c write.now) (state S.Store connection.old) (state S.Store connection.new) result }
@@ -166,7 +168,8 @@ pub(crate) fn init_register<S: Alter, L: Layout>(
     ensures open { HasCleanDisk (state S.Store connection.new) → OnOk result (StaysOpen (state S.Store connection.old) (state S.Store connection.new)) }
     ensures refused { HasCleanDisk (state S.Store connection.new) → OnErr result (ChangesNothing (state S.Store connection.old) (state S.Store connection.new)) }
     ensures endures { HasCleanDisk (state S.Store connection.new) → IfErr result (EnduresRefusal (state S.Store connection.old) (state S.Store connection.new)) }
-    ensures survives { Survives (state S.Store connection.old) (state S.Store connection.new) (λ _. ⊤) }
+    ensures survives { Survives (state S.Store connection.old) (state S.Store connection.new) (λ db. (limits : Limits)
+        → Commits L.holds (conditions L.version profile.now limits) Always (initialised (conditions L.version profile.now limits)) (state S.Store connection.old) db) }
     ensures begun { HasCleanDisk (state S.Store connection.new) → OnOk result (IsStore (state S.Store connection.old) → (limits : Limits)
         → IsStore (state S.Store connection.new) × IsImage L.holds (conditions L.version profile.now limits) (state S.Store connection.new).now.trees (holding (conditions L.version profile.now limits) [])) }
     ensures serves { HasCleanDisk (state S.Store connection.new) → (limits : Limits)
@@ -193,7 +196,8 @@ pub(crate) fn create_database<S: Alter, L: Layout>(
     ensures open { HasCleanDisk (state S.Store connection.new) → OnOk result (StaysOpen (state S.Store connection.old) (state S.Store connection.new)) }
     ensures refused { HasCleanDisk (state S.Store connection.new) → OnErr result (ChangesNothing (state S.Store connection.old) (state S.Store connection.new)) }
     ensures endures { HasCleanDisk (state S.Store connection.new) → IfErr result (EnduresRefusal (state S.Store connection.old) (state S.Store connection.new)) }
-    ensures survives { Survives (state S.Store connection.old) (state S.Store connection.new) (λ _. ⊤) }
+    ensures survives { Survives (state S.Store connection.old) (state S.Store connection.new) (λ db. (c : Conditions)
+        → Commits L.holds c (IsReady c) (turned c (created (name_bytes name.now))) (state S.Store connection.old) db) }
     ensures serves { HasCleanDisk (state S.Store connection.new) → (c : Conditions)
         → Serves L.holds c (IsReady c) (turned c (created (name_bytes name.now))) (state S.Store connection.old) (state S.Store connection.new) result }
     ensures unread { NoReadFault result }
@@ -216,7 +220,8 @@ pub(crate) fn drop_database<S: Alter, L: Layout>(
     ensures open { HasCleanDisk (state S.Store connection.new) → OnOk result (StaysOpen (state S.Store connection.old) (state S.Store connection.new)) }
     ensures refused { HasCleanDisk (state S.Store connection.new) → OnErr result (ChangesNothing (state S.Store connection.old) (state S.Store connection.new)) }
     ensures endures { HasCleanDisk (state S.Store connection.new) → IfErr result (EnduresRefusal (state S.Store connection.old) (state S.Store connection.new)) }
-    ensures survives { Survives (state S.Store connection.old) (state S.Store connection.new) (λ _. ⊤) }
+    ensures survives { Survives (state S.Store connection.old) (state S.Store connection.new) (λ db. (c : Conditions)
+        → Commits L.holds c (IsReady c) (turned c (dropped (name_bytes name.now))) (state S.Store connection.old) db) }
     ensures serves { HasCleanDisk (state S.Store connection.new) → (c : Conditions)
         → Serves L.holds c (IsReady c) (turned c (dropped (name_bytes name.now))) (state S.Store connection.old) (state S.Store connection.new) result }
     ensures unread { NoReadFault result }

@@ -1,5 +1,5 @@
 -- The statements on databases, each with what it is compiled to.
-use Rattle.std.proofs.Common.{◌≡◌, ◌∙◌, sym, ap, ap₂, subst, map, ℕ, List, [], ◌∷◌, codes, refl, false, true, ℤ, Ok, inl, inr, Ordering, Less, Equal, Greater}
+use Rattle.std.proofs.Common.{◌≡◌, ◌∙◌, arith, sym, ap, ap₂, subst, map, ℕ, List, [], ◌∷◌, codes, refl, false, true, ℤ, Ok, inl, inr, Ordering, Less, Equal, Greater}
 use Rattle.sqlite.specs.declared.types.Value.TheVariants.{Null, Int, Text}
 use Rattle.sqlite.specs.State.{State, Executes, Shown}
 use Rattle.sqlite.specs.Command.TheVariants.{Update, Select, Delete, Insert}
@@ -18,6 +18,12 @@ use Rattle.zeb_register.proofs.Writes.{next_free, GainsRow, LosesRows, RemakesRo
 use Rattle.zeb_register.proofs.RowLemmas.{null_of, spread, code_at, int_of, text_of}
 use Rattle.zeb_register.proofs.Selects.{IsSelected, selects, list_so}
 use Rattle.zeb_register.proofs.Calls.{IsSilent}
+use Rattle.sqlite.specs.State.{FailsToQuery}
+use Rattle.sqlite.specs.declared.error.Error.{Error}
+use Rattle.zeb_register.specs.declared.faults.RegFault.TheVariants.{Store}
+use Rattle.zeb_register.specs.Faults.{fault_of}
+use Rattle.zeb_register.specs.Calls.{MayRefuse}
+use Rattle.zeb_register.proofs.Refusals.{IsWhole, IsFit, why_refused}
 use Rattle.sqlite.specs.Order.{Row, column}
 use Rattle.sqlite.specs.Tree.{Trees}
 use Rattle.sqlite_rules.specs.Lists.{Has}
@@ -160,6 +166,17 @@ named_plain = ((refl, refl), refl)
 pub named_silent : IsSilent named_text
 unfolding everything
 named_silent = λ schema base. refl
+
+named_whole : IsWhole named_text 1 (understood store_schema named_text)
+unfolding understood everything
+named_whole = (omega arith, refl)
+
+named_fit : (name : List ℕ) → IsFit (alone (reading 2 named_wheres (shows named_shows) [] no_limit)) (Text name ∷ [])
+unfolding everything
+named_fit name trees mistyped = absurd (let t : true ≡ false = mistyped in cc)
+
+pub named_refused : (name : List ℕ) (old new : State) (e : Error) → IsStore old → fault_of e ≡ Store → FailsToQuery named_text (Text name ∷ []) old new e → MayRefuse old new
+named_refused name old new e store told failed = why_refused named_text (Text name ∷ []) 2 named_wheres (shows named_shows) [] no_limit (codes "id" ∷ codes "last" ∷ []) named_is named_plain.0 named_plain.1 named_whole (named_fit name) old new store e told failed
 
 pub lists_named : (name : List ℕ) (old new : State) (rows : List Row) → IsStore old → Shown named_text (Text name ∷ []) old new rows → IsListOf (IsDatabaseRow old.now.trees name) rows
 lists_named name old new rows store shown =

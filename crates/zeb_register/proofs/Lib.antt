@@ -27,3 +27,4 @@ pub mod TermLists
 pub mod TermRows
 pub mod PlaceLemmas
 pub mod RecordLemmas
+pub mod Refusals

@@ -1,5 +1,5 @@
 -- The statements on records, each with what it is compiled to.
-use Rattle.std.proofs.Common.{◌≡◌, ◌∙◌, sym, ap, ap₂, subst, map, drop, ℕ, List, [], ◌∷◌, codes, refl, false, ℤ, Ok, inl, inr, Ordering, Less, Equal, Greater}
+use Rattle.std.proofs.Common.{◌≡◌, ◌∙◌, arith, sym, ap, ap₂, subst, map, drop, ℕ, List, [], ◌∷◌, codes, refl, true, false, ℤ, Ok, inl, inr, Ordering, Less, Equal, Greater}
 use Rattle.std.specs.Ordering.{ordering_then}
 use Rattle.sqlite.specs.declared.types.Value.TheVariants.{Null, Int, Text, Blob}
 use Rattle.sqlite.specs.State.{State, Executes, Shown}
@@ -11,7 +11,7 @@ use Rattle.sqlite.specs.Listing.{understood, reads_listing}
 use Rattle.sqlite.proofs.Callers.{IsPlain, command_of}
 use Rattle.sqlite_tied.specs.Compute.{everything}
 use Rattle.zeb_register.specs.Tables.{store_schema, records_table}
-use Rattle.zeb_register.specs.Sql.{Condition, equals, reading, alone, keyed_from, shows, no_limit, Loses, Replaces, HasRow, IsListOf}
+use Rattle.zeb_register.specs.Sql.{Condition, equals, reading, alone, keyed_from, rising, shows, no_limit, Loses, Replaces, HasRow, IsListOf}
 use Rattle.zeb_register.specs.Kinds.{codes_of, IsPlainTable, HasKeys, code}
 use Rattle.sqlite.specs.Table.{Table}
 use Rattle.zeb_register.specs.Store.{IsStore, Changes, records_tree, record_row, HasNumber, SharesRecord, IsRecordIn, IsElderRow, IsIdentRow, IsRest}
@@ -20,6 +20,12 @@ use Rattle.zeb_register.proofs.RowLemmas.{spread, code_at, int_of, text_of, blob
 use Rattle.zeb_register.proofs.Selects.{IsSelected, selects, list_so}
 use Rattle.zeb_register.proofs.Prefix.{IsAfter, lists_after}
 use Rattle.zeb_register.proofs.Calls.{IsSilent}
+use Rattle.sqlite.specs.State.{FailsToQuery}
+use Rattle.sqlite.specs.declared.error.Error.{Error}
+use Rattle.zeb_register.specs.declared.faults.RegFault.TheVariants.{Store}
+use Rattle.zeb_register.specs.Faults.{fault_of}
+use Rattle.zeb_register.specs.Calls.{MayRefuse}
+use Rattle.zeb_register.proofs.Refusals.{IsWhole, IsFit, why_refused}
 use Rattle.sqlite.specs.Order.{Row, column}
 use Rattle.sqlite_rules.specs.Lists.{Has}
 
@@ -160,6 +166,17 @@ pub ident_silent : IsSilent ident_text
 unfolding everything
 ident_silent = λ schema base. refl
 
+ident_whole : IsWhole ident_text 2 (understood store_schema ident_text)
+unfolding understood everything
+ident_whole = (omega arith, refl)
+
+ident_fit : (db sysno : ℤ) → IsFit (alone (reading 4 number_wheres (shows (3 ∷ [])) [] no_limit)) (Int db ∷ Int sysno ∷ [])
+unfolding everything
+ident_fit db sysno trees mistyped = absurd (let t : true ≡ false = mistyped in cc)
+
+pub ident_refused : (db sysno : ℤ) (old new : State) (e : Error) → IsStore old → fault_of e ≡ Store → FailsToQuery ident_text (Int db ∷ Int sysno ∷ []) old new e → MayRefuse old new
+ident_refused db sysno old new e store told failed = why_refused ident_text (Int db ∷ Int sysno ∷ []) 4 number_wheres (shows (3 ∷ [])) [] no_limit (codes "ident" ∷ []) ident_is ident_plain.0 ident_plain.1 ident_whole (ident_fit db sysno) old new store e told failed
+
 pub lists_ident : (db sysno : ℤ) (old new : State) (rows : List Row) → IsStore old → Shown ident_text (Int db ∷ Int sysno ∷ []) old new rows → IsListOf (IsIdentRow db sysno old.now.trees) rows
 lists_ident db sysno old new rows store shown =
     let all = old.now.trees 4 in
@@ -189,6 +206,17 @@ all_plain = ((refl, refl), refl)
 pub all_silent : IsSilent all_text
 unfolding everything
 all_silent = λ schema base. refl
+
+all_whole : IsWhole all_text 1 (understood store_schema all_text)
+unfolding understood everything
+all_whole = (omega arith, refl)
+
+all_fit : (db : ℤ) → IsFit (alone (reading 4 (keyed_from 1 0 1) (shows (2 ∷ 3 ∷ 4 ∷ [])) (2 ∷ []) no_limit)) (Int db ∷ [])
+unfolding everything
+all_fit db trees mistyped = absurd (let t : true ≡ false = mistyped in cc)
+
+pub all_refused : (db : ℤ) (old new : State) (e : Error) → IsStore old → fault_of e ≡ Store → FailsToQuery all_text (Int db ∷ []) old new e → MayRefuse old new
+all_refused db old new e store told failed = why_refused all_text (Int db ∷ []) 4 (keyed_from 1 0 1) (shows (2 ∷ 3 ∷ 4 ∷ [])) (rising (2 ∷ [])) no_limit (codes "sysno" ∷ codes "ident" ∷ codes "bytes" ∷ []) all_is all_plain.0 all_plain.1 all_whole (all_fit db) old new store e told failed
 
 first_lower : (o p : Ordering) → ordering_then o Equal ≡ Less → ordering_then o p ≡ Less
 first_lower Less p h = refl

@@ -33,6 +33,13 @@ from_text = codes "SELECT term FROM postings WHERE db = ?1 AND idx = ?2 AND reg 
 abbrev pub before_text : List ℕ
 before_text = codes "SELECT term FROM postings WHERE db = ?1 AND idx = ?2 AND reg = ?3 AND term < ?4 ORDER BY term DESC LIMIT 1"
 
+abbrev pub nothing_text : List ℕ
+nothing_text = codes "SELECT term FROM postings LIMIT 0"
+
+pub nothing_silent : IsSilent nothing_text
+unfolding everything
+nothing_silent = λ schema base. refl
+
 pub from_silent : IsSilent from_text
 unfolding everything
 from_silent = λ schema base. refl

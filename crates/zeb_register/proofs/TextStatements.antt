@@ -1,5 +1,5 @@
 -- The statements on the texts that the store keeps of itself, each with what it is compiled to.
-use Rattle.std.proofs.Common.{◌≡◌, ◌∙◌, sym, ap, subst, map, drop, ℕ, List, [], ◌∷◌, codes, refl, false, Ok, inl, inr, slice_get, Some, None}
+use Rattle.std.proofs.Common.{◌≡◌, ◌∙◌, arith, sym, ap, subst, map, drop, ℕ, List, [], ◌∷◌, codes, refl, true, false, Ok, inl, inr, slice_get, Some, None}
 use Rattle.sqlite.specs.declared.types.Value.TheVariants.{Null, Int, Text}
 use Rattle.sqlite.specs.State.{State, Executes, Shown}
 use Rattle.sqlite.specs.Command.TheVariants.{Select, InsertOr}
@@ -18,6 +18,12 @@ use Rattle.zeb_register.proofs.RowLemmas.{spread, code_at, text_of}
 use Rattle.zeb_register.proofs.Selects.{list_so}
 use Rattle.zeb_register.proofs.Prefix.{IsAfter, lists_after}
 use Rattle.zeb_register.proofs.Calls.{IsSilent}
+use Rattle.sqlite.specs.State.{FailsToQuery}
+use Rattle.sqlite.specs.declared.error.Error.{Error}
+use Rattle.zeb_register.specs.declared.faults.RegFault.TheVariants.{Store}
+use Rattle.zeb_register.specs.Faults.{fault_of}
+use Rattle.zeb_register.specs.Calls.{MayRefuse}
+use Rattle.zeb_register.proofs.Refusals.{IsWhole, IsFit, why_refused}
 use Rattle.sqlite.specs.Order.{Row, column}
 use Rattle.sqlite.specs.Tree.{Trees}
 use Rattle.sqlite_rules.specs.Lists.{Has}
@@ -61,9 +67,20 @@ pub value_plain : IsPlain (understood store_schema value_text) × (reads_listing
 unfolding understood everything
 value_plain = ((refl, refl), refl)
 
+value_whole : IsWhole value_text 1 (understood store_schema value_text)
+unfolding understood everything
+value_whole = (omega arith, refl)
+
+value_fit : (name : List ℕ) → IsFit (alone (reading 0 (equals 1 0 ∷ []) (shows (2 ∷ [])) [] no_limit)) (Text name ∷ [])
+unfolding everything
+value_fit name trees mistyped = absurd (let t : true ≡ false = mistyped in cc)
+
 pub value_silent : IsSilent value_text
 unfolding everything
 value_silent = λ schema base. refl
+
+pub value_refused : (name : List ℕ) (old new : State) (e : Error) → IsStore old → fault_of e ≡ Store → FailsToQuery value_text (Text name ∷ []) old new e → MayRefuse old new
+value_refused name old new e store told failed = why_refused value_text (Text name ∷ []) 0 (equals 1 0 ∷ []) (shows (2 ∷ [])) [] no_limit (codes "value" ∷ []) value_is value_plain.0 value_plain.1 value_whole (value_fit name) old new store e told failed
 
 pub lists_value : (name : List ℕ) (old new : State) (rows : List Row) → IsStore old → Shown value_text (Text name ∷ []) old new rows → IsListOf (IsValueRow old.now.trees name) rows
 lists_value name old new rows store shown =

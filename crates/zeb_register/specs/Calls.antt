@@ -1,7 +1,8 @@
 -- What a call on the tables does to a connection, beside what it does to rows.
-use Rattle.std.specs.Prelude.{◌≡◌, ℕ, true, List, IsTrue}
+use Rattle.std.specs.Prelude.{◌≡◌, ◌⊎◌, ℕ, true, false, List, IsTrue, IsSome}
 use Rattle.sqlite.specs.Order.{Row}
 use Rattle.sqlite.specs.Tree.{Trees}
+use Rattle.sqlite_disk.specs.Disk.{MoreFaults}
 use Rattle.sqlite.specs.State.{State, Shows, IsUnchanged, KeepsCommit}
 use Rattle.zeb_register.specs.Sql.{IsListOf}
 use Rattle.zeb_register.specs.Store.{IsStore, Changes}
@@ -30,6 +31,10 @@ Lists P old new rows = IsUnchanged old new × (IsStore old → IsListOf (P old.n
 -- the same inside a transaction
 abbrev pub ListsInside : (Trees → Row → Type 0) → State → State → List Row → Type 0
 ListsInside P old new rows = OnlyReads old new × (IsStore old → IsListOf (P old.now.trees) rows)
+
+-- why the store may refuse a query that fits its tables: the connection was closed, the disk failed, or a limit on steps is set
+abbrev pub MayRefuse : State → State → Type 0
+MayRefuse old new = (old.is_open ≡ false) ⊎ (MoreFaults old.faults new.faults ⊎ IsSome old.step_limit)
 
 -- any number of writes inside a transaction, none too
 pub record Stays (old new : State) : Type 0 where

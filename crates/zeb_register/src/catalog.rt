@@ -6,7 +6,7 @@ ghost use Rattle.sqlite.specs.Held.{state};
 ghost use Rattle.sqlite.specs.State.{HasCleanDisk, IsUnchanged, KeepsCommit, Survives};
 ghost use Rattle.zeb_register.specs.Store.{IsStore, Changes, databases_tree, TakesDatabase};
 ghost use Rattle.zeb_register.specs.Catalog.{IsDatabaseOf, AreCountedDatabases, PutsDatabase};
-ghost use Rattle.zeb_register.specs.Calls.{ChangesNothing, GoesOn, Alters};
+ghost use Rattle.zeb_register.specs.Calls.{ChangesNothing, GoesOn, Alters, MayRefuse};
 
 use crate::RegFault;
 use crate::statements::databases::{
@@ -49,6 +49,7 @@ pub fn database_of<S: Alter>(
     ensures value { HasCleanDisk (state S.Store conn.new) → IsStore (state S.Store conn.old) → IfOk result (IsDatabaseOf (state S.Store conn.old).now.trees name.now) }
     ensures honest { HasCleanDisk (state S.Store conn.new) → IsStore (state S.Store conn.old) → result ≡ Err RegFault.Damaged → ¬ AreCountedDatabases (state S.Store conn.old).now.trees name.now }
     ensures opened { HasCleanDisk (state S.Store conn.new) → result ≡ Err RegFault.Damaged → IsTrue (state S.Store conn.old).is_open }
+    ensures refused { HasCleanDisk (state S.Store conn.new) → IsStore (state S.Store conn.old) → result ≡ Err RegFault.Store → MayRefuse (state S.Store conn.old) (state S.Store conn.new) }
     ensures crash { Survives (state S.Store conn.old) (state S.Store conn.new) (λ _. ⊥) }
 {
     let rows = database_rows(conn, name)?;

@@ -1,6 +1,6 @@
 //! The records that a database keeps.
 
-ghost use Rattle.std.specs.Prelude.{◌≡◌, ◌≢◌, false, [], ◌∷◌, pos, map, IsTrue, OnOk, OnErr, IfOk};
+ghost use Rattle.std.specs.Prelude.{◌≡◌, ◌≢◌, ◌⊎◌, ◌≤◌, ◌^◌, false, [], ◌∷◌, pos, map, IsTrue, OnOk, OnErr, IfOk};
 ghost use Rattle.sqlite.specs.Held.{state};
 ghost use Rattle.sqlite.specs.State.{HasCleanDisk, IsUnchanged, KeepsCommit, Survives};
 ghost use Rattle.sqlite.specs.declared.types.Value.TheVariants.{Int};
@@ -9,7 +9,7 @@ ghost use Rattle.zeb_register.specs.Store.{IsStore, records_tree, record_row, Ha
 ghost use Rattle.sqlite_rules.specs.Lists.{Has};
 ghost use Rattle.zeb_register.specs.Content.{first_three};
 ghost use Rattle.zeb_register.specs.Kept.{IsElderOf, IsIdentOf, AreNumbered, AreReadableIdents, AreReadable, IsRecordShown, record_shown};
-ghost use Rattle.zeb_register.specs.Calls.{ChangesNothing, OnlyReads, Alters};
+ghost use Rattle.zeb_register.specs.Calls.{ChangesNothing, OnlyReads, Alters, MayRefuse};
 
 use crate::statements::records::{
     elder_rows, ident_rows, record_keep, record_remove, record_rows, records_clear,
@@ -117,6 +117,7 @@ pub fn ident_of<S: Alter>(
     ensures value { HasCleanDisk (state S.Store conn.new) → IsStore (state S.Store conn.old) → IfOk result (IsIdentOf (state S.Store conn.old).now.trees db.0 (pos sysno)) }
     ensures honest { HasCleanDisk (state S.Store conn.new) → IsStore (state S.Store conn.old) → result ≡ Err RegFault.Damaged → ¬ AreReadableIdents (state S.Store conn.old).now.trees db.0 (pos sysno) }
     ensures opened { HasCleanDisk (state S.Store conn.new) → result ≡ Err RegFault.Damaged → IsTrue (state S.Store conn.old).is_open }
+    ensures refused { HasCleanDisk (state S.Store conn.new) → IsStore (state S.Store conn.old) → result ≡ Err RegFault.Store → (2 ^ 63 ≤ sysno) ⊎ MayRefuse (state S.Store conn.old) (state S.Store conn.new) }
     ensures crash { Survives (state S.Store conn.old) (state S.Store conn.new) (λ _. ⊥) }
 {
     // What is seen outside a transaction is what was committed.
@@ -143,6 +144,7 @@ pub fn records<S: Alter>(
     ensures value { HasCleanDisk (state S.Store conn.new) → IsStore (state S.Store conn.old) → IfOk result (λ list. IsListOf (IsRest records_tree (Int db.0 ∷ []) (state S.Store conn.old).now.trees) (map record_shown list.items)) }
     ensures honest { HasCleanDisk (state S.Store conn.new) → IsStore (state S.Store conn.old) → result ≡ Err RegFault.Damaged → ¬ AreReadable (state S.Store conn.old).now.trees db.0 }
     ensures opened { HasCleanDisk (state S.Store conn.new) → result ≡ Err RegFault.Damaged → IsTrue (state S.Store conn.old).is_open }
+    ensures refused { HasCleanDisk (state S.Store conn.new) → IsStore (state S.Store conn.old) → result ≡ Err RegFault.Store → MayRefuse (state S.Store conn.old) (state S.Store conn.new) }
     ensures crash { Survives (state S.Store conn.old) (state S.Store conn.new) (λ _. ⊥) }
 {
     let rows = record_rows(conn, db.column())?;
@@ -153,6 +155,7 @@ pub fn records<S: Alter>(
 fn records_of(alloc: Global, rows: &[Row]) -> Result<Vec<Record>, RegFault>
     ensures ok { IfOk result (λ list. map record_shown list.items ≡ map first_three rows.now) }
     ensures honest { result ≡ Err RegFault.Damaged → ¬ ((row : _) → Has rows.now row → IsRecordShown row) }
+    ensures unstored { result ≢ Err RegFault.Store }
 {
     let mut records = Vec::new(alloc);
     for row in rows {
@@ -165,6 +168,7 @@ fn records_of(alloc: Global, rows: &[Row]) -> Result<Vec<Record>, RegFault>
 fn record_of(row: &Row) -> Result<Record, RegFault>
     ensures ok { IfOk result (λ r. record_shown r ≡ first_three row.now) }
     ensures honest { result ≡ Err RegFault.Damaged → ¬ IsRecordShown row.now }
+    ensures unstored { result ≢ Err RegFault.Store }
 {
     Ok(Record {
         sysno: read(row, 0)?,

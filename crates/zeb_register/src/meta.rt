@@ -5,7 +5,7 @@ ghost use Rattle.sqlite.specs.Held.{state};
 ghost use Rattle.sqlite.specs.State.{HasCleanDisk, IsUnchanged, KeepsCommit, Survives};
 ghost use Rattle.zeb_register.specs.Sql.{Replaces};
 ghost use Rattle.zeb_register.specs.Store.{IsStore, meta_tree, entry, IsEntryOf, IsValueOf, AreReadableTexts};
-ghost use Rattle.zeb_register.specs.Calls.{ChangesNothing, GoesOn, Alters};
+ghost use Rattle.zeb_register.specs.Calls.{ChangesNothing, GoesOn, Alters, MayRefuse};
 
 use crate::RegFault;
 use crate::statements::texts::{text_rows, text_set};
@@ -22,6 +22,7 @@ pub fn meta_of<S: Alter>(conn: &mut Connection<S>, name: &str) -> Result<Option<
     ensures value { HasCleanDisk (state S.Store conn.new) → IsStore (state S.Store conn.old) → IfOk result (IsValueOf (state S.Store conn.old).now.trees name.now) }
     ensures honest { HasCleanDisk (state S.Store conn.new) → IsStore (state S.Store conn.old) → result ≡ Err RegFault.Damaged → ¬ AreReadableTexts (state S.Store conn.old).now.trees name.now }
     ensures opened { HasCleanDisk (state S.Store conn.new) → result ≡ Err RegFault.Damaged → IsTrue (state S.Store conn.old).is_open }
+    ensures refused { HasCleanDisk (state S.Store conn.new) → IsStore (state S.Store conn.old) → result ≡ Err RegFault.Store → MayRefuse (state S.Store conn.old) (state S.Store conn.new) }
     ensures crash { Survives (state S.Store conn.old) (state S.Store conn.new) (λ _. ⊥) }
 {
     let rows = text_rows(conn, name)?;

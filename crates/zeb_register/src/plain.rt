@@ -18,7 +18,7 @@ use crate::kept::records_drop;
 use crate::registers::{Layout, Place, Posting, TermCount, Totals, Work};
 use crate::statements::packed::{blocks_clear, dict_clear};
 use crate::statements::postings::{
-    place_rows, places_lift, posting_put, posting_rows, postings_clear, register_rows,
+    nothing_of, place_rows, places_lift, posting_put, posting_rows, postings_clear, register_rows,
 };
 use crate::terms::{count_terms, term_before, term_count, term_from, text_above};
 use crate::values::{read, stored};
@@ -112,6 +112,8 @@ impl Layout for Rows {
     ) -> Result<Vec<TermCount>, RegFault> {
         let mut counts = Vec::new(alloc);
         let mut next = String::from_str(alloc, start)?;
+        // A closed connection is refused also where no term is asked for.
+        nothing_of(conn)?;
         for _done in 0..n {
             let Some(term) = term_from(conn, db, index, register, &next)? else {
                 break;
@@ -135,6 +137,8 @@ impl Layout for Rows {
     ) -> Result<Vec<TermCount>, RegFault> {
         let mut counts = Vec::new(alloc);
         let mut above = String::from_str(alloc, start)?;
+        // A closed connection is refused also where no term is asked for.
+        nothing_of(conn)?;
         for _done in 0..n {
             let Some(term) = term_before(conn, db, index, register, &above)? else {
                 break;
@@ -214,7 +218,6 @@ pub(crate) fn postings_under<S: Alter>(
     ensures idle { conn.old.in_transaction ≡ false → conn.new.in_transaction ≡ false }
     ensures ok { HasCleanDisk (state S.Store conn.new) → OnOk result (IsUnchanged (state S.Store conn.old) (state S.Store conn.new)) }
     ensures same { HasCleanDisk (state S.Store conn.new) → conn.old.in_transaction ≡ false → ChangesNothing (state S.Store conn.old) (state S.Store conn.new) }
-    ensures still { HasCleanDisk (state S.Store conn.new) → OnOk result ((state S.Store conn.new).now ≡ (state S.Store conn.old).now) }
     ensures value { HasCleanDisk (state S.Store conn.new) → IsStore (state S.Store conn.old)
         → IfOk result (λ list. (content : Content) → HoldsRows (state S.Store conn.old).now.trees content → list.items ≡ content db.0 (key_in index register term.now)) }
     ensures honest { HasCleanDisk (state S.Store conn.new) → IsStore (state S.Store conn.old) → result ≡ Err RegFault.Damaged → (content : Content) → ¬ HoldsRows (state S.Store conn.old).now.trees content }

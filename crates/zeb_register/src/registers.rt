@@ -14,14 +14,14 @@ use zeb_extract::{Key, Term};
 use zeb_profile::Register;
 
 /// A place of a record at which a key stands: the number of the unit, and the number of the word or number in it. Both are 1 to `2^63 - 1`.
-#[derive(Clone, Copy, Debug, PartialEq, Eq, PartialOrd, Ord)]
+#[derive(Clone, Copy, Debug, PartialEq, Eq)]
 pub struct Place {
     pub seq: u64,
     pub pos: u64,
 }
 
 /// A place of a key in a database: the record's system number, 1 to 999,999,999, and the place in that record.
-#[derive(Clone, Copy, Debug, PartialEq, Eq, PartialOrd, Ord)]
+#[derive(Clone, Copy, Debug, PartialEq, Eq)]
 pub struct Posting {
     pub sysno: u64,
     pub seq: u64,
@@ -147,6 +147,7 @@ pub trait Layout {
         register: Register,
     ) -> Result<Vec<TermCount>, RegFault>
         ensures idle { conn.old.in_transaction ≡ false → conn.new.in_transaction ≡ false }
+        ensures ok { HasCleanDisk (state S.Store conn.new) → OnOk result (IsUnchanged (state S.Store conn.old) (state S.Store conn.new)) }
         ensures same { HasCleanDisk (state S.Store conn.new) → conn.old.in_transaction ≡ false → ChangesNothing (state S.Store conn.old) (state S.Store conn.new) }
         ensures value { HasCleanDisk (state S.Store conn.new) → IsStore (state S.Store conn.old)
             → IfOk result (λ list. (content : Content) → holds (state S.Store conn.old).now.trees content → AreTermsOf content db.0 index register list.items) }
@@ -168,6 +169,7 @@ pub trait Layout {
         n: u64,
     ) -> Result<Vec<TermCount>, RegFault>
         ensures idle { conn.old.in_transaction ≡ false → conn.new.in_transaction ≡ false }
+        ensures ok { HasCleanDisk (state S.Store conn.new) → OnOk result (IsUnchanged (state S.Store conn.old) (state S.Store conn.new)) }
         ensures same { HasCleanDisk (state S.Store conn.new) → conn.old.in_transaction ≡ false → ChangesNothing (state S.Store conn.old) (state S.Store conn.new) }
         ensures value { HasCleanDisk (state S.Store conn.new) → IsStore (state S.Store conn.old)
             → IfOk result (λ list. (content : Content) → holds (state S.Store conn.old).now.trees content → AreTermsFrom content db.0 index register start.now n list.items) }
@@ -189,6 +191,7 @@ pub trait Layout {
         n: u64,
     ) -> Result<Vec<TermCount>, RegFault>
         ensures idle { conn.old.in_transaction ≡ false → conn.new.in_transaction ≡ false }
+        ensures ok { HasCleanDisk (state S.Store conn.new) → OnOk result (IsUnchanged (state S.Store conn.old) (state S.Store conn.new)) }
         ensures same { HasCleanDisk (state S.Store conn.new) → conn.old.in_transaction ≡ false → ChangesNothing (state S.Store conn.old) (state S.Store conn.new) }
         ensures value { HasCleanDisk (state S.Store conn.new) → IsStore (state S.Store conn.old)
             → IfOk result (λ list. (content : Content) → holds (state S.Store conn.old).now.trees content → AreTermsBefore content db.0 index register start.now n list.items) }
@@ -208,6 +211,7 @@ pub trait Layout {
         register: Register,
     ) -> Result<Totals, RegFault>
         ensures idle { conn.old.in_transaction ≡ false → conn.new.in_transaction ≡ false }
+        ensures ok { HasCleanDisk (state S.Store conn.new) → OnOk result (IsUnchanged (state S.Store conn.old) (state S.Store conn.new)) }
         ensures same { HasCleanDisk (state S.Store conn.new) → conn.old.in_transaction ≡ false → ChangesNothing (state S.Store conn.old) (state S.Store conn.new) }
         ensures value { HasCleanDisk (state S.Store conn.new) → IsStore (state S.Store conn.old)
             → IfOk result (λ sums. (content : Content) → holds (state S.Store conn.old).now.trees content → AreTotals content db.0 index register sums) }

@@ -1,6 +1,6 @@
 //! Numbers on their way into a row, and values on their way out.
 
-ghost use Rattle.std.specs.Prelude.{◌≡◌, ◌<◌, ◌≤◌, ◌^◌, pos, length, IfOk, IfErr, FitsSigned};
+ghost use Rattle.std.specs.Prelude.{◌≡◌, ◌≢◌, ◌<◌, ◌≤◌, ◌^◌, pos, length, IfOk, IfErr, FitsSigned};
 ghost use Rattle.std.specs.Int.{w64};
 ghost use Rattle.sqlite.specs.declared.types.Value.TheVariants.{Int};
 ghost use Rattle.sqlite.specs.Values.{IsInt};
@@ -22,6 +22,7 @@ pub(crate) fn stored(number: u64) -> Result<i64, RegFault>
 pub(crate) fn read<T: FromSql>(row: &Row, at: usize) -> Result<T, RegFault>
     ensures ok { IfOk result (T.FromSql.reads_as (column row.now at)) }
     ensures honest { result ≡ Err RegFault.Damaged → at < length row.now → ¬ T.FromSql.is_readable (column row.now at) }
+    ensures unstored { result ≢ Err RegFault.Store }
 {
     match row.get(at) {
         Ok(value) => Ok(value),
@@ -34,6 +35,7 @@ pub(crate) fn read<T: FromSql>(row: &Row, at: usize) -> Result<T, RegFault>
 pub(crate) fn read_integer(row: &Row, at: usize) -> Result<i64, RegFault>
     ensures ok { IfOk result (λ n. (column row.now at ≡ Int n) × FitsSigned w64 n) }
     ensures honest { result ≡ Err RegFault.Damaged → at < length row.now → ¬ IsInt (column row.now at) }
+    ensures unstored { result ≢ Err RegFault.Store }
 {
     read(row, at)
 }

@@ -1,4 +1,4 @@
--- A change that a line names, from what is said of the rest of the line.
+-- A change or a scan that a line names, from what is said of the rest of the line.
 use Rattle.std.proofs.Common.{◌≡◌, ◌≢◌, List, [], ◌∷◌, ℕ, get_or, drop, length, arith, ap, sym, subst, ◌∙◌, refl}
 use Rattle.std.specs.Prelude.{Result, Ok, Err, Option, Some, None, IfOk, IsOk, MatchOption, codes, map}
 use Rattle.std.specs.declared.alloc.AllocError.{AllocError}
@@ -8,7 +8,7 @@ use Rattle.zeb_engine.specs.declared.commands.Command.{Command}
 use Rattle.zeb_engine.specs.declared.commands.Command.TheVariants.{Init, Check, Create, Drop, Stat, Dump, Change, Find, Scan, Analyse}
 use Rattle.zeb_engine.specs.declared.commands.Kind.{Kind}
 use Rattle.zeb_engine.specs.declared.commands.Kind.TheVariants.{Update, Delete, Adelete}
-use Rattle.zebraidx.specs.Batches.{Names, NamesChange, HasChange, IsChange, kind_word}
+use Rattle.zebraidx.specs.Batches.{Names, NamesChange, HasChange, IsChange, HasScan, IsScan, kind_word}
 use Rattle.zebraidx.specs.Words.{first_word, after_first_word}
 
 -- two texts that begin otherwise differ
@@ -30,10 +30,25 @@ no_drop Update e = apart (codes "update") (codes "drop") (λ l. omega (arith, l)
 no_drop Delete e = let lengths : length (codes "delete") ≡ length (codes "drop") = ap length e in omega (arith, lengths)
 no_drop Adelete e = apart (codes "adelete") (codes "drop") (λ l. omega (arith, l)) e
 
+no_stat : (k : Kind) → kind_word k ≡ codes "stat" → ⊥
+no_stat Update e = apart (codes "update") (codes "stat") (λ l. omega (arith, l)) e
+no_stat Delete e = apart (codes "delete") (codes "stat") (λ l. omega (arith, l)) e
+no_stat Adelete e = apart (codes "adelete") (codes "stat") (λ l. omega (arith, l)) e
+
+no_dump : (k : Kind) → kind_word k ≡ codes "dump" → ⊥
+no_dump Update e = apart (codes "update") (codes "dump") (λ l. omega (arith, l)) e
+no_dump Delete e = let lengths : length (codes "delete") ≡ length (codes "dump") = ap length e in omega (arith, lengths)
+no_dump Adelete e = apart (codes "adelete") (codes "dump") (λ l. omega (arith, l)) e
+
 no_find : (k : Kind) → kind_word k ≡ codes "find" → ⊥
 no_find Update e = apart (codes "update") (codes "find") (λ l. omega (arith, l)) e
 no_find Delete e = apart (codes "delete") (codes "find") (λ l. omega (arith, l)) e
 no_find Adelete e = apart (codes "adelete") (codes "find") (λ l. omega (arith, l)) e
+
+no_scan : (k : Kind) → kind_word k ≡ codes "scan" → ⊥
+no_scan Update e = apart (codes "update") (codes "scan") (λ l. omega (arith, l)) e
+no_scan Delete e = apart (codes "delete") (codes "scan") (λ l. omega (arith, l)) e
+no_scan Adelete e = apart (codes "adelete") (codes "scan") (λ l. omega (arith, l)) e
 
 has_bytes : (r : Result (List ℕ) FromHexError) (files : List (List ℕ)) → r ∷ [] ≡ map Ok files → IsOk r
 has_bytes r [] e = absurd cc
@@ -45,11 +60,11 @@ unnamed k t word lacks Init names = no_init k (sym word ∙ names.0)
 unnamed k t word lacks Check names = names
 unnamed k t word lacks (Create name) names = no_create k (sym word ∙ names.0)
 unnamed k t word lacks (Drop name) names = no_drop k (sym word ∙ names.0)
-unnamed k t word lacks (Stat name) names = names
-unnamed k t word lacks (Dump name) names = names
+unnamed k t word lacks (Stat name) names = no_stat k (sym word ∙ names.0)
+unnamed k t word lacks (Dump name) names = no_dump k (sym word ∙ names.0)
 unnamed k t word lacks (Change kind database files) names = lacks record { name = names.1.name.0; mark = names.1.mark; bytes = has_bytes (decode_of (drop 4 (after_first_word (after_first_word t)))) (map (λ file. file.items) files.items) names.1.bytes }
 unnamed k t word lacks (Find database query first count) names = no_find k (sym word ∙ names.0)
-unnamed k t word lacks (Scan database query number position) names = names
+unnamed k t word lacks (Scan database query number position) names = no_scan k (sym word ∙ names.0)
 unnamed k t word lacks (Analyse files) names = names
 
 named : (k : Kind) (t : List ℕ) → first_word t ≡ kind_word k → (c : Command) → IsChange k (after_first_word t) c → Names t c
@@ -70,3 +85,38 @@ pub names_change : (k : Kind) (t rest : List ℕ) (r : Result (Option Command) A
 names_change k t rest (Err e) word same h = h
 names_change k t rest (Ok None) word same h = unnamed k t word (subst (λ x. ¬ HasChange x) same h)
 names_change k t rest (Ok (Some c)) word same h = named k t word c (subst (λ x. IsChange k x c) same h)
+
+-- ---- a scan
+
+-- where no scan is named, no command is, since the first word is a scan's
+unnamed_scan : (t : List ℕ) → first_word t ≡ codes "scan" → ¬ HasScan (after_first_word t) → (c : Command) → ¬ Names t c
+unnamed_scan t word lacks Init names = apart (codes "scan") (codes "init") (λ l. omega (arith, l)) (sym word ∙ names.0)
+unnamed_scan t word lacks Check names = names
+unnamed_scan t word lacks (Create name) names = apart (codes "scan") (codes "create") (λ l. omega (arith, l)) (sym word ∙ names.0)
+unnamed_scan t word lacks (Drop name) names = apart (codes "scan") (codes "drop") (λ l. omega (arith, l)) (sym word ∙ names.0)
+unnamed_scan t word lacks (Stat name) names = apart (drop 1 (codes "scan")) (drop 1 (codes "stat")) (λ l. omega (arith, l)) (ap (drop 1) (sym word ∙ names.0))
+unnamed_scan t word lacks (Dump name) names = apart (codes "scan") (codes "dump") (λ l. omega (arith, l)) (sym word ∙ names.0)
+unnamed_scan t word lacks (Change kind database files) names = no_scan kind (sym names.0 ∙ word)
+unnamed_scan t word lacks (Find database query first count) names = apart (codes "scan") (codes "find") (λ l. omega (arith, l)) (sym word ∙ names.0)
+unnamed_scan t word lacks (Scan database query number position) names =
+    lacks record { name = names.1.name.0; number = number; position = position; many = names.1.many; place = names.1.place; within = names.1.within; some = λ none. names.1.some (names.1.rest ∙ none) }
+unnamed_scan t word lacks (Analyse files) names = names
+
+named_scan : (t : List ℕ) → first_word t ≡ codes "scan" → (c : Command) → IsScan (after_first_word t) c → Names t c
+named_scan t word Init h = absurd h
+named_scan t word Check h = absurd h
+named_scan t word (Create name) h = absurd h
+named_scan t word (Drop name) h = absurd h
+named_scan t word (Stat name) h = absurd h
+named_scan t word (Dump name) h = absurd h
+named_scan t word (Change kind database files) h = absurd h
+named_scan t word (Find database query first count) h = absurd h
+named_scan t word (Scan database query number position) h = (word, h)
+named_scan t word (Analyse files) h = absurd h
+
+pub names_scan : (t rest : List ℕ) (r : Result (Option Command) AllocError) → first_word t ≡ codes "scan" → rest ≡ after_first_word t
+    → IfOk r (λ found. MatchOption found (¬ HasScan rest) (IsScan rest))
+    → IfOk r (λ found. MatchOption found ((c : Command) → ¬ Names t c) (Names t))
+names_scan t rest (Err e) word same h = h
+names_scan t rest (Ok None) word same h = unnamed_scan t word (subst (λ x. ¬ HasScan x) same h)
+names_scan t rest (Ok (Some c)) word same h = named_scan t word c (subst (λ x. IsScan x c) same h)

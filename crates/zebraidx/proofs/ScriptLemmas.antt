@@ -51,6 +51,7 @@ reached_divider n text rest profile h e divider =
     let len : length (front ++ rest) - length rest ≡ length front = simp length-append (omega arith) in
     let is_front : profile ≡ front = e ∙ ap (λ t. take (length t - length rest) t) h.before.1 ∙ rw (len, take-append_seam) refl in
     record {
+      counted = omega arith;
       first = λ k l. h.none k (omega (arith, l));
       divider = rw same (subst (λ r. IsDivider (first_line r)) h.at divider);
       whole = rw same (h.before.1 ∙ ap (λ x. x ++ rest) (sym is_front) ∙ ap (λ x. profile ++ x) h.at);

@@ -1,11 +1,17 @@
 -- What a batch writes, and its status (this program's own): the answers of its lines, one after the other, and the greatest status among them.
+-- Line after line the commands are a run from what the register held before it.
 use Rattle.std.specs.Prelude.{◌≡◌, ◌<◌, ◌+◌, ℕ, max, Option, Result, Ok, Err, List, [], ◌∷◌, ◌++◌, length, codes}
 use Rattle.std.specs.Fmt.{decimal}
 use Rattle.std.specs.Io.KnownBytes.{Appends}
+use Rattle.zeb_engine.specs.declared.commands.Command.{Command}
 use Rattle.zeb_engine.specs.declared.replies.Reply.{Reply}
 use Rattle.zeb_engine.specs.declared.refusals.Refusal.{Refusal}
+use Rattle.zeb_engine.specs.Answers.{answer_of}
+use Rattle.zeb_engine.specs.Conditions.{Conditions}
+use Rattle.zeb_engine.specs.Holdings.{Holdings}
 use Rattle.zeb_engine.specs.Replies.{reply_text}
 use Rattle.zeb_engine.specs.Refusals.{refusal_text, status_of}
+use Rattle.zeb_engine.specs.Steps.{Run}
 use Rattle.zebraidx.specs.declared.lines.Line.{Line}
 use Rattle.zebraidx.specs.declared.lines.Line.TheVariants.{Remark, Command as Order, Bad}
 use Rattle.zebraidx.specs.Lines.{first_line, after_first_line}
@@ -24,25 +30,35 @@ abbrev pub answer_status : Result Reply Refusal → ℕ
 answer_status (Ok reply) = 0
 answer_status (Err refusal) = status_of refusal
 
-abbrev pub IsAnswer : List ℕ → ℕ → Type 0
-IsAnswer bytes status = (answer : Result Reply Refusal) × (bytes ≡ answer_text answer) × (status ≡ answer_status answer)
+-- what is written for a command, its status, and what the register holds then: the answer is that of a run of this command
+abbrev pub IsAnswer : Conditions → Command → Holdings → List ℕ → ℕ → Holdings → Type 0
+IsAnswer c command before bytes status later =
+    (answer : Result Reply Refusal) × (bytes ≡ answer_text answer) × (status ≡ answer_status answer) × Run c before (command ∷ []) (answer_of answer ∷ []) later
 
 abbrev pub bad_line : ℕ → List ℕ
 bad_line number = codes "zebraidx: bad line " ++ decimal number ++ 10 ∷ []
 
--- what is written for a line that says this, and its status
-abbrev pub IsAnswerTo : ℕ → Line → List ℕ → ℕ → Type 0
-IsAnswerTo number Remark bytes status = (bytes ≡ []) × (status ≡ 0)
-IsAnswerTo number (Order command) bytes status = IsAnswer bytes status
-IsAnswerTo number Bad bytes status = (bytes ≡ bad_line number) × (status ≡ 2)
+-- what is written for a line that says this, its status, and what the register holds then
+abbrev pub IsAnswerTo : Conditions → ℕ → Line → Holdings → List ℕ → ℕ → Holdings → Type 0
+IsAnswerTo c number Remark before bytes status later = (bytes ≡ []) × (status ≡ 0) × (later ≡ before)
+IsAnswerTo c number (Order command) before bytes status later = IsAnswer c command before bytes status later
+IsAnswerTo c number Bad before bytes status later = (bytes ≡ bad_line number) × (status ≡ 2) × (later ≡ before)
 
--- what is written for a line, by its text and its number
-abbrev pub AnswersLine : ℕ → List ℕ → List ℕ → ℕ → Type 0
-AnswersLine number text bytes status = (line : Line) × Says text line × IsAnswerTo number line bytes status
+-- the same for a line, by its text and its number
+abbrev pub AnswersLine : Conditions → ℕ → List ℕ → Holdings → List ℕ → ℕ → Holdings → Type 0
+AnswersLine c number text before bytes status later = (line : Line) × Says text line × IsAnswerTo c number line before bytes status later
 
--- what is written for the lines of a text, where n lines of the input stand before it
-pub data AnswersBatch : ℕ → List ℕ → List ℕ → ℕ → Type 0 where
-  done : {n : ℕ} → AnswersBatch n [] [] 0
-  more : {n : ℕ} {text here later : List ℕ} {status greatest : ℕ} → 0 < length text
-      → AnswersLine (n + 1) (first_line text) here status → AnswersBatch (n + 1) (after_first_line text) later greatest
-      → AnswersBatch n text (here ++ later) (max status greatest)
+-- the same for the first lines of a text, which n lines of the input stand before: as far as the rest, which is not answered
+pub data AnswersLines : Conditions → ℕ → List ℕ → Holdings → List ℕ → ℕ → List ℕ → Holdings → Type 0 where
+  none : {c : Conditions} {n : ℕ} {text : List ℕ} {held : Holdings} → AnswersLines c n text held [] 0 text held
+  more : {c : Conditions} {n : ℕ} {text here there rest : List ℕ} {status greatest : ℕ} {before next last : Holdings} → 0 < length text
+      → AnswersLine c (n + 1) (first_line text) before here status next → AnswersLines c (n + 1) (after_first_line text) next there greatest rest last
+      → AnswersLines c n text before (here ++ there) (max status greatest) rest last
+
+-- every line of the text is answered
+abbrev pub AnswersBatch : Conditions → ℕ → List ℕ → Holdings → List ℕ → ℕ → Holdings → Type 0
+AnswersBatch c n text before bytes status last = AnswersLines c n text before bytes status [] last
+
+-- the lines before one of the text are answered, and that line and those after it are not
+abbrev pub AnswersPart : Conditions → ℕ → List ℕ → Holdings → List ℕ → Type 0
+AnswersPart c n text before bytes = (status : ℕ) × (rest : List ℕ) × (last : Holdings) × (0 < length rest) × AnswersLines c n text before bytes status rest last

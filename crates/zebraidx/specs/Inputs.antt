@@ -1,7 +1,11 @@
 -- An input that is read whole: at most 16,777,216 bytes of UTF-8.
-use Rattle.std.specs.Prelude.{ℕ, ◌≤◌, List, length}
+use Rattle.std.specs.Prelude.{ℕ, ◌≤◌, List, length, Option}
 use Rattle.std.specs.Str.{IsUtf8}
-use Rattle.zebraidx.specs.declared.input.TheConstants.{GREATEST_INPUT}
+use Rattle.std.specs.Io.KnownBytes.{Consumes}
 
 abbrev pub IsInput : List ℕ → Type 0
-IsInput bytes = (length bytes ≤ GREATEST_INPUT) × IsUtf8 bytes
+IsInput bytes = (length bytes ≤ 16777216) × IsUtf8 bytes
+
+-- known bytes lose some off their front, and these are at most n
+abbrev pub TakesAtMost : ℕ → Option (List ℕ) → Option (List ℕ) → Type 0
+TakesAtMost n old new = (taken : List ℕ) × (length taken ≤ n) × Consumes old new taken

@@ -1,8 +1,10 @@
 pub mod Answers
+pub mod Numbers
 pub mod Batches
 pub mod Inputs
 pub mod Lines
 pub mod Says
 pub mod ScriptAnswers
 pub mod Scripts
+pub mod Serving
 pub mod Words

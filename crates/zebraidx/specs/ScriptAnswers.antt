@@ -1,8 +1,11 @@
 -- What a script writes, and its status (this program's own).
-use Rattle.std.specs.Prelude.{◌≡◌, ◌⊎◌, ℕ, Option, IsOk, List, [], ◌∷◌, ◌++◌, codes}
+use Rattle.std.specs.Prelude.{◌≡◌, ◌⊎◌, ℕ, Option, Ok, IsOk, List, [], ◌∷◌, ◌++◌, codes}
+use Rattle.zeb_engine.specs.Conditions.{Conditions}
+use Rattle.zeb_engine.specs.Holdings.{Holdings, nothing_yet}
 use Rattle.zeb_engine.specs.declared.refusals.Refusal.{Refusal}
 use Rattle.zeb_engine.specs.declared.refusals.Refusal.TheVariants as refusal
 use Rattle.zeb_engine.specs.Refusals.{refusal_text}
+use Rattle.zeb_profile.specs.declared.directives.Directive.{Directive}
 use Rattle.zeb_profile.specs.declared.faults.ProfileFault.{ProfileFault}
 use Rattle.zeb_profile.specs.declared.faults.ProfileFaultKind.{ProfileFaultKind}
 use Rattle.zeb_profile.specs.declared.faults.ProfileFaultKind.TheVariants.{Memory}
@@ -11,7 +14,7 @@ use Rattle.zeb_profile.specs.Outcomes.{FailsPlaced}
 use Rattle.zeb_profile.specs.Profiles.{profile_of}
 use Rattle.zebraidx.specs.Inputs.{IsInput}
 use Rattle.zebraidx.specs.Scripts.{DividesAt, HasNoDivider}
-use Rattle.zebraidx.specs.Answers.{Writes, AnswersBatch}
+use Rattle.zebraidx.specs.Answers.{Writes, AnswersBatch, AnswersPart}
 
 abbrev pub refusal_line : Refusal → List ℕ
 refusal_line why = refusal_text why ++ 10 ∷ []
@@ -35,22 +38,42 @@ abbrev pub fault_status : ProfileFaultKind → ℕ
 fault_status Memory = 3
 fault_status _ = 1
 
--- what the lines of a batch add to a writer's known bytes: their answers, or the failure of the store or the memory by which no register was opened
-abbrev pub AnswersOpened : ℕ → List ℕ → Option (List ℕ) → Option (List ℕ) → ℕ → Type 0
-AnswersOpened n batch old new status = Writes old new (λ bytes. AnswersBatch n batch bytes status) ⊎ Writes old new (λ bytes. IsUnopened bytes status)
+-- what a register in memory works under, by the directives of a script's profile: the version is that of the layout with a row for each posting, and the limits are the greatest that there are
+pub record AreScriptConditions (directives : List Directive) (c : Conditions) : Type 0 where
+  pub version : c.version ≡ codes "1"
+  pub profile : c.profile ≡ directives
+  pub records : c.limits.records ≡ 1000000
+  pub numbers : c.limits.numbers ≡ 999999999
+
+-- what the lines of a batch add to a writer's known bytes, from a register that holds nothing yet: their answers, or the failure of the store or the memory by which no register was opened
+abbrev pub AnswersOpened : List Directive → ℕ → List ℕ → Option (List ℕ) → Option (List ℕ) → ℕ → Type 0
+AnswersOpened directives n batch old new status =
+    Writes old new (λ bytes. (c : Conditions) × AreScriptConditions directives c × (last : Holdings) × AnswersBatch c n batch nothing_yet bytes status last)
+    ⊎ Writes old new (λ bytes. IsUnopened bytes status)
+
+-- what they add where memory runs out between two lines of output: the answers of the first lines, or nothing
+abbrev pub AnswersStopped : List Directive → ℕ → List ℕ → Option (List ℕ) → Option (List ℕ) → Type 0
+AnswersStopped directives n batch old new =
+    Writes old new (λ bytes. (c : Conditions) × AreScriptConditions directives c × AnswersPart c n batch nothing_yet bytes) ⊎ Writes old new (λ bytes. bytes ≡ [])
 
 -- the profile of a script: what stands before its divider, or the whole text
 abbrev pub IsProfileOf : List ℕ → List ℕ → Type 0
 IsProfileOf text profile = (HasNoDivider text × (profile ≡ text)) ⊎ ((n : ℕ) × (batch : List ℕ) × DividesAt n text profile batch)
 
--- what a script of this text adds to a writer's known bytes, and its status
+-- what a script of this text adds to a writer's known bytes, and its status: only an input that isn't too long and is text is looked at any further
 pub data AnswersScript : List ℕ → Option (List ℕ) → Option (List ℕ) → ℕ → Type 0 where
   -- an input that is too long or no text
   unreadable : {text : List ℕ} {old new : Option (List ℕ)} → ¬ IsInput text → Writes old new (λ bytes. bytes ≡ unreadable_line) → AnswersScript text old new 3
   -- a profile that is refused: for its first fault, or for want of memory
-  faulty : {text profile : List ℕ} {old new : Option (List ℕ)} → (fault : ProfileFault) → IsProfileOf text profile → FailsPlaced fault (profile_of profile) → Writes old new (λ bytes. bytes ≡ fault_line fault)
+  faulty : {text profile : List ℕ} {old new : Option (List ℕ)} → (fault : ProfileFault) → IsInput text → IsProfileOf text profile → FailsPlaced fault (profile_of profile) → Writes old new (λ bytes. bytes ≡ fault_line fault)
       → AnswersScript text old new (fault_status fault.kind)
   -- a profile alone
-  alone : {text : List ℕ} {old new : Option (List ℕ)} → HasNoDivider text → IsOk (profile_of text) → Writes old new (λ bytes. bytes ≡ []) → AnswersScript text old new 0
+  alone : {text : List ℕ} {old new : Option (List ℕ)} → IsInput text → HasNoDivider text → IsOk (profile_of text) → Writes old new (λ bytes. bytes ≡ []) → AnswersScript text old new 0
   -- a profile, and the lines of a batch
-  ran : {text profile batch : List ℕ} {n status : ℕ} {old new : Option (List ℕ)} → DividesAt n text profile batch → IsOk (profile_of profile) → AnswersOpened n batch old new status → AnswersScript text old new status
+  ran : {text profile batch : List ℕ} {directives : List Directive} {n status : ℕ} {old new : Option (List ℕ)} → IsInput text → DividesAt n text profile batch → profile_of profile ≡ Ok directives
+      → AnswersOpened directives n batch old new status → AnswersScript text old new status
+  -- the same, where memory ran out for the program itself before the last line was answered
+  stopped : {text profile batch : List ℕ} {directives : List Directive} {n : ℕ} {old new : Option (List ℕ)} → IsInput text → DividesAt n text profile batch → profile_of profile ≡ Ok directives
+      → AnswersStopped directives n batch old new → AnswersScript text old new 3
+  -- memory ran out while the input was read
+  silent : {text : List ℕ} {old new : Option (List ℕ)} → Writes old new (λ bytes. bytes ≡ []) → AnswersScript text old new 3

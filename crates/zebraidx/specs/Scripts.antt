@@ -18,6 +18,7 @@ IsDivider line = without_blanks line ≡ codes "."
 
 -- the first divider of a text is its n-th line, counted from 1; the profile stands before it, and the batch after it
 pub record DividesAt (n : ℕ) (text profile batch : List ℕ) : Type 0 where
+  pub counted : 0 < n
   pub first : (k : ℕ) → suc k < n → ¬ IsDivider (line_at k text)
   pub divider : IsDivider (line_at (n - 1) text)
   pub whole : text ≡ profile ++ after_lines (n - 1) text

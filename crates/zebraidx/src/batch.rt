@@ -1,9 +1,13 @@
 //! A batch: commands in one session, one on a line.
 
-ghost use Rattle.std.specs.Prelude.{◌≡◌, ◌≤◌, ◌++◌, ◌∷◌, [], false, IfOk};
+ghost use Rattle.std.specs.Prelude.{◌≡◌, ◌≤◌, ◌++◌, ◌∷◌, [], false, IfOk, OnErr};
+ghost use Rattle.sqlite.specs.Held.{state};
+ghost use Rattle.sqlite.specs.State.{HasCleanDisk};
+ghost use Rattle.zeb_engine.specs.Conditions.{conditions};
 ghost use Rattle.zeb_engine.specs.Refusals.{refusal_text, status_of};
-ghost use Rattle.zebraidx.specs.ScriptAnswers.{AnswersOpened};
-ghost use Rattle.zebraidx.specs.Answers.{Writes, IsAnswer, AnswersLine, AnswersBatch};
+ghost use Rattle.zebraidx.specs.ScriptAnswers.{AnswersOpened, AnswersStopped};
+ghost use Rattle.zebraidx.specs.Answers.{Writes, IsAnswer, AnswersLine, AnswersBatch, AnswersPart};
+ghost use Rattle.zebraidx.specs.Serving.{Leads, Stops};
 
 use crate::lines::Line;
 use crate::program::{ANSWERED, FAILED, MISUSED};
@@ -26,7 +30,9 @@ pub fn run_batch<W: Write>(
 ) -> Result<u8, AllocError>
     ensures sound { output.new.failed ≡ false → output.old.failed ≡ false }
     ensures answer { IfOk result (λ status. output.new.failed ≡ false →
-        AnswersOpened batch.entry.lines_before batch.entry.text.now (W.contents output.old.writer) (W.contents output.new.writer) status) }
+        AnswersOpened profile batch.entry.lines_before batch.entry.text.now (W.contents output.old.writer) (W.contents output.new.writer) status) }
+    ensures stopped { OnErr result (output.new.failed ≡ false →
+        AnswersStopped profile batch.entry.lines_before batch.entry.text.now (W.contents output.old.writer) (W.contents output.new.writer)) }
     ensures range { IfOk result (λ status. status ≤ FAILED) }
 {
     let Ok(connection) = Connection::open_in_memory(alloc) else {
@@ -45,8 +51,10 @@ fn run_lines<S: Alter, L: Layout, W: Write>(
     output: &mut Sink<W>,
 ) -> Result<u8, AllocError>
     ensures sound { output.new.failed ≡ false → output.old.failed ≡ false }
-    ensures answer { IfOk result (λ status. output.new.failed ≡ false →
-        Writes (W.contents output.old.writer) (W.contents output.new.writer) (λ bytes. AnswersBatch batch.entry.lines_before batch.entry.text.now bytes status)) }
+    ensures answer { IfOk result (λ status. output.new.failed ≡ false → HasCleanDisk (state S.Store session.new.connection) → Leads L.holds (conditions L.version session.old.profile session.old.limits) (state S.Store session.old.connection) (state S.Store session.new.connection) (W.contents output.old.writer) (W.contents output.new.writer)
+        (λ before bytes last. AnswersBatch (conditions L.version session.old.profile session.old.limits) batch.entry.lines_before batch.entry.text.now before bytes status last)) }
+    ensures stopped { OnErr result (output.new.failed ≡ false → HasCleanDisk (state S.Store session.new.connection) → Stops L.holds (conditions L.version session.old.profile session.old.limits) (state S.Store session.old.connection) (W.contents output.old.writer) (W.contents output.new.writer)
+        (AnswersPart (conditions L.version session.old.profile session.old.limits) batch.entry.lines_before batch.entry.text.now)) }
     ensures range { IfOk result (λ status. status ≤ FAILED) }
 {
     let mut rest = batch.text;
@@ -69,8 +77,11 @@ fn run_line<S: Alter, L: Layout, W: Write>(
     output: &mut Sink<W>,
 ) -> Result<u8, AllocError>
     ensures sound { output.new.failed ≡ false → output.old.failed ≡ false }
-    ensures answer { IfOk result (λ status. output.new.failed ≡ false →
-        Writes (W.contents output.old.writer) (W.contents output.new.writer) (λ bytes. AnswersLine number line.now bytes status)) }
+    ensures answer { IfOk result (λ status. output.new.failed ≡ false → HasCleanDisk (state S.Store session.new.connection) → Leads L.holds (conditions L.version session.old.profile session.old.limits) (state S.Store session.old.connection) (state S.Store session.new.connection) (W.contents output.old.writer) (W.contents output.new.writer)
+        (λ before bytes later. AnswersLine (conditions L.version session.old.profile session.old.limits) number line.now before bytes status later)) }
+    ensures stopped { OnErr result (output.new ≡ output.old) }
+    ensures clean { HasCleanDisk (state S.Store session.new.connection) → HasCleanDisk (state S.Store session.old.connection) }
+    ensures under { (session.new.profile ≡ session.old.profile) × (session.new.limits ≡ session.old.limits) }
     ensures range { IfOk result (λ status. status ≤ FAILED) }
 {
     match Line::read(alloc, line)? {
@@ -90,8 +101,11 @@ fn run_command<S: Alter, L: Layout, W: Write>(
     output: &mut Sink<W>,
 ) -> Result<u8, AllocError>
     ensures sound { output.new.failed ≡ false → output.old.failed ≡ false }
-    ensures answer { IfOk result (λ status. output.new.failed ≡ false →
-        Writes (W.contents output.old.writer) (W.contents output.new.writer) (λ bytes. IsAnswer bytes status)) }
+    ensures answer { IfOk result (λ status. output.new.failed ≡ false → HasCleanDisk (state S.Store session.new.connection) → Leads L.holds (conditions L.version session.old.profile session.old.limits) (state S.Store session.old.connection) (state S.Store session.new.connection) (W.contents output.old.writer) (W.contents output.new.writer)
+        (λ before bytes later. IsAnswer (conditions L.version session.old.profile session.old.limits) command.now before bytes status later)) }
+    ensures stopped { OnErr result (output.new ≡ output.old) }
+    ensures clean { HasCleanDisk (state S.Store session.new.connection) → HasCleanDisk (state S.Store session.old.connection) }
+    ensures under { (session.new.profile ≡ session.old.profile) × (session.new.limits ≡ session.old.limits) }
     ensures range { IfOk result (λ status. status ≤ FAILED) }
 {
     match session.command(command) {
@@ -112,6 +126,7 @@ fn refuse<W: Write>(
     ensures sound { output.new.failed ≡ false → output.old.failed ≡ false }
     ensures answer { IfOk result (λ status. output.new.failed ≡ false →
         Writes (W.contents output.old.writer) (W.contents output.new.writer) (λ bytes. (bytes ≡ refusal_text refusal.now ++ 10 ∷ []) × (status ≡ status_of refusal.now))) }
+    ensures stopped { OnErr result (output.new ≡ output.old) }
     ensures range { IfOk result (λ status. status ≤ FAILED) }
 {
     output.write_line(refusal_line(alloc, refusal)?);

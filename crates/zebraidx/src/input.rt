@@ -1,8 +1,8 @@
 //! Reading the input as one text.
 
-ghost use Rattle.std.specs.Prelude.{◌≡◌, ◌≤◌, true, false, length, vec_len, string_bytes, string_len, IfOk, IfErr, IfSome};
+ghost use Rattle.std.specs.Prelude.{◌≡◌, ◌≤◌, ◌+◌, true, false, length, vec_len, string_bytes, string_len, IfOk, IfErr, IfSome};
 ghost use Rattle.std.specs.Io.KnownBytes.{Consumes, IsAtEnd};
-ghost use Rattle.zebraidx.specs.Inputs.{IsInput};
+ghost use Rattle.zebraidx.specs.Inputs.{IsInput, TakesAtMost};
 ghost use Rattle.zebraidx.specs.declared.input.InputFault.TheVariants.{Unreadable, Memory};
 
 use std::alloc::{AllocError, Global};
@@ -49,6 +49,8 @@ pub fn read_text<R: Source>(alloc: Global, source: &mut R) -> Result<String, Inp
     ensures unreadable { result ≡ Err Unreadable → R.has_failed source.new ≡ false →
         IfSome (R.remaining source.old) (λ bytes. ¬ IsInput bytes) }
     ensures failed { R.has_failed source.new ≡ true → result ≡ Err Unreadable }
+    // Whatever the answer.
+    ensures bounded { TakesAtMost (GREATEST_INPUT + 1) (R.remaining source.old) (R.remaining source.new) }
 {
     let bytes = read_bytes(alloc, source)?;
     if bytes.len() > GREATEST_INPUT {
@@ -65,6 +67,7 @@ fn read_bytes<R: Source>(alloc: Global, source: &mut R) -> Result<Vec<u8>, Input
     ensures sound { IfOk result (λ _. R.has_failed source.new ≡ false) }
     ensures unreadable { result ≡ Err Unreadable → R.has_failed source.new ≡ true }
     ensures failed { R.has_failed source.new ≡ true → result ≡ Err Unreadable }
+    ensures bounded { TakesAtMost (GREATEST_INPUT + 1) (R.remaining source.old) (R.remaining source.new) }
 {
     let mut bytes = Vec::new(alloc);
     let mut portion = [0u8; PORTION];

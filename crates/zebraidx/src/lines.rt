@@ -2,15 +2,19 @@
 
 ghost use Rattle.std.specs.Prelude.{◌≡◌, IfOk, MatchOption};
 ghost use Rattle.zeb_engine.specs.declared.commands.Command.{Command};
-ghost use Rattle.zebraidx.specs.Batches.{Names, HasChange, IsChange, HasFind, IsFind};
+ghost use Rattle.zebraidx.specs.Batches.{Names, HasChange, IsChange, HasFind, IsFind, HasScan, IsScan};
 
 use crate::digits::bytes_of_digits;
+use crate::numbers::number_of;
 use crate::words::{cut_word, without_blanks};
 use std::alloc::{AllocError, Global};
 use zeb_engine::{Command, DbName, Kind};
 
 /// How many records a `find` line shows at most.
 const SHOWN: u32 = 20;
+
+/// How many terms a scan shows at most.
+const TERMS: u32 = 1_000;
 
 /// What a line of a batch says.
 #[derive(Debug, Drop)]
@@ -31,14 +35,18 @@ impl Line {
     /// init
     /// create NAME
     /// drop NAME
+    /// stat NAME
+    /// dump NAME
     /// update NAME hex:DIGITS
     /// delete NAME hex:DIGITS
     /// adelete NAME hex:DIGITS
     /// find NAME QUERY
+    /// scan NAME N P QUERY
     /// ```
     ///
     /// DIGITS are the hexadecimal digits of one file's bytes. QUERY is the rest of the line, and is not
-    /// empty; of the records that it finds the first 20 are shown.
+    /// empty; of the records that it finds the first 20 are shown. A scan shows N terms (1 to 1,000), the start at
+    /// place P (1 to N); both have 1 to 9 digits.
     pub fn read(alloc: Global, text: &str) -> Result<Line, AllocError>
         ensures { IfOk result (Says text.now) }
     {
@@ -60,10 +68,13 @@ fn read_command(alloc: Global, text: &str) -> Result<Option<Command>, AllocError
         "init" => Ok(rest.is_empty().then_some(Command::Init)),
         "create" => Ok(DbName::read(rest).map(Command::Create)),
         "drop" => Ok(DbName::read(rest).map(Command::Drop)),
+        "stat" => Ok(DbName::read(rest).map(Command::Stat)),
+        "dump" => Ok(DbName::read(rest).map(Command::Dump)),
         "update" => read_change(alloc, Kind::Update, rest),
         "delete" => read_change(alloc, Kind::Delete, rest),
         "adelete" => read_change(alloc, Kind::Adelete, rest),
         "find" => read_find(alloc, rest),
+        "scan" => read_scan(alloc, rest),
         _ => Ok(None),
     }
 }
@@ -103,5 +114,29 @@ fn read_find(alloc: Global, text: &str) -> Result<Option<Command>, AllocError>
         query: String::from_str(alloc, query)?,
         first: 1,
         count: SHOWN,
+    }))
+}
+
+/// `NAME N P QUERY`.
+fn read_scan(alloc: Global, text: &str) -> Result<Option<Command>, AllocError>
+    ensures { IfOk result (λ found. MatchOption found (¬ HasScan text.now) (IsScan text.now)) }
+{
+    let (name, rest) = cut_word(text);
+    let (number, rest) = cut_word(rest);
+    let (position, query) = cut_word(rest);
+    let Some(database) = DbName::read(name) else {
+        return Ok(None);
+    };
+    let (Some(number), Some(position)) = (number_of(number), number_of(position)) else {
+        return Ok(None);
+    };
+    if number > TERMS || position == 0 || position > number || query.is_empty() {
+        return Ok(None);
+    }
+    Ok(Some(Command::Scan {
+        database,
+        query: String::from_str(alloc, query)?,
+        number,
+        position,
     }))
 }

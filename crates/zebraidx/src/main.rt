@@ -5,6 +5,7 @@ mod batch;
 mod digits;
 mod input;
 mod lines;
+mod numbers;
 mod program;
 mod script;
 mod sinks;

@@ -1,11 +1,12 @@
 //! The program without its outside: words and input come in, output and a status go out.
 
-ghost use Rattle.std.specs.Prelude.{◌≡◌, ◌≢◌, ◌≤◌, ◌<◌, [], true, false, IfOk, IfSome};
+ghost use Rattle.std.specs.Prelude.{◌≡◌, ◌≢◌, ◌≤◌, ◌+◌, [], true, false, IfOk, IfSome, OnErr};
 ghost use Rattle.std.specs.Io.KnownBytes.{Appends, Keeps};
+ghost use Rattle.zebraidx.specs.Inputs.{TakesAtMost};
 ghost use Rattle.zebraidx.specs.ScriptAnswers.{AnswersScript, fault_line, fault_status, usage_line};
 
 use crate::batch::run_batch;
-use crate::input::{InputFault, read_text};
+use crate::input::{GREATEST_INPUT, InputFault, read_text};
 use crate::script::Script;
 use crate::sinks::Sink;
 use std::alloc::{AllocError, Global};
@@ -45,19 +46,23 @@ pub fn run<R: Source, W: Write, V: Write>(
     requires { R.has_failed input.old ≡ false }
     ensures range { result ≤ FAILED }
 
+    // However long the input is, and whatever the answer. Words leave it alone.
+    ensures bounded { TakesAtMost (GREATEST_INPUT + 1) (R.remaining input.old) (R.remaining input.new) }
+    ensures unread { words.now ≢ [] → input.new ≡ input.old }
+
     // A failed read of the input, and a failed write, show in the status.
     ensures failed_read { words.now ≡ [] → R.has_failed input.new ≡ true → result ≡ FAILED }
     ensures failed_write { output.new.failed ≡ true → result ≡ FAILED }
     ensures failed_fault { fault_output.new.failed ≡ true → result ≡ FAILED }
 
-    // Without a word: what is written, where the input tells its bytes and nothing failed.
-    ensures script { words.now ≡ [] → result < FAILED → IfSome (R.remaining input.old) (λ text.
-        AnswersScript text (W.contents output.old.writer) (W.contents output.new.writer) result) }
-    ensures quiet { words.now ≡ [] → result < FAILED →
+    // Without a word: what is written, where the input tells its bytes and neither a read nor a write failed.
+    ensures script { words.now ≡ [] → R.has_failed input.new ≡ false → output.new.failed ≡ false → fault_output.new.failed ≡ false →
+        IfSome (R.remaining input.old) (λ text. AnswersScript text (W.contents output.old.writer) (W.contents output.new.writer) result) }
+    ensures quiet { words.now ≡ [] → fault_output.new.failed ≡ false →
         Keeps (V.contents fault_output.old.writer) (V.contents fault_output.new.writer) }
 
     // With words.
-    ensures misused { words.now ≢ [] → result < FAILED → (result ≡ MISUSED)
+    ensures misused { words.now ≢ [] → output.new.failed ≡ false → fault_output.new.failed ≡ false → (result ≡ MISUSED)
         × Keeps (W.contents output.old.writer) (W.contents output.new.writer)
         × Appends (V.contents fault_output.old.writer) (V.contents fault_output.new.writer) usage_line }
 {
@@ -80,8 +85,10 @@ fn respond<R: Source, W: Write, V: Write>(
 ) -> u8
     requires { R.has_failed input.old ≡ false }
     ensures range { result ≤ FAILED }
+    ensures bounded { TakesAtMost (GREATEST_INPUT + 1) (R.remaining input.old) (R.remaining input.new) }
+    ensures unread { words.now ≢ [] → input.new ≡ input.old }
     ensures failed_read { words.now ≡ [] → R.has_failed input.new ≡ true → result ≡ FAILED }
-    ensures script { words.now ≡ [] → result < FAILED → output.new.failed ≡ false → IfSome (R.remaining input.old) (λ text.
+    ensures script { words.now ≡ [] → R.has_failed input.new ≡ false → output.new.failed ≡ false → IfSome (R.remaining input.old) (λ text.
         AnswersScript text (W.contents output.old.writer) (W.contents output.new.writer) result) }
     ensures quiet { words.now ≡ [] → fault_output.new ≡ fault_output.old }
     ensures misused { words.now ≢ [] → (result ≡ MISUSED) × (output.new ≡ output.old) }
@@ -102,10 +109,13 @@ fn run_script<R: Source, W: Write>(
 ) -> Result<u8, AllocError>
     requires { R.has_failed input.old ≡ false }
     ensures range { IfOk result (λ status. status ≤ FAILED) }
+    ensures bounded { TakesAtMost (GREATEST_INPUT + 1) (R.remaining input.old) (R.remaining input.new) }
     ensures failed_read { R.has_failed input.new ≡ true → IfOk result (λ status. status ≡ FAILED) }
     ensures sound { output.new.failed ≡ false → output.old.failed ≡ false }
     ensures answer { IfOk result (λ status. R.has_failed input.new ≡ false → output.new.failed ≡ false →
         IfSome (R.remaining input.old) (λ text. AnswersScript text (W.contents output.old.writer) (W.contents output.new.writer) status)) }
+    ensures stopped { OnErr result (R.has_failed input.new ≡ false → output.new.failed ≡ false →
+        IfSome (R.remaining input.old) (λ text. AnswersScript text (W.contents output.old.writer) (W.contents output.new.writer) FAILED)) }
 {
     let text = match read_text(alloc, input) {
         Ok(text) => text,

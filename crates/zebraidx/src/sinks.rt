@@ -1,6 +1,6 @@
 //! Where the program writes.
 
-ghost use Rattle.std.specs.Prelude.{◌≡◌, false, IfSome};
+ghost use Rattle.std.specs.Prelude.{◌≡◌, false, true, IfSome};
 ghost use Rattle.std.specs.Io.KnownBytes.{Appends, Keeps};
 ghost use Rattle.std.specs.Fmt.{with_newline};
 
@@ -29,6 +29,7 @@ impl<W: Write> Sink<W> {
     /// Writes these bytes, unless a write has failed before.
     pub fn write(&mut self, bytes: &[u8])
         ensures sound { self.new.failed ≡ false → self.old.failed ≡ false }
+        ensures silent { self.old.failed ≡ true → self.new ≡ self.old }
         ensures bytes { self.new.failed ≡ false →
             Appends (W.contents self.old.writer) (W.contents self.new.writer) bytes.now }
     {
@@ -40,6 +41,7 @@ impl<W: Write> Sink<W> {
     /// Writes the text and an LF, unless a write has failed before.
     pub fn write_line<D: Display + Drop>(&mut self, text: D)
         ensures sound { self.new.failed ≡ false → self.old.failed ≡ false }
+        ensures silent { self.old.failed ≡ true → self.new ≡ self.old }
         ensures bytes { self.new.failed ≡ false → IfSome (with_newline (D.output text))
             (Appends (W.contents self.old.writer) (W.contents self.new.writer)) }
     {
@@ -52,6 +54,7 @@ impl<W: Write> Sink<W> {
     /// as a failed write.
     pub fn flush(&mut self)
         ensures sound { self.new.failed ≡ false → self.old.failed ≡ false }
+        ensures silent { self.old.failed ≡ true → self.new ≡ self.old }
         ensures bytes { self.new.failed ≡ false →
             Keeps (W.contents self.old.writer) (W.contents self.new.writer) }
     {

@@ -10,6 +10,7 @@ use zeb_marc::{FromRead, Slice};
 
 mod fakes;
 mod records;
+mod scans;
 
 use fakes::{Brittle, Endless, Torn};
 use records::with_records;
@@ -121,6 +122,11 @@ fn changes_records(rt: HostRuntime) -> Result<(), Fail> {
             "init\nupdate X hex:<B>\nupdate Default hex:<A><B>\ndrop X\nupdate X hex:<A>\nfind X @attr 1=4 whale\nfind X @attr 1=4 cafe\nfind Default @attr 1=4 cafe\n",
             "ok\ninserted 1 updated 0 deleted 0\ninserted 2 updated 0 deleted 0\nok\ninserted 1 updated 0 deleted 0\nhits 1\n1 a1\nhits 0\nhits 1\n2 b2\n",
         ),
+        // How much a database has, and its records' bytes.
+        (
+            "init\nupdate Default hex:<B>\nstat Default\ndump Default\n",
+            "ok\ninserted 1 updated 0 deleted 0\nrecords 1\nlast 1\nTitle:w 1 1\n00064nam a2200049 a 4500001000300000245001100003\x1eb2\x1e00\x1faCafe\u{301}\x1e\x1d",
+        ),
         // Digits of either case, and separators around a record.
         (
             "init\nupdate Default hex:0D0a20<B>0a\nfind Default @attr 1=4 cafe\n",
@@ -207,7 +213,9 @@ fn numbers_bad_lines(rt: HostRuntime) -> Result<(), Fail> {
         "init now",
         "INIT",
         ".",
-        "stat Default",
+        "stat",
+        "dump a b",
+        "check",
         "create",
         "create a b",
         "create a/b",

@@ -2,21 +2,26 @@
 //! in turn), a command gives its ordinary answer, or is refused for it and has changed nothing; asked again, it is answered.
 
 use super::{CAFE, DOCK, MOBY, Memory, Step, TITLES, command_of, find, opened};
-use crate::{Command, Limits, Refusal, Reply};
+use crate::{Command, Limits, Refusal, Reply, Session};
+use sqlite::Alter;
 use std::alloc::Global;
 use std::process::Abort;
 use std::test::Fail;
+use zeb_register::Rows;
 
 /// What a command's reply has in numbers.
 #[derive(Clone, Copy, Debug, PartialEq, Eq)]
-enum Count {
+pub(super) enum Count {
     Done,
     Changed(u64, u64, u64),
     Hits(u64),
+    Terms(usize),
+    Records(u64, u64),
+    Bytes(usize),
     Other,
 }
 
-fn count_of(answer: &Result<Reply, Refusal>) -> Count {
+pub(super) fn count_of(answer: &Result<Reply, Refusal>) -> Count {
     match answer {
         Ok(Reply::Done) => Count::Done,
         Ok(
@@ -27,16 +32,19 @@ fn count_of(answer: &Result<Reply, Refusal>) -> Count {
             },
         ) => Count::Changed(*inserted, *updated, *deleted),
         Ok(Reply::Found { hits, .. }) => Count::Hits(*hits),
+        Ok(Reply::Scanned { entries, .. }) => Count::Terms(entries.len()),
+        Ok(Reply::Counted { records, last, .. }) => Count::Records(*records, *last),
+        Ok(Reply::Dumped(bytes)) => Count::Bytes(bytes.len()),
         Err(_) => Count::Other,
     }
 }
 
-fn lacks_memory(answer: &Result<Reply, Refusal>) -> bool {
+pub(super) fn lacks_memory(answer: &Result<Reply, Refusal>) -> bool {
     matches!(answer, Err(Refusal::Memory | Refusal::Store))
 }
 
 /// A command's answer in numbers, asked again where memory was refused.
-fn asked(session: &mut Memory, command: &Command) -> Count {
+fn asked<S: Alter>(session: &mut Session<S, Rows>, command: &Command) -> Count {
     let mut answer = session.command(command);
     if lacks_memory(&answer) {
         answer = session.command(command);
@@ -45,7 +53,7 @@ fn asked(session: &mut Memory, command: &Command) -> Count {
 }
 
 /// The numbers of hits of three queries, which show what is kept.
-fn hits(alloc: Global, session: &mut Memory) -> [Count; 3] {
+pub(super) fn hits<S: Alter>(alloc: Global, session: &mut Session<S, Rows>) -> [Count; 3] {
     let queries = ["@attr 1=4 dick", "@attr 1=4 dock", "@attr 1=4 cafe"];
     let mut counts = [Count::Other; 3];
     for (count, query) in counts.iter_mut().zip(&queries) {
@@ -57,11 +65,13 @@ fn hits(alloc: Global, session: &mut Memory) -> [Count; 3] {
 }
 
 /// Commands, and what they have to answer.
-const STEPS: [(Step<'static>, Count); 8] = [
+pub(super) const STEPS: [(Step<'static>, Count); 10] = [
     (Step::Init, Count::Done),
     (Step::Create("Default"), Count::Done),
     (Step::Update(&[&[MOBY], &[CAFE]]), Count::Changed(2, 0, 0)),
     (Step::Find("@attr 1=4 whale"), Count::Hits(1)),
+    (Step::Dump("Default"), Count::Bytes(173)),
+    (Step::Stat("Default"), Count::Records(2, 2)),
     (
         Step::Update(&[&[DOCK, MOBY, DOCK]]),
         Count::Changed(0, 3, 0),

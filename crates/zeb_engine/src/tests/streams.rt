@@ -30,6 +30,14 @@ impl<'a> Stream<'a> {
             failed: false,
         }
     }
+
+    fn failed(bytes: &'a [u8]) -> Stream<'a> {
+        Stream {
+            bytes,
+            breaks: true,
+            failed: true,
+        }
+    }
 }
 
 impl Source for Stream<'_> {
@@ -153,6 +161,31 @@ fn a_reader_that_fails_is_named(rt: HostRuntime) -> Result<(), Fail> {
         &mut session,
         &[(Step::Find("@attr 1=4 moby"), absent)],
     )
+}
+
+#[test]
+fn a_reader_that_had_failed_is_named(rt: HostRuntime) -> Result<(), Fail> {
+    let alloc = rt.alloc();
+    let mut session = opened(alloc, TITLES, Limits::GREATEST)?;
+    for (step, text) in [
+        (
+            Step::Find("@attr 1=4 moby"),
+            "zebraidx: register not initialised",
+        ),
+        (Step::Init, "ok\n"),
+        (
+            Step::Find("@attr 1=4 moby"),
+            "zebraidx: diagnostic 235 at 0: Default",
+        ),
+    ] {
+        tell(&rt, alloc, &mut session, &[(step, text)])?;
+        let mut readers = [Stream::whole(MOBY), Stream::failed(CAFE)];
+        assert_eq!(rt;
+            updated(alloc, &mut session, &mut readers)?.as_str(),
+            "zebraidx: file 2: read fault"
+        );
+    }
+    Ok(())
 }
 
 #[test]

@@ -1,4 +1,4 @@
-//! What the plans of queries are, from the reference's worked rows.
+//! What the plans of queries are, from worked examples.
 
 use super::{PROFILE, Row};
 use crate::{PairPlan, Plan, TermPlan, plan, read_pqf};

@@ -1,11 +1,13 @@
 //! Statements on the table `databases`.
 
-ghost use Rattle.std.specs.Prelude.{◌≡◌, false, IsTrue, OnOk, OnErr, IfOk};
+ghost use Rattle.std.specs.Prelude.{◌≡◌, false, IsTrue, OnOk, OnErr, IfOk, IfErr};
 ghost use Rattle.sqlite.specs.Held.{state};
 ghost use Rattle.sqlite.specs.State.{HasCleanDisk, KeepsCommit, Survives};
-ghost use Rattle.zeb_register.specs.Store.{databases_tree, AddsDatabase, SetsLast, TakesDatabase, IsDatabaseRow};
-ghost use Rattle.zeb_register.specs.Calls.{ChangesNothing, Alters, Lists, ListsInside};
+ghost use Rattle.zeb_register.specs.Store.{IsStore, databases_tree, AddsDatabase, SetsLast, TakesDatabase, IsDatabaseRow};
+ghost use Rattle.zeb_register.specs.Faults.{fault_of};
+ghost use Rattle.zeb_register.specs.Calls.{ChangesNothing, Alters, Lists, ListsInside, MayRefuse};
 
+use crate::RegFault;
 use sqlite::{Alter, Connection, Error, Row, Transaction, params};
 
 pub(crate) fn database_rows<S: Alter>(
@@ -14,6 +16,7 @@ pub(crate) fn database_rows<S: Alter>(
 ) -> Result<Vec<Row>, Error>
     ensures idle { conn.old.in_transaction ≡ false → conn.new.in_transaction ≡ false }
     ensures ok { HasCleanDisk (state S.Store conn.new) → IfOk result (λ rows. Lists (λ trees. IsDatabaseRow trees name.now) (state S.Store conn.old) (state S.Store conn.new) rows.items) }
+    ensures err { HasCleanDisk (state S.Store conn.new) → IsStore (state S.Store conn.old) → IfErr result (λ e. fault_of e ≡ RegFault.Store → MayRefuse (state S.Store conn.old) (state S.Store conn.new)) }
     ensures same { HasCleanDisk (state S.Store conn.new) → conn.old.in_transaction ≡ false → ChangesNothing (state S.Store conn.old) (state S.Store conn.new) }
     ensures crash { Survives (state S.Store conn.old) (state S.Store conn.new) (λ _. ⊥) }
 {

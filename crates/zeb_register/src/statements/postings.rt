@@ -4,7 +4,7 @@ ghost use Rattle.std.specs.Prelude.{◌≡◌, true, false, [], ◌∷◌, pos, 
 ghost use Rattle.std.specs.Ordering.{is_lt, nat_cmp};
 ghost use Rattle.std.specs.Cmp.Lexicographic.{slice_cmp};
 ghost use Rattle.sqlite.specs.Held.{state};
-ghost use Rattle.sqlite.specs.State.{HasCleanDisk, KeepsCommit, Survives};
+ghost use Rattle.sqlite.specs.State.{HasCleanDisk, IsUnchanged, KeepsCommit, Survives};
 ghost use Rattle.sqlite.specs.declared.types.Value.TheVariants.{Int};
 ghost use Rattle.zeb_register.specs.Sql.{Loses, Gains};
 ghost use Rattle.zeb_register.specs.Store.{postings_tree, posting, key_of, place_key, IsPlaceOf, IsPostingIn, IsRest};
@@ -12,6 +12,19 @@ ghost use Rattle.zeb_register.specs.Calls.{ChangesNothing, Alters, Lists, ListsI
 ghost use Rattle.zeb_register.specs.Terms.{HasTerm, ShowsLeast, ShowsGreatest, Reads};
 
 use sqlite::{Alter, Connection, Error, Row, Transaction, params};
+
+/// Reads nothing. It is refused where the connection is closed.
+pub(crate) fn nothing_of<S: Alter>(conn: &mut Connection<S>) -> Result<(), Error>
+    ensures idle { conn.old.in_transaction ≡ false → conn.new.in_transaction ≡ false }
+    ensures ok { HasCleanDisk (state S.Store conn.new) → OnOk result (IsUnchanged (state S.Store conn.old) (state S.Store conn.new)) }
+    ensures same { HasCleanDisk (state S.Store conn.new) → conn.old.in_transaction ≡ false → ChangesNothing (state S.Store conn.old) (state S.Store conn.new) }
+    ensures crash { Survives (state S.Store conn.old) (state S.Store conn.new) (λ _. ⊥) }
+{
+    // What is seen outside a transaction is what was committed.
+    let _idle = conn.is_autocommit();
+    conn.query_all("SELECT term FROM postings LIMIT 0", &[])?;
+    Ok(())
+}
 
 pub(crate) fn posting_rows<S: Alter>(
     conn: &mut Connection<S>,

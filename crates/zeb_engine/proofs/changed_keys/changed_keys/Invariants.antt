@@ -1,4 +1,4 @@
-use Rattle.std.proofs.Common.{◌≡◌, ◌+◌, length}
+use Rattle.std.proofs.Common.{◌+◌, length}
 use Rattle.zeb_extract.specs.Order.{IsRising}
 use Rattle.zeb_engine.proofs.KeyChanges.{SoFar}
 use Rattle.zeb_engine.proofs.changed_keys.changed_keys.Given as goal

@@ -1,4 +1,4 @@
-use Rattle.std.proofs.Common.{◌≡◌, ◌⊎◌, Less, Equal, Greater, inl, inr, sym, ◌∙◌, ap, subst, rules, refl}
+use Rattle.std.proofs.Common.{◌≡◌, Less, Greater, inl, inr, sym, ◌∙◌, ap, subst, rules, refl}
 use Rattle.std.specs.Ordering.{ordering_reverse}
 use Rattle.zeb_extract.specs.Order.{key_order}
 use Rattle.zeb_extract.proofs.Rising.{key_total, keys_apart}

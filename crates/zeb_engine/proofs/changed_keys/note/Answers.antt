@@ -1,4 +1,4 @@
-use Rattle.std.proofs.Common.{◌≡◌, ◌∙◌, inl, inr, refl, sym}
+use Rattle.std.proofs.Common.{◌∙◌, inl, inr, refl, sym}
 use Rattle.zeb_engine.proofs.KeyEquality.{places_same, places_differ}
 use Rattle.zeb_engine.proofs.changed_keys.note.Goals as goal
 

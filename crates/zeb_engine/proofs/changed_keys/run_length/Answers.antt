@@ -1,8 +1,7 @@
-use Rattle.std.proofs.Common.{rules, ◌≡◌, ◌∙◌, ◌+◌, ◌∷◌, ◌++◌, true, false, not, sym, ap, subst, arith, take, drop, [], get_or}
+use Rattle.std.proofs.Common.{rules, ◌≡◌, ◌∷◌, take, []}
 use Rattle.std.proofs.lemmas.List.{take_more}
 use Rattle.std.proofs.Math.Seq.{drop-cons}
 use Rattle.sqlite_trees.proofs.ListLemmas.{all-append}
-use Rattle.zeb_engine.specs.KeyRuns.{AreOf, Stops}
 use Rattle.zeb_engine.proofs.KeyEquality.{same_key}
 use Rattle.zeb_engine.proofs.changed_keys.run_length.Goals as goal
 

@@ -1,4 +1,4 @@
-use Rattle.std.proofs.Common.{◌≡◌, take}
+use Rattle.std.proofs.Common.{take}
 use Rattle.zeb_engine.specs.KeyRuns.{AreOf}
 use Rattle.zeb_engine.proofs.changed_keys.run_length.Given as goal
 

@@ -10,6 +10,7 @@ use Rattle.zeb_engine.specs.NameOf.{name_bytes}
 use Rattle.zeb_engine.specs.Steps.{changed_by_files, splits_of, start_of, turned}
 use Rattle.zeb_engine.specs.Works.{IsReady, Serves, conditions_of}
 use Rattle.zeb_engine.proofs.ChangeBegins.{start_met, start_refused}
+use Rattle.zeb_engine.proofs.Crashing.{survives_after}
 use Rattle.zeb_engine.proofs.Readers.{no_file_failed}
 use Rattle.zeb_engine.proofs.Serving.{keeps_still, early_serves}
 use Rattle.zeb_engine.proofs.changes.change_database.Goals as goal
@@ -62,3 +63,21 @@ returns-in_err-found-clause-failed g c = λ none file at. absurd (no_file_failed
 
 pub returns-in_err-buffer-clause-failed : goal.returns-in_err-buffer-clause-failed
 returns-in_err-buffer-clause-failed g c = λ none file at. absurd (no_file_failed g.R.Source.has_failed c.args.readers.now none file at)
+
+pub returns-clause-survives : goal.returns-clause-survives
+returns-clause-survives g c =
+    let old = state g.S.Store c.args.connection.now in
+    let mid = state g.S.Store c.found_for.new.connection in
+    let new = state g.S.Store c.transact.new.connection in
+    let setting = c.args.setting in
+    let name = name_bytes c.args.name.now in
+    let found = c.in_ok-found.found in
+    survives_after old mid new _ _ c.found_for.ensures.crash c.transact.ensures.survives (λ clean db made opened texts told fine version before fits keeps.
+    let k = conditions_of version setting in
+    let first : HasCleanDisk mid = omega (arith, c.transact.ensures.survives.clean) in
+    let ready = fits opened in
+    let known = start_met {A = Base} {X = Option Database} (λ base found. BeginsWith setting.kind name found k old.now.trees before × IsTrue mid.is_open) (start_of setting.kind name (base_named name ready.0)) found
+    (c.in_ok-found.ensures.begins first opened k before ready.0 ready.1 keeps) in
+    let nothing = c.found_for.ensures.same first in
+    let begins = subst (λ (d : Contents). BeginsWith setting.kind name found k d.trees before) (sym (nothing known.1.1).1) known.1.0 in
+    made known.1.1 texts told fine version before (λ _. begins) (keeps_still g.L.Layout.holds k before old mid nothing keeps))

@@ -1,4 +1,4 @@
-use Rattle.std.proofs.Common.{rules, arith, ◌≡◌, ◌+◌, List, ℕ, Bool, true, false, inl, inr, refl, sym, Some, Ok, Err, ap, subst, subst₂}
+use Rattle.std.proofs.Common.{rules, arith, ◌≡◌, true, false, inl, inr, refl, sym, Ok, Err, ap, subst, subst₂}
 use Rattle.sqlite.specs.Held.{state}
 use Rattle.sqlite.specs.State.{HasCleanDisk}
 use Rattle.zeb_marc.specs.Splits.{next_of, split_of}

@@ -4,7 +4,6 @@ use Rattle.zeb_register.specs.declared.RegFault.{RegFault}
 use Rattle.zeb_register.specs.declared.RegFault.TheVariants as register
 use Rattle.zeb_register.specs.declared.catalog.Database.{Database}
 use Rattle.zeb_register.specs.Catalog.{IsDatabaseOf}
-use Rattle.zeb_engine.specs.declared.commands.Kind.TheVariants.{Update}
 use Rattle.zeb_engine.specs.Changing.{BeginsWith}
 use Rattle.zeb_engine.specs.Holdings.{Base, base_named}
 use Rattle.zeb_engine.specs.NameOf.{name_bytes}

@@ -1,13 +1,17 @@
-use Rattle.std.proofs.Common.{◌≡◌, ◌∙◌, Result, Ok, Err, IsTrue, rules, arith, refl, sym, subst, subst₂}
+use Rattle.std.proofs.Common.{◌≡◌, ◌∙◌, ℕ, List, map, Some, Result, Ok, Err, IsTrue, rules, arith, refl, sym, subst, subst₂}
 use Rattle.sqlite.specs.Held.{Held, state}
-use Rattle.sqlite.specs.State.{HasCleanDisk}
+use Rattle.sqlite.specs.State.{HasCleanDisk, Survives}
 use Rattle.zeb_engine.specs.declared.refusals.Refusal.{Refusal}
 use Rattle.zeb_engine.specs.declared.refusals.Refusal.TheVariants.{ReadFault}
 use Rattle.zeb_engine.specs.declared.replies.Reply.{Reply}
 use Rattle.zeb_engine.specs.Changing.{BeginsWith}
+use Rattle.zeb_engine.specs.Conditions.{Conditions}
+use Rattle.zeb_engine.specs.Crashes.{Commits}
 use Rattle.zeb_engine.specs.NameOf.{name_bytes}
+use Rattle.zeb_engine.specs.Reading.{NoneFailed}
 use Rattle.zeb_engine.specs.Steps.{changed_by_files, splits_of, turned}
 use Rattle.zeb_engine.specs.Works.{Serves, conditions_of}
+use Rattle.zeb_engine.proofs.Crashing.{commit_stands, commit_survives}
 use Rattle.zeb_engine.proofs.Serving.{refusal_serves, reply_serves}
 use Rattle.zeb_engine.proofs.changes.transact.Goals as goal
 
@@ -59,3 +63,43 @@ pub returns-in_err-commit-clause-failed : goal.returns-in_err-commit-clause-fail
 returns-in_err-commit-clause-failed g c = λ none file at.
     let is : ◌≡◌ {A = Result Reply Refusal} (Ok c.in_ok-reply.reply) (Err (ReadFault file)) = c.in_ok-reply.ensures.failed none file at in
     absurd cc
+
+pub returns-in_err-commit-clause-survives : goal.returns-in_err-commit-clause-survives
+returns-in_err-commit-clause-survives g c =
+    let begun = c.transaction-tx.ensures.begun in
+    let change = c.args.change.now in
+    let name = name_bytes change.name.now in
+    let fits = λ (k : Conditions). BeginsWith change.setting.kind name change.found k in
+    let outcome = λ (k : Conditions) (texts : List (List ℕ)). turned k (changed_by_files k change.setting.kind name (splits_of texts)) in
+    let old = c.args.connection.now in
+    let inside = c.transaction-tx.result.conn.now in
+    let mid = state g.S.Store c.apply.new.tx.conn.now in
+    let end = c.commit.new.self.0 in
+    let same : end ≡ c.connection-2-1.given.0 = search rules in
+    subst (λ h. Survives (state g.S.Store old) (state g.S.Store h) (λ db. IsTrue (state g.S.Store old).is_open → (texts : List (List ℕ)) → map g.R.Source.remaining c.args.readers.now ≡ map Some texts
+    → NoneFailed g.R.Source.has_failed c.apply.new.readers → (version : List ℕ) → Commits g.L.Layout.holds (conditions_of version change.setting) (fits (conditions_of version change.setting)) (outcome (conditions_of version change.setting) texts) (state g.S.Store old) db)) same
+    (commit_survives g.S.Store old inside mid (state g.S.Store end) _ begun c.apply.ensures.crash c.commit.ensures.survives (λ clean db is opened texts told fine version.
+    let k = conditions_of version change.setting in
+    let open_inside : IsTrue (state g.S.Store inside).is_open = subst (λ (held : Held _). IsTrue (state g.S.Store held).is_open) (sym begun) opened in
+    let works = c.in_ok-reply.ensures.works (omega (arith, c.commit.ensures.survives.clean)) (rw begun refl) open_inside texts told fine version in
+    commit_stands g.L.Layout.holds k (outcome k texts) g.S.Store (fits k) old inside mid c.in_ok-reply.reply begun works db is))
+
+pub returns-clause-survives : goal.returns-clause-survives
+returns-clause-survives g c =
+    let begun = c.transaction-tx.ensures.begun in
+    let change = c.args.change.now in
+    let name = name_bytes change.name.now in
+    let fits = λ (k : Conditions). BeginsWith change.setting.kind name change.found k in
+    let outcome = λ (k : Conditions) (texts : List (List ℕ)). turned k (changed_by_files k change.setting.kind name (splits_of texts)) in
+    let old = c.args.connection.now in
+    let inside = c.transaction-tx.result.conn.now in
+    let mid = state g.S.Store c.apply.new.tx.conn.now in
+    let end = c.commit.new.self.0 in
+    let same : end ≡ c.connection-2-1.given.0 = search rules in
+    subst (λ h. Survives (state g.S.Store old) (state g.S.Store h) (λ db. IsTrue (state g.S.Store old).is_open → (texts : List (List ℕ)) → map g.R.Source.remaining c.args.readers.now ≡ map Some texts
+    → NoneFailed g.R.Source.has_failed c.apply.new.readers → (version : List ℕ) → Commits g.L.Layout.holds (conditions_of version change.setting) (fits (conditions_of version change.setting)) (outcome (conditions_of version change.setting) texts) (state g.S.Store old) db)) same
+    (commit_survives g.S.Store old inside mid (state g.S.Store end) _ begun c.apply.ensures.crash c.commit.ensures.survives (λ clean db is opened texts told fine version.
+    let k = conditions_of version change.setting in
+    let open_inside : IsTrue (state g.S.Store inside).is_open = subst (λ (held : Held _). IsTrue (state g.S.Store held).is_open) (sym begun) opened in
+    let works = c.in_ok-reply.ensures.works (omega (arith, c.commit.ensures.survives.clean)) (rw begun refl) open_inside texts told fine version in
+    commit_stands g.L.Layout.holds k (outcome k texts) g.S.Store (fits k) old inside mid c.in_ok-reply.reply begun works db is))

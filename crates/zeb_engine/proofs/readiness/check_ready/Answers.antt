@@ -1,4 +1,4 @@
-use Rattle.std.proofs.Common.{rules, ◌≡◌, ◌≢◌, ◌∙◌, ℕ, Bool, not, List, Option, Some, None, Result, Ok, Err, String, string_bytes, sym, ap, subst, inl, inr, arith, IsTrue}
+use Rattle.std.proofs.Common.{rules, ◌≡◌, ◌∙◌, not, List, Option, Some, None, Result, Ok, Err, String, string_bytes, sym, ap, subst, inr, arith, IsTrue}
 use Rattle.std.specs.declared.alloc.Global.{Global}
 use Rattle.std.specs.Option.{option_map}
 use Rattle.std.specs.Str.{bytes_eq}

@@ -1,13 +1,12 @@
-use Rattle.std.proofs.Common.{rules, ◌≡◌, ◌∙◌, ℕ, pos, List, Option, Some, None, Result, Ok, Err, string_bytes, refl, sym, ap, subst, inl, inr, arith, IsTrue}
+use Rattle.std.proofs.Common.{rules, ◌≡◌, ◌∙◌, ℕ, pos, Option, Some, None, Result, Ok, Err, string_bytes, refl, sym, ap, subst, inr, IsTrue}
 use Rattle.sqlite.specs.Held.{state}
-use Rattle.sqlite.specs.State.{HasCleanDisk}
 use Rattle.zeb_register.specs.declared.RegFault.{RegFault}
 use Rattle.zeb_register.specs.declared.RegFault.TheVariants as register
 use Rattle.zeb_register.specs.declared.catalog.Database.{Database}
 use Rattle.zeb_register.specs.Catalog.{IsDatabaseOf}
 use Rattle.zeb_register.specs.Store.{HasDatabase}
-use Rattle.zeb_engine.specs.Answers.{Why, diagnostic}
-use Rattle.zeb_engine.specs.Holdings.{Base, base_named}
+use Rattle.zeb_engine.specs.Answers.{diagnostic}
+use Rattle.zeb_engine.specs.Holdings.{Base}
 use Rattle.zeb_engine.specs.NameOf.{name_bytes}
 use Rattle.zeb_engine.specs.Outcomes.{register_refusal}
 use Rattle.zeb_engine.specs.Steps.{found_or, existing}

@@ -1,15 +1,14 @@
-use Rattle.std.proofs.Common.{rules, arith, ◌≡◌, ◌∙◌, ◌+◌, ◌++◌, ◌∷◌, [], List, take, drop, suc, Err, refl, sym, ap, subst, subst₂, length}
+use Rattle.std.proofs.Common.{rules, arith, ◌≡◌, ◌∙◌, ◌+◌, ◌++◌, ◌∷◌, [], take, drop, suc, Err, refl, sym, ap, subst, subst₂, length}
 use Rattle.std.proofs.lemmas.List.{take_more, take_all}
 use Rattle.std.proofs.Math.Seq.{split_at}
 use Rattle.sqlite.specs.Held.{state}
 use Rattle.sqlite.specs.State.{HasCleanDisk}
 use Rattle.std.specs.List.Sorted.{IsStrictlySortedBy}
-use Rattle.zeb_register.specs.Content.{Content, IsChangedAt, IsRising, ArePlacesOf, place_cmp}
+use Rattle.zeb_register.specs.Content.{IsChangedAt, ArePlacesOf, place_cmp}
 use Rattle.zeb_register.specs.declared.faults.RegFault.TheVariants as register
 use Rattle.zeb_engine.specs.declared.refusals.Refusal.TheVariants.{Damaged}
 use Rattle.zeb_engine.specs.Outcomes.{register_refusal}
 use Rattle.zeb_register.proofs.ContentChanges.{changed_at, change_is}
-use Rattle.zeb_engine.specs.declared.changed_keys.ChangedKey.{ChangedKey}
 use Rattle.zeb_engine.specs.ChangedKeys.{AreChangedKeys, key_in}
 use Rattle.zeb_engine.proofs.Moved.{moved, moved_none, moved_more, moved_rises, moved_is, one_reposted, still_old, keeps_then, only_damaged}
 use Rattle.zeb_engine.proofs.Idle.{none_changed}

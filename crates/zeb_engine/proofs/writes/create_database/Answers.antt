@@ -1,16 +1,16 @@
-use Rattle.std.proofs.Common.{◌≡◌, Option, Some, None, Result, Ok, Err, rules, arith, refl, sym, ap, subst, inl, inr, pos}
+use Rattle.std.proofs.Common.{◌≡◌, Option, None, Result, Err, rules, arith, refl, sym, ap, subst, inl, inr}
 use Rattle.sqlite.specs.State.{HasCleanDisk}
 use Rattle.sqlite.specs.Held.{state}
 use Rattle.zeb_register.specs.declared.RegFault.{RegFault}
 use Rattle.zeb_register.specs.declared.RegFault.TheVariants as register
 use Rattle.zeb_register.specs.declared.catalog.Database.{Database}
 use Rattle.zeb_register.specs.Catalog.{IsDatabaseOf}
-use Rattle.zeb_register.specs.Store.{HasDatabase}
 use Rattle.zeb_engine.specs.declared.refusals.Refusal.TheVariants.{Exists}
 use Rattle.zeb_engine.specs.NameOf.{name_bytes}
 use Rattle.zeb_engine.specs.Outcomes.{register_refusal}
 use Rattle.zeb_engine.specs.Steps.{turned, created}
 use Rattle.zeb_engine.specs.Works.{IsReady, Serves}
+use Rattle.zeb_engine.proofs.Crashing.{survives_after}
 use Rattle.zeb_engine.proofs.Listed.{fault_fails, image_ready, counted, row_named, none_named, row_found}
 use Rattle.zeb_engine.proofs.Serving.{keeps_still, early_serves}
 use Rattle.zeb_engine.proofs.Turns.{step_exists}
@@ -61,3 +61,20 @@ returns-in-None-clause-serves g c clean k before fits keeps =
     let there : IsDatabaseOf old.now.trees name None = subst (λ n. IsDatabaseOf old.now.trees n None) c.as_str.ensures (subst (IsDatabaseOf old.now.trees c.as_str.result.now) c.in-None.is value) in
     let none = none_named old.now.trees ready.0 all.2.id_of all.2.listed name there in
     c.transact.ensures.serves clean k still.0.is_open before (λ _. (ready.0, ready.1, none)) (keeps_still g.L.Layout.holds k before old mid (c.database_of.ensures.same first c.requires.idle) keeps)
+
+pub returns-in-None-clause-survives : goal.returns-in-None-clause-survives
+returns-in-None-clause-survives g c =
+    let old = state g.S.Store c.args.connection.now in
+    let mid = state g.S.Store c.database_of.new.conn in
+    let new = state g.S.Store c.transact.new.connection in
+    let name = name_bytes c.args.name.now in
+    survives_after old mid new _ _ c.database_of.ensures.crash c.transact.ensures.survives (λ clean db made k before fits keeps.
+    let first : HasCleanDisk mid = omega (arith, c.transact.ensures.survives.clean) in
+    let still = c.in_ok-found.ensures.ok first in
+    let at = keeps still.0.was_open in
+    let ready = fits still.0.was_open in
+    let all = (image_ready g.L.Layout.holds k old.now.trees before ready.0 ready.1 at.0.1).2 refl refl in
+    let value = c.in_ok-found.ensures.value first at.0.0 in
+    let there : IsDatabaseOf old.now.trees name None = subst (λ n. IsDatabaseOf old.now.trees n None) c.as_str.ensures (subst (IsDatabaseOf old.now.trees c.as_str.result.now) c.in-None.is value) in
+    let none = none_named old.now.trees ready.0 all.2.id_of all.2.listed name there in
+    made k still.0.is_open before (λ _. (ready.0, ready.1, none)) (keeps_still g.L.Layout.holds k before old mid (c.database_of.ensures.same first c.requires.idle) keeps))

@@ -1,4 +1,4 @@
-use Rattle.std.proofs.Common.{◌≡◌, Err, rules, arith, refl, sym, ap, subst, inl, inr, pos, IsTrue}
+use Rattle.std.proofs.Common.{◌≡◌, Err, rules, arith, sym, subst, inl, inr, pos, IsTrue}
 use Rattle.sqlite.specs.Effect.{Database as Contents}
 use Rattle.sqlite.specs.State.{HasCleanDisk}
 use Rattle.sqlite.specs.Held.{state}
@@ -9,6 +9,7 @@ use Rattle.zeb_engine.specs.Holdings.{Base}
 use Rattle.zeb_engine.specs.NameOf.{name_bytes}
 use Rattle.zeb_engine.specs.Steps.{turned, dropped}
 use Rattle.zeb_engine.specs.Works.{IsReady, Serves}
+use Rattle.zeb_engine.proofs.Crashing.{survives_after}
 use Rattle.zeb_engine.proofs.Serving.{keeps_still, early_serves}
 use Rattle.zeb_engine.proofs.Turns.{step_missing, existing_known}
 use Rattle.zeb_engine.proofs.writes.drop_database.Goals as goal
@@ -43,3 +44,19 @@ returns-clause-serves g c clean k before fits keeps =
     let nothing = c.existing_database.ensures.same first in
     let row = subst (λ (d : Contents). HasDatabase d.trees c.in_ok-database.database.id.0 known.0.name (pos known.0.last)) (sym (nothing known.2.2).1) known.2.0 in
     c.transact.ensures.serves clean k known.2.2 before (λ _. (ready.0, known.0, ready.1, known.1, row)) (keeps_still g.L.Layout.holds k before old mid nothing keeps)
+
+pub returns-clause-survives : goal.returns-clause-survives
+returns-clause-survives g c =
+    let old = state g.S.Store c.args.connection.now in
+    let mid = state g.S.Store c.existing_database.new.connection in
+    let new = state g.S.Store c.transact.new.connection in
+    let name = name_bytes c.args.name.now in
+    survives_after old mid new _ _ c.existing_database.ensures.crash c.transact.ensures.survives (λ clean db made k before fits keeps.
+    let first : HasCleanDisk mid = omega (arith, c.transact.ensures.survives.clean) in
+    let opened = c.in_ok-database.ensures.found first in
+    let ready = fits opened in
+    let met = c.in_ok-database.ensures.exists first opened k before ready.0 ready.1 keeps in
+    let known = existing_known {X = Database} (λ (base : Base) (found : Database). HasDatabase old.now.trees found.id.0 base.name (pos base.last) × (found.last ≡ base.last) × IsTrue mid.is_open) name ready.0 c.in_ok-database.database met in
+    let nothing = c.existing_database.ensures.same first in
+    let row = subst (λ (d : Contents). HasDatabase d.trees c.in_ok-database.database.id.0 known.0.name (pos known.0.last)) (sym (nothing known.2.2).1) known.2.0 in
+    made k known.2.2 before (λ _. (ready.0, known.0, ready.1, known.1, row)) (keeps_still g.L.Layout.holds k before old mid nothing keeps))

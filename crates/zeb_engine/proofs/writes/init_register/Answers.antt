@@ -9,6 +9,7 @@ use Rattle.zeb_engine.specs.Conditions.{Conditions, conditions}
 use Rattle.zeb_engine.specs.Image.{IsImage}
 use Rattle.zeb_engine.specs.Steps.{holding}
 use Rattle.zeb_engine.specs.Writing.{AreOf}
+use Rattle.zeb_engine.proofs.Crashing.{survives_as}
 use Rattle.zeb_engine.proofs.Serving.{on_ok}
 use Rattle.zeb_engine.proofs.writes.init_register.Goals as goal
 
@@ -33,3 +34,13 @@ returns-clause-begun g c clean =
     (IsStore old → (limits : Limits) → IsStore new × IsImage g.L.Layout.holds (conditions version profile limits) new.now.trees (holding (conditions version profile limits) []))
     (λ did store limits. let left = did store in (left.0, left.1 (conditions version profile limits) (record { version_is = refl; profile_is = refl; pattern_is = pattern })))
     (c.transact.ensures.begun clean)
+
+pub returns-clause-survives : goal.returns-clause-survives
+returns-clause-survives g c =
+    let profile = c.args.profile.now in
+    let spelled : string_bytes c.in_ok-pattern.pattern ≡ pattern_text c.identifier_rule.result.now = search rules in
+    let lent : c.as_str.result.now ≡ string_bytes c.in_ok-pattern.pattern = search rules in
+    let pattern : option_map pattern_text (identifier_pattern profile) ≡ Some c.as_str.result.now = ap (option_map pattern_text) c.identifier_rule.ensures ∙ ap Some (sym (lent ∙ spelled)) in
+    survives_as (state g.S.Store c.args.connection.now) (state g.S.Store c.transact.new.connection) _ _
+    (λ clean db made limits before fits keeps. made (conditions g.L.Layout.version profile limits) tt before (λ _. record { version_is = refl; profile_is = refl; pattern_is = pattern }) keeps)
+    c.transact.ensures.survives

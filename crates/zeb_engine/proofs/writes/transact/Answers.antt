@@ -1,8 +1,11 @@
 use Rattle.std.proofs.Common.{◌≡◌, Ok, Err, rules, arith, refl, sym, subst, subst₂}
-use Rattle.sqlite.specs.State.{HasCleanDisk}
+use Rattle.sqlite.specs.State.{HasCleanDisk, Survives}
 use Rattle.sqlite.specs.Held.{state}
+use Rattle.zeb_engine.specs.Crashes.{Commits}
+use Rattle.zeb_engine.specs.Conditions.{Conditions}
 use Rattle.zeb_engine.specs.Works.{Serves}
-use Rattle.zeb_engine.specs.Writing.{Begins, Fits, written}
+use Rattle.zeb_engine.specs.Writing.{Begins, Fits, IsReached, written}
+use Rattle.zeb_engine.proofs.Crashing.{write_survives}
 use Rattle.zeb_engine.proofs.Serving.{begins_over, refusal_serves, reply_serves, reached_inside}
 use Rattle.zeb_engine.proofs.writes.transact.Goals as goal
 
@@ -44,3 +47,23 @@ returns-clause-begun g c clean =
     subst (λ h. Begins g.L.Layout.holds g.L.Layout.version write (state g.S.Store c.args.connection.now) (state g.S.Store h)) same
     (begins_over g.L.Layout.holds g.L.Layout.version g.S.Store write c.args.connection.now c.transaction-tx.result.conn.now (state g.S.Store c.apply.new.tx.conn.now) (state g.S.Store end) begun
     (c.in_ok-commit.ensures.ok late).1 did)
+
+pub returns-in_err-commit-clause-survives : goal.returns-in_err-commit-clause-survives
+returns-in_err-commit-clause-survives g c =
+    let write = c.args.write.now in
+    let old = c.args.connection.now in
+    let end = c.commit.new.self.0 in
+    let same : end ≡ c.connection-2-1.given.0 = search rules in
+    subst (λ h. Survives (state g.S.Store old) (state g.S.Store h) (λ db. (k : Conditions) → IsReached write (state g.S.Store old) → Commits g.L.Layout.holds k (Fits g.L.Layout.version k write) (written k write) (state g.S.Store old) db)) same
+    (write_survives g.L.Layout.holds g.L.Layout.version g.S.Store write old c.transaction-tx.result.conn.now (state g.S.Store c.apply.new.tx.conn.now) (state g.S.Store end) c.in_ok-reply.reply c.transaction-tx.ensures.begun
+    c.apply.ensures.crash c.commit.ensures.survives c.in_ok-reply.ensures.works)
+
+pub returns-clause-survives : goal.returns-clause-survives
+returns-clause-survives g c =
+    let write = c.args.write.now in
+    let old = c.args.connection.now in
+    let end = c.commit.new.self.0 in
+    let same : end ≡ c.connection-2-1.given.0 = search rules in
+    subst (λ h. Survives (state g.S.Store old) (state g.S.Store h) (λ db. (k : Conditions) → IsReached write (state g.S.Store old) → Commits g.L.Layout.holds k (Fits g.L.Layout.version k write) (written k write) (state g.S.Store old) db)) same
+    (write_survives g.L.Layout.holds g.L.Layout.version g.S.Store write old c.transaction-tx.result.conn.now (state g.S.Store c.apply.new.tx.conn.now) (state g.S.Store end) c.in_ok-reply.reply c.transaction-tx.ensures.begun
+    c.apply.ensures.crash c.commit.ensures.survives c.in_ok-reply.ensures.works)

@@ -1,6 +1,6 @@
 use Rattle.std.proofs.Common.{◌∙◌, sym}
 use Rattle.zeb_engine.specs.declared.commands.Kind.TheVariants.{Update, Delete, Adelete}
-use Rattle.zebraidx.proofs.BatchLemmas.{names_change}
+use Rattle.zebraidx.proofs.BatchLemmas.{names_change, names_scan}
 use Rattle.zebraidx.proofs.lines.read_command.Goals as goal
 
 pub returns-in-update : goal.returns-in-update
@@ -14,3 +14,6 @@ returns-in-delete c =
 pub returns-in-adelete : goal.returns-in-adelete
 returns-in-adelete c =
     names_change Adelete c.args.text.now c.cut_word.result.1.now c.read_change-in-adelete.result (sym c.cut_word.ensures.word ∙ c.in-adelete.is) c.cut_word.ensures.rest c.read_change-in-adelete.ensures
+
+pub returns-in-scan : goal.returns-in-scan
+returns-in-scan c = names_scan c.args.text.now c.cut_word.result.1.now c.read_scan.result (sym c.cut_word.ensures.word ∙ c.in-scan.is) c.cut_word.ensures.rest c.read_scan.ensures

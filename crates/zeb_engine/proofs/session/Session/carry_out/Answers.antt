@@ -1,15 +1,19 @@
 use Rattle.std.proofs.Common.{◌≡◌, ◌∙◌, [], ap, map, refl, rules, string_bytes, subst, sym}
 use Rattle.sqlite.specs.Held.{state}
+use Rattle.sqlite.specs.State.{Survives}
 use Rattle.zeb_register.specs.Store.{IsStore}
 use Rattle.zeb_engine.specs.declared.commands.Command.{Command}
 use Rattle.zeb_engine.specs.declared.commands.Limits.{Limits}
-use Rattle.zeb_engine.specs.declared.commands.Command.TheVariants.{Init, Create, Drop, Change, Find}
+use Rattle.zeb_engine.specs.declared.commands.Command.TheVariants.{Init, Create, Drop, Change, Find, Scan, Dump}
 use Rattle.zeb_engine.specs.Conditions.{conditions}
+use Rattle.zeb_engine.specs.Crashes.{Commits}
 use Rattle.zeb_engine.specs.Image.{IsImage}
 use Rattle.zeb_engine.specs.NameOf.{name_bytes}
-use Rattle.zeb_engine.specs.Steps.{turned, changed_by_files, created, dropped, holding, initialised, splits_of}
-use Rattle.zeb_engine.specs.Works.{Always, Serves}
+use Rattle.zeb_engine.specs.Steps.{OnlyAsks, turned, changed_by_files, created, dropped, dumped_by, holding, initialised, ready, splits_of, CountedFrom}
+use Rattle.zeb_engine.specs.Works.{Always, Asks, Serves}
 use Rattle.zeb_engine.proofs.Commanding.{command_serves, find_serves, looks_same, wait_serves}
+use Rattle.zeb_engine.proofs.Crashing.{command_commits, survives_as}
+use Rattle.zeb_engine.proofs.ScanCommand.{scan_serves, scans_same}
 use Rattle.zeb_engine.proofs.Serving.{on_ok}
 use Rattle.zeb_engine.proofs.session.Session.carry_out.Goals as goal
 
@@ -75,18 +79,54 @@ returns-in-Check-clause-serves g c clean =
 
 pub returns-in-Stat-clause-serves : goal.returns-in-Stat-clause-serves
 returns-in-Stat-clause-serves g c clean =
-    let k = conditions g.L.Layout.version c.args.self.now.profile c.args.self.now.limits in
-    wait_serves g.L.Layout.holds k (state g.S.Store c.args.self.now.connection) (state g.S.Store c.wait-in-Stat.new.self.connection) c.wait-in-Stat.result c.args.command.now (rw c.in-Stat.is tt) (c.wait-in-Stat.ensures.serves clean)
+    let limits = c.args.self.now.limits in
+    let k = conditions g.L.Layout.version c.args.self.now.profile limits in
+    let old = state g.S.Store c.args.self.now.connection in
+    let new = state g.S.Store c.stat.new.connection in
+    let asks : Asks g.L.Layout.holds k (λ before answer. CountedFrom k (name_bytes c.in-Stat.name) (ready k before) answer) old new c.stat.result = c.stat.ensures.serves clean limits in
+    rw c.in-Stat.is asks
 
 pub returns-in-Dump-clause-serves : goal.returns-in-Dump-clause-serves
 returns-in-Dump-clause-serves g c clean =
-    let k = conditions g.L.Layout.version c.args.self.now.profile c.args.self.now.limits in
-    wait_serves g.L.Layout.holds k (state g.S.Store c.args.self.now.connection) (state g.S.Store c.wait-in-Dump.new.self.connection) c.wait-in-Dump.result c.args.command.now (rw c.in-Dump.is tt) (c.wait-in-Dump.ensures.serves clean)
+    let limits = c.args.self.now.limits in
+    let k = conditions g.L.Layout.version c.args.self.now.profile limits in
+    let old = state g.S.Store c.args.self.now.connection in
+    let new = state g.S.Store c.dump.new.connection in
+    let serves : Serves g.L.Layout.holds k Always (dumped_by k (name_bytes c.in-Dump.name)) old new c.dump.result = c.dump.ensures.serves clean limits in
+    rw c.in-Dump.is (command_serves g.L.Layout.holds k old new c.dump.result (Dump c.in-Dump.name) (dumped_by k (name_bytes c.in-Dump.name)) (λ before answer is. is) (λ before. refl) serves)
 
 pub returns-in-Scan-clause-serves : goal.returns-in-Scan-clause-serves
 returns-in-Scan-clause-serves g c clean =
     let k = conditions g.L.Layout.version c.args.self.now.profile c.args.self.now.limits in
-    wait_serves g.L.Layout.holds k (state g.S.Store c.args.self.now.connection) (state g.S.Store c.wait-in-Scan.new.self.connection) c.wait-in-Scan.result c.args.command.now (rw c.in-Scan.is tt) (c.wait-in-Scan.ensures.serves clean)
+    let old = state g.S.Store c.args.self.now.connection in
+    let new = state g.S.Store c.scan.new.self.connection in
+    let of = c.in-Scan.database-in-Scan-1-own.given.0.0 in
+    let many = c.in-Scan.number-1-own.given.0.1.1.0 in
+    let at = c.in-Scan.position-1-own.given.0.1.1.1.0 in
+    let same_name : of ≡ c.in-Scan.database = search rules in
+    let same_query : c.in-Scan.query-in-Scan-1-own.given.0.1.0 ≡ c.in-Scan.query = search rules in
+    let same_number : many ≡ c.in-Scan.number = search rules in
+    let same_position : at ≡ c.in-Scan.position = search rules in
+    rw c.in-Scan.is (scan_serves g.L.Layout.holds k old new c.scan.result c.in-Scan.database c.in-Scan.query c.in-Scan.number c.in-Scan.position (name_bytes of) c.as_str-in-Scan.result.now many at
+    (ap name_bytes same_name) (c.as_str-in-Scan.ensures.value ∙ ap string_bytes same_query) same_number same_position (c.scan.ensures.serves clean))
+
+pub returns-in-Scan-clause-scans : goal.returns-in-Scan-clause-scans
+returns-in-Scan-clause-scans g c clean name query number position is =
+    let old = state g.S.Store c.args.self.now.connection in
+    let of = c.in-Scan.database-in-Scan-1-own.given.0.0 in
+    let many = c.in-Scan.number-1-own.given.0.1.1.0 in
+    let at = c.in-Scan.position-1-own.given.0.1.1.1.0 in
+    let same_name : of ≡ c.in-Scan.database = search rules in
+    let same_query : c.in-Scan.query-in-Scan-1-own.given.0.1.0 ≡ c.in-Scan.query = search rules in
+    let same_number : many ≡ c.in-Scan.number = search rules in
+    let same_position : at ≡ c.in-Scan.position = search rules in
+    let both : ◌≡◌ {A = Command} (Scan c.in-Scan.database c.in-Scan.query c.in-Scan.number c.in-Scan.position) (Scan name query number position) = sym c.in-Scan.is ∙ is in
+    let is_name : c.in-Scan.database ≡ name = cc in
+    let is_query : c.in-Scan.query ≡ query = cc in
+    let is_number : c.in-Scan.number ≡ number = cc in
+    let is_position : c.in-Scan.position ≡ position = cc in
+    scans_same g.L.Layout.holds c.args.self.now.profile old c.scan.result (name_bytes of) (name_bytes name) c.as_str-in-Scan.result.now (string_bytes query) many number at position
+    (ap name_bytes (same_name ∙ is_name)) (c.as_str-in-Scan.ensures.value ∙ ap string_bytes (same_query ∙ is_query)) (same_number ∙ is_number) (same_position ∙ is_position) (c.scan.ensures.alone clean)
 
 pub returns-in-Init-clause-begun : goal.returns-in-Init-clause-begun
 returns-in-Init-clause-begun g c clean is =
@@ -114,3 +154,57 @@ returns-in-Find-clause-alone g c clean name query first count is =
     let is_count : c.in-Find.count ≡ count = cc in
     looks_same g.L.Layout.holds c.args.self.now.profile old c.find.result (name_bytes of) (name_bytes name) c.as_str.result.now (string_bytes query) from first many count
     (ap name_bytes (same_name ∙ is_name)) (c.as_str.ensures.value ∙ ap string_bytes (same_query ∙ is_query)) (same_first ∙ is_first) (same_count ∙ is_count) (c.find.ensures.alone clean)
+
+pub returns-in-Init-clause-survives : goal.returns-in-Init-clause-survives
+returns-in-Init-clause-survives g c =
+    let limits = c.args.self.now.limits in
+    let k = conditions g.L.Layout.version c.args.self.now.profile c.args.self.now.limits in
+    let old = state g.S.Store c.args.self.now.connection in
+    let new = state g.S.Store c.init_register.new.connection in
+    rw c.in-Init.is (command_commits g.L.Layout.holds k old new Init (initialised k) (λ before. refl) (survives_as old new _ _ (λ clean db made. made limits) c.init_register.ensures.survives))
+
+pub returns-in-Create-clause-survives : goal.returns-in-Create-clause-survives
+returns-in-Create-clause-survives g c =
+    let k = conditions g.L.Layout.version c.args.self.now.profile c.args.self.now.limits in
+    let old = state g.S.Store c.args.self.now.connection in
+    let new = state g.S.Store c.create.new.self.connection in
+    let same : c.in-Create.name-1-own.given.0.0 ≡ c.in-Create.name = search rules in
+    let survives = subst (λ n. Survives old new (Commits g.L.Layout.holds k Always (turned k (created (name_bytes n))) old)) same c.create.ensures.survives in
+    rw c.in-Create.is (command_commits g.L.Layout.holds k old new (Create c.in-Create.name) (turned k (created (name_bytes c.in-Create.name))) (λ before. refl) survives)
+
+pub returns-in-Drop-clause-survives : goal.returns-in-Drop-clause-survives
+returns-in-Drop-clause-survives g c =
+    let k = conditions g.L.Layout.version c.args.self.now.profile c.args.self.now.limits in
+    let old = state g.S.Store c.args.self.now.connection in
+    let new = state g.S.Store c.take.new.self.connection in
+    let same : c.in-Drop.name-in-Drop-1-own.given.0.0 ≡ c.in-Drop.name = search rules in
+    let survives = subst (λ n. Survives old new (Commits g.L.Layout.holds k Always (turned k (dropped (name_bytes n))) old)) same c.take.ensures.survives in
+    rw c.in-Drop.is (command_commits g.L.Layout.holds k old new (Drop c.in-Drop.name) (turned k (dropped (name_bytes c.in-Drop.name))) (λ before. refl) survives)
+
+pub returns-in-Change-clause-survives : goal.returns-in-Change-clause-survives
+returns-in-Change-clause-survives g c =
+    let k = conditions g.L.Layout.version c.args.self.now.profile c.args.self.now.limits in
+    let old = state g.S.Store c.args.self.now.connection in
+    let new = state g.S.Store c.change.new.self.connection in
+    let kind = c.in-Change.kind-1-own.given.0.0 in
+    let named = c.in-Change.database-1-own.given.0.1.0 in
+    let same_kind : kind ≡ c.in-Change.kind = search rules in
+    let same_name : named ≡ c.in-Change.database = search rules in
+    let same_files : c.deref.result.now ≡ c.in-Change.files.items = search rules in
+    let of_kind = subst (λ x. Survives old new (Commits g.L.Layout.holds k Always (turned k (changed_by_files k x (name_bytes named) (splits_of (map (λ file. file.items) c.deref.result.now)))) old)) same_kind c.change.ensures.survives in
+    let of_name = subst (λ n. Survives old new (Commits g.L.Layout.holds k Always (turned k (changed_by_files k c.in-Change.kind (name_bytes n) (splits_of (map (λ file. file.items) c.deref.result.now)))) old)) same_name of_kind in
+    let survives = subst (λ files. Survives old new (Commits g.L.Layout.holds k Always (turned k (changed_by_files k c.in-Change.kind (name_bytes c.in-Change.database) (splits_of (map (λ file. file.items) files)))) old)) same_files of_name in
+    rw c.in-Change.is (command_commits g.L.Layout.holds k old new (Change c.in-Change.kind c.in-Change.database c.in-Change.files)
+    (turned k (changed_by_files k c.in-Change.kind (name_bytes c.in-Change.database) (splits_of (map (λ file. file.items) c.in-Change.files.items)))) (λ before. refl) survives)
+
+pub returns-in-Init-clause-reads : goal.returns-in-Init-clause-reads
+returns-in-Init-clause-reads g c clean asks = absurd (subst OnlyAsks c.in-Init.is asks)
+
+pub returns-in-Create-clause-reads : goal.returns-in-Create-clause-reads
+returns-in-Create-clause-reads g c clean asks = absurd (subst OnlyAsks c.in-Create.is asks)
+
+pub returns-in-Drop-clause-reads : goal.returns-in-Drop-clause-reads
+returns-in-Drop-clause-reads g c clean asks = absurd (subst OnlyAsks c.in-Drop.is asks)
+
+pub returns-in-Change-clause-reads : goal.returns-in-Change-clause-reads
+returns-in-Change-clause-reads g c clean asks = absurd (subst OnlyAsks c.in-Change.is asks)

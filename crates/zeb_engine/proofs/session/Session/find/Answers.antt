@@ -1,6 +1,7 @@
 use Rattle.std.proofs.Common.{◌≡◌, Err, IsTrue, List, rules, arith, sym, subst}
 use Rattle.sqlite.specs.Held.{state}
 use Rattle.sqlite.specs.State.{HasCleanDisk}
+use Rattle.zeb_register.proofs.Calls.{nothing_then}
 use Rattle.zeb_engine.specs.Answers.{answer_of}
 use Rattle.zeb_engine.specs.Conditions.{conditions}
 use Rattle.zeb_engine.specs.Holdings.{Base}
@@ -50,3 +51,10 @@ returns-clause-alone g c clean =
     let clean1 : HasCleanDisk mid = omega (arith, c.find.ensures.crash.clean) in
     looks_after g.L.Layout.holds c.args.self.now.profile old mid new (name_bytes c.args.database.now) c.args.question.query.now c.args.question.first c.args.question.count c.find.result
     (c.check_ready.ensures.same clean1) (c.find.ensures.open clean) (c.find.ensures.alone clean)
+
+pub returns-clause-reads : goal.returns-clause-reads
+returns-clause-reads g c clean =
+    let old = state g.S.Store c.args.self.now.connection in
+    let mid = state g.S.Store c.check_ready.new.connection in
+    let clean1 : HasCleanDisk mid = omega (arith, c.find.ensures.crash.clean) in
+    nothing_then old mid (state g.S.Store c.find.new.connection) (c.check_ready.ensures.same clean1) (c.find.ensures.same clean)

@@ -1,5 +1,4 @@
-use Rattle.std.proofs.Common.{◌≡◌, ◌≤◌, map, length, take, vec_capacity}
-use Rattle.std.specs.Bool.{⊤}
+use Rattle.std.proofs.Common.{◌≡◌, ◌≤◌, IsTrue, map, length, take, vec_capacity}
 use Rattle.std.specs.List.{AllByRecursion}
 use Rattle.std.specs.Result.{IsErr}
 use Rattle.sqlite.specs.Held.{state}
@@ -7,7 +6,8 @@ use Rattle.sqlite.specs.State.{HasCleanDisk, Survives}
 use Rattle.zeb_register.specs.Calls.{ChangesNothing}
 use Rattle.zeb_engine.specs.Answers.{answer_of}
 use Rattle.zeb_engine.specs.Conditions.{conditions}
-use Rattle.zeb_engine.specs.Works.{Runs}
+use Rattle.zeb_engine.specs.Crashes.{CommitsSome, EnduresRun}
+use Rattle.zeb_engine.specs.Works.{FindOpen, Runs}
 use Rattle.zeb_engine.proofs.session.Session.run_all.Given as goal
 
 abbrev pub invariant-loop-command : goal.invariant-loop-command
@@ -18,8 +18,12 @@ invariant-loop-command g l =
       count : length l.answers.items ≡ l.command-index;
       room : length l.commands ≤ vec_capacity l.answers;
       under : (l.self.profile ≡ l.fn.self.profile) × (l.self.limits ≡ l.fn.self.limits);
-      survives : Survives old now (λ _. ⊤);
+      survives : Survives old now (CommitsSome g.L.Layout.holds (conditions g.L.Layout.version l.fn.self.profile l.fn.self.limits) l.commands old);
       refused : HasCleanDisk now → AllByRecursion IsErr l.answers.items → ChangesNothing old now;
+      was_open : HasCleanDisk now → IsTrue now.is_open → IsTrue old.is_open;
+      «open» : HasCleanDisk now → FindOpen l.answers.items old now;
+      crash : HasCleanDisk now
+          → EnduresRun g.L.Layout.holds (conditions g.L.Layout.version l.fn.self.profile l.fn.self.limits) (take l.command-index l.commands) (map answer_of l.answers.items) old now;
       run : HasCleanDisk now
           → Runs g.L.Layout.holds (conditions g.L.Layout.version l.fn.self.profile l.fn.self.limits) (take l.command-index l.commands) (map answer_of l.answers.items) old now;
     }

@@ -7,6 +7,7 @@ use Rattle.zeb_engine.specs.NameOf.{name_bytes}
 use Rattle.zeb_engine.specs.Steps.{ready, turned, dropped}
 use Rattle.zeb_engine.specs.Works.{Always, Serves}
 use Rattle.zeb_engine.proofs.Commanding.{ready_met, unready_serves}
+use Rattle.zeb_engine.proofs.Crashing.{survives_after}
 use Rattle.zeb_engine.proofs.Serving.{keeps_still}
 use Rattle.zeb_engine.proofs.session.Session.take.Goals as goal
 
@@ -31,3 +32,15 @@ returns-clause-serves g c clean before fits keeps =
     let first : HasCleanDisk mid = omega (arith, c.drop_database.ensures.survives.clean) in
     let met = ready_met {X = Unit {0}} (λ (bases : List Base) x. IsTrue old.is_open × IsTrue mid.is_open) (ready k before) tt (c.in_ok-check_ready.ensures.ready first limits before keeps) in
     c.drop_database.ensures.serves clean k before (λ _. (met.0, met.1)) (keeps_still g.L.Layout.holds k before old mid (c.check_ready.ensures.same first) keeps)
+
+pub returns-clause-survives : goal.returns-clause-survives
+returns-clause-survives g c =
+    let limits = c.args.self.now.limits in
+    let k = conditions g.L.Layout.version c.args.self.now.profile limits in
+    let old = state g.S.Store c.args.self.now.connection in
+    let mid = state g.S.Store c.check_ready.new.connection in
+    let new = state g.S.Store c.drop_database.new.connection in
+    survives_after old mid new _ _ c.check_ready.ensures.crash c.drop_database.ensures.survives (λ clean db made before fits keeps.
+    let first : HasCleanDisk mid = omega (arith, c.drop_database.ensures.survives.clean) in
+    let met = ready_met {X = Unit {0}} (λ (bases : List Base) x. IsTrue old.is_open × IsTrue mid.is_open) (ready k before) tt (c.in_ok-check_ready.ensures.ready first limits before keeps) in
+    made k before (λ _. (met.0, met.1)) (keeps_still g.L.Layout.holds k before old mid (c.check_ready.ensures.same first) keeps))

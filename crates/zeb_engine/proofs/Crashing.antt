@@ -1,0 +1,216 @@
+-- What a crash leaves, by what a transaction was given to commit.
+use Rattle.std.proofs.Common.{◌≡◌, ◌⊎◌, ◌∙◌, ℕ, true, List, [], ◌∷◌, ◌++◌, ◌+◌, take, Option, Some, None, Result, Ok, Err, IfErr, OnOk, inl, inr, arith, refl, sym, ap, subst, IsTrue}
+use Rattle.sqlite.specs.Tree.{Trees}
+use Rattle.sqlite.specs.Store.{Ghosts}
+use Rattle.sqlite.specs.Effect.{Database, IsDatabase}
+use Rattle.sqlite.specs.State.{State, HasCleanDisk, IsLive, IsUnchanged, Opens, Survives}
+use Rattle.sqlite.specs.Held.{Held, state}
+use Rattle.sqlite.specs.Schema.{Schema}
+use Rattle.sqlite_catalog.proofs.ReadLemmas.{lists_once}
+use Rattle.sqlite_trees.specs.Objects.{catalog_tree}
+use Rattle.sqlite.proofs.StateLemmas.{survives_then}
+use Rattle.zeb_register.specs.Calls.{ChangesNothing, GoesOn}
+use Rattle.zeb_register.specs.Content.{Content}
+use Rattle.zeb_register.specs.Store.{IsStore, IsEmptyStore}
+use Rattle.zeb_register.specs.Tables.{no_schema, store_schema}
+use Rattle.zeb_engine.specs.declared.commands.Command.{Command}
+use Rattle.zeb_engine.specs.declared.commands.Command.TheVariants.{Init, Check, Create, Drop, Stat, Dump, Change, Find, Scan, Analyse}
+use Rattle.zeb_engine.specs.declared.replies.Reply.{Reply}
+use Rattle.zeb_engine.specs.declared.replies.Reply.TheVariants as reply
+use Rattle.zeb_engine.specs.declared.refusals.Refusal.{Refusal}
+use Rattle.zeb_engine.specs.declared.refusals.Refusal.TheVariants as refusal
+use Rattle.zeb_engine.specs.Adopting.{StaysOpen}
+use Rattle.zeb_engine.specs.Answers.{Answer, answer_of, reply_answer, IsFailure}
+use Rattle.zeb_engine.specs.Conditions.{Conditions}
+use Rattle.zeb_engine.specs.Crashes.{Accepts, IsEmptyDisk, IsStoreDisk, Stands, Leaves, Commits, CommitsCommand, CommitsOutcome, CommitsAdopted, CommitsSome, CommitsTables, Endures}
+use Rattle.zeb_engine.specs.Holdings.{Holdings}
+use Rattle.zeb_engine.specs.Image.{Keeps}
+use Rattle.zeb_engine.specs.Steps.{Answers, Outcome, after, left_by, outcome}
+use Rattle.zeb_engine.specs.Transactions.{EnduresRefusal, IsDurable}
+use Rattle.zeb_engine.specs.declared.writes.Write.{Write}
+use Rattle.zeb_engine.specs.Writing.{Fits, IsReached, written}
+use Rattle.zeb_engine.specs.Works.{Always, Works, Runs}
+use Rattle.zeb_engine.proofs.RunLemmas.{run_more}
+use Rattle.zeb_engine.proofs.Serving.{keeps_still, reached_inside}
+
+-- ---- disks and stores
+
+pub store_disk : (s : State) → IsStore s → IsStoreDisk s.now.trees
+store_disk s store = record { sound = subst (λ (schema : Schema). IsDatabase (record { schema = schema; trees = s.now.trees })) store.is store.sound; keyed = store.keyed }
+
+-- a connection that finds such a disk shows a store: a list of objects has one schema
+pub opened_store : (s : State) → IsLive s → Opens s → IsStoreDisk s.now.trees → IsStore s
+opened_store s live opens disk =
+    let found = (live opens.is_open).0 in
+    record { is = lists_once (s.now.trees catalog_tree) s.now.schema store_schema found.lists disk.sound.lists; sound = found; keyed = disk.keyed }
+
+pub opened_keeps : (holds : Trees → Content → Type 0) (c : Conditions) (s : State) (held : Holdings) → IsLive s → Opens s → Stands holds c s.now.trees held → Keeps holds c s held
+opened_keeps holds c s held live opens stands is_open = ((opened_store s live opens stands.0, stands.1), sym opens.clean)
+
+pub keeps_stand : (holds : Trees → Content → Type 0) (c : Conditions) (s : State) (held : Holdings) → IsTrue s.is_open → Keeps holds c s held → Stands holds c s.now.trees held
+keeps_stand holds c s held is_open keeps = let at = (keeps is_open).0 in (store_disk s at.0, at.1)
+
+-- an accepted command answers no failure
+no_failure : (answer : Reply) → IsFailure (reply_answer answer) → ⊥
+no_failure reply.Done failed = elim failed [ inl is ↦ absurd cc | inr is ↦ absurd cc ]
+no_failure (reply.Changed inserted updated deleted) failed = elim failed [ inl is ↦ absurd cc | inr is ↦ absurd cc ]
+no_failure (reply.Found hits shown) failed = elim failed [ inl is ↦ absurd cc | inr is ↦ absurd cc ]
+no_failure (reply.Counted records last holdings) failed = elim failed [ inl is ↦ absurd cc | inr is ↦ absurd cc ]
+no_failure (reply.Dumped bytes) failed = elim failed [ inl is ↦ absurd cc | inr is ↦ absurd cc ]
+no_failure (reply.Scanned register entries) failed = elim failed [ inl is ↦ absurd cc | inr is ↦ absurd cc ]
+
+-- it is accepted, whatever it answers
+reply_accepts : (answer : Reply) → Accepts (reply_answer answer)
+reply_accepts reply.Done why is = absurd cc
+reply_accepts (reply.Changed inserted updated deleted) why is = absurd cc
+reply_accepts (reply.Found hits shown) why is = absurd cc
+reply_accepts (reply.Counted records last holdings) why is = absurd cc
+reply_accepts (reply.Dumped bytes) why is = absurd cc
+reply_accepts (reply.Scanned register entries) why is = absurd cc
+
+-- ---- what survives
+
+pub survives_as : (old new : State) (P Q : Trees → Type 0) → (HasCleanDisk new → (db : Trees) → P db → Q db) → Survives old new P → Survives old new Q
+survives_as old new P Q so it = record {
+  clean = it.clean;
+  shield = it.shield;
+  counts = it.counts;
+  limit = it.limit;
+  closes = it.closes;
+  crash = λ clean db left. elim (it.crash clean db left) [ inl was ↦ inl was | inr made ↦ inr (so clean db made) ];
+}
+
+-- `inside` is the connection as the transaction begins
+pub survives_inside : {S : Type 0} (g : Ghosts S) (old inside : Held S) (new : State) (P : Trees → Type 0) → inside ≡ record old { in_transaction = true } → Survives (state g inside) new P → Survives (state g old) new P
+survives_inside g old inside new P begins it =
+    let began = subst (λ (held : Held _). Survives (state g held) new P) begins it in
+    record { clean = began.clean; shield = began.shield; counts = began.counts; limit = began.limit; closes = began.closes; crash = began.crash }
+
+-- after a call that commits nothing
+pub survives_after : (old mid new : State) (P Q : Trees → Type 0) → Survives old mid (λ _. ⊥) → Survives mid new P → (HasCleanDisk new → (db : Trees) → P db → Q db) → Survives old new Q
+survives_after old mid new P Q first second so = survives_then old mid new (λ _. ⊥) P Q (λ _ db none. absurd none) so first second
+
+-- the work of a transaction, and its commit
+pub commit_survives : {S : Type 0} (g : Ghosts S) (old inside : Held S) (mid new : State) (P : Trees → Type 0) → inside ≡ record old { in_transaction = true } → Survives (state g inside) mid (λ _. ⊥)
+    → Survives mid new (λ db. db ≡ mid.now.trees) → (HasCleanDisk new → (db : Trees) → db ≡ mid.now.trees → P db) → Survives (state g old) new P
+commit_survives g old inside mid new P begins work commits so =
+    survives_inside g old inside new P begins (survives_after (state g inside) mid new (λ db. db ≡ mid.now.trees) P work commits so)
+
+module _ (holds : Trees → Content → Type 0) (c : Conditions) where
+  -- `mid` is the connection as the work is done
+  pub commit_stands : (outcome : Holdings → Outcome) {S : Type 0} (g : Ghosts S) (F : Trees → Holdings → Type 0) (old inside : Held S) (mid : State) (answer : Reply) → inside ≡ record old { in_transaction = true }
+      → Works holds c F outcome (state g inside) mid (Ok answer) → (db : Trees) → db ≡ mid.now.trees → Commits holds c F outcome (state g old) db
+  commit_stands outcome g F old inside mid answer begins works db is before fits keeps =
+      let began = subst (λ (held : Held _). Works holds c F outcome (state g held) mid (Ok answer)) begins works in
+      let was = (keeps began.0.was_open).0 in
+      let done = began.1 before (fits began.0.was_open) (record { is = was.0.is; sound = was.0.sound; keyed = was.0.keyed }) was.1 in
+      (subst Accepts (sym done.0) (reply_accepts answer), subst (λ (trees : Trees). Stands holds c trees (outcome before).1) (sym is) (store_disk mid done.1, done.2))
+
+  -- after a look at the tables
+  pub commits_after : (outcome : Holdings → Outcome) (F G : Trees → Holdings → Type 0) (old mid : State) (db : Trees) → ChangesNothing old mid
+      → ((before : Holdings) → (IsTrue old.is_open → F old.now.trees before) → Keeps holds c old before → IsTrue mid.is_open → G mid.now.trees before)
+      → Commits holds c G outcome mid db → Commits holds c F outcome old db
+  commits_after outcome F G old mid db nothing found commits before fits keeps = commits before (found before fits keeps) (keeps_still holds c before old mid nothing keeps)
+
+  -- ---- a crash after a command
+
+  endures_refusal : (next : Holdings → Holdings) (old new : State) (why : Refusal) → EnduresRefusal old new why
+      → ((before : Holdings) → Keeps holds c old before → Leaves holds c old before → (db : Trees) → new.may_leave db → Stands holds c db before ⊎ Stands holds c db (next before))
+      → Endures holds c next old new (Err why)
+  endures_refusal next old new refusal.NotInitialised no_more either = λ before leaves db left. leaves db (no_more (λ is. cc) db left)
+  endures_refusal next old new refusal.OldFormat no_more either = λ before leaves db left. leaves db (no_more (λ is. cc) db left)
+  endures_refusal next old new refusal.ProfileChanged no_more either = λ before leaves db left. leaves db (no_more (λ is. cc) db left)
+  endures_refusal next old new (refusal.Diagnostic number place addinfo) no_more either = λ before leaves db left. leaves db (no_more (λ is. cc) db left)
+  endures_refusal next old new refusal.Exists no_more either = λ before leaves db left. leaves db (no_more (λ is. cc) db left)
+  endures_refusal next old new (refusal.Record file nth fault) no_more either = λ before leaves db left. leaves db (no_more (λ is. cc) db left)
+  endures_refusal next old new (refusal.Unknown file nth) no_more either = λ before leaves db left. leaves db (no_more (λ is. cc) db left)
+  endures_refusal next old new refusal.DatabaseFull no_more either = λ before leaves db left. leaves db (no_more (λ is. cc) db left)
+  endures_refusal next old new refusal.TooManyRecords no_more either = λ before leaves db left. leaves db (no_more (λ is. cc) db left)
+  endures_refusal next old new refusal.Damaged no_more either = λ before leaves db left. leaves db (no_more (λ is. cc) db left)
+  endures_refusal next old new refusal.IdentifierRuleChanged no_more either = λ before leaves db left. leaves db (no_more (λ is. cc) db left)
+  endures_refusal next old new (refusal.ReadFault file) no_more either = λ before leaves db left. leaves db (no_more (λ is. cc) db left)
+  endures_refusal next old new refusal.Store no_more either = either
+  endures_refusal next old new refusal.Memory no_more either = λ before leaves db left. leaves db (no_more (λ is. cc) db left)
+  endures_refusal next old new refusal.Unsupported no_more either = λ before leaves db left. leaves db (no_more (λ is. cc) db left)
+
+  -- `Kept` is what an accepted command leaves
+  pub endures : (next : Holdings → Holdings) (old new : State) (result : Result Reply Refusal) → HasCleanDisk new → IsDurable new → OnOk result (StaysOpen old new) → IfErr result (EnduresRefusal old new)
+      → Survives old new (λ db. (before : Holdings) → Keeps holds c old before → Stands holds c db (next before))
+      → ((before : Holdings) → Keeps holds c old before → Keeps holds c new (next before) ⊎ IsFailure (answer_of result))
+      → Endures holds c next old new result
+  endures next old new (Ok answer) clean durable opened no_more survives kept = λ before keeps leaves db left.
+      let is = durable opened.1 db left in elim (kept before keeps) [
+        | inl now ↦ subst (λ (trees : Trees). Stands holds c trees (next before)) (sym is) (keeps_stand holds c new (next before) opened.1 now)
+        | inr failed ↦ absurd (no_failure answer failed)
+      ]
+  endures next old new (Err why) clean durable opened no_more survives kept =
+      endures_refusal next old new why no_more (λ before keeps leaves db left. elim (survives.crash clean db left) [ inl was ↦ inl (leaves db was) | inr made ↦ inr (made before keeps) ])
+
+-- ---- a command that writes
+
+pub write_survives : (holds : Trees → Content → Type 0) (version : List ℕ) {S : Type 0} (g : Ghosts S) (w : Write) (old inside : Held S) (mid new : State) (answer : Reply) → inside ≡ record old { in_transaction = true }
+    → Survives (state g inside) mid (λ _. ⊥) → Survives mid new (λ db. db ≡ mid.now.trees)
+    → (HasCleanDisk mid → IsTrue (state g inside).in_transaction → (c : Conditions) → IsReached w (state g inside) → Works holds c (Fits version c w) (written c w) (state g inside) mid (Ok answer))
+    → Survives (state g old) new (λ db. (c : Conditions) → IsReached w (state g old) → Commits holds c (Fits version c w) (written c w) (state g old) db)
+write_survives holds version g w old inside mid new answer begins work commits works =
+    commit_survives g old inside mid new _ begins work commits (λ clean db is c reached.
+    commit_stands holds c (written c w) g (Fits version c w) old inside mid answer begins (works (omega (arith, commits.clean)) (rw begins refl) c (reached_inside g w old inside begins reached)) db is)
+
+-- as of any command
+pub command_commits : (holds : Trees → Content → Type 0) (c : Conditions) (old new : State) (command : Command) (does : Holdings → Outcome) → ((before : Holdings) → Some (does before) ≡ outcome c command before)
+    → Survives old new (Commits holds c Always does old) → Survives old new (CommitsCommand holds c command old)
+command_commits holds c old new command does left survives =
+    survives_as old new (Commits holds c Always does old) (CommitsCommand holds c command old) (λ clean db made before keeps. subst (λ (o : Option Outcome). CommitsOutcome holds c o db) (left before) (made before (λ _. tt) keeps)) survives
+
+-- what is committed is what is held after it
+pub committed_stands : (holds : Trees → Content → Type 0) (c : Conditions) (db : Trees) (before : Holdings) (told : Option Outcome) → CommitsOutcome holds c told db → Stands holds c db (left_by before told)
+committed_stands holds c db before None made = absurd made
+committed_stands holds c db before (Some told) made = made.1
+
+-- ---- a store that is taken over
+
+empty_disk : (s : State) → IsEmptyStore s → IsEmptyDisk s.now.trees
+empty_disk s empty = let none = empty.2 in (store_disk s empty.0, (none.0, none.1.0, none.1.1.0), (none.1.1.1.0, none.1.1.1.1.0, none.1.1.1.1.1.0))
+
+pub tables_commit : {S : Type 0} (g : Ghosts S) (old inside : Held S) (mid : State) → inside ≡ record old { in_transaction = true } → GoesOn (state g inside) mid
+    → ((state g inside).now.schema ≡ store_schema → IsUnchanged (state g inside) mid) → ((state g inside).now.schema ≡ no_schema → IsEmptyStore mid) → (db : Trees) → db ≡ mid.now.trees → CommitsTables (state g old) db
+tables_commit g old inside mid begins on there made db is =
+    let goes_on = subst (λ (held : Held _). GoesOn (state g held) mid) begins on in
+    let stays = subst (λ (held : Held _). (state g held).now.schema ≡ store_schema → IsUnchanged (state g held) mid) begins there in
+    let makes = subst (λ (held : Held _). (state g held).now.schema ≡ no_schema → IsEmptyStore mid) begins made in
+    (goes_on.was_open, λ store. is ∙ ap (λ (d : Database). d.trees) (stays store.is).0.now_is, λ none. subst IsEmptyDisk (sym is) (empty_disk mid (makes none)))
+
+pub adopted_commits : (holds : Trees → Content → Type 0) (old : State) (db : Trees) → CommitsTables old db → CommitsAdopted holds old db
+adopted_commits holds old db commits = record {
+  there = λ c before keeps. subst (λ (trees : Trees). Stands holds c trees before) (sym (commits.1 (keeps commits.0).0.0)) (keeps_stand holds c old before commits.0 keeps);
+  made = λ none c. let empty = commits.2 none in (empty.0, (empty.1, empty.2));
+}
+
+-- ---- a list of commands
+
+-- a command that commits answers what its outcome says
+committed_answer : (holds : Trees → Content → Type 0) (c : Conditions) (db : Trees) (before : Holdings) (command : Command) → CommitsOutcome holds c (outcome c command before) db → (answer : Answer) × Answers c command before answer
+committed_answer holds c db before Init made = (_, refl)
+committed_answer holds c db before Check made = (_, refl)
+committed_answer holds c db before (Create name) made = (_, refl)
+committed_answer holds c db before (Drop name) made = (_, refl)
+committed_answer holds c db before (Stat name) made = absurd made
+committed_answer holds c db before (Dump name) made = (_, refl)
+committed_answer holds c db before (Change kind name files) made = (_, refl)
+committed_answer holds c db before (Find name query first count) made = absurd made
+committed_answer holds c db before (Scan name query number position) made = absurd made
+committed_answer holds c db before (Analyse files) made = (_, refl)
+
+pub commits_more : (holds : Trees → Content → Type 0) (c : Conditions) (old now : State) (all : List Command) (index : ℕ) (answers : List Answer) (command : Command) → Runs holds c (take index all) answers old now
+    → take (index + 1) all ≡ take index all ++ command ∷ [] → (db : Trees) → CommitsCommand holds c command now db → CommitsSome holds c all old db
+commits_more holds c old now all index answers command runs more db commits before keeps =
+    let so_far = runs before keeps in
+    let mid = so_far.0 in
+    let made = commits mid so_far.2 in
+    let step = committed_answer holds c db mid command made in (
+      index + 1,
+      answers ++ step.0 ∷ [],
+      after c command mid,
+      rw more (run_more c (take index all) answers before mid (after c command mid) command step.0 so_far.1 (inl (step.1, refl))),
+      committed_stands holds c db mid (outcome c command mid) made,
+    )

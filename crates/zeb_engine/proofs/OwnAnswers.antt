@@ -1,0 +1,271 @@
+-- What the definition answers is never damage, nor a failure of the store, of the memory or of a reader.
+use Rattle.std.proofs.Common.{◌+◌, ◌-◌, ℕ, Bool, true, false, cond, List, [], ◌∷◌, Option, Some, None, Result, Ok, Err, map, length, take, drop, nat_le, nat_lt, sym, subst, string_bytes}
+use Rattle.std.specs.Prelude.{◌&&◌, ⊤}
+use Rattle.std.specs.Str.{bytes_eq}
+use Rattle.std.specs.Fmt.{decimal}
+use Rattle.zeb_marc.specs.declared.faults.MarcFault.{MarcFault}
+use Rattle.zeb_marc.specs.declared.faults.MarcFault.TheVariants as marc
+use Rattle.zeb_marc.specs.Records.{first_fault, fields_of}
+use Rattle.zeb_marc.specs.Contents.{units_of}
+use Rattle.zeb_marc.specs.Splits.{split_of}
+use Rattle.zeb_profile.specs.declared.directives.Directive.{Directive}
+use Rattle.zeb_profile.specs.Canonical.{canonical_text}
+use Rattle.zeb_query.specs.Faults.{Refusal}
+use Rattle.zeb_query.specs.Plans.{PlanValue, ScanValue, plan_of, scan_of}
+use Rattle.zeb_query.specs.Reading.{query_fault}
+use Rattle.zeb_extract.specs.declared.keys.Key.{Key}
+use Rattle.zeb_extract.specs.declared.naming.IdentFault.{IdentFault}
+use Rattle.zeb_extract.specs.declared.naming.IdentFault.TheVariants as ident
+use Rattle.zeb_engine.specs.declared.commands.Command.{Command}
+use Rattle.zeb_engine.specs.declared.commands.Command.TheVariants.{Init, Check, Create, Drop, Stat, Dump, Change, Find, Scan, Analyse}
+use Rattle.zeb_engine.specs.declared.commands.Kind.{Kind}
+use Rattle.zeb_engine.specs.declared.commands.Kind.TheVariants.{Update, Delete, Adelete}
+use Rattle.zeb_engine.specs.declared.tally.Fate.TheVariants.{Inserted, PassedOver}
+use Rattle.zeb_engine.specs.NameOf.{name_bytes}
+use Rattle.zeb_engine.specs.Answers.{Answer, Why, found, old_format, profile_changed, diagnostic, unknown, database_full, too_many_records, damaged, read_fault, store_failed, out_of_memory, refused, why_of}
+use Rattle.zeb_engine.specs.Conditions.{Conditions}
+use Rattle.zeb_engine.specs.Finding.{IsAnswered, IsFoundBy, IsPlanned, plan_key, shown_of}
+use Rattle.zeb_engine.specs.Scanning.{IsScanned, IsScanPlanned}
+use Rattle.zeb_engine.specs.Folding.{Changed, Progress, at_end, at_first, changed_by, changed_record, counted, deleted, file_folded, files_folded, folded, ident_in, slices_folded, updated, with_ident, with_record, ◌then◌}
+use Rattle.zeb_engine.specs.Holdings.{Base, Holdings, Kept, nothing_yet, under, base_named, kept_as, with_new}
+use Rattle.zeb_engine.specs.Outcomes.{marc_refusal}
+use Rattle.zeb_engine.specs.Steps.{Answers, AskedAmong, AskedFrom, AskedIn, CountedFrom, CountedIn, Turn, change_ends, change_from, changed_by_files, created, created_in, dropped, dropped_in, dumped_from, dumped_in, ends, initialised, ready, splits_of, start_of, turned, turned_from, waits}
+use Rattle.zeb_engine.proofs.FaultAnswers.{IsOfText, IsOfRecord, first_of_text, split_of_text, identifier_of_record}
+
+-- a refusal that tells of the command and of what is held
+abbrev pub IsOwn : Why → Type 0
+IsOwn damaged = ⊥
+IsOwn store_failed = ⊥
+IsOwn out_of_memory = ⊥
+IsOwn (read_fault file) = ⊥
+IsOwn why = ⊤
+
+abbrev pub IsOwnAnswer : Answer → Type 0
+IsOwnAnswer (refused why) = IsOwn why
+IsOwnAnswer answer = ⊤
+
+abbrev AreOwn : {A : Type 0} → Result A Why → Type 0
+AreOwn (Ok a) = ⊤
+AreOwn (Err why) = IsOwn why
+
+marc_own : (file nth : ℕ) (fault : MarcFault) → IsOfText (Some fault) → IsOwn (why_of (marc_refusal file nth fault))
+marc_own file nth marc.LengthDigits is = tt
+marc_own file nth marc.LengthRange is = tt
+marc_own file nth marc.Truncated is = tt
+marc_own file nth marc.NoTerminator is = tt
+marc_own file nth marc.LeaderCounts is = tt
+marc_own file nth marc.BaseAddress is = tt
+marc_own file nth marc.DirectoryLength is = tt
+marc_own file nth marc.EntryDigits is = tt
+marc_own file nth marc.EntryTag is = tt
+marc_own file nth marc.EntryRange is = tt
+marc_own file nth marc.FieldEnd is = tt
+marc_own file nth marc.TooManySeparators is = tt
+marc_own file nth marc.ReadFault is = absurd is
+
+-- ---- one record
+
+updated_own : (c : Conditions) (ident bytes : List ℕ) (base : Base) (elder : Option Kept) → AreOwn (updated c ident bytes base elder)
+updated_own c ident bytes base (Some kept) = tt
+updated_own c ident bytes base None = elim (nat_le c.limits.numbers base.last)
+    as (λ b. AreOwn {A = Changed} (cond b (Err database_full) (Ok (with_new ident bytes base, Inserted)))) [ true ↦ tt | false ↦ tt ]
+
+deleted_own : (absent : Result Changed Why) (ident : List ℕ) (base : Base) (elder : Option Kept) → AreOwn absent → AreOwn (deleted absent ident base elder)
+deleted_own absent ident base (Some kept) is = tt
+deleted_own absent ident base None is = is
+
+module _ (c : Conditions) (file nth : ℕ) (bytes : List ℕ) (base : Base) where
+  changed_own : (kind : Kind) (ident : List ℕ) → AreOwn (changed_by c kind file nth bytes ident base)
+  changed_own Update ident = updated_own c ident bytes base (kept_as ident base)
+  changed_own Delete ident = deleted_own (Err (unknown file nth)) ident base (kept_as ident base) tt
+  changed_own Adelete ident = deleted_own (Ok (base, PassedOver)) ident base (kept_as ident base) tt
+
+  ident_own : (kind : Kind) (said : Result (List ℕ) IdentFault) → IsOfRecord said → AreOwn (with_ident c kind file nth bytes base said)
+  ident_own kind (Ok name) is = changed_own kind name
+  ident_own kind (Err ident.NoIdentifier) is = tt
+  ident_own kind (Err ident.BadIdentifier) is = tt
+  ident_own kind (Err ident.Memory) is = absurd is
+
+  with_record_own : (kind : Kind) (fault : Option MarcFault) → IsOfText fault → AreOwn (with_record c kind file nth bytes base fault)
+  with_record_own kind (Some fault) is = marc_own file nth fault is
+  with_record_own kind None is = ident_own kind (ident_in c.profile bytes) (identifier_of_record c.profile (units_of (fields_of bytes)))
+
+  record_own : (kind : Kind) → AreOwn (changed_record c kind file nth bytes base)
+  unfolding changed_record
+  record_own kind = with_record_own kind (first_fault bytes) (first_of_text bytes)
+
+-- ---- files
+
+then_own : {A B : Type 0} (said : Result A Why) (f : A → Result B Why) → AreOwn said → ((a : A) → AreOwn (f a)) → AreOwn (said then f)
+then_own (Ok a) f is later = later a
+then_own (Err why) f is later = is
+
+module _ (c : Conditions) (kind : Kind) where
+  folded_own : (file nth : ℕ) (bytes : List ℕ) (p : Progress) → AreOwn (folded c kind file nth bytes p)
+  unfolding folded
+  folded_own file nth bytes p = elim (nat_le c.limits.records p.taken)
+      as (λ b. AreOwn {A = Progress} (cond b (Err too_many_records) (changed_record c kind file nth bytes p.base then λ changed. Ok (counted changed.0 p changed.1)))) [
+        | true ↦ tt
+        | false ↦ then_own (changed_record c kind file nth bytes p.base) (λ changed. Ok (counted changed.0 p changed.1)) (record_own c file nth bytes p.base kind) (λ changed. tt)
+      ]
+
+  end_own : (file nth : ℕ) (last : Option MarcFault) (p : Progress) → IsOfText last → AreOwn (at_end file nth last p)
+  end_own file nth None p is = tt
+  end_own file nth (Some fault) p is = marc_own file nth fault is
+
+  slices_own : (file nth : ℕ) (slices : List (List ℕ)) (last : Option MarcFault) (p : Progress) → IsOfText last → AreOwn (slices_folded c kind file nth slices last p)
+  slices_own file nth [] last p is = end_own file nth last p is
+  slices_own file nth (slice ∷ slices) last p is =
+      then_own (folded c kind file nth slice p) (slices_folded c kind file (nth + 1) slices last) (folded_own file nth slice p) (λ q. slices_own file (nth + 1) slices last q is)
+
+  file_own : (file : ℕ) (text : List ℕ) (p : Progress) → AreOwn (file_folded c kind file (split_of text) p)
+  unfolding file_folded
+  file_own file text p = slices_own file 1 (split_of text).slices (split_of text).fault p (split_of_text text)
+
+  files_own : (file : ℕ) (texts : List (List ℕ)) (p : Progress) → AreOwn (files_folded c kind file (splits_of texts) p)
+  files_own file [] p = tt
+  files_own file (text ∷ texts) p =
+      then_own (file_folded c kind file (split_of text) p) (files_folded c kind (file + 1) (splits_of texts)) (file_own file text p) (files_own (file + 1) texts)
+
+-- ---- commands that change what is held
+
+ready_own : (c : Conditions) (before : Holdings) → AreOwn (ready c before)
+unfolding ready
+ready_own c nothing_yet = tt
+ready_own c (under version text bases) = go (bytes_eq version c.version) (bytes_eq text (canonical_text c.profile))
+  where
+    go : (one other : Bool) → AreOwn {A = List Base} (cond one (cond other (Ok bases) (Err profile_changed)) (Err old_format))
+    go true true = tt
+    go true false = tt
+    go false other = tt
+
+-- a turn, whose answers are its own
+abbrev pub IsOwnTurn : Result (Answer × List Base) Why → Type 0
+IsOwnTurn (Ok turned) = IsOwnAnswer turned.0
+IsOwnTurn (Err why) = IsOwn why
+
+turn_ends : (c : Conditions) (before : Holdings) (said : Result (Answer × List Base) Why) → IsOwnTurn said → IsOwnAnswer (ends c before said).0
+turn_ends c before (Ok turned) is = is
+turn_ends c before (Err why) is = is
+
+pub turned_own : (c : Conditions) (turn : Turn) (before : Holdings) → ((bases : List Base) → IsOwnTurn (turn bases)) → IsOwnAnswer (turned c turn before).0
+unfolding turned
+turned_own c turn before each = go (ready c before) (ready_own c before)
+  where
+    go : (said : Result (List Base) Why) → AreOwn said → IsOwnAnswer (turned_from c turn before said).0
+    go (Ok bases) is = turn_ends c before (turn bases) (each bases)
+    go (Err why) is = is
+
+created_own : (name : List ℕ) (bases : List Base) → IsOwnTurn (created name bases)
+unfolding created
+created_own name bases = go (base_named name bases)
+  where
+    go : (base : Option Base) → IsOwnTurn (created_in name bases base)
+    go (Some base) = tt
+    go None = tt
+
+dropped_own : (name : List ℕ) (bases : List Base) → IsOwnTurn (dropped name bases)
+unfolding dropped
+dropped_own name bases = go (base_named name bases)
+  where
+    go : (base : Option Base) → IsOwnTurn (dropped_in name bases base)
+    go (Some base) = tt
+    go None = tt
+
+start_own : (kind : Kind) (name : List ℕ) (base : Option Base) → AreOwn (start_of kind name base)
+start_own kind name (Some base) = tt
+start_own Update name None = tt
+start_own Delete name None = tt
+start_own Adelete name None = tt
+
+pub change_own : (c : Conditions) (kind : Kind) (name : List ℕ) (texts : List (List ℕ)) (bases : List Base) → IsOwnTurn (changed_by_files c kind name (splits_of texts) bases)
+unfolding changed_by_files
+change_own c kind name texts bases = go (start_of kind name (base_named name bases)) (start_own kind name (base_named name bases))
+  where
+    ends_so : (said : Result Progress Why) → AreOwn said → IsOwnTurn (change_ends bases said)
+    ends_so (Ok p) is = tt
+    ends_so (Err why) is = is
+
+    go : (start : Result Base Why) → AreOwn start → IsOwnTurn (change_from c kind (splits_of texts) bases start)
+    go (Ok base) is = ends_so (files_folded c kind 1 (splits_of texts) (at_first base)) (files_own c kind 1 texts (at_first base))
+    go (Err why) is = is
+
+waits_own : (said : Result (List Base) Why) → AreOwn said → IsOwnAnswer (waits said)
+waits_own (Ok bases) is = tt
+waits_own (Err why) is = is
+
+-- ---- finds
+
+shown_own : (hits : List Kept) (first count : ℕ) → IsOwnAnswer (shown_of hits first count)
+shown_own hits first count = elim (nat_lt 1 first && nat_lt (length hits) first)
+    as (λ b. IsOwnAnswer (cond b (refused (diagnostic 13 0 (decimal first))) (found (length hits) (map (λ (kept : Kept). (kept.sysno, kept.ident)) (take count (drop (first - 1) hits)))))) [
+      | true ↦ tt
+      | false ↦ tt
+    ]
+
+module _ (profile : List Directive) (first count : ℕ) (base : Base) (answer : Answer) where
+  found_by_own : (key : Option Key) → IsFoundBy profile key first count base answer → IsOwnAnswer answer
+  found_by_own None is = subst IsOwnAnswer (sym is) tt
+  found_by_own (Some key) is = subst IsOwnAnswer (sym is.2) (shown_own is.0 first count)
+
+  planned_own : (plan : Result PlanValue Refusal) → IsPlanned profile plan first count base answer → IsOwnAnswer answer
+  planned_own (Ok plan) is = found_by_own (plan_key plan) is
+  planned_own (Err e) is = subst IsOwnAnswer (sym is) tt
+
+module _ (profile : List Directive) (number position : ℕ) (base : Base) (answer : Answer) where
+  scanned_own : (plan : Result ScanValue Refusal) → IsScanPlanned profile plan number position base answer → IsOwnAnswer answer
+  scanned_own (Ok plan) is = subst IsOwnAnswer (sym is.2) tt
+  scanned_own (Err e) is = subst IsOwnAnswer (sym is) tt
+
+-- a command that asks a database by a query
+asked_own : (Says : Base → Answer → Type 0) → ((base : Base) (answer : Answer) → Says base answer → IsOwnAnswer answer) → (name query : List ℕ) (answer : Answer) (said : Result (List Base) Why) → AreOwn said
+    → AskedFrom Says name query said answer → IsOwnAnswer answer
+asked_own Says each name query answer (Err why) own is = subst IsOwnAnswer (sym is) own
+asked_own Says each name query answer (Ok bases) own is = go (query_fault query) is
+  where
+    there : (base : Option Base) → AskedIn Says name base answer → IsOwnAnswer answer
+    there None h = subst IsOwnAnswer (sym h) tt
+    there (Some base) h = each base answer h
+
+    go : (fault : Option (ℕ × ℕ)) → AskedAmong Says name bases fault answer → IsOwnAnswer answer
+    go (Some fault) h = subst IsOwnAnswer (sym h) tt
+    go None h = there (base_named name bases) h
+
+-- ---- the commands that count and show
+
+counted_own : (c : Conditions) (name : List ℕ) (answer : Answer) (said : Result (List Base) Why) → AreOwn said → CountedFrom c name said answer → IsOwnAnswer answer
+counted_own c name answer (Err why) own is = subst IsOwnAnswer (sym is) own
+counted_own c name answer (Ok bases) own is = go (base_named name bases) is
+  where
+    go : (base : Option Base) → CountedIn c name base answer → IsOwnAnswer answer
+    go None h = subst IsOwnAnswer (sym h) tt
+    go (Some base) h = subst IsOwnAnswer (sym h.2) tt
+
+dumped_own : (name : List ℕ) (said : Result (List Base) Why) → AreOwn said → IsOwnAnswer (dumped_from name said)
+dumped_own name (Err why) own = own
+dumped_own name (Ok bases) own = go (base_named name bases)
+  where
+    go : (base : Option Base) → IsOwnAnswer (dumped_in name base)
+    go None = tt
+    go (Some base) = tt
+
+-- ---- any command
+
+pub answers_own : (c : Conditions) (command : Command) (before : Holdings) (answer : Answer) → Answers c command before answer → IsOwnAnswer answer
+unfolding initialised
+answers_own c Init before answer is = subst IsOwnAnswer (sym is) tt
+answers_own c (Create name) before answer is = subst IsOwnAnswer (sym is) (turned_own c (created (name_bytes name)) before (created_own (name_bytes name)))
+answers_own c (Drop name) before answer is = subst IsOwnAnswer (sym is) (turned_own c (dropped (name_bytes name)) before (dropped_own (name_bytes name)))
+answers_own c (Change kind name files) before answer is =
+    let texts = map (λ file. file.items) files.items in
+    subst IsOwnAnswer (sym is) (turned_own c (changed_by_files c kind (name_bytes name) (splits_of texts)) before (change_own c kind (name_bytes name) texts))
+answers_own c (Find name query first count) before answer is =
+    asked_own (IsAnswered c.profile (string_bytes query) first count) (λ base given h. planned_own c.profile first count base given (plan_of c.profile h.0) h.2) (name_bytes name) (string_bytes query) answer
+    (ready c before) (ready_own c before) is
+answers_own c Check before answer is = subst IsOwnAnswer (sym is) (waits_own (ready c before) (ready_own c before))
+answers_own c (Stat name) before answer is = counted_own c (name_bytes name) answer (ready c before) (ready_own c before) is
+answers_own c (Dump name) before answer is = subst IsOwnAnswer (sym is) (dumped_own (name_bytes name) (ready c before) (ready_own c before))
+answers_own c (Scan name query number position) before answer is =
+    asked_own (IsScanned c.profile (string_bytes query) number position) (λ base given h. scanned_own c.profile number position base given (scan_of c.profile h.0) h.2) (name_bytes name) (string_bytes query) answer
+    (ready c before) (ready_own c before) is
+answers_own c (Analyse files) before answer is = subst IsOwnAnswer (sym is) tt

@@ -1,0 +1,25 @@
+use Rattle.std.proofs.Common.{◌≡◌, ◌≤◌, false, length, take, vec_capacity, IsTrue}
+use Rattle.sqlite.specs.Held.{state}
+use Rattle.sqlite.specs.State.{HasCleanDisk, Survives}
+use Rattle.sqlite.specs.Tree.{Trees}
+use Rattle.zeb_register.specs.Calls.{ChangesNothing}
+use Rattle.zeb_register.specs.Content.{Content}
+use Rattle.zeb_engine.specs.Counted.{IsHolding}
+use Rattle.zeb_engine.specs.Counting.{Paired}
+use Rattle.zeb_engine.specs.Found.{ShowsStore}
+use Rattle.zeb_engine.proofs.stat.holdings_of.Given as goal
+
+abbrev pub invariant-loop-target : goal.invariant-loop-target
+invariant-loop-target g l =
+    let old = state g.S.Store l.fn.connection in
+    let now = state g.S.Store l.connection in
+    record {
+      idle : l.connection.in_transaction ≡ false;
+      count : length l.holdings.items ≡ l.target-index;
+      room : length l.targets ≤ vec_capacity l.holdings;
+      crash : Survives old now (λ _. ⊥);
+      open_still : HasCleanDisk now → IsTrue old.is_open → IsTrue now.is_open;
+      same : HasCleanDisk now → ChangesNothing old now;
+      held : HasCleanDisk now → (trees : Trees) → ShowsStore old trees → IsTrue old.is_open → (content : Content) → g.L.Layout.holds trees content
+          → Paired (IsHolding l.fn.profile content l.fn.database.0) (take l.target-index l.targets) l.holdings.items;
+    }

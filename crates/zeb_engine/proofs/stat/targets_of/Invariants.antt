@@ -1,0 +1,6 @@
+use Rattle.std.proofs.Common.{◌≡◌}
+use Rattle.zeb_engine.specs.Counting.{targets_below}
+use Rattle.zeb_engine.proofs.stat.targets_of.Given as goal
+
+abbrev pub invariant-loop-index : goal.invariant-loop-index
+invariant-loop-index l = l.targets.items ≡ targets_below l.fn.profile l.index

@@ -1,0 +1,94 @@
+//! Laws of the definitions that the contracts cite. Each is a function with no code, whose contract is the law.
+ghost use Rattle.std.specs.Prelude.{◌≡◌, ◌≢◌, ◌↔◌, ◌⊎◌, ◌+◌, ◌<◌, ◌≤◌, ℕ, false, List, [], ◌∷◌, Some, length};
+ghost use Rattle.std.specs.List.{Contains};
+ghost use Rattle.sqlite.specs.Tree.{Trees};
+ghost use Rattle.zeb_marc.specs.Splits.{Split};
+ghost use Rattle.zeb_profile.specs.declared.directives.Directive.{Directive};
+ghost use Rattle.zeb_profile.specs.Canonical.{canonical_text};
+ghost use Rattle.zeb_profile.specs.Laws.{IsProfile};
+ghost use Rattle.zeb_text.specs.Symbols.{Symbol};
+ghost use Rattle.zeb_query.specs.Plans.{PlanValue, TermOf, PhraseOf};
+ghost use Rattle.zeb_extract.specs.declared.keys.Key.{Key};
+ghost use Rattle.zeb_engine.specs.Answers.{Answer, changed, refused, damaged, store_failed, out_of_memory, read_fault};
+ghost use Rattle.zeb_engine.specs.Conditions.{Conditions};
+ghost use Rattle.zeb_engine.specs.Counts.{FoldsTo, HasNamesake, IsAccepted, records_in, told};
+ghost use Rattle.zeb_engine.specs.Finding.{HasKey, plan_key};
+ghost use Rattle.zeb_engine.specs.Matching.{AsksFor, HasMatch};
+ghost use Rattle.zeb_engine.specs.Folding.{Progress};
+ghost use Rattle.zeb_engine.specs.Holdings.{Base, Holdings, Kept};
+ghost use Rattle.zeb_engine.specs.Image.{IsBase, IsImage};
+ghost use Rattle.zeb_engine.specs.Steps.{Answers, changed_by_files, turned};
+
+use crate::commands::{Command, Kind};
+use zeb_register::Layout;
+
+/// No answer that the definition names is damage, or a failure of the store, of the memory or of a reader, whatever is
+/// held and whatever is asked. So such an answer always tells of the machine or of the tables, and never of the command:
+/// a register that is what commands left answers no damage.
+pub fn no_definition_answers_damage()
+    ensures damage { (c : Conditions) (command : Command) (before : Holdings) (answer : Answer) → Answers c command before answer
+        → answer ≢ refused damaged }
+    ensures store { (c : Conditions) (command : Command) (before : Holdings) (answer : Answer) → Answers c command before answer
+        → answer ≢ refused store_failed }
+    ensures memory { (c : Conditions) (command : Command) (before : Holdings) (answer : Answer) → Answers c command before answer
+        → answer ≢ refused out_of_memory }
+    ensures reader { (c : Conditions) (command : Command) (before : Holdings) (answer : Answer) → Answers c command before answer
+        → (file : ℕ) → answer ≢ refused (read_fault file) }
+{}
+
+/// The definition leaves no choice: whatever is held and whatever is asked, a command has at most one answer, also a find, a
+/// scan and a stat, whose answers are not computed but described by the kept records. So an answer that a reader works out from the
+/// definition is the one that the program gives, unless the store or the memory fails.
+pub fn a_command_has_one_answer()
+    ensures { (c : Conditions) (command : Command) (before : Holdings) (one other : Answer) → Answers c command before one
+        → Answers c command before other → one ≡ other }
+{}
+
+/// What a find asks for, said by matching and not by keys: a plan that has a key is that of one word in one index, and a record
+/// has the key just where a word of its text stands in that index that the plan's pattern matches. So a reader can check a
+/// find's answer against the records' texts, without a register in mind.
+pub fn a_word_is_found_where_it_stands()
+    ensures found { (profile : List Directive) (index : ℕ) (pattern : List Symbol) (key : Key) (kept : Kept)
+        → plan_key (TermOf (PhraseOf index (pattern ∷ []) false)) ≡ Some key
+        → HasKey profile key kept ↔ HasMatch profile index pattern kept }
+    ensures others { (plan : PlanValue) (key : Key) → plan_key plan ≡ Some key → AsksFor plan key }
+{}
+
+/// The counts of an accepted change add up: they are those of all records of its files, folded into its database. Each record of the files is taken, and counted once, unless a lenient delete
+/// passes it over. As many records are kept as were kept before, with those inserted and without those deleted; and the
+/// last number given has risen by just the number of those inserted, so that no number is lost or given twice. So a reader
+/// can check a reply against the files and against the database.
+pub fn counts_add_up()
+    ensures accepted { (c : Conditions) (kind : Kind) (name : List ℕ) (files : List Split) (before : Holdings) (inserted updated deleted : ℕ)
+        → (turned c (changed_by_files c kind name files) before).0 ≡ changed inserted updated deleted
+        → IsAccepted c kind name files before (turned c (changed_by_files c kind name files) before) }
+    ensures taken { (c : Conditions) (kind : Kind) (files : List Split) (base : Base) (p : Progress) → FoldsTo c kind files base p
+        → p.taken ≡ records_in files }
+    ensures told { (c : Conditions) (kind : Kind) (files : List Split) (base : Base) (p : Progress) → FoldsTo c kind files base p
+        → told p ≤ p.taken }
+    ensures each { (c : Conditions) (kind : Kind) (files : List Split) (base : Base) (p : Progress) → FoldsTo c kind files base p
+        → kind ≢ Kind.Adelete → told p ≡ p.taken }
+    ensures kept { (c : Conditions) (kind : Kind) (files : List Split) (base : Base) (p : Progress) → FoldsTo c kind files base p
+        → IsBase c.profile base → length p.base.records + p.deleted ≡ length base.records + p.inserted }
+    ensures last { (c : Conditions) (kind : Kind) (files : List Split) (base : Base) (p : Progress) → FoldsTo c kind files base p
+        → p.base.last ≡ base.last + p.inserted }
+{}
+
+/// Numbers stay. After an update each record that was kept is kept still, under the number and the identifier that it had,
+/// whatever bytes it has now. After any change each kept record either was kept before, under the same number and
+/// identifier, or has a number greater than any given before. So a number that a reader has noted never comes to mean
+/// another identifier.
+pub fn numbers_stay()
+    ensures elders { (c : Conditions) (files : List Split) (base : Base) (p : Progress) → FoldsTo c Kind.Update files base p
+        → (kept : Kept) → Contains base.records kept → HasNamesake p.base.records kept }
+    ensures others { (c : Conditions) (kind : Kind) (files : List Split) (base : Base) (p : Progress) → FoldsTo c kind files base p
+        → (kept : Kept) → Contains p.base.records kept → HasNamesake base.records kept ⊎ (base.last < kept.sysno) }
+{}
+
+/// Two profiles with one canonical text have the same images. So what a register holds doesn't depend on how its profile is
+/// spelled, nor on the `store` line: a session under either profile finds the same held.
+pub fn one_text_one_image<L: Layout>()
+    ensures { (one other : Conditions) → IsProfile one.profile → IsProfile other.profile
+        → one.version ≡ other.version → canonical_text one.profile ≡ canonical_text other.profile
+        → (trees : Trees) (held : Holdings) → IsImage L.holds one trees held ↔ IsImage L.holds other trees held }
+{}

@@ -1,0 +1,56 @@
+//! What is kept of a database, as it came in.
+
+ghost use Rattle.std.specs.Prelude.{◌≡◌, false, OnOk, IfOk};
+ghost use Rattle.std.specs.List.{flat_map};
+ghost use Rattle.sqlite.specs.Held.{state};
+ghost use Rattle.sqlite.specs.State.{HasCleanDisk, Survives};
+ghost use Rattle.zeb_register.specs.Calls.{ChangesNothing};
+ghost use Rattle.zeb_engine.specs.Adopting.{StaysOpen};
+ghost use Rattle.zeb_engine.specs.Conditions.{conditions};
+ghost use Rattle.zeb_engine.specs.declared.commands.Limits.{Limits};
+ghost use Rattle.zeb_engine.specs.NameOf.{name_bytes};
+ghost use Rattle.zeb_engine.specs.Reading.{NoReadFault};
+ghost use Rattle.zeb_engine.specs.Steps.{dumped_by};
+ghost use Rattle.zeb_engine.specs.Works.{Always, Serves};
+
+use crate::names::DbName;
+use crate::readiness::{check_ready, existing_database};
+use crate::refusals::Refusal;
+use crate::replies::Reply;
+use sqlite::{Alter, Connection};
+use std::alloc::{AllocError, Global};
+use zeb_profile::Profile;
+use zeb_register::{Layout, Record, records};
+
+/// The bytes of the records, one after the other.
+fn joined(alloc: Global, records: &[Record]) -> Result<Vec<u8>, AllocError>
+    ensures { IfOk result (λ bytes. bytes.items ≡ flat_map (λ kept. kept.bytes.items) records.now) }
+{
+    let mut bytes = Vec::new(alloc);
+    for kept in records {
+        bytes.extend_from_slice(&kept.bytes)?;
+    }
+    Ok(bytes)
+}
+
+/// Answers the bytes of a database's records, in rising order of their system numbers, on a register that is ready.
+pub(crate) fn dump<S: Alter, L: Layout>(
+    alloc: Global,
+    connection: &mut Connection<S>,
+    profile: &Profile,
+    name: &DbName,
+) -> Result<Reply, Refusal>
+    requires idle { connection.old.in_transaction ≡ false }
+    ensures idle { connection.new.in_transaction ≡ false }
+    ensures open { HasCleanDisk (state S.Store connection.new) → OnOk result (StaysOpen (state S.Store connection.old) (state S.Store connection.new)) }
+    ensures same { HasCleanDisk (state S.Store connection.new) → ChangesNothing (state S.Store connection.old) (state S.Store connection.new) }
+    ensures serves { HasCleanDisk (state S.Store connection.new) → (limits : Limits)
+        → Serves L.holds (conditions L.version profile.now limits) Always (dumped_by (conditions L.version profile.now limits) (name_bytes name.now)) (state S.Store connection.old) (state S.Store connection.new) result }
+    ensures crash { Survives (state S.Store connection.old) (state S.Store connection.new) (λ _. ⊥) }
+    ensures unread { NoReadFault result }
+{
+    check_ready::<S, L>(connection, profile)?;
+    let database = existing_database::<S, L>(alloc, connection, name)?;
+    let kept = records(alloc, connection, database.id)?;
+    Ok(Reply::Dumped(joined(alloc, &kept)?))
+}

@@ -1,0 +1,117 @@
+//! Scanning the terms of a register around a start.
+
+ghost use Rattle.std.specs.Prelude.{◌≡◌, ◌⊎◌, ◌++◌, List, false, IfOk, IfErr, OnOk, IsTrue, Ok};
+ghost use Rattle.sqlite.specs.Held.{state};
+ghost use Rattle.sqlite.specs.State.{HasCleanDisk, Survives};
+ghost use Rattle.zeb_query.specs.Plans.{scan_value};
+ghost use Rattle.zeb_query.specs.Reading.{query_fault};
+ghost use Rattle.zeb_register.specs.Calls.{ChangesNothing};
+ghost use Rattle.zeb_register.specs.Content.{Content};
+ghost use Rattle.zeb_register.specs.Store.{IsStore};
+ghost use Rattle.zeb_register.specs.Terms.{HasTexts};
+ghost use Rattle.zeb_engine.specs.declared.commands.Limits.{Limits};
+ghost use Rattle.zeb_engine.specs.Adopting.{StaysOpen};
+ghost use Rattle.zeb_engine.specs.Answers.{answer_of, refused, why_of, IsFailure};
+ghost use Rattle.zeb_engine.specs.Conditions.{conditions};
+ghost use Rattle.zeb_engine.specs.Holdings.{Holdings, Base};
+ghost use Rattle.zeb_engine.specs.Image.{Keeps};
+ghost use Rattle.zeb_engine.specs.NameOf.{name_bytes};
+ghost use Rattle.zeb_engine.specs.Reading.{NoReadFault};
+ghost use Rattle.zeb_engine.specs.Scanned.{AreAround, Scans};
+ghost use Rattle.zeb_engine.specs.Scanning.{IsScanned};
+ghost use Rattle.zeb_engine.specs.Steps.{ready, AskedAmong};
+
+use crate::names::DbName;
+use crate::readiness::existing_database;
+use crate::refusals::Refusal;
+use crate::replies::Reply;
+use sqlite::{Alter, Connection};
+use std::alloc::{AllocError, Global};
+use zeb_profile::Profile;
+use zeb_query::{ScanPlan, plan_scan, read_pqf};
+use zeb_register::{DatabaseId, Layout, TermCount, Work};
+
+/// What a scan asks: a query that names the start, how many terms, and the start's place among them.
+#[derive(Clone, Copy)]
+pub(crate) struct Around<'a> {
+    pub query: &'a str,
+    pub number: u32,
+    pub position: u32,
+}
+
+/// Both lists, one after the other.
+fn joined(first: Vec<TermCount>, rest: Vec<TermCount>) -> Result<Vec<TermCount>, AllocError>
+    ensures { IfOk result (λ all. all.items ≡ first.items ++ rest.items) }
+{
+    let mut all = first;
+    for entry in rest {
+        all.push(entry)?;
+    }
+    Ok(all)
+}
+
+/// The terms of the plan's register around its start.
+fn terms_around<S: Alter, L: Layout>(
+    alloc: Global,
+    connection: &mut Connection<S>,
+    work: &mut Work,
+    database: DatabaseId,
+    plan: &ScanPlan,
+    around: &Around<'_>,
+) -> Result<Vec<TermCount>, Refusal>
+    requires idle { connection.old.in_transaction ≡ false }
+    ensures idle { connection.new.in_transaction ≡ false }
+    ensures open { HasCleanDisk (state S.Store connection.new) → OnOk result (StaysOpen (state S.Store connection.old) (state S.Store connection.new)) }
+    ensures same { HasCleanDisk (state S.Store connection.new) → ChangesNothing (state S.Store connection.old) (state S.Store connection.new) }
+    ensures around { HasCleanDisk (state S.Store connection.new) → IsStore (state S.Store connection.old)
+        → IfOk result (λ terms. (content : Content) → L.holds (state S.Store connection.old).now.trees content → AreAround content database.0 (scan_value plan.now) around.now.number around.now.position terms.items) }
+    ensures failed { HasCleanDisk (state S.Store connection.new) → IsStore (state S.Store connection.old)
+        → (content : Content) → HasTexts content → L.holds (state S.Store connection.old).now.trees content → IfErr result (λ refusal. IsFailure (refused (why_of refusal))) }
+    ensures crash { Survives (state S.Store connection.old) (state S.Store connection.new) (λ _. ⊥) }
+    ensures unread { NoReadFault result }
+{
+    let below = (around.position as u64).saturating_sub(1);
+    let from = (around.number as u64 + 1).saturating_sub(around.position as u64);
+    let start = plan.start.as_str();
+    let (index, register) = (plan.index, plan.register);
+    let first = L::terms_before(
+        alloc, connection, work, database, index, register, start, below,
+    )?;
+    let rest = L::terms_from(
+        alloc, connection, work, database, index, register, start, from,
+    )?;
+    Ok(joined(first, rest)?)
+}
+
+/// The terms of a database around the start that a query names, each with the number of its records.
+pub(crate) fn scan<S: Alter, L: Layout>(
+    alloc: Global,
+    connection: &mut Connection<S>,
+    work: &mut Work,
+    profile: &Profile,
+    name: &DbName,
+    around: Around<'_>,
+) -> Result<Reply, Refusal>
+    requires idle { connection.old.in_transaction ≡ false }
+    ensures idle { connection.new.in_transaction ≡ false }
+    ensures open { HasCleanDisk (state S.Store connection.new) → OnOk result (StaysOpen (state S.Store connection.old) (state S.Store connection.new)) }
+    ensures same { HasCleanDisk (state S.Store connection.new) → ChangesNothing (state S.Store connection.old) (state S.Store connection.new) }
+    ensures scanned { HasCleanDisk (state S.Store connection.new) → IsTrue (state S.Store connection.old).is_open → (limits : Limits) (before : Holdings) (bases : List Base)
+        → ready (conditions L.version profile.now limits) before ≡ Ok bases → Keeps L.holds (conditions L.version profile.now limits) (state S.Store connection.old) before
+        → AskedAmong (IsScanned profile.now around.entry.query.now around.entry.number around.entry.position) (name_bytes name.now) bases (query_fault around.entry.query.now) (answer_of result)
+        ⊎ IsFailure (answer_of result) }
+    ensures crash { Survives (state S.Store connection.old) (state S.Store connection.new) (λ _. ⊥) }
+    ensures unread { NoReadFault result }
+    // The terms are read from the registers, on any tables that hold a content.
+    ensures alone { HasCleanDisk (state S.Store connection.new)
+        → Scans L.holds profile.now (name_bytes name.now) around.entry.query.now around.entry.number around.entry.position (state S.Store connection.old) result }
+{
+    let query = read_pqf(alloc, around.query)?;
+    let database = existing_database::<S, L>(alloc, connection, name)?;
+    let plan = plan_scan(alloc, &query, profile)?;
+    let entries = terms_around::<S, L>(alloc, connection, work, database.id, &plan, &around)?;
+    Ok(Reply::Scanned {
+        register: plan.register,
+        entries,
+    })
+}

@@ -1,0 +1,138 @@
+//! How much a database holds.
+
+ghost use Rattle.std.specs.Prelude.{◌≡◌, ◌++◌, List, false, IsTrue, IfErr, IfOk, OnOk, string_bytes};
+ghost use Rattle.sqlite.specs.Held.{state};
+ghost use Rattle.sqlite.specs.State.{HasCleanDisk, Survives};
+ghost use Rattle.sqlite.specs.Tree.{Trees};
+ghost use Rattle.zeb_register.specs.Calls.{ChangesNothing};
+ghost use Rattle.zeb_register.specs.Content.{Content};
+ghost use Rattle.zeb_register.specs.Terms.{HasTexts};
+ghost use Rattle.zeb_engine.specs.Adopting.{StaysOpen};
+ghost use Rattle.zeb_engine.specs.Answers.{IsFailure, refused, why_of};
+ghost use Rattle.zeb_engine.specs.Conditions.{conditions};
+ghost use Rattle.zeb_engine.specs.Counted.{IsHolding};
+ghost use Rattle.zeb_engine.specs.Counting.{Paired, name_of_index, target_in, target_list};
+ghost use Rattle.zeb_engine.specs.declared.commands.Limits.{Limits};
+ghost use Rattle.zeb_engine.specs.Found.{ShowsStore};
+ghost use Rattle.zeb_engine.specs.Holdings.{Holdings};
+ghost use Rattle.zeb_engine.specs.NameOf.{name_bytes};
+ghost use Rattle.zeb_engine.specs.Reading.{NoReadFault};
+ghost use Rattle.zeb_engine.specs.Steps.{CountedFrom, ready};
+ghost use Rattle.zeb_engine.specs.Works.{Asks};
+
+use crate::names::DbName;
+use crate::readiness::{check_ready, existing_database};
+use crate::refusals::Refusal;
+use crate::replies::{Holding, Reply};
+use sqlite::{Alter, Connection};
+use std::alloc::{AllocError, Global};
+use zeb_profile::{Profile, Register};
+use zeb_register::{DatabaseId, Layout, Totals, Work, records};
+
+/// The register is added where some line has it as a target.
+fn add_target(
+    profile: &Profile,
+    targets: &mut Vec<(u32, Register)>,
+    index: u32,
+    register: Register,
+) -> Result<(), AllocError>
+    ensures { OnOk result (targets.new.items ≡ targets.old.items ++ target_in profile.now index register) }
+{
+    if profile.has(index, register) {
+        targets.push((index, register))?;
+    }
+    Ok(())
+}
+
+/// The registers that some line has as a target, in their order.
+fn targets_of(alloc: Global, profile: &Profile) -> Result<Vec<(u32, Register)>, AllocError>
+    ensures { IfOk result (λ targets. targets.items ≡ target_list profile.now) }
+{
+    let mut targets = Vec::new(alloc);
+    for index in 0..profile.index_count() {
+        add_target(profile, &mut targets, index, Register::Word)?;
+        add_target(profile, &mut targets, index, Register::Phrase)?;
+        add_target(profile, &mut targets, index, Register::Number)?;
+    }
+    Ok(targets)
+}
+
+/// What a register holds, under the name of its index.
+fn holding_of(
+    alloc: Global,
+    profile: &Profile,
+    target: (u32, Register),
+    totals: Totals,
+) -> Result<Holding, AllocError>
+    ensures name { IfOk result (λ holding. string_bytes holding.index ≡ name_of_index profile.now target.0) }
+    ensures register { IfOk result (λ holding. holding.register ≡ target.1) }
+    ensures totals { IfOk result (λ holding. record { terms = holding.terms; occurrences = holding.occurrences } ≡ totals) }
+{
+    let (index, register) = target;
+    let name = profile.index_name(index).unwrap_or("");
+    Ok(Holding {
+        index: String::from_str(alloc, name)?,
+        register,
+        terms: totals.terms,
+        occurrences: totals.occurrences,
+    })
+}
+
+/// What each of the registers holds of a database.
+fn holdings_of<S: Alter, L: Layout>(
+    alloc: Global,
+    connection: &mut Connection<S>,
+    work: &mut Work,
+    profile: &Profile,
+    database: DatabaseId,
+    targets: &[(u32, Register)],
+) -> Result<Vec<Holding>, Refusal>
+    requires idle { connection.old.in_transaction ≡ false }
+    ensures idle { connection.new.in_transaction ≡ false }
+    ensures open { HasCleanDisk (state S.Store connection.new) → OnOk result (IsTrue (state S.Store connection.old).is_open → IsTrue (state S.Store connection.new).is_open) }
+    ensures same { HasCleanDisk (state S.Store connection.new) → ChangesNothing (state S.Store connection.old) (state S.Store connection.new) }
+    ensures held { HasCleanDisk (state S.Store connection.new) → (trees : Trees) → ShowsStore (state S.Store connection.old) trees → IsTrue (state S.Store connection.old).is_open
+        → (content : Content) → L.holds trees content → IfOk result (λ holdings. Paired (IsHolding profile.now content database.0) targets.now holdings.items) }
+    ensures failed { HasCleanDisk (state S.Store connection.new) → (trees : Trees) → ShowsStore (state S.Store connection.old) trees → IsTrue (state S.Store connection.old).is_open
+        → (content : Content) → HasTexts content → L.holds trees content → IfErr result (λ refusal. IsFailure (refused (why_of refusal))) }
+    ensures crash { Survives (state S.Store connection.old) (state S.Store connection.new) (λ _. ⊥) }
+    ensures unread { NoReadFault result }
+{
+    let mut holdings = Vec::with_capacity(alloc, targets.len())?;
+    for target in targets {
+        let (index, register) = *target;
+        let totals = L::totals(alloc, connection, work, database, index, register)?;
+        holdings.push_reserved(holding_of(alloc, profile, *target, totals)?);
+    }
+    Ok(holdings)
+}
+
+/// Answers how many records a database has, its last number, and what each register holds of it, on a register that is ready.
+pub(crate) fn stat<S: Alter, L: Layout>(
+    alloc: Global,
+    connection: &mut Connection<S>,
+    work: &mut Work,
+    profile: &Profile,
+    name: &DbName,
+) -> Result<Reply, Refusal>
+    requires idle { connection.old.in_transaction ≡ false }
+    ensures idle { connection.new.in_transaction ≡ false }
+    ensures open { HasCleanDisk (state S.Store connection.new) → OnOk result (StaysOpen (state S.Store connection.old) (state S.Store connection.new)) }
+    ensures same { HasCleanDisk (state S.Store connection.new) → ChangesNothing (state S.Store connection.old) (state S.Store connection.new) }
+    ensures serves { HasCleanDisk (state S.Store connection.new) → (limits : Limits)
+        → Asks L.holds (conditions L.version profile.now limits) (λ before answer. CountedFrom (conditions L.version profile.now limits) (name_bytes name.now) (ready (conditions L.version profile.now limits) before) answer)
+        (state S.Store connection.old) (state S.Store connection.new) result }
+    ensures crash { Survives (state S.Store connection.old) (state S.Store connection.new) (λ _. ⊥) }
+    ensures unread { NoReadFault result }
+{
+    check_ready::<S, L>(connection, profile)?;
+    let database = existing_database::<S, L>(alloc, connection, name)?;
+    let kept = records(alloc, connection, database.id)?;
+    let targets = targets_of(alloc, profile)?;
+    let holdings = holdings_of::<S, L>(alloc, connection, work, profile, database.id, &targets)?;
+    Ok(Reply::Counted {
+        records: kept.len() as u64,
+        last: database.last,
+        holdings,
+    })
+}

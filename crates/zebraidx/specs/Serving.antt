@@ -1,0 +1,18 @@
+-- What the lines of a batch do to a connection, and add to a writer's known bytes.
+use Rattle.std.specs.Prelude.{ℕ, List, Option}
+use Rattle.sqlite.specs.Tree.{Trees}
+use Rattle.sqlite.specs.State.{State}
+use Rattle.zeb_register.specs.Content.{Content}
+use Rattle.zeb_engine.specs.Conditions.{Conditions}
+use Rattle.zeb_engine.specs.Holdings.{Holdings}
+use Rattle.zeb_engine.specs.Image.{Keeps}
+use Rattle.zebraidx.specs.Answers.{Writes}
+
+-- From tables that keep what a register holds, they lead to tables that keep what it holds then; P says what is written.
+abbrev pub Leads : (holds : Trees → Content → Type 0) → Conditions → State → State → Option (List ℕ) → Option (List ℕ) → (Holdings → List ℕ → Holdings → Type 0) → Type 0
+Leads holds c old new wrote writes P =
+    (before : Holdings) → Keeps holds c old before → (later : Holdings) × Keeps holds c new later × Writes wrote writes (λ bytes. P before bytes later)
+
+-- The same, where nothing is said of the tables then.
+abbrev pub Stops : (holds : Trees → Content → Type 0) → Conditions → State → Option (List ℕ) → Option (List ℕ) → (Holdings → List ℕ → Type 0) → Type 0
+Stops holds c old wrote writes P = (before : Holdings) → Keeps holds c old before → Writes wrote writes (P before)
