@@ -54,7 +54,7 @@ module _ (c : Conditions) (bytes : List ℕ) (base : Base) where
     unfolding changed_record
     one_keeps kind = record_keeps kind (first_fault bytes)
 
-counted_in : (base : Base) (p : Progress) (fate : Fate) → (counted base p fate).base ≡ base
+pub counted_in : (base : Base) (p : Progress) (fate : Fate) → (counted base p fate).base ≡ base
 counted_in base p Inserted = refl
 counted_in base p Updated = refl
 counted_in base p Deleted = refl

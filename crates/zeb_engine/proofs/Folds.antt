@@ -1,10 +1,8 @@
 -- What holds of a database before and after each record of a change, and joins, holds of all slices of its files.
-use Rattle.std.proofs.Common.{◌≡◌, ℕ, ◌+◌, Bool, true, false, cond, List, [], ◌∷◌, ◌++◌, Option, Result, Ok, Err, nat_le, refl, sym, subst}
+use Rattle.std.proofs.Common.{◌≡◌, ℕ, ◌+◌, Bool, true, false, cond, List, [], ◌∷◌, ◌++◌, Option, Result, Ok, Err, nat_le, sym, subst}
 use Rattle.zeb_marc.specs.declared.faults.MarcFault.{MarcFault}
 use Rattle.zeb_marc.specs.Splits.{Split}
 use Rattle.zeb_engine.specs.declared.commands.Kind.{Kind}
-use Rattle.zeb_engine.specs.declared.tally.Fate.{Fate}
-use Rattle.zeb_engine.specs.declared.tally.Fate.TheVariants.{Inserted, Updated, Deleted, PassedOver}
 use Rattle.zeb_engine.specs.Answers.{Why, too_many_records}
 use Rattle.zeb_engine.specs.Conditions.{Conditions}
 use Rattle.zeb_engine.specs.Counts.{FoldsTo}
@@ -12,12 +10,7 @@ use Rattle.zeb_engine.specs.Folding.{Changed, Progress, at_first, changed_record
 use Rattle.zeb_engine.specs.Holdings.{Base}
 use Rattle.zeb_engine.specs.Lasting.{slices_in}
 use Rattle.zeb_engine.proofs.FoldCounts.{then_ok, ends_still}
-
-counted_base : (base : Base) (p : Progress) (fate : Fate) → (counted base p fate).base ≡ base
-counted_base base p Inserted = refl
-counted_base base p Updated = refl
-counted_base base p Deleted = refl
-counted_base base p PassedOver = refl
+use Rattle.zeb_engine.proofs.FoldNames.{counted_in}
 
 module _ (c : Conditions) (kind : Kind) (R : List (List ℕ) → Base → Base → Type 0) (none : (base : Base) → R [] base base)
     (one : (file nth : ℕ) (slice : List ℕ) (base : Base) (changed : Changed) → changed_record c kind file nth slice base ≡ Ok changed → R (slice ∷ []) base changed.0)
@@ -33,7 +26,7 @@ module _ (c : Conditions) (kind : Kind) (R : List (List ℕ) → Base → Base �
           let it = then_ok (changed_record c kind file nth slice p.base) (λ changed. Ok (counted changed.0 p changed.1)) q h in
           let same : counted it.0.0 p it.0.1 ≡ q = cc in
           subst (λ (r : Progress). R (slice ∷ []) p.base r.base) same
-          (subst (R (slice ∷ []) p.base) (sym (counted_base it.0.0 p it.0.1)) (one file nth slice p.base it.0 it.1))
+          (subst (R (slice ∷ []) p.base) (sym (counted_in it.0.0 p it.0.1)) (one file nth slice p.base it.0 it.1))
 
   folded_slices : (file nth : ℕ) (slices : List (List ℕ)) (last : Option MarcFault) (p q : Progress) → slices_folded c kind file nth slices last p ≡ Ok q → R slices p.base q.base
   folded_slices file nth [] last p q is = subst (λ (r : Progress). R [] p.base r.base) (sym (ends_still file nth last p q is)) (none p.base)

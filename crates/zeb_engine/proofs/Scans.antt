@@ -52,11 +52,11 @@ unfolding IsStrictlySortedBy
 terms_rise [] rising = tt
 terms_rise (first ∷ rest) rising = (terms_above first.term rest rising.0, terms_rise rest rising.1)
 
-some_posting : (list : List Posting) → list ≢ [] → (p : Posting) × Has list p
+pub some_posting : (list : List Posting) → list ≢ [] → (p : Posting) × Has list p
 some_posting [] some = absurd (some refl)
 some_posting (p ∷ rest) some = (p, inl refl)
 
-none_had : (list : List Posting) (p : Posting) → Has list p → list ≢ []
+pub none_had : (list : List Posting) (p : Posting) → Has list p → list ≢ []
 none_had [] p there = absurd there
 none_had (q ∷ rest) p there = λ none. cc
 

@@ -31,7 +31,9 @@ use Rattle.zeb_engine.specs.declared.replies.Reply.{Reply}
 use Rattle.zeb_engine.specs.Answers.{Why, answer_of, extent_of, refused, why_of, IsFailure}
 use Rattle.zeb_engine.specs.Conditions.{Conditions}
 use Rattle.zeb_engine.specs.Counted.{IsHolding}
-use Rattle.zeb_engine.specs.Counting.{CountSpots, CountTerms, HaveTerm, IsCounted, IsExtent, Paired, Spot, Target, spot_cmp}
+use Rattle.zeb_engine.specs.Counting.{CountSpots, CountTerms, IsCounted, IsExtent, Paired, Spot, Target, spot_cmp}
+use Rattle.zeb_engine.specs.Scanning.{IsTermIn}
+use Rattle.zeb_engine.proofs.Scans.{some_posting, none_had}
 use Rattle.zeb_engine.specs.Finding.{OccursIn}
 use Rattle.zeb_engine.specs.Holdings.{Holdings, Base, base_named}
 use Rattle.zeb_engine.specs.Image.{Keeps}
@@ -58,14 +60,6 @@ paired_to P Q f so (x ∷ xs) (y ∷ ys) all = (so x y all.0, paired_to P Q f so
 
 pub spot_total : IsTotalOrder spot_cmp
 spot_total = then_total (on_total (λ (s : Spot). s.0) nat_list_cmp_total) (on_total (λ (s : Spot). s.1) posting_total)
-
-some_posting : (list : List Posting) → list ≢ [] → (p : Posting) × Has list p
-some_posting [] some = absurd (some refl)
-some_posting (p ∷ rest) some = (p, inl refl)
-
-none_had : (list : List Posting) (p : Posting) → Has list p → list ≢ []
-none_had [] p there = absurd there
-none_had (q ∷ rest) p there = λ none. cc
 
 terms_above : (t : TermCount) (all : List TermCount) → AllByRecursion (λ (u : TermCount). term_cmp t u ≡ Less) all → AllByRecursion (λ (other : List ℕ). slice_cmp nat_cmp t.term other ≡ Less) (map (λ (u : TermCount). u.term) all)
 terms_above t [] above = tt
@@ -143,12 +137,12 @@ module _ (holds : Trees → Content → Type 0) (profile : List Directive) (tree
     abbrev list_at : List ℕ → List Posting
     list_at term = held.content id (key_at term)
 
-    posted_term : (term : List ℕ) (p : Posting) → Has (list_at term) p → HaveTerm profile base target term
+    posted_term : (term : List ℕ) (p : Posting) → Has (list_at term) p → IsTermIn profile base target.0 target.1 term
     posted_term term p there =
         let k = (held.posted (key_at term) p).0 there in
         (k.0, k.1, (record { key = key_at term; seq = p.seq; pos = p.pos }, k.3, refl))
 
-    term_posted : (term : List ℕ) → HaveTerm profile base target term → list_at term ≢ []
+    term_posted : (term : List ℕ) → IsTermIn profile base target.0 target.1 term → list_at term ≢ []
     term_posted term have =
         let o = have.2.0 in
         let p : Posting = record { sysno = have.0.sysno; seq = o.seq; pos = o.pos } in

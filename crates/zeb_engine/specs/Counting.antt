@@ -15,8 +15,9 @@ use Rattle.zeb_register.specs.declared.registers.Posting.{Posting}
 use Rattle.zeb_register.specs.Content.{posting_cmp}
 use Rattle.zeb_register.specs.Terms.{capped, key_in}
 use Rattle.zeb_engine.specs.Answers.{Answer, Extent, counted}
-use Rattle.zeb_engine.specs.Finding.{HasKey, OccursIn}
+use Rattle.zeb_engine.specs.Finding.{OccursIn}
 use Rattle.zeb_engine.specs.Holdings.{Base, Kept}
+use Rattle.zeb_engine.specs.Scanning.{IsTermIn}
 
 -- ---- the registers of a profile
 
@@ -54,10 +55,6 @@ abbrev pub spot_cmp : Spot → Spot → Ordering
 spot_cmp a b = ordering_then (slice_cmp nat_cmp a.0 b.0) (posting_cmp a.1 b.1)
 
 module _ (profile : List Directive) (base : Base) (target : Target) where
-  -- some record has the term there
-  abbrev pub HaveTerm : List ℕ → Type 0
-  HaveTerm term = (kept : Kept) × Contains base.records kept × HasKey profile (key_in target.0 target.1 term) kept
-
   -- the record of the place's number has the term there at this place
   abbrev pub HaveSpot : Spot → Type 0
   HaveSpot spot = (kept : Kept) × Contains base.records kept × (kept.sysno ≡ spot.1.sysno)
@@ -67,7 +64,7 @@ module _ (profile : List Directive) (base : Base) (target : Target) where
   pub record CountTerms (count : ℕ) : Type 0 where
     pub terms : List (List ℕ)
     pub rising : IsStrictlySortedBy (slice_cmp nat_cmp) terms
-    pub each : (term : List ℕ) → Contains terms term ↔ HaveTerm term
+    pub each : (term : List ℕ) → Contains terms term ↔ IsTermIn profile base target.0 target.1 term
     pub count_is : count ≡ capped (length terms)
 
   -- just so many occurrences are there

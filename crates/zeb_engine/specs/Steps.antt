@@ -126,8 +126,7 @@ ScannedFrom c name query number position = AskedFrom (IsScanned c.profile query 
 -- ---- the command that counts
 
 abbrev pub CountedIn : Conditions → List ℕ → Option Base → Answer → Type 0
-CountedIn c name None answer = answer ≡ refused (no_database name)
-CountedIn c name (Some base) answer = IsCounted c.profile base answer
+CountedIn c name = AskedIn (IsCounted c.profile) name
 
 abbrev pub CountedFrom : Conditions → List ℕ → Result (List Base) Why → Answer → Type 0
 CountedFrom c name (Err why) answer = answer ≡ refused why
