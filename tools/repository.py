@@ -61,6 +61,11 @@ def by_level(crates):
     return sorted(crates, key=lambda it: len(it.below()))
 
 
+def failures(said):
+    """The lines of a log that say why a crate isn't proved, or else its last ones."""
+    return [it for it in said if re.search(r"error|not proved|no proof", it)] or said[-20:]
+
+
 def path_of_rt():
     """Where the toolchain's command is."""
     found = shutil.which("rt")
