@@ -1,0 +1,5 @@
+pub mod Numbers
+pub mod Order
+pub mod Blocks
+pub mod Left
+pub mod Writing

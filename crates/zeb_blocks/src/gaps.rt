@@ -1,0 +1,93 @@
+// The three numbers by which a posting is told from the one before it.
+ghost use Rattle.std.specs.Prelude.{◌≡◌, ◌≢◌, ◌++◌, ℕ, List, MatchOption, OnErr, OnOk, SomeIff};
+
+use crate::numbers::write_number;
+use crate::postings::Posting;
+use std::alloc::AllocError;
+
+/// How far a posting is above the one before it: the gap of the system number; the unit, as its gap where the system number is the same; the place, as its gap where the unit too is the same.
+#[derive(Clone, Copy, Debug, PartialEq, Eq)]
+pub(crate) struct Gaps {
+    pub(crate) sysno: u64,
+    pub(crate) seq: u64,
+    pub(crate) pos: u64,
+}
+
+impl Gaps {
+    ghost use Rattle.zeb_blocks.specs.Blocks.{bytes_of, gaps_of};
+    ghost use Rattle.zeb_blocks.specs.Left.{Fits, Follows, posting_after};
+
+    /// The gaps of a posting that is above another.
+    pub(crate) fn between(before: Posting, posting: Posting) -> Gaps
+        requires { Follows before posting }
+        ensures { result ≡ gaps_of before posting }
+    {
+        if posting.sysno != before.sysno {
+            Gaps {
+                sysno: posting.sysno - before.sysno,
+                seq: posting.seq,
+                pos: posting.pos,
+            }
+        } else if posting.seq != before.seq {
+            Gaps {
+                sysno: 0,
+                seq: posting.seq - before.seq,
+                pos: posting.pos,
+            }
+        } else {
+            Gaps {
+                sysno: 0,
+                seq: 0,
+                pos: posting.pos - before.pos,
+            }
+        }
+    }
+
+    /// The posting that is as far above another as these gaps say; `None` where one of its numbers doesn't fit 64 bits.
+    fn added_to(self, before: Posting) -> Option<Posting>
+        ensures { SomeIff result (Fits (posting_after before self)) (posting_after before self) }
+    {
+        if self.sysno != 0 {
+            let sysno = before.sysno.checked_add(self.sysno)?;
+            return Some(Posting {
+                sysno,
+                seq: self.seq,
+                pos: self.pos,
+            });
+        }
+        if self.seq != 0 {
+            let seq = before.seq.checked_add(self.seq)?;
+            return Some(Posting {
+                sysno: before.sysno,
+                seq,
+                pos: self.pos,
+            });
+        }
+        let pos = before.pos.checked_add(self.pos)?;
+        Some(Posting {
+            sysno: before.sysno,
+            seq: before.seq,
+            pos,
+        })
+    }
+
+    /// The numbered posting that has these gaps from another, which may be the start of a block; `None` where there is none.
+    pub(crate) fn after(self, before: Posting) -> Option<Posting>
+        ensures { MatchOption result ((p : Posting) → Follows before p → gaps_of before p ≢ self)
+            (λ p. Follows before p × (gaps_of before p ≡ self)) }
+    {
+        let posting = self.added_to(before)?;
+        let is_numbered = posting.sysno != 0 && posting.seq != 0 && self.pos != 0;
+        is_numbered.then_some(posting)
+    }
+
+    /// Puts the bytes of the three numbers at the end. Where memory ran out, a part of them may have been put there.
+    pub(crate) fn write(self, out: &mut Vec<u8>) -> Result<(), AllocError>
+        ensures ok { OnOk result (out.new.items ≡ out.old.items ++ bytes_of self) }
+        ensures err { OnErr result ((part : List ℕ) × (out.new.items ≡ out.old.items ++ part)) }
+    {
+        write_number(out, self.sysno)?;
+        write_number(out, self.seq)?;
+        write_number(out, self.pos)
+    }
+}
