@@ -6,3 +6,5 @@ pub mod Rising
 pub mod Counting
 pub mod Taking
 pub mod Pushing
+pub mod ShortestForms
+pub mod WorkedBlocks

@@ -48,6 +48,11 @@ some_bytes before p rest next same =
     let gaps = gaps_of before p in
     begins_none gaps.sysno (uleb gaps.seq ++ (uleb gaps.pos ++ rest)) (gaps_small before p next).sysno (same ∙ bytes_of-append gaps rest)
 
+pub length-postings_at : (count : ℕ) (before : Posting) (bytes : List ℕ) → length (postings_at count before bytes) ≡ count
+unfolding postings_at
+length-postings_at zero before bytes = refl
+length-postings_at (suc more) before bytes = ap suc (length-postings_at more _ _)
+
 pub postings_at-spelled : (before : Posting) (list : List Posting) (rest : List ℕ) → EachFollows before list → postings_at (length list) before (spelled_from before list ++ rest) ≡ list
 unfolding postings_at spelled_from
 postings_at-spelled before [] rest each = refl
@@ -104,7 +109,7 @@ told_apart before (p ∷ list) (q ∷ other) rest each each' same =
     let (more, is, behind_is) = told_apart p list other rest each.1 here left' in
     (more, (λ i. sym first i ∷ is i), behind_is)
 
-no_more : (before : Posting) (list : List Posting) → EachFollows before list → [] ≡ spelled_from before list → list ≡ []
+pub no_more : (before : Posting) (list : List Posting) → EachFollows before list → [] ≡ spelled_from before list → list ≡ []
 unfolding spelled_from
 no_more before [] each none = refl
 no_more before (p ∷ list) each none = absurd (some_bytes before p (spelled_from p list) each.0 none)

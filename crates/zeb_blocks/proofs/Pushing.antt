@@ -9,7 +9,7 @@ use Rattle.zeb_blocks.specs.Blocks.{BlockSpells, IsNumbered, LiesIn, bytes_of, g
 use Rattle.zeb_blocks.specs.Left.{Follows, EachFollows, SpellsFrom, last_from, postings_at}
 use Rattle.zeb_blocks.specs.Writing.{IsWritten}
 use Rattle.zeb_blocks.proofs.Counting.{one_spelled}
-use Rattle.zeb_blocks.proofs.Lists.{each_follows-behind, last_from-append, length-spelled, postings_at-spelled, spelled_from-append}
+use Rattle.zeb_blocks.proofs.Lists.{each_follows-behind, last_from-append, length-postings_at, length-spelled, postings_at-spelled, spelled_from-append}
 use Rattle.zeb_blocks.proofs.Rising.{follow_start}
 
 -- a list without a posting
@@ -21,11 +21,6 @@ written_none block bytes small none = record {
   spells = record { follow = tt; spelled = none };
   last = refl;
 }
-
-pub length-postings_at : (count : ℕ) (before : Posting) (bytes : List ℕ) → length (postings_at count before bytes) ≡ count
-unfolding postings_at
-length-postings_at zero before bytes = refl
-length-postings_at (suc more) before bytes = ap suc (length-postings_at more _ _)
 
 -- the number of postings is at most that of their bytes
 pub written_count : (block count : ℕ) (last : Posting) (bytes : List ℕ) → IsWritten block (postings_at count (start_of block) bytes) last bytes → count ≤ length bytes

@@ -3,3 +3,4 @@ pub mod Order
 pub mod Blocks
 pub mod Left
 pub mod Writing
+pub mod Worked

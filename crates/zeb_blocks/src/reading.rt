@@ -106,4 +106,14 @@ impl<'a> Iterator for Postings<'a> {
         self.bytes = behind;
         Some(posting)
     }
+
+    fn size_hint(&self) -> (usize, Option<usize>) {
+        (self.count, Some(self.count))
+    }
+}
+
+impl ExactSizeIterator for Postings<'_> {
+    fn len(&self) -> usize {
+        self.count
+    }
 }
