@@ -8,7 +8,9 @@ mod postings;
 mod reading;
 mod writing;
 
-pub use laws::{numbers_are_in_their_shortest_form, spellings_and_lists_are_one_to_one, worked_examples};
+pub use laws::{
+    numbers_are_in_their_shortest_form, spellings_and_lists_are_one_to_one, worked_examples,
+};
 pub use postings::Posting;
 pub use reading::{Damaged, Postings};
 pub use writing::{BlockWriter, spell};

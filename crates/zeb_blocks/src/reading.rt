@@ -1,5 +1,5 @@
 // Reading a block: its postings, one after the other, out of its bytes.
-ghost use Rattle.std.specs.Prelude.{◌≡◌, ◌≢◌, ◌++◌, ℕ, List, IfOk, OnErr, MatchOption};
+ghost use Rattle.std.specs.Prelude.{◌≡◌, ◌≢◌, ◌++◌, ◌^◌, ◌<◌, ℕ, List, IfOk, OnErr, MatchOption, length};
 ghost use Rattle.std.specs.Iterator.{YieldsFirst, item_count};
 ghost use Rattle.zeb_blocks.specs.declared.postings.Posting.{Posting};
 ghost use Rattle.zeb_blocks.specs.Blocks.{BlockSpells, bytes_of, gaps_of};
@@ -29,7 +29,8 @@ fn read_posting<'a>(before: Posting, bytes: &'a [u8]) -> Option<(Posting, &'a [u
 /// How many postings the bytes have behind another one, and the last of them.
 fn count_postings(start: Posting, bytes: &[u8]) -> Option<(usize, Posting)>
     ensures { MatchOption result ((list : List Posting) → ¬ SpellsFrom start list bytes.now)
-        (λ found. SpellsFrom start (postings_at found.0 start bytes.now) bytes.now × (last_from start (postings_at found.0 start bytes.now) ≡ found.1)) }
+        (λ found. SpellsFrom start (postings_at found.0 start bytes.now) bytes.now × (last_from start (postings_at found.0 start bytes.now) ≡ found.1)
+        × (found.0 < 2 ^ 64)) }
 {
     let mut count = 0;
     let mut last = start;
@@ -70,6 +71,7 @@ impl<'a> Postings<'a> {
     /// [`Damaged`] exactly where the bytes spell no list in the block: there are none; a number is cut, isn't in its shortest form or doesn't fit 64 bits; a system number, unit or place is 0; the postings don't rise; or one lies outside the block.
     pub fn read(block: u64, bytes: &'a [u8]) -> Result<Postings<'a>, Damaged>
         ensures spelled { IfOk result (λ list. BlockSpells block list bytes.now) }
+        ensures few { IfOk result (λ list. length list < 2 ^ 64) }
         ensures damaged { OnErr result ((list : List Posting) → ¬ BlockSpells block list bytes.now) }
     {
         let Some(start) = start_of_block(block) else {

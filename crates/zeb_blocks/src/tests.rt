@@ -1,10 +1,16 @@
 // Worked blocks both ways, bytes that are refused, and the longest numbers.
+ghost use Rattle.std.specs.Prelude.{◌≡◌};
+ghost use Rattle.zeb_blocks.specs.Blocks.{BlockSpells};
+ghost use Rattle.zeb_blocks.specs.Worked.{at};
+
 use super::*;
 use std::process::Abort;
 use std::test::Fail;
 
 /// The posting with these numbers.
-fn at(sysno: u64, seq: u64, pos: u64) -> Posting {
+fn posting(sysno: u64, seq: u64, pos: u64) -> Posting
+    ensures { result ≡ at sysno seq pos }
+{
     Posting { sysno, seq, pos }
 }
 
@@ -13,41 +19,66 @@ fn assert_read(rt: &impl Abort, block: u64, bytes: &[u8], expected: &[Posting]) 
     let postings = Postings::read(block, bytes).expect(rt, "a block");
     assert_eq!(rt; postings.len(), expected.len());
     let mut left = expected.iter();
-    for posting in postings {
-        assert_eq!(rt; Some(posting), left.next().copied());
+    for read in postings {
+        assert_eq!(rt; Some(read), left.next().copied());
     }
     assert_eq!(rt; left.next().copied(), None);
 }
 
-#[test]
-fn worked_blocks_are_read(rt: HostRuntime) -> Result<(), Fail> {
-    assert_read(&rt, 0, &[1, 2, 2], &[at(1, 2, 2)]);
-    assert_read(&rt, 0, &[1, 2, 2, 0, 1, 1], &[at(1, 2, 2), at(1, 3, 1)]);
-    let two_records = [at(1, 2, 2), at(255, 1, 1)];
-    assert_read(&rt, 0, &[1, 2, 2, 0xfe, 1, 1, 1], &two_records);
-    assert_read(&rt, 1, &[0, 2, 2], &[at(256, 2, 2)]);
-
-    let block = [1, 2, 2, 0, 0, 3];
-    assert_eq!(rt; Postings::read(0, &block).expect(&rt, "a block").count(), 2);
-    let all: Vec<Posting> = Postings::read(0, &block)
-        .expect(&rt, "a block")
-        .collect(rt.alloc())?;
-    assert!(rt; all.as_slice() == [at(1, 2, 2), at(1, 2, 5)].as_slice());
+/// Asserts that these postings are written as the bytes.
+fn assert_spelled(
+    rt: &(impl Abort + AllocGlobal),
+    block: u64,
+    bytes: &[u8],
+    list: &[Posting],
+) -> Result<(), Fail>
+    requires { BlockSpells block list.now bytes.now }
+{
+    let spelled = spell(rt.alloc(), block, list)?;
+    assert!(rt; spelled.as_slice() == bytes);
     Ok(())
 }
 
 #[test]
-fn worked_blocks_are_spelled(rt: HostRuntime) -> Result<(), Fail> {
-    let one = spell(rt.alloc(), 0, &[at(1, 2, 2)])?;
-    assert!(rt; one.as_slice() == [1, 2, 2].as_slice());
-    let two_units = spell(rt.alloc(), 0, &[at(1, 2, 2), at(1, 3, 1)])?;
-    assert!(rt; two_units.as_slice() == [1, 2, 2, 0, 1, 1].as_slice());
-    let two_records = spell(rt.alloc(), 0, &[at(1, 2, 2), at(255, 1, 1)])?;
-    assert!(rt; two_records.as_slice() == [1, 2, 2, 0xfe, 1, 1, 1].as_slice());
+fn one_posting(rt: HostRuntime) -> Result<(), Fail> {
+    let list = [posting(1, 2, 2)];
+    assert_read(&rt, 0, &[1, 2, 2], &list);
+    assert_spelled(&rt, 0, &[1, 2, 2], &list)
+}
 
+#[test]
+fn two_units(rt: HostRuntime) -> Result<(), Fail> {
+    let list = [posting(1, 2, 2), posting(1, 3, 1)];
+    assert_read(&rt, 0, &[1, 2, 2, 0, 1, 1], &list);
+    assert_spelled(&rt, 0, &[1, 2, 2, 0, 1, 1], &list)
+}
+
+#[test]
+fn two_records(rt: HostRuntime) -> Result<(), Fail> {
+    let list = [posting(1, 2, 2), posting(255, 1, 1)];
+    assert_read(&rt, 0, &[1, 2, 2, 0xfe, 1, 1, 1], &list);
+    assert_spelled(&rt, 0, &[1, 2, 2, 0xfe, 1, 1, 1], &list)
+}
+
+#[test]
+fn second_block(rt: HostRuntime) -> Result<(), Fail> {
+    assert_read(&rt, 1, &[0, 2, 2], &[posting(256, 2, 2)]);
     let mut writer = BlockWriter::new(rt.alloc(), 1);
-    writer.push(at(256, 2, 2))?;
+    writer.push(posting(256, 2, 2))?;
     assert!(rt; writer.into_bytes().as_slice() == [0, 2, 2].as_slice());
+    Ok(())
+}
+
+#[test]
+fn postings_are_counted_and_collected(rt: HostRuntime) -> Result<(), Fail> {
+    let block = [1, 2, 2, 0, 0, 3];
+    let postings = Postings::read(0, &block).expect(&rt, "a block");
+    assert_eq!(rt; postings.count(), 2);
+    let all: Vec<Posting> = Postings::read(0, &block)
+        .expect(&rt, "a block")
+        .collect(rt.alloc())?;
+    let expected = [posting(1, 2, 2), posting(1, 2, 5)];
+    assert!(rt; all.as_slice() == expected.as_slice());
     Ok(())
 }
 
@@ -74,18 +105,17 @@ fn damage_is_found(rt: HostRuntime) {
 
 #[test]
 fn longest_numbers(rt: HostRuntime) -> Result<(), Fail> {
-    let largest = at(u64::MAX, 1 << 63, u64::MAX);
     let bytes = [
         255, 1, 128, 128, 128, 128, 128, 128, 128, 128, 128, 1, 255, 255, 255, 255, 255, 255, 255,
         255, 255, 1,
     ];
-    let block = u64::MAX / 256;
-    assert_read(&rt, block, &bytes, &[largest]);
-    let spelled = spell(rt.alloc(), block, &[largest])?;
-    assert!(rt; spelled.as_slice() == bytes.as_slice());
+    let list = [posting(u64::MAX, 1 << 63, u64::MAX)];
+    assert_read(&rt, (1 << 56) - 1, &bytes, &list);
+    assert_spelled(&rt, (1 << 56) - 1, &bytes, &list)
+}
 
-    // Nine bytes hold 63 bits.
-    let longest_of_nine = [1, 255, 255, 255, 255, 255, 255, 255, 255, 127, 1];
-    assert_read(&rt, 0, &longest_of_nine, &[at(1, (1 << 63) - 1, 1)]);
-    Ok(())
+#[test]
+fn nine_bytes_hold_63_bits(rt: HostRuntime) {
+    let bytes = [1, 255, 255, 255, 255, 255, 255, 255, 255, 127, 1];
+    assert_read(&rt, 0, &bytes, &[posting(1, (1 << 63) - 1, 1)]);
 }

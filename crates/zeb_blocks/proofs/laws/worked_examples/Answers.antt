@@ -43,4 +43,3 @@ returns-clause-too_large c = no_large
 
 pub returns-clause-too_long : goal.returns-clause-too_long
 returns-clause-too_long c = no_long
-

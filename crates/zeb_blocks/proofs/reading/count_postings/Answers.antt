@@ -33,4 +33,5 @@ loop-left-preserved c =
 pub returns : goal.returns
 returns c =
     let none : length c.loop-left.left.now ≡ 0 = grind (arith, common_steps) in
-    counted_all c.args.start c.args.bytes.now c.loop-left.count c.loop-left.last c.loop-left.left.now c.loop-left.invariant none
+    let all = counted_all c.args.start c.args.bytes.now c.loop-left.count c.loop-left.last c.loop-left.left.now c.loop-left.invariant none in
+    (all.0, all.1, omega arith)

@@ -3,6 +3,7 @@ use Rattle.std.proofs.Common.{◌≡◌, ◌≢◌, ℕ, ◌/◌, ◌∙◌, sym
 use Rattle.zeb_blocks.specs.Blocks.{BlockSpells}
 use Rattle.zeb_blocks.specs.Left.{SpellsFrom, last_from, postings_at}
 use Rattle.zeb_blocks.specs.declared.postings.Posting.{Posting}
+use Rattle.zeb_blocks.proofs.Lists.{length-postings_at}
 use Rattle.zeb_blocks.proofs.Taking.{no_start, no_list, empty_block, outside, postings_at-none, whole_block}
 use Rattle.zeb_blocks.proofs.reading.Postings.read.Goals as goal
 use Rattle.zeb_blocks.proofs.reading.Postings.read.Goals.{then-count-eq0-via-then-count-eq0, then-count-eq0-via-else-count-eq0+then-last-block}
@@ -32,3 +33,6 @@ returns-clause-spelled c =
     let inside = ap (λ (p : Posting). p.sysno / 256) counted.1 ∙ c.if-last-block.false in
     let whole = whole_block c.args.block c.args.bytes.now c.in-Some-count_postings.count counted.0 c.if-count-eq0.false inside in
     subst (λ (start : Posting). BlockSpells c.args.block (postings_at c.in-Some-count_postings.count start c.args.bytes.now) c.args.bytes.now) (sym c.in-Some.ensures.1) whole
+
+pub returns-clause-few : goal.returns-clause-few
+returns-clause-few c = rw (length-postings_at c.in-Some-count_postings.count c.in-Some.start c.args.bytes.now) c.in-Some-count_postings.ensures.2
