@@ -1,4 +1,4 @@
--- How a block of a key's postings is spelled in bytes.
+-- How a block of a key's postings is spelled in bytes. This coding is the project's own; its numbers are those of ULEB128.
 use Rattle.std.specs.Prelude.{◌≡◌, ◌≢◌, ℕ, ◌+◌, ◌-◌, ◌*◌, ◌/◌, ◌^◌, ◌<◌, ◌≤◌, ◌==◌, if◌then◌else◌, List, [], ◌∷◌, ◌++◌}
 use Rattle.std.specs.List.{AllByRecursion}
 use Rattle.std.specs.List.Sorted.{IsStrictlySortedBy}
@@ -23,13 +23,19 @@ pub record LiesIn (block : ℕ) (list : List Posting) : Type 0 where
 abbrev pub start_of : ℕ → Posting
 start_of block = record { sysno = 256 * block; seq = 0; pos = 0 }
 
--- the three numbers that tell a posting from the one before it: the gap of the system number; the unit, as its gap where the system number is the same; the place, as its gap where the unit too is the same
+-- the three numbers that tell a posting from the one before it in the same record: no gap of the system number; the gap of the unit;
+-- the place, as its gap where the unit is the same
+abbrev pub gaps_in_record : Posting → Posting → Gaps
+gaps_in_record before p =
+    if p.seq == before.seq
+    then record { sysno = 0; seq = 0; pos = p.pos - before.pos }
+    else record { sysno = 0; seq = p.seq - before.seq; pos = p.pos }
+
+-- those of any posting: in another record the gap of the system number, and unit and place as they are
 abbrev pub gaps_of : Posting → Posting → Gaps
 gaps_of before p =
     if p.sysno == before.sysno
-    then (if p.seq == before.seq
-    then record { sysno = 0; seq = 0; pos = p.pos - before.pos }
-    else record { sysno = 0; seq = p.seq - before.seq; pos = p.pos })
+    then gaps_in_record before p
     else record { sysno = p.sysno - before.sysno; seq = p.seq; pos = p.pos }
 
 -- the bytes of the three numbers

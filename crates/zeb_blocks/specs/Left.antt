@@ -16,13 +16,17 @@ unfoldable pub behind : List ℕ → List ℕ
 behind [] = []
 behind (byte ∷ bytes) = if nat_lt byte 128 then bytes else behind bytes
 
--- the posting with these gaps from the one before it
+-- the posting with these gaps from the one before it, in the same record and in any
+abbrev pub posting_in_record : Posting → Gaps → Posting
+posting_in_record before gaps =
+    if gaps.seq == 0
+    then record { sysno = before.sysno; seq = before.seq; pos = before.pos + gaps.pos }
+    else record { sysno = before.sysno; seq = before.seq + gaps.seq; pos = gaps.pos }
+
 abbrev pub posting_after : Posting → Gaps → Posting
 posting_after before gaps =
     if gaps.sysno == 0
-    then (if gaps.seq == 0
-    then record { sysno = before.sysno; seq = before.seq; pos = before.pos + gaps.pos }
-    else record { sysno = before.sysno; seq = before.seq + gaps.seq; pos = gaps.pos })
+    then posting_in_record before gaps
     else record { sysno = before.sysno + gaps.sysno; seq = gaps.seq; pos = gaps.pos }
 
 -- its numbers fit 64 bits

@@ -1,4 +1,5 @@
--- Numbers as ULEB128 writes them (DWARF 5, 7.6): groups of seven bits, the lowest first, each in a byte; each byte but the last has its high bit set, which adds 128.
+-- Numbers as ULEB128 writes them (DWARF 5, 7.6): groups of seven bits, the lowest first, each in a byte; each byte but the last has
+-- its high bit set, which adds 128.
 use Rattle.std.specs.Prelude.{◌≡◌, ℕ, zero, suc, ◌+◌, ◌*◌, ◌/◌, ◌%◌, ◌<◌, ◌≤◌, nat_lt, if◌then◌else◌, List, [], ◌∷◌, length}
 
 -- a number in one byte, or in its lowest group and then the rest of it, in at most `more` bytes before the last

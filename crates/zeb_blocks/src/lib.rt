@@ -1,4 +1,6 @@
-//! Packed lists of postings: the bytes of a block, which hold a key's postings in 256 records.
+//! Packed lists of postings: the bytes of a block, which holds a key's postings in up to 256 records.
+//!
+//! A number is written in the shortest form of ULEB128 (DWARF 5, 7.6). What is written, blocks and gaps, is this project's own.
 #![tactic(auto)]
 
 mod gaps;

@@ -4,7 +4,8 @@ ghost use Rattle.std.specs.Prelude.{◌^◌, ◌*◌, ◌<◌, SomeIff};
 /// How many system numbers belong to one block.
 pub(crate) const BLOCK_RECORDS: u64 = 256;
 
-/// A place of a key in a database: the record's system number, the number of the unit in that record, and the number of the word or number in that unit. Each is at least 1.
+/// A place of a key in a database: the record's system number, the number of the unit in that record, and the number of the word
+/// or number in that unit. In a block each is 1 to 2^64 - 1.
 #[derive(Clone, Copy, Debug, PartialEq, Eq)]
 pub struct Posting {
     pub sysno: u64,

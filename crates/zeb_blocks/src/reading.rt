@@ -16,7 +16,8 @@ pub struct Damaged;
 
 /// The posting at the front of the bytes, told from the one before it, and the bytes behind it.
 fn read_posting<'a>(before: Posting, bytes: &'a [u8]) -> Option<(Posting, &'a [u8])>
-    ensures { MatchOption result ((p : Posting) (rest : List ℕ) → Follows before p → bytes.now ≢ bytes_of (gaps_of before p) ++ rest)
+    ensures { MatchOption result
+        ((p : Posting) (rest : List ℕ) → Follows before p → bytes.now ≢ bytes_of (gaps_of before p) ++ rest)
         (λ found. Follows before found.0 × (bytes.now ≡ bytes_of (gaps_of before found.0) ++ found.1.now)) }
 {
     let (sysno, behind_sysno) = read_number(bytes)?;
@@ -29,7 +30,8 @@ fn read_posting<'a>(before: Posting, bytes: &'a [u8]) -> Option<(Posting, &'a [u
 /// How many postings the bytes have behind another one, and the last of them.
 fn count_postings(start: Posting, bytes: &[u8]) -> Option<(usize, Posting)>
     ensures { MatchOption result ((list : List Posting) → ¬ SpellsFrom start list bytes.now)
-        (λ found. SpellsFrom start (postings_at found.0 start bytes.now) bytes.now × (last_from start (postings_at found.0 start bytes.now) ≡ found.1)
+        (λ found. SpellsFrom start (postings_at found.0 start bytes.now) bytes.now
+        × (last_from start (postings_at found.0 start bytes.now) ≡ found.1)
         × (found.0 < 2 ^ 64)) }
 {
     let mut count = 0;
@@ -66,9 +68,12 @@ impl<'a> Model for Postings<'a> {
 }
 
 impl<'a> Postings<'a> {
-    /// The postings that the bytes spell in the block, in their order; they are read out of the bytes as they are asked for, and no memory is taken.
+    /// The postings that the bytes spell in the block, in their order. The bytes are checked here, once; the postings are read out
+    /// of them as they are asked for. No memory is taken. `block` is the system numbers div 256.
     ///
-    /// [`Damaged`] exactly where the bytes spell no list in the block: there are none; a number is cut, isn't in its shortest form or doesn't fit 64 bits; a system number, unit or place is 0; the postings don't rise; or one lies outside the block.
+    /// [`Damaged`] exactly where the bytes spell no list in the block: there are none; a number is cut, isn't in the shortest form
+    /// of ULEB128 (DWARF 5, 7.6) or doesn't fit 64 bits; a system number, unit or place is 0; the postings don't rise; or one lies
+    /// outside the block.
     pub fn read(block: u64, bytes: &'a [u8]) -> Result<Postings<'a>, Damaged>
         ensures spelled { IfOk result (λ list. BlockSpells block list bytes.now) }
         ensures few { IfOk result (λ list. length list < 2 ^ 64) }

@@ -75,9 +75,8 @@ impl BlockWriter {
     }
 }
 
-/// The bytes that spell a list in a block: a rising list with a posting at least, each with a system number that div 256 is the block, and no number 0.
-///
-/// The only refusal is want of memory.
+/// The bytes that spell a list in a block: a rising list with a posting at least, whose system numbers div 256 are the block, and
+/// which has no number 0. The only refusal is want of memory.
 pub fn spell(alloc: Global, block: u64, list: &[Posting]) -> Result<Vec<u8>, AllocError>
     requires some { list.now ≢ [] }
     requires lies { LiesIn block list.now }
