@@ -1,12 +1,11 @@
 -- Counting the postings of a block, one after the other.
-use Rattle.std.proofs.Common.{◌≡◌, ◌≢◌, ℕ, suc, ◌+◌, ◌*◌, ◌/◌, ◌^◌, ◌<◌, ◌≤◌, List, [], ◌∷◌, ◌++◌, length, refl, sym, ◌∙◌, ap, subst, add-one, arith}
-use Rattle.std.proofs.lemmas.List.{append_assoc, append-nil, length-append, nil_from_length}
+use Rattle.std.proofs.Common.{◌≡◌, ℕ, ◌+◌, ◌<◌, ◌≤◌, List, [], ◌∷◌, ◌++◌, length, refl, sym, ◌∙◌, ap, subst, arith}
+use Rattle.std.proofs.lemmas.List.{append_assoc, append-nil, length-append}
 use Rattle.zeb_blocks.specs.declared.postings.Posting.{Posting}
-use Rattle.zeb_blocks.specs.Blocks.{BlockSpells, LiesIn, bytes_of, gaps_of, spelled_from, start_of}
+use Rattle.zeb_blocks.specs.Blocks.{bytes_of, gaps_of, spelled_from}
 use Rattle.zeb_blocks.specs.Left.{Follows, EachFollows, SpellsFrom, last_from, postings_at}
 use Rattle.zeb_blocks.proofs.Steps.{NoPosting}
-use Rattle.zeb_blocks.proofs.Lists.{each_follows-append, each_follows-behind, last_from-append, length-bytes, postings_at-spelled, spelled_from-append, some_bytes, told_apart}
-use Rattle.zeb_blocks.proofs.Rising.{follow_start, last_inside, lies_from}
+use Rattle.zeb_blocks.proofs.Lists.{each_follows-append, each_follows-behind, last_from-append, length-bytes, postings_at-spelled, spelled_from-append, told_apart}
 
 -- so many postings stand before what is left, and this is the last of them
 pub record IsCounted (start : Posting) (bytes : List ℕ) (count : ℕ) (last : Posting) (left : List ℕ) : Type 0 where

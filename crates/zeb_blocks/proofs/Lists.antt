@@ -1,17 +1,13 @@
 -- Lists behind a posting, and their bytes.
-use Rattle.std.proofs.Common.{◌≡◌, ◌≢◌, ℕ, zero, suc, ◌+◌, ◌-◌, ◌*◌, ◌/◌, ◌^◌, ◌<◌, ◌≤◌, List, [], ◌∷◌, ◌++◌, length, refl, sym, ◌∙◌, ap, subst, inl, inr, Less, arith}
+use Rattle.std.proofs.Common.{◌≡◌, ◌≢◌, ℕ, zero, suc, ◌+◌, ◌≤◌, List, [], ◌∷◌, ◌++◌, length, refl, sym, ◌∙◌, ap, subst, arith}
 use Rattle.std.proofs.lemmas.List.{append_assoc, append-nil, length-append}
-use Rattle.std.proofs.lemmas.Grind.{common_steps}
-use Rattle.std.specs.List.{AllByRecursion}
-use Rattle.std.specs.List.Sorted.{IsStrictlySortedBy}
 use Rattle.zeb_blocks.specs.declared.postings.Posting.{Posting}
 use Rattle.zeb_blocks.specs.Numbers.{uleb}
-use Rattle.zeb_blocks.specs.Order.{posting_cmp}
-use Rattle.zeb_blocks.specs.Blocks.{IsNumbered, LiesIn, BlockSpells, bytes_of, gaps_of, spelled_from, start_of}
-use Rattle.zeb_blocks.specs.Left.{Follows, EachFollows, SpellsFrom, behind, gaps_at, last_from, number_at, posting_after, postings_at}
+use Rattle.zeb_blocks.specs.Blocks.{bytes_of, gaps_of, spelled_from}
+use Rattle.zeb_blocks.specs.Left.{Follows, EachFollows, SpellsFrom, behind, gaps_at, last_from, posting_after, postings_at}
 use Rattle.zeb_blocks.proofs.Bytes.{begins_none}
-use Rattle.zeb_blocks.proofs.Front.{number_at-uleb, behind-uleb, same_number, same_behind}
-use Rattle.zeb_blocks.proofs.Steps.{Small, NoPosting, gaps_small, posting_after-gaps, bytes_of-append}
+use Rattle.zeb_blocks.proofs.Front.{number_at-uleb, behind-uleb}
+use Rattle.zeb_blocks.proofs.Steps.{gaps_small, posting_after-gaps, bytes_of-append}
 
 -- the posting at the front of its bytes
 pub gaps_at-bytes : (before p : Posting) (rest : List ℕ) → Follows before p → posting_after before (gaps_at (bytes_of (gaps_of before p) ++ rest)) ≡ p

@@ -1,15 +1,14 @@
 -- One posting behind another, and its bytes.
-use Rattle.std.proofs.Common.{◌≡◌, ◌≢◌, ℕ, ◌+◌, ◌-◌, ◌^◌, ◌<◌, ◌≤◌, List, [], ◌∷◌, ◌++◌, refl, sym, ◌∙◌, ap, inl, inr, arith}
+use Rattle.std.proofs.Common.{◌≡◌, ◌≢◌, ℕ, ◌^◌, ◌<◌, List, ◌++◌, sym, ◌∙◌, arith}
 use Rattle.std.proofs.lemmas.List.{append_assoc}
 use Rattle.std.proofs.lemmas.Grind.{common_steps}
 use Rattle.zeb_blocks.specs.declared.postings.Posting.{Posting}
 use Rattle.zeb_blocks.specs.declared.gaps.Gaps.{Gaps}
 use Rattle.zeb_blocks.specs.Numbers.{uleb}
-use Rattle.zeb_blocks.specs.Order.{posting_cmp}
-use Rattle.zeb_blocks.specs.Blocks.{IsNumbered, bytes_of, gaps_of}
-use Rattle.zeb_blocks.specs.Left.{Follows, behind, gaps_at, posting_after}
+use Rattle.zeb_blocks.specs.Blocks.{bytes_of, gaps_of}
+use Rattle.zeb_blocks.specs.Left.{Follows, posting_after}
 use Rattle.zeb_blocks.proofs.Bytes.{Nothing}
-use Rattle.zeb_blocks.proofs.Front.{number_at-uleb, behind-uleb, same_number, same_behind}
+use Rattle.zeb_blocks.proofs.Front.{same_number, same_behind}
 
 -- the three numbers fit 64 bits
 pub record Small (gaps : Gaps) : Type 0 where

@@ -1,9 +1,8 @@
 -- Worked blocks: bytes that spell a list, and bytes that spell none.
-use Rattle.std.proofs.Common.{◌≡◌, ◌≢◌, ℕ, ◌+◌, ◌-◌, ◌*◌, ◌/◌, ◌^◌, ◌<◌, ◌≤◌, List, [], ◌∷◌, ◌++◌, refl, sym, ◌∙◌, ap, Less, Equal, lit<, lit≤, arith}
+use Rattle.std.proofs.Common.{◌≡◌, ◌≢◌, ℕ, ◌+◌, ◌-◌, ◌/◌, ◌^◌, ◌<◌, ◌≤◌, List, [], ◌∷◌, ◌++◌, refl, sym, ◌∙◌, ap, Less, Equal, lit<, lit≤, arith}
 use Rattle.zeb_blocks.specs.declared.postings.Posting.{Posting}
 use Rattle.zeb_blocks.specs.Numbers.{groups, uleb}
-use Rattle.zeb_blocks.specs.Order.{posting_cmp}
-use Rattle.zeb_blocks.specs.Blocks.{BlockSpells, IsNumbered, LiesIn, bytes_of, gaps_of, spelled_from, start_of}
+use Rattle.zeb_blocks.specs.Blocks.{BlockSpells, IsNumbered, bytes_of, gaps_of, spelled_from, start_of}
 use Rattle.zeb_blocks.specs.Left.{Follows, EachFollows, SpellsFrom, behind, gaps_at, last_from, number_at, posting_after}
 use Rattle.zeb_blocks.specs.Worked.{at, ten_bytes}
 use Rattle.zeb_blocks.proofs.Lists.{behind-bytes, gaps_at-bytes, no_more}

@@ -1,5 +1,5 @@
 -- What is left of a block that is read, and what was written of one: the list that its bytes spell, taken from them.
-use Rattle.std.specs.Prelude.{◌≡◌, ℕ, zero, suc, ◌+◌, ◌*◌, ◌/◌, ◌%◌, ◌^◌, ◌<◌, ◌==◌, nat_lt, if◌then◌else◌, List, [], ◌∷◌, ◌++◌}
+use Rattle.std.specs.Prelude.{◌≡◌, ℕ, zero, suc, ◌+◌, ◌*◌, ◌%◌, ◌^◌, ◌<◌, ◌==◌, nat_lt, if◌then◌else◌, List, [], ◌∷◌}
 use Rattle.zeb_blocks.specs.declared.postings.Posting.{Posting}
 use Rattle.zeb_blocks.specs.declared.gaps.Gaps.{Gaps}
 use Rattle.std.specs.declared.cmp.Ordering.TheVariants.{Less}

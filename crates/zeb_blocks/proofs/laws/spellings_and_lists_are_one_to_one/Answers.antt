@@ -1,5 +1,5 @@
 -- The bytes are a function of the list, and a list is told by its bytes.
-use Rattle.std.proofs.Common.{◌≡◌, ◌∙◌, sym, refl}
+use Rattle.std.proofs.Common.{◌∙◌, sym, refl}
 use Rattle.zeb_blocks.specs.Blocks.{spelled_from, start_of}
 use Rattle.zeb_blocks.proofs.Lists.{same_list}
 use Rattle.zeb_blocks.proofs.Taking.{spells_start}

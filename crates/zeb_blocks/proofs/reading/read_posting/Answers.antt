@@ -1,9 +1,8 @@
 -- A posting is its three numbers.
-use Rattle.std.proofs.Common.{◌≡◌, ◌++◌, ◌<◌, ◌^◌, sym, refl, ◌∙◌, arith}
+use Rattle.std.proofs.Common.{◌≡◌, ◌++◌, sym, refl, ◌∙◌}
 use Rattle.zeb_blocks.specs.Numbers.{uleb}
 use Rattle.zeb_blocks.specs.declared.gaps.Gaps.{Gaps}
 use Rattle.zeb_blocks.proofs.Steps.{Small, no_sysno, no_seq, no_pos, no_gaps, bytes_of-append}
-use Rattle.zeb_blocks.proofs.Lists.{same_posting}
 use Rattle.zeb_blocks.proofs.reading.read_posting.Goals as goal
 
 pub returns-in_err-sysno : goal.returns-in_err-sysno

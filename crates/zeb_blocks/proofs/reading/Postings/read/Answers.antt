@@ -1,7 +1,7 @@
 -- The postings that were counted are those of the block, or there are none.
-use Rattle.std.proofs.Common.{◌≡◌, ◌≢◌, ℕ, ◌/◌, ◌∙◌, sym, ap, subst, List}
+use Rattle.std.proofs.Common.{◌/◌, ◌∙◌, sym, ap, subst}
 use Rattle.zeb_blocks.specs.Blocks.{BlockSpells}
-use Rattle.zeb_blocks.specs.Left.{SpellsFrom, last_from, postings_at}
+use Rattle.zeb_blocks.specs.Left.{postings_at}
 use Rattle.zeb_blocks.specs.declared.postings.Posting.{Posting}
 use Rattle.zeb_blocks.proofs.Lists.{length-postings_at}
 use Rattle.zeb_blocks.proofs.Taking.{no_start, no_list, empty_block, outside, postings_at-none, whole_block}

@@ -1,6 +1,6 @@
 -- The bytes that are left spell the postings that are left.
-use Rattle.std.proofs.Common.{◌≡◌, ◌≢◌, ◌∙◌, sym, rules}
-use Rattle.zeb_blocks.proofs.Taking.{IsTaken, taken, not_damaged, postings_at-none}
+use Rattle.std.proofs.Common.{◌∙◌, sym, rules}
+use Rattle.zeb_blocks.proofs.Taking.{taken, not_damaged, postings_at-none}
 use Rattle.zeb_blocks.proofs.reading.PostingsIterator.next.Goals as goal
 
 pub returns-then-self-eq0-clause-steps : goal.returns-then-self-eq0-clause-steps
