@@ -86,10 +86,11 @@ fn postings_are_counted_and_collected(rt: HostRuntime) -> Result<(), Fail> {
 fn damage_is_found(rt: HostRuntime) {
     let tenth_byte_2 = [1, 255, 255, 255, 255, 255, 255, 255, 255, 255, 2, 1];
     let eleven_bytes = [1, 128, 128, 128, 128, 128, 128, 128, 128, 128, 129, 1, 1];
-    let refused: [&[u8]; 8] = [
+    let refused: [&[u8]; 9] = [
         &[],
         &[0, 2, 2],
         &[1, 2],
+        &[1, 2, 0x82],
         &[1, 2, 0x82, 0],
         &[1, 2, 2, 0, 0, 0],
         &[0x80, 2, 1, 1],
