@@ -13,10 +13,14 @@ use Rattle.zeb_profile.specs.Canonical.{canonical_text, pattern_text}
 use Rattle.zeb_register.specs.Content.{Content, posting_cmp}
 use Rattle.zeb_register.specs.Sql.{HasRow, Replaces}
 use Rattle.zeb_register.specs.Store.{IsEmptyStore, Changes, LacksRegisters, meta_tree, entry, IsEntryOf, record_row}
-use Rattle.zeb_engine.specs.Conditions.{Conditions}
+use Rattle.zeb_profile.specs.Laws.{IsProfile}
+use Rattle.zeb_register.proofs.FormatLemmas.{registers_empty}
+use Rattle.zeb_engine.proofs.ReadyImages.{ready_image}
+use Rattle.zeb_engine.specs.Conditions.{Conditions, AreSessions}
 use Rattle.zeb_engine.specs.Image.{HasTexts, AreBases, IsImage, IsImageOf}
 use Rattle.zeb_engine.specs.Steps.{holding}
 use Rattle.zeb_engine.specs.Writing.{AreOf, PutsTexts}
+use Rattle.zeb_register.specs.Formats.{Format, holds_in, version_of}
 
 -- the rows of the texts are told by their table alone
 pub texts_still : (old new : Trees) (version text pattern : List ℕ) → new meta_tree ≡ old meta_tree → HasTexts old version text pattern → HasTexts new version text pattern
@@ -101,14 +105,14 @@ module _ (a b c d : State) (v t p : List ℕ) (readable : IsUtf8 v × IsUtf8 t �
 
 pub no_bases : (profile : List Directive) → AreBases profile []
 unfolding IsStrictlySortedBy
-no_bases profile = record { rising = tt; each = λ base there. absurd (has_contained [] base there) }
+no_bases profile = record { rising = tt; each = λ base there. absurd (has_contained [] base there); named = λ base there. absurd (has_contained [] base there) }
 
 no_posting : IsStrictlySortedBy posting_cmp []
 unfolding IsStrictlySortedBy
 no_posting = tt
 
-module _ (holds : Trees → Content → Type 0) (empty : (trees : Trees) → LacksRegisters trees → holds trees (λ _ _. [])) (profile : List Directive) (trees : Trees) (no_names : trees 2 ≡ []) (no_records : trees 4 ≡ []) (none : LacksRegisters trees) where
-  pub empty_image : IsImageOf holds profile trees []
+module _ (format : Format) (empty : (trees : Trees) → LacksRegisters trees → holds_in format trees (λ _ _. [])) (profile : List Directive) (trees : Trees) (no_names : trees 2 ≡ []) (no_records : trees 4 ≡ []) (none : LacksRegisters trees) where
+  pub empty_image : IsImageOf format profile trees []
   empty_image = record {
     id_of = λ _. pos 0;
     records_of = λ _. [];
@@ -125,11 +129,16 @@ module _ (holds : Trees → Content → Type 0) (empty : (trees : Trees) → Lac
   }
 
 -- whatever rows there were
-pub begun_image : (holds : Trees → Content → Type 0) → ((trees : Trees) → LacksRegisters trees → holds trees (λ _ _. [])) → (version : List ℕ) (profile : List Directive) (pattern : List ℕ) (mid new : State)
-    → IsEmptyStore mid → PutsTexts version (canonical_text profile) pattern mid new → (c : Conditions) → AreOf version profile pattern c → IsImage holds c new.now.trees (holding c [])
-begun_image holds empty version profile pattern mid new wiped put c of =
+pub begun_image : (format : Format) (version : List ℕ) → version ≡ version_of format → (profile : List Directive) (pattern : List ℕ) (mid new : State)
+    → IsEmptyStore mid → PutsTexts version (canonical_text profile) pattern mid new → (c : Conditions) → AreOf version profile pattern c → IsImage new.now.trees (holding c [])
+begun_image format version version_is profile pattern mid new wiped put c of =
     let texts = subst (λ v. HasTexts new.now.trees v (canonical_text c.profile) pattern) (sym of.version_is) (subst (λ q. HasTexts new.now.trees version (canonical_text q) pattern) (sym of.profile_is) put.texts) in
-    let named = subst (λ q. option_map pattern_text (identifier_pattern q) ≡ Some pattern) (sym of.profile_is) of.pattern_is in
+    let session : AreSessions format c = record { version_is = of.version_is ∙ version_is; sound = subst (λ (p : List Directive). ∥ IsProfile p ∥₁) (sym of.profile_is) of.sound } in
     let rows = wiped.2 in
-    let image = empty_image holds empty c.profile new.now.trees (put.others.0 ∙ rows.1.0) (put.others.1 ∙ rows.1.1.0) (put.others.2 ∙ rows.1.1.1.0, put.others.3 ∙ rows.1.1.1.1.0, put.others.4 ∙ rows.1.1.1.1.1.0) in
-    (pattern, texts, λ _ _. (named, no_bases c.profile, image))
+    ready_image format c session new.now.trees [] (record {
+      pattern = pattern;
+      pattern_is = subst (λ q. option_map pattern_text (identifier_pattern q) ≡ Some pattern) (sym of.profile_is) of.pattern_is;
+      texts = texts;
+      are = no_bases c.profile;
+      image = empty_image format (registers_empty format) c.profile new.now.trees (put.others.0 ∙ rows.1.0) (put.others.1 ∙ rows.1.1.0) (put.others.2 ∙ rows.1.1.1.0, put.others.3 ∙ rows.1.1.1.1.0, put.others.4 ∙ rows.1.1.1.1.1.0);
+    })

@@ -17,8 +17,10 @@ use Rattle.zeb_engine.specs.Holdings.{Holdings, Base, base_named}
 use Rattle.zeb_engine.specs.Image.{IsImage}
 use Rattle.zeb_engine.specs.Steps.{changed_by_files, ready, start_of, turned}
 use Rattle.zeb_engine.specs.Works.{Meets}
-use Rattle.zeb_engine.proofs.Listed.{image_ready, none_named, row_named}
+use Rattle.zeb_engine.proofs.Listed.{none_named, row_named}
 use Rattle.zeb_engine.proofs.Turns.{step_unbegun}
+use Rattle.zeb_engine.proofs.ReadyImages.{image_some}
+use Rattle.zeb_register.specs.Formats.{Format}
 
 -- a call that gave what it was to give
 pub start_met : {A X : Type 0} (Good : A → X → Type 0) (said : Result A Why) (x : X) → Meets Good said (Ok x) → (a : A) × Good a x
@@ -38,17 +40,17 @@ start_refused Good c before name bases is kind files refusal met = by (start_of 
     by (Err why) starts (inl failed) = inl failed
     by (Err why) starts (inr said) = inr (step_unbegun c before name bases is kind files (why_of refusal) (starts ∙ said))
 
-module _ (holds : Trees → Content → Type 0) (c : Conditions) (old : State) (before : Holdings) (bases : List Base) (is : ready c before ≡ Ok bases) (image : IsImage holds c old.now.trees before) (name : List ℕ) (Opened : Type 0) (opened : Opened) where
+module _ (format : Format) (c : Conditions) (old : State) (before : Holdings) (bases : List Base) (is : ready c before ≡ Ok bases) (image : IsImage old.now.trees before) (name : List ℕ) (Opened : Type 0) (opened : Opened) where
   abbrev pub Begins : Kind → Base → Option Database → Type 0
   Begins kind base found = BeginsWith kind name found c old.now.trees before × Opened
 
   pub update_begins : (found : Option Database) → IsDatabaseOf old.now.trees name found → Meets (Begins Update) (start_of Update name (base_named name bases)) (Ok found)
   update_begins None absent =
-      let all = (image_ready holds c old.now.trees before bases is image).2 refl refl in
-      let none = none_named old.now.trees bases all.2.id_of all.2.listed name absent in
+      let all = image_some c old.now.trees before bases is image in
+      let none = none_named old.now.trees bases all.1.image.id_of all.1.image.listed name absent in
       subst (λ o. Meets (Begins Update) (start_of Update name o) (Ok None)) (sym none) ((bases, is, none, refl), opened)
   update_begins (Some found) row =
-      let all = (image_ready holds c old.now.trees before bases is image).2 refl refl in
-      let base = row_named old.now.trees bases all.2.id_of all.2.listed c.profile all.1 found.id.0 name found.last row in
+      let all = image_some c old.now.trees before bases is image in
+      let base = row_named old.now.trees bases all.1.image.id_of all.1.image.listed all.0 all.1.are found.id.0 name found.last row in
       let there = subst (λ n. HasDatabase old.now.trees found.id.0 n (pos base.0.last)) base.3 (subst (λ (l : ℕ). HasDatabase old.now.trees found.id.0 name (pos l)) base.4 row) in
       subst (λ o. Meets (Begins Update) (start_of Update name o) (Ok (Some found))) (sym base.1) ((bases, base.0, is, base.1, there, base.4), opened)

@@ -18,7 +18,8 @@ use Rattle.zeb_engine.specs.declared.refusals.Refusal.{Refusal}
 use Rattle.zeb_engine.specs.declared.replies.Reply.TheVariants as reply
 use Rattle.zeb_engine.specs.Answers.{Why, changed, refused, reply_answer, why_of, IsFailure}
 use Rattle.zeb_engine.specs.Changing.{BeginsWith, last_of}
-use Rattle.zeb_engine.specs.Conditions.{Conditions}
+use Rattle.zeb_engine.specs.Conditions.{Conditions, AreSessions}
+use Rattle.zeb_engine.specs.Names.{IsDatabaseName}
 use Rattle.zeb_engine.specs.Folding.{Progress, at_first, files_folded}
 use Rattle.zeb_engine.specs.Holdings.{Holdings, Base, new_base, base_named, with_base}
 use Rattle.zeb_engine.specs.Image.{AreBases, HasTexts, IsImage, IsImageOf}
@@ -28,14 +29,15 @@ use Rattle.zeb_engine.proofs.Bases.{named_found}
 use Rattle.zeb_engine.proofs.Beginning.{texts_still}
 use Rattle.zeb_engine.proofs.Creating.{with_new_base, created_image, new_base_in}
 use Rattle.zeb_engine.proofs.FoldNames.{files_named}
-use Rattle.zeb_engine.proofs.Listed.{image_ready}
+use Rattle.zeb_engine.proofs.ReadyImages.{image_ready, ready_image}
 use Rattle.zeb_engine.proofs.Rebased.{base_twice, bases_with, image_with, next_in, stored_at_first}
 use Rattle.zeb_engine.proofs.Turns.{step_changed, step_unchanged}
 use Rattle.zeb_engine.proofs.WriteSteps.{Leads}
+use Rattle.zeb_register.specs.Formats.{Format, holds_in}
 
 -- a row tells the id of its database
-row_id : (holds : Trees → Content → Type 0) (profile : List _) (trees : Trees) (bases : List Base) (image : IsImageOf holds profile trees bases) (id : ℤ) (name : List ℕ) (last : ℤ) → HasDatabase trees id name last → id ≡ image.id_of name
-row_id holds profile trees bases image id name last row = let found = (image.listed id name last).0 row in found.2 ∙ ap image.id_of (sym found.3)
+row_id : (format : Format) (profile : List _) (trees : Trees) (bases : List Base) (image : IsImageOf format profile trees bases) (id : ℤ) (name : List ℕ) (last : ℤ) → HasDatabase trees id name last → id ≡ image.id_of name
+row_id format profile trees bases image id name last row = let found = (image.listed id name last).0 row in found.2 ∙ ap image.id_of (sym found.3)
 
 -- a row of databases is written, and nothing else
 kept_registers : (id : ℤ) (name : List ℕ) (last : ℤ) (old new : State) → Changes databases_tree (PutsDatabase id name last) old new → KeepsRegisters old.now.trees new.now.trees
@@ -49,7 +51,7 @@ kept_texts : (id : ℤ) (name : List ℕ) (last : ℤ) (old new : State) → Cha
 kept_texts id name last old new put = put.others.0 (λ e. absurd (omega (arith, e)))
 
 -- the register as the records begin to be folded in: the database is there, under this id and with this last number
-pub record IsBegun (holds : Trees → Content → Type 0) (c : Conditions) (kind : Kind) (name : List ℕ) (before : Holdings) (id : ℤ) (last : ℕ) (mid : State) : Type 0 where
+pub record IsBegun (format : Format) (c : Conditions) (kind : Kind) (name : List ℕ) (before : Holdings) (id : ℤ) (last : ℕ) (mid : State) : Type 0 where
   pub bases : List Base
   pub start : Base
   pub is_ready : ready c before ≡ Ok bases
@@ -62,18 +64,18 @@ pub record IsBegun (holds : Trees → Content → Type 0) (c : Conditions) (kind
   pub texts : HasTexts mid.now.trees c.version (canonical_text c.profile) pattern
   pub are : AreBases c.profile (with_base start bases)
   pub there : Contains (with_base start bases) start
-  pub image : IsImageOf holds c.profile mid.now.trees (with_base start bases)
+  pub image : IsImageOf format c.profile mid.now.trees (with_base start bases)
   pub its_id : id ≡ image.id_of start.name
 
-module _ (holds : Trees → Content → Type 0) (stays : (a b : Trees) (content : Content) → KeepsRegisters a b → holds a content → holds b content) (c : Conditions) (kind : Kind) (name : List ℕ) (before : Holdings) where
-  module _ (old mid : State) (image : IsImage holds c old.now.trees before) (id : ℤ) where
-    begun_new : BeginsWith kind name None c old.now.trees before → Changes databases_tree (PutsDatabase id name (pos 0)) old mid → IsBegun holds c kind name before id 0 mid
+module _ (format : Format) (stays : (a b : Trees) (content : Content) → KeepsRegisters a b → holds_in format a content → holds_in format b content) (c : Conditions) (session : AreSessions format c) (kind : Kind) (name : List ℕ) (is_name : IsDatabaseName name)
+    (before : Holdings) where
+  module _ (old mid : State) (image : IsImage old.now.trees before) (id : ℤ) where
+    begun_new : BeginsWith kind name None c old.now.trees before → Changes databases_tree (PutsDatabase id name (pos 0)) old mid → IsBegun format c kind name before id 0 mid
     begun_new fits put =
-        let at = image_ready holds c old.now.trees before fits.0 fits.1 image in
-        let all = at.2 refl refl in
+        let at = image_ready format c session old.now.trees before fits.0 fits.1 image in
         let registers = kept_registers id name (pos 0) old mid put in
         let records = kept_records id name (pos 0) old mid put in
-        let made = created_image holds stays c.profile old.now.trees mid.now.trees name fits.0 all.2 all.1 fits.2 id put.rows records registers in
+        let made = created_image format stays c.profile old.now.trees mid.now.trees name fits.0 at.image at.are fits.2 id put.rows records registers in
         record {
           bases = fits.0;
           start = new_base name;
@@ -82,30 +84,29 @@ module _ (holds : Trees → Content → Type 0) (stays : (a b : Trees) (content 
           named = refl;
           last_is = refl;
           store = put.layout;
-          pattern = at.0;
-          pattern_is = all.0;
-          texts = texts_still old.now.trees mid.now.trees _ _ at.0 (kept_texts id name (pos 0) old mid put) at.1;
-          are = with_new_base c.profile name fits.0 all.1;
-          there = new_base_in c.profile name fits.0 all.1;
+          pattern = at.pattern;
+          pattern_is = at.pattern_is;
+          texts = texts_still old.now.trees mid.now.trees _ _ at.pattern (kept_texts id name (pos 0) old mid put) at.texts;
+          are = with_new_base c.profile name is_name fits.0 at.are;
+          there = new_base_in c.profile name fits.0 at.are;
           image = made;
-          its_id = row_id holds c.profile mid.now.trees (with_base (new_base name) fits.0) made id name (pos 0) ((put.rows.each id name (pos 0)).1 (inr (refl, refl, refl)));
+          its_id = row_id format c.profile mid.now.trees (with_base (new_base name) fits.0) made id name (pos 0) ((put.rows.each id name (pos 0)).1 (inr (refl, refl, refl)));
         }
 
-    begun_there : (found : Database) → BeginsWith kind name (Some found) c old.now.trees before → Changes databases_tree (PutsDatabase id name (pos found.last)) old mid → IsBegun holds c kind name before id found.last mid
+    begun_there : (found : Database) → BeginsWith kind name (Some found) c old.now.trees before → Changes databases_tree (PutsDatabase id name (pos found.last)) old mid → IsBegun format c kind name before id found.last mid
     begun_there found fits put =
         let bases = fits.0 in
         let base = fits.1 in
-        let at = image_ready holds c old.now.trees before bases fits.2 image in
-        let all = at.2 refl refl in
+        let at = image_ready format c session old.now.trees before bases fits.2 image in
         let it = named_found name bases base fits.3 in
         let there = contains_had bases base it.0 in
         let registers = kept_registers id name (pos found.last) old mid put in
         let records = kept_records id name (pos found.last) old mid put in
         let rows : PutsDatabase id base.name (pos base.last) databases_tree old.now.trees mid.now.trees =
         subst (λ n. PutsDatabase id n (pos base.last) databases_tree old.now.trees mid.now.trees) it.1 (subst (λ (l : ℕ). PutsDatabase id name (pos l) databases_tree old.now.trees mid.now.trees) fits.5 put.rows) in
-        let was = all.2.id_of base.name in
-        let stored = stored_at_first holds c.profile bases base there old.now.trees all.2 was refl in
-        let made = image_with holds c.profile bases base there all.1 base refl stays old.now.trees old.now.trees mid.now.trees all.2 was refl stored refl id rows records registers in
+        let was = at.image.id_of base.name in
+        let stored = stored_at_first format c.profile bases base there old.now.trees at.image was refl in
+        let made = image_with format c.profile bases base there at.are base refl stays old.now.trees old.now.trees mid.now.trees at.image was refl stored refl id rows records registers in
         record {
           bases = bases;
           start = base;
@@ -114,22 +115,22 @@ module _ (holds : Trees → Content → Type 0) (stays : (a b : Trees) (content 
           named = sym it.1;
           last_is = fits.5;
           store = put.layout;
-          pattern = at.0;
-          pattern_is = all.0;
-          texts = texts_still old.now.trees mid.now.trees _ _ at.0 (kept_texts id name (pos found.last) old mid put) at.1;
-          are = bases_with holds c.profile bases base there all.1 base refl (all.1.each base there);
-          there = next_in holds c.profile bases base there all.1 base refl;
+          pattern = at.pattern;
+          pattern_is = at.pattern_is;
+          texts = texts_still old.now.trees mid.now.trees _ _ at.pattern (kept_texts id name (pos found.last) old mid put) at.texts;
+          are = bases_with format c.profile bases base there at.are base refl (at.are.each base there);
+          there = next_in format c.profile bases base there at.are base refl;
           image = made;
-          its_id = row_id holds c.profile mid.now.trees (with_base base bases) made id base.name (pos base.last) ((rows.each id base.name (pos base.last)).1 (inr (refl, refl, refl)));
+          its_id = row_id format c.profile mid.now.trees (with_base base bases) made id base.name (pos base.last) ((rows.each id base.name (pos base.last)).1 (inr (refl, refl, refl)));
         }
 
-    pub begun : (found : Option Database) → BeginsWith kind name found c old.now.trees before → Changes databases_tree (PutsDatabase id name (pos (last_of found))) old mid → IsBegun holds c kind name before id (last_of found) mid
+    pub begun : (found : Option Database) → BeginsWith kind name found c old.now.trees before → Changes databases_tree (PutsDatabase id name (pos (last_of found))) old mid → IsBegun format c kind name before id (last_of found) mid
     begun None fits put = begun_new fits put
     begun (Some found) fits put = begun_there found fits put
 
-  module _ (mid : State) (id : ℤ) (last : ℕ) (b : IsBegun holds c kind name before id last mid) where
-    pub first_way : IsUnderWay holds c.profile id b.image.records_of mid b.start
-    first_way = (b.store, stored_at_first holds c.profile (with_base b.start b.bases) b.start b.there mid.now.trees b.image id b.its_id, b.are.each b.start b.there)
+  module _ (mid : State) (id : ℤ) (last : ℕ) (b : IsBegun format c kind name before id last mid) where
+    pub first_way : IsUnderWay format c.profile id b.image.records_of mid b.start
+    first_way = (b.store, stored_at_first format c.profile (with_base b.start b.bases) b.start b.there mid.now.trees b.image id b.its_id, b.are.each b.start b.there)
 
     module _ (splits : List Split) where
       -- the fold was refused
@@ -156,7 +157,7 @@ module _ (holds : Trees → Content → Type 0) (stays : (a b : Trees) (content 
           by (Err why) is met = absurd met
 
       -- and the last number is written
-      module _ (p : Progress) (folds : files_folded c kind 1 splits (at_first b.start) ≡ Ok p) (now new : State) (fold : Fold) (folded : IsFolded holds c.profile id b.image.records_of mid now fold p)
+      module _ (p : Progress) (folds : files_folded c kind 1 splits (at_first b.start) ≡ Ok p) (now new : State) (fold : Fold) (folded : IsFolded format c.profile id b.image.records_of mid now fold p)
           (put_id : ℤ) (put : Changes databases_tree (PutsDatabase put_id name (pos fold.progress.last)) now new) where
         same_name : p.base.name ≡ b.start.name
         same_name = files_named c kind 1 splits (at_first b.start) p folds
@@ -165,13 +166,13 @@ module _ (holds : Trees → Content → Type 0) (stays : (a b : Trees) (content 
         rows_put = subst (λ n. PutsDatabase put_id n (pos p.base.last) databases_tree now.now.trees new.now.trees) (sym (same_name ∙ b.named))
             (subst (λ (l : ℕ). PutsDatabase put_id name (pos l) databases_tree now.now.trees new.now.trees) folded.stands.last put.rows)
 
-        image_then : IsImageOf holds c.profile new.now.trees (with_base p.base b.bases)
-        image_then = subst (IsImageOf holds c.profile new.now.trees) (base_twice p.base b.start same_name b.bases)
-            (image_with holds c.profile (with_base b.start b.bases) b.start b.there b.are p.base same_name stays mid.now.trees now.now.trees new.now.trees b.image id b.its_id folded.under_way.1 folded.names.1 put_id rows_put
+        image_then : IsImageOf format c.profile new.now.trees (with_base p.base b.bases)
+        image_then = subst (IsImageOf format c.profile new.now.trees) (base_twice p.base b.start same_name b.bases)
+            (image_with format c.profile (with_base b.start b.bases) b.start b.there b.are p.base same_name stays mid.now.trees now.now.trees new.now.trees b.image id b.its_id folded.under_way.1 folded.names.1 put_id rows_put
             (kept_records put_id name (pos fold.progress.last) now new put) (kept_registers put_id name (pos fold.progress.last) now new put))
 
         bases_then : AreBases c.profile (with_base p.base b.bases)
-        bases_then = subst (AreBases c.profile) (base_twice p.base b.start same_name b.bases) (bases_with holds c.profile (with_base b.start b.bases) b.start b.there b.are p.base same_name folded.under_way.2)
+        bases_then = subst (AreBases c.profile) (base_twice p.base b.start same_name b.bases) (bases_with format c.profile (with_base b.start b.bases) b.start b.there b.are p.base same_name folded.under_way.2)
 
         texts_then : HasTexts new.now.trees c.version (canonical_text c.profile) b.pattern
         texts_then = texts_still mid.now.trees new.now.trees c.version (canonical_text c.profile) b.pattern (kept_texts put_id name (pos fold.progress.last) now new put ∙ folded.names.0) b.texts
@@ -181,6 +182,6 @@ module _ (holds : Trees → Content → Type 0) (stays : (a b : Trees) (content 
             ap (λ n. changed n p.updated p.deleted) (sym folded.stands.inserted) ∙ ap (λ n. changed fold.tally.inserted n p.deleted) (sym folded.stands.updated)
             ∙ ap (λ n. changed fold.tally.inserted fold.tally.updated n) (sym folded.stands.deleted)
 
-        pub change_leads : Leads holds c new (reply.Changed fold.tally.inserted fold.tally.updated fold.tally.deleted) (turned c (changed_by_files c kind name splits) before)
-        change_leads = subst (Leads holds c new (reply.Changed fold.tally.inserted fold.tally.updated fold.tally.deleted)) (sym (step_changed c before name b.bases b.is_ready kind splits b.start b.starts p folds))
-            (counts, put.layout, (b.pattern, texts_then, λ _ _. (b.pattern_is, bases_then, image_then)))
+        pub change_leads : Leads new (reply.Changed fold.tally.inserted fold.tally.updated fold.tally.deleted) (turned c (changed_by_files c kind name splits) before)
+        change_leads = subst (Leads new (reply.Changed fold.tally.inserted fold.tally.updated fold.tally.deleted)) (sym (step_changed c before name b.bases b.is_ready kind splits b.start b.starts p folds))
+            (counts, put.layout, ready_image format c session new.now.trees (with_base p.base b.bases) (record { pattern = b.pattern; pattern_is = b.pattern_is; texts = texts_then; are = bases_then; image = image_then }))

@@ -14,7 +14,6 @@ use Rattle.zeb_register.specs.Content.{Content}
 use Rattle.zeb_register.specs.Store.{IsStore, IsEmptyStore}
 use Rattle.zeb_register.specs.Tables.{no_schema, store_schema}
 use Rattle.zeb_engine.specs.declared.commands.Command.{Command}
-use Rattle.zeb_engine.specs.declared.commands.Command.TheVariants.{Init, Check, Create, Drop, Stat, Dump, Change, Find, Scan, Analyse}
 use Rattle.zeb_engine.specs.declared.replies.Reply.{Reply}
 use Rattle.zeb_engine.specs.declared.replies.Reply.TheVariants as reply
 use Rattle.zeb_engine.specs.declared.refusals.Refusal.{Refusal}
@@ -22,16 +21,17 @@ use Rattle.zeb_engine.specs.declared.refusals.Refusal.TheVariants as refusal
 use Rattle.zeb_engine.specs.Adopting.{StaysOpen}
 use Rattle.zeb_engine.specs.Answers.{Answer, answer_of, reply_answer, IsFailure}
 use Rattle.zeb_engine.specs.Conditions.{Conditions}
-use Rattle.zeb_engine.specs.Crashes.{Accepts, IsEmptyDisk, IsStoreDisk, Stands, Leaves, Commits, CommitsCommand, CommitsOutcome, CommitsAdopted, CommitsSome, CommitsTables, Endures}
+use Rattle.zeb_engine.specs.Crashes.{Accepts, Bears, KeepsDisk, IsEmptyDisk, IsStoreDisk, Stands, Leaves, Commits, CommitsBy, CommitsCommand, CommitsAdopted, CommitsSome, CommitsTables, Endures}
 use Rattle.zeb_engine.specs.Holdings.{Holdings}
-use Rattle.zeb_engine.specs.Image.{Keeps}
-use Rattle.zeb_engine.specs.Steps.{Answers, Outcome, after, left_by, outcome}
+use Rattle.zeb_engine.specs.Image.{IsImage, Keeps}
+use Rattle.zeb_engine.specs.Steps.{Ends, Outcome}
 use Rattle.zeb_engine.specs.Transactions.{EnduresRefusal, IsDurable}
 use Rattle.zeb_engine.specs.declared.writes.Write.{Write}
 use Rattle.zeb_engine.specs.Writing.{Fits, IsReached, written}
-use Rattle.zeb_engine.specs.Works.{Always, Works, Runs}
+use Rattle.zeb_engine.specs.Works.{Always, Works, Runs, ServesBy}
 use Rattle.zeb_engine.proofs.RunLemmas.{run_more}
 use Rattle.zeb_engine.proofs.Serving.{keeps_still, reached_inside}
+use Rattle.zeb_register.specs.Formats.{Format}
 
 -- ---- disks and stores
 
@@ -44,11 +44,15 @@ opened_store s live opens disk =
     let found = (live opens.is_open).0 in
     record { is = lists_once (s.now.trees catalog_tree) s.now.schema store_schema found.lists disk.sound.lists; sound = found; keyed = disk.keyed }
 
-pub opened_keeps : (holds : Trees → Content → Type 0) (c : Conditions) (s : State) (held : Holdings) → IsLive s → Opens s → Stands holds c s.now.trees held → Keeps holds c s held
-opened_keeps holds c s held live opens stands is_open = ((opened_store s live opens stands.0, stands.1), sym opens.clean)
+-- what a connection shows that finds a disk which stands for holdings
+pub opened_bears : (s : State) (held : Holdings) → IsLive s → Opens s → Stands s.now.trees held → Bears s held
+opened_bears s held live opens (inl stands) = inl (λ is_open. ((opened_store s live opens stands.0, stands.1), sym opens.clean))
+opened_bears s held live opens (inr bare) =
+    let found = (live opens.is_open).0 in
+    inr (lists_once (s.now.trees catalog_tree) s.now.schema no_schema found.lists bare.0.lists, bare.1)
 
-pub keeps_stand : (holds : Trees → Content → Type 0) (c : Conditions) (s : State) (held : Holdings) → IsTrue s.is_open → Keeps holds c s held → Stands holds c s.now.trees held
-keeps_stand holds c s held is_open keeps = let at = (keeps is_open).0 in (store_disk s at.0, at.1)
+pub keeps_stand : (s : State) (held : Holdings) → IsTrue s.is_open → Keeps s held → Stands s.now.trees held
+keeps_stand s held is_open keeps = let at = (keeps is_open).0 in inl (store_disk s at.0, at.1)
 
 -- an accepted command answers no failure
 no_failure : (answer : Reply) → IsFailure (reply_answer answer) → ⊥
@@ -96,76 +100,77 @@ pub commit_survives : {S : Type 0} (g : Ghosts S) (old inside : Held S) (mid new
 commit_survives g old inside mid new P begins work commits so =
     survives_inside g old inside new P begins (survives_after (state g inside) mid new (λ db. db ≡ mid.now.trees) P work commits so)
 
-module _ (holds : Trees → Content → Type 0) (c : Conditions) where
+module _ (format : Format) (c : Conditions) where
   -- `mid` is the connection as the work is done
   pub commit_stands : (outcome : Holdings → Outcome) {S : Type 0} (g : Ghosts S) (F : Trees → Holdings → Type 0) (old inside : Held S) (mid : State) (answer : Reply) → inside ≡ record old { in_transaction = true }
-      → Works holds c F outcome (state g inside) mid (Ok answer) → (db : Trees) → db ≡ mid.now.trees → Commits holds c F outcome (state g old) db
+      → Works F outcome (state g inside) mid (Ok answer) → (db : Trees) → db ≡ mid.now.trees → Commits F outcome (state g old) db
   commit_stands outcome g F old inside mid answer begins works db is before fits keeps =
-      let began = subst (λ (held : Held _). Works holds c F outcome (state g held) mid (Ok answer)) begins works in
+      let began = subst (λ (held : Held _). Works F outcome (state g held) mid (Ok answer)) begins works in
       let was = (keeps began.0.was_open).0 in
       let done = began.1 before (fits began.0.was_open) (record { is = was.0.is; sound = was.0.sound; keyed = was.0.keyed }) was.1 in
-      (subst Accepts (sym done.0) (reply_accepts answer), subst (λ (trees : Trees). Stands holds c trees (outcome before).1) (sym is) (store_disk mid done.1, done.2))
+      (subst Accepts (sym done.0) (reply_accepts answer), subst (λ (trees : Trees). Stands trees (outcome before).1) (sym is) (inl (store_disk mid done.1, done.2)))
 
   -- after a look at the tables
   pub commits_after : (outcome : Holdings → Outcome) (F G : Trees → Holdings → Type 0) (old mid : State) (db : Trees) → ChangesNothing old mid
-      → ((before : Holdings) → (IsTrue old.is_open → F old.now.trees before) → Keeps holds c old before → IsTrue mid.is_open → G mid.now.trees before)
-      → Commits holds c G outcome mid db → Commits holds c F outcome old db
-  commits_after outcome F G old mid db nothing found commits before fits keeps = commits before (found before fits keeps) (keeps_still holds c before old mid nothing keeps)
+      → ((before : Holdings) → (IsTrue old.is_open → F old.now.trees before) → Keeps old before → IsTrue mid.is_open → G mid.now.trees before)
+      → Commits G outcome mid db → Commits F outcome old db
+  commits_after outcome F G old mid db nothing found commits before fits keeps = commits before (found before fits keeps) (keeps_still before old mid nothing keeps)
 
-  -- ---- a crash after a command
+-- ---- a crash after a command
 
-  endures_refusal : (next : Holdings → Holdings) (old new : State) (why : Refusal) → EnduresRefusal old new why
-      → ((before : Holdings) → Keeps holds c old before → Leaves holds c old before → (db : Trees) → new.may_leave db → Stands holds c db before ⊎ Stands holds c db (next before))
-      → Endures holds c next old new (Err why)
-  endures_refusal next old new refusal.NotInitialised no_more either = λ before leaves db left. leaves db (no_more (λ is. cc) db left)
-  endures_refusal next old new refusal.OldFormat no_more either = λ before leaves db left. leaves db (no_more (λ is. cc) db left)
-  endures_refusal next old new refusal.ProfileChanged no_more either = λ before leaves db left. leaves db (no_more (λ is. cc) db left)
-  endures_refusal next old new (refusal.Diagnostic number place addinfo) no_more either = λ before leaves db left. leaves db (no_more (λ is. cc) db left)
-  endures_refusal next old new refusal.Exists no_more either = λ before leaves db left. leaves db (no_more (λ is. cc) db left)
-  endures_refusal next old new (refusal.Record file nth fault) no_more either = λ before leaves db left. leaves db (no_more (λ is. cc) db left)
-  endures_refusal next old new (refusal.Unknown file nth) no_more either = λ before leaves db left. leaves db (no_more (λ is. cc) db left)
-  endures_refusal next old new refusal.DatabaseFull no_more either = λ before leaves db left. leaves db (no_more (λ is. cc) db left)
-  endures_refusal next old new refusal.TooManyRecords no_more either = λ before leaves db left. leaves db (no_more (λ is. cc) db left)
-  endures_refusal next old new refusal.Damaged no_more either = λ before leaves db left. leaves db (no_more (λ is. cc) db left)
-  endures_refusal next old new refusal.IdentifierRuleChanged no_more either = λ before leaves db left. leaves db (no_more (λ is. cc) db left)
-  endures_refusal next old new (refusal.ReadFault file) no_more either = λ before leaves db left. leaves db (no_more (λ is. cc) db left)
-  endures_refusal next old new refusal.Store no_more either = either
-  endures_refusal next old new refusal.Memory no_more either = λ before leaves db left. leaves db (no_more (λ is. cc) db left)
-  endures_refusal next old new refusal.Unsupported no_more either = λ before leaves db left. leaves db (no_more (λ is. cc) db left)
+module _ (Told : Holdings → Answer → Holdings → Type 0) (old new : State) where
+  endures_refusal : (why : Refusal) → EnduresRefusal old new why
+      → ((before : Holdings) → Keeps old before → Leaves old before → (db : Trees) → new.may_leave db
+      → Stands db before ⊎ ((answer : Answer) × (later : Holdings) × Told before answer later × Stands db later))
+      → Endures Told old new (Err why)
+  endures_refusal refusal.NotInitialised no_more either = λ before leaves db left. leaves db (no_more (λ is. cc) db left)
+  endures_refusal refusal.OldFormat no_more either = λ before leaves db left. leaves db (no_more (λ is. cc) db left)
+  endures_refusal refusal.ProfileChanged no_more either = λ before leaves db left. leaves db (no_more (λ is. cc) db left)
+  endures_refusal (refusal.Diagnostic number place addinfo) no_more either = λ before leaves db left. leaves db (no_more (λ is. cc) db left)
+  endures_refusal refusal.Exists no_more either = λ before leaves db left. leaves db (no_more (λ is. cc) db left)
+  endures_refusal (refusal.Record file nth fault) no_more either = λ before leaves db left. leaves db (no_more (λ is. cc) db left)
+  endures_refusal (refusal.Unknown file nth) no_more either = λ before leaves db left. leaves db (no_more (λ is. cc) db left)
+  endures_refusal refusal.DatabaseFull no_more either = λ before leaves db left. leaves db (no_more (λ is. cc) db left)
+  endures_refusal refusal.TooManyRecords no_more either = λ before leaves db left. leaves db (no_more (λ is. cc) db left)
+  endures_refusal refusal.Damaged no_more either = λ before leaves db left. leaves db (no_more (λ is. cc) db left)
+  endures_refusal refusal.IdentifierRuleChanged no_more either = λ before leaves db left. leaves db (no_more (λ is. cc) db left)
+  endures_refusal (refusal.ReadFault file) no_more either = λ before leaves db left. leaves db (no_more (λ is. cc) db left)
+  endures_refusal refusal.Store no_more either = either
+  endures_refusal refusal.Memory no_more either = λ before leaves db left. leaves db (no_more (λ is. cc) db left)
+  endures_refusal refusal.Unsupported no_more either = λ before leaves db left. leaves db (no_more (λ is. cc) db left)
 
-  -- `Kept` is what an accepted command leaves
-  pub endures : (next : Holdings → Holdings) (old new : State) (result : Result Reply Refusal) → HasCleanDisk new → IsDurable new → OnOk result (StaysOpen old new) → IfErr result (EnduresRefusal old new)
-      → Survives old new (λ db. (before : Holdings) → Keeps holds c old before → Stands holds c db (next before))
-      → ((before : Holdings) → Keeps holds c old before → Keeps holds c new (next before) ⊎ IsFailure (answer_of result))
-      → Endures holds c next old new result
-  endures next old new (Ok answer) clean durable opened no_more survives kept = λ before keeps leaves db left.
-      let is = durable opened.1 db left in elim (kept before keeps) [
-        | inl now ↦ subst (λ (trees : Trees). Stands holds c trees (next before)) (sym is) (keeps_stand holds c new (next before) opened.1 now)
-        | inr failed ↦ absurd (no_failure answer failed)
+  pub endures : (result : Result Reply Refusal) → HasCleanDisk new → IsDurable new → OnOk result (StaysOpen old new) → IfErr result (EnduresRefusal old new) → Survives old new (CommitsBy Told old)
+      → ServesBy Told old new result → Endures Told old new result
+  endures (Ok answer) clean durable opened no_more survives serves = λ before keeps leaves.
+      let served = serves before keeps in elim served.1 [
+        | inl told ↦ (served.0, told, λ db left. subst (λ (trees : Trees). Stands trees served.0) (sym (durable opened.1 db left)) (keeps_stand new served.0 opened.1 served.2))
+        | inr failed ↦ absurd (no_failure answer failed.0)
       ]
-  endures next old new (Err why) clean durable opened no_more survives kept =
-      endures_refusal next old new why no_more (λ before keeps leaves db left. elim (survives.crash clean db left) [ inl was ↦ inl (leaves db was) | inr made ↦ inr (made before keeps) ])
+  endures (Err why) clean durable opened no_more survives serves =
+      endures_refusal why no_more (λ before keeps leaves db left. elim (survives.crash clean db left) [
+        | inl was ↦ inl (leaves db was)
+        | inr made ↦ let done = made before keeps in inr (done.0, done.1, done.2, done.4)
+      ])
 
 -- ---- a command that writes
 
-pub write_survives : (holds : Trees → Content → Type 0) (version : List ℕ) {S : Type 0} (g : Ghosts S) (w : Write) (old inside : Held S) (mid new : State) (answer : Reply) → inside ≡ record old { in_transaction = true }
+pub write_survives : (format : Format) (version : List ℕ) {S : Type 0} (g : Ghosts S) (w : Write) (old inside : Held S) (mid new : State) (answer : Reply) → inside ≡ record old { in_transaction = true }
     → Survives (state g inside) mid (λ _. ⊥) → Survives mid new (λ db. db ≡ mid.now.trees)
-    → (HasCleanDisk mid → IsTrue (state g inside).in_transaction → (c : Conditions) → IsReached w (state g inside) → Works holds c (Fits version c w) (written c w) (state g inside) mid (Ok answer))
-    → Survives (state g old) new (λ db. (c : Conditions) → IsReached w (state g old) → Commits holds c (Fits version c w) (written c w) (state g old) db)
-write_survives holds version g w old inside mid new answer begins work commits works =
+    → (HasCleanDisk mid → IsTrue (state g inside).in_transaction → (c : Conditions) → IsReached w (state g inside) → Works (Fits version c w) (written c w) (state g inside) mid (Ok answer))
+    → Survives (state g old) new (λ db. (c : Conditions) → IsReached w (state g old) → Commits (Fits version c w) (written c w) (state g old) db)
+write_survives format version g w old inside mid new answer begins work commits works =
     commit_survives g old inside mid new _ begins work commits (λ clean db is c reached.
-    commit_stands holds c (written c w) g (Fits version c w) old inside mid answer begins (works (omega (arith, commits.clean)) (rw begins refl) c (reached_inside g w old inside begins reached)) db is)
+    commit_stands format c (written c w) g (Fits version c w) old inside mid answer begins (works (omega (arith, commits.clean)) (rw begins refl) c (reached_inside g w old inside begins reached)) db is)
 
--- as of any command
-pub command_commits : (holds : Trees → Content → Type 0) (c : Conditions) (old new : State) (command : Command) (does : Holdings → Outcome) → ((before : Holdings) → Some (does before) ≡ outcome c command before)
-    → Survives old new (Commits holds c Always does old) → Survives old new (CommitsCommand holds c command old)
-command_commits holds c old new command does left survives =
-    survives_as old new (Commits holds c Always does old) (CommitsCommand holds c command old) (λ clean db made before keeps. subst (λ (o : Option Outcome). CommitsOutcome holds c o db) (left before) (made before (λ _. tt) keeps)) survives
+-- what is committed is what the outcome says
+pub ends_commit : (does : Holdings → Outcome) (old new : State) → Survives old new (Commits Always does old) → Survives old new (CommitsBy (λ before. Ends (does before)) old)
+ends_commit does old new survives =
+    survives_as old new (Commits Always does old) (CommitsBy (λ before. Ends (does before)) old)
+    (λ clean db made before keeps. let done = made before (λ _. tt) keeps in ((does before).0, (does before).1, (refl, refl), done.0, done.1)) survives
 
--- what is committed is what is held after it
-pub committed_stands : (holds : Trees → Content → Type 0) (c : Conditions) (db : Trees) (before : Holdings) (told : Option Outcome) → CommitsOutcome holds c told db → Stands holds c db (left_by before told)
-committed_stands holds c db before None made = absurd made
-committed_stands holds c db before (Some told) made = made.1
+-- a command that commits nothing
+pub none_commits : (Told : Holdings → Answer → Holdings → Type 0) (old new : State) → Survives old new (λ _. ⊥) → Survives old new (CommitsBy Told old)
+none_commits Told old new survives = survives_as old new (λ _. ⊥) (CommitsBy Told old) (λ clean db none. absurd none) survives
 
 -- ---- a store that is taken over
 
@@ -180,37 +185,25 @@ tables_commit g old inside mid begins on there made db is =
     let makes = subst (λ (held : Held _). (state g held).now.schema ≡ no_schema → IsEmptyStore mid) begins made in
     (goes_on.was_open, λ store. is ∙ ap (λ (d : Database). d.trees) (stays store.is).0.now_is, λ none. subst IsEmptyDisk (sym is) (empty_disk mid (makes none)))
 
-pub adopted_commits : (holds : Trees → Content → Type 0) (old : State) (db : Trees) → CommitsTables old db → CommitsAdopted holds old db
-adopted_commits holds old db commits = record {
-  there = λ c before keeps. subst (λ (trees : Trees). Stands holds c trees before) (sym (commits.1 (keeps commits.0).0.0)) (keeps_stand holds c old before commits.0 keeps);
-  made = λ none c. let empty = commits.2 none in (empty.0, (empty.1, empty.2));
-}
+pub adopted_commits : (old : State) (db : Trees) → CommitsTables old db → CommitsAdopted old db
+adopted_commits old db commits before (inl keeps) =
+    subst (λ (trees : Trees). Stands trees before) (sym (commits.1 (keeps commits.0).0.0)) (keeps_stand old before commits.0 keeps)
+adopted_commits old db commits before (inr none) =
+    let empty = commits.2 none.0 in inl (empty.0, subst (IsImage db) (sym none.1) (empty.1, empty.2))
+
+pub adopted_keeps : (old new : State) → HasCleanDisk new → Survives old new (CommitsAdopted old) → KeepsDisk old new
+adopted_keeps old new clean survives before bears leaves db left = elim (survives.crash clean db left) [ inl was ↦ leaves db was | inr made ↦ made before bears ]
 
 -- ---- a list of commands
 
--- a command that commits answers what its outcome says
-committed_answer : (holds : Trees → Content → Type 0) (c : Conditions) (db : Trees) (before : Holdings) (command : Command) → CommitsOutcome holds c (outcome c command before) db → (answer : Answer) × Answers c command before answer
-committed_answer holds c db before Init made = (_, refl)
-committed_answer holds c db before Check made = (_, refl)
-committed_answer holds c db before (Create name) made = (_, refl)
-committed_answer holds c db before (Drop name) made = (_, refl)
-committed_answer holds c db before (Stat name) made = absurd made
-committed_answer holds c db before (Dump name) made = (_, refl)
-committed_answer holds c db before (Change kind name files) made = (_, refl)
-committed_answer holds c db before (Find name query first count) made = absurd made
-committed_answer holds c db before (Scan name query number position) made = absurd made
-committed_answer holds c db before (Analyse files) made = (_, refl)
-
-pub commits_more : (holds : Trees → Content → Type 0) (c : Conditions) (old now : State) (all : List Command) (index : ℕ) (answers : List Answer) (command : Command) → Runs holds c (take index all) answers old now
-    → take (index + 1) all ≡ take index all ++ command ∷ [] → (db : Trees) → CommitsCommand holds c command now db → CommitsSome holds c all old db
-commits_more holds c old now all index answers command runs more db commits before keeps =
+pub commits_more : (c : Conditions) (old now : State) (all : List Command) (index : ℕ) (answers : List Answer) (command : Command) → Runs c (take index all) answers old now
+    → take (index + 1) all ≡ take index all ++ command ∷ [] → (db : Trees) → CommitsCommand c command now db → CommitsSome c all old db
+commits_more c old now all index answers command runs more db commits before keeps =
     let so_far = runs before keeps in
-    let mid = so_far.0 in
-    let made = commits mid so_far.2 in
-    let step = committed_answer holds c db mid command made in (
+    let made = commits so_far.0 so_far.2 in (
       index + 1,
-      answers ++ step.0 ∷ [],
-      after c command mid,
-      rw more (run_more c (take index all) answers before mid (after c command mid) command step.0 so_far.1 (inl (step.1, refl))),
-      committed_stands holds c db mid (outcome c command mid) made,
+      answers ++ made.0 ∷ [],
+      made.1,
+      rw more (run_more c (take index all) answers before so_far.0 made.1 command made.0 so_far.1 (made.1, inl made.2, refl)),
+      made.4,
     )

@@ -13,9 +13,11 @@ use Rattle.zeb_register.specs.Content.{Content}
 use Rattle.zeb_register.specs.Catalog.{PutsDatabase}
 use Rattle.zeb_register.specs.Store.{HasDatabase, KeepsRegisters, record_row}
 use Rattle.zeb_engine.specs.Holdings.{Base, new_base, base_named, with_base}
+use Rattle.zeb_engine.specs.Names.{IsDatabaseName}
 use Rattle.zeb_engine.specs.Image.{AreBases, AreListed, AreKept, IsBase, IsImageOf}
 use Rattle.zeb_engine.proofs.Bases.{bytes_other, named_none, with_base_has, with_base_in_order}
 use Rattle.zeb_engine.proofs.Ids.{none_in}
+use Rattle.zeb_register.specs.Formats.{Format, holds_in}
 
 -- what a new database has
 none_wrong : (profile : List Directive) (name : List ℕ) → IsBase profile (new_base name)
@@ -29,20 +31,24 @@ none_wrong profile name = record {
   sound = λ kept there. absurd (has_contained [] kept there);
 }
 
-pub with_new_base : (profile : List Directive) (name : List ℕ) (bases : List Base) → AreBases profile bases → AreBases profile (with_base (new_base name) bases)
-with_new_base profile name bases are = record {
+pub with_new_base : (profile : List Directive) (name : List ℕ) → IsDatabaseName name → (bases : List Base) → AreBases profile bases → AreBases profile (with_base (new_base name) bases)
+with_new_base profile name named bases are = record {
   rising = with_base_in_order (new_base name) bases are.rising;
   each = λ base there. elim ((with_base_has (new_base name) bases base are.rising).0 (has_contained (with_base (new_base name) bases) base there)) [
     | inl new ↦ subst (IsBase profile) (sym new) (none_wrong profile name)
     | inr old ↦ are.each base (contains_had bases base old.0)
+  ];
+  named = λ base there. elim ((with_base_has (new_base name) bases base are.rising).0 (has_contained (with_base (new_base name) bases) base there)) [
+    | inl new ↦ subst (λ (b : Base). IsDatabaseName b.name) (sym new) named
+    | inr old ↦ are.named base (contains_had bases base old.0)
   ];
 }
 
 pub new_base_in : (profile : List Directive) (name : List ℕ) (bases : List Base) → AreBases profile bases → Contains (with_base (new_base name) bases) (new_base name)
 new_base_in profile name bases are = contains_had (with_base (new_base name) bases) (new_base name) ((with_base_has (new_base name) bases (new_base name) are.rising).1 (inl refl))
 
-module _ (holds : Trees → Content → Type 0) (stays : (a b : Trees) (content : Content) → KeepsRegisters a b → holds a content → holds b content) (profile : List Directive) (old new : Trees) (name : List ℕ) (bases : List Base)
-    (image : IsImageOf holds profile old bases) (are : AreBases profile bases) (absent : base_named name bases ≡ None) (id : ℤ) (put : PutsDatabase id name (pos 0) 2 old new) (records : new 4 ≡ old 4) (registers : KeepsRegisters old new) where
+module _ (format : Format) (stays : (a b : Trees) (content : Content) → KeepsRegisters a b → holds_in format a content → holds_in format b content) (profile : List Directive) (old new : Trees) (name : List ℕ) (bases : List Base)
+    (image : IsImageOf format profile old bases) (are : AreBases profile bases) (absent : base_named name bases ≡ None) (id : ℤ) (put : PutsDatabase id name (pos 0) 2 old new) (records : new 4 ≡ old 4) (registers : KeepsRegisters old new) where
   id_then : List ℕ → ℤ
   id_then n = cond (bytes_eq n name) id (image.id_of n)
 
@@ -106,7 +112,7 @@ module _ (holds : Trees → Content → Type 0) (stays : (a b : Trees) (content 
     λ found. let there = (image.stored.kept i sysno ident bytes).1 found in (there.0, subst (λ rows. Has rows (Int there.0 ∷ record_row i sysno ident bytes)) (sym records) there.1),
   )
 
-  pub created_image : IsImageOf holds profile new (with_base (new_base name) bases)
+  pub created_image : IsImageOf format profile new (with_base (new_base name) bases)
   created_image = record {
     id_of = id_then;
     records_of = image.records_of;

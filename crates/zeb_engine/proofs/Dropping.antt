@@ -17,11 +17,13 @@ use Rattle.zeb_engine.specs.Holdings.{Base, Kept, base_named, without_base}
 use Rattle.zeb_engine.specs.Image.{AreBases, AreListed, AreKept, ArePosted, IsImageOf}
 use Rattle.zeb_engine.proofs.Bases.{named_found, without_base_has, without_base_in_order}
 use Rattle.zeb_engine.proofs.Ids.{id_same, id_other, ids_told}
+use Rattle.zeb_register.specs.Formats.{Format, holds_in}
 
 pub without_bases : (profile : List Directive) (name : List ℕ) (bases : List Base) → AreBases profile bases → AreBases profile (without_base name bases)
 without_bases profile name bases are = record {
   rising = without_base_in_order name bases are.rising;
   each = λ base there. are.each base (contains_had bases base ((without_base_has name bases base).0 (has_contained (without_base name bases) base there)).0);
+  named = λ base there. are.named base (contains_had bases base ((without_base_has name bases base).0 (has_contained (without_base name bases) base there)).0);
 }
 
 -- the content without the lists of one database
@@ -59,9 +61,9 @@ module _ (id : ℤ) (content : Content) where
   is_without : IsRising content → IsWithout id content (content_without id content)
   is_without up = record { rising = without_rises up; left = without_has }
 
-module _ (holds : Trees → Content → Type 0) (profile : List Directive) (old new : Trees) (name : List ℕ) (bases : List Base) (base : Base) (image : IsImageOf holds profile old bases) (are : AreBases profile bases)
+module _ (format : Format) (profile : List Directive) (old new : Trees) (name : List ℕ) (bases : List Base) (base : Base) (image : IsImageOf format profile old bases) (are : AreBases profile bases)
     (found : base_named name bases ≡ Some base) (id : ℤ) (row : HasDatabase old id base.name (pos base.last)) (databases : TakesDatabase id 2 old new) (records : Loses (IsRecordIn id) 4 old new)
-    (registers : (before after : Content) → holds old before → IsWithout id before after → holds new after) where
+    (registers : (before after : Content) → holds_in format old before → IsWithout id before after → holds_in format new after) where
   its_id : id ≡ image.id_of base.name
   its_id = let told = (image.listed id base.name (pos base.last)).0 row in told.2 ∙ ap image.id_of (sym told.3)
 
@@ -136,7 +138,7 @@ module _ (holds : Trees → Content → Type 0) (profile : List Directive) (old 
     );
   }
 
-  pub dropped_image : IsImageOf holds profile new (without_base name bases)
+  pub dropped_image : IsImageOf format profile new (without_base name bases)
   dropped_image = record {
     id_of = image.id_of;
     records_of = records_then;

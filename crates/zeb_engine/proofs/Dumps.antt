@@ -31,6 +31,7 @@ use Rattle.zeb_engine.specs.Steps.{dumped_by, dumped_from, dumped_in, existing, 
 use Rattle.zeb_engine.specs.Works.{Always, Meets, Serves}
 use Rattle.zeb_engine.proofs.Finds.{IsHeld}
 use Rattle.zeb_engine.proofs.Serving.{early_serves, keeps_still}
+use Rattle.zeb_register.specs.Formats.{Format}
 
 -- the columns of a record beside its database
 abbrev kept_row : Kept → Row
@@ -59,7 +60,7 @@ same_bytes (r ∷ rs) (k ∷ ks) same =
     let bytes : r.bytes.items ≡ k.bytes = cc in
     ap₂ (λ (a b : List ℕ). a ++ b) bytes (same_bytes rs ks rest)
 
-module _ (holds : Trees → Content → Type 0) (profile : List Directive) (trees : Trees) (id : ℤ) (base : Base) (held : IsHeld holds profile trees id base) where
+module _ (format : Format) (profile : List Directive) (trees : Trees) (id : ℤ) (base : Base) (held : IsHeld format profile trees id base) where
   pub all_readable : AreReadable trees id
   all_readable sysno ident bytes row =
       let k = (held.kept sysno ident bytes).0 row in
@@ -98,21 +99,21 @@ module _ (holds : Trees → Content → Type 0) (profile : List Directive) (tree
 
 -- ---- the answer
 
-module _ (holds : Trees → Content → Type 0) (c : Conditions) (name : List ℕ) (old new : State) (nothing : ChangesNothing old new) where
-  pub unready_dumps : (refusal : Refusal) → ((before : Holdings) → Keeps holds c old before → IsFailure (refused (why_of refusal)) ⊎ (ready c before ≡ Err (why_of refusal)))
-      → Serves holds c Always (dumped_by c name) old new (Err refusal)
-  unready_dumps refusal told = early_serves holds c (dumped_by c name) Always old new refusal nothing (λ before fits keeps. elim (told before keeps) [
+module _ (format : Format) (c : Conditions) (name : List ℕ) (old new : State) (nothing : ChangesNothing old new) where
+  pub unready_dumps : (refusal : Refusal) → ((before : Holdings) → Keeps old before → IsFailure (refused (why_of refusal)) ⊎ (ready c before ≡ Err (why_of refusal)))
+      → Serves Always (dumped_by c name) old new (Err refusal)
+  unready_dumps refusal told = early_serves (dumped_by c name) Always old new refusal nothing (λ before fits keeps. elim (told before keeps) [
     | inl failed ↦ inl failed
     | inr said ↦ inr (ap (λ r. (dumped_from name r, before)) said)
   ])
 
-  module _ (before : Holdings) (bases : List Base) (is : ready c before ≡ Ok bases) (keeps : Keeps holds c old before) where
+  module _ (before : Holdings) (bases : List Base) (is : ready c before ≡ Ok bases) (keeps : Keeps old before) where
     -- what a dump answers, or a failure
     abbrev pub Dumps : Result Reply Refusal → Type 0
-    Dumps result = (((dumped_by c name before).0 ≡ answer_of result) × Keeps holds c new before) ⊎ (IsFailure (answer_of result) × Keeps holds c new before)
+    Dumps result = (((dumped_by c name before).0 ≡ answer_of result) × Keeps new before) ⊎ (IsFailure (answer_of result) × Keeps new before)
 
-    still : Keeps holds c new before
-    still = keeps_still holds c before old new nothing keeps
+    still : Keeps new before
+    still = keeps_still before old new nothing keeps
 
     pub dump_fails : (result : Result Reply Refusal) → IsFailure (answer_of result) → Dumps result
     dump_fails result failed = inr (failed, still)

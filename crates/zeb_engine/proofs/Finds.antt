@@ -12,7 +12,7 @@ use Rattle.zeb_profile.specs.declared.directives.Directive.{Directive}
 use Rattle.zeb_query.specs.declared.faults.QueryFault.{QueryFault}
 use Rattle.zeb_query.specs.declared.faults.QueryFault.TheVariants.{Diagnostic, Memory}
 use Rattle.zeb_query.specs.Faults.{Fails}
-use Rattle.zeb_query.specs.Parsing.{IsFault}
+use Rattle.zeb_query.specs.Faults.{IsFault}
 use Rattle.zeb_query.specs.Queries.{QueryValue}
 use Rattle.zeb_query.specs.Reading.{SpellsQuery, query_fault}
 use Rattle.zeb_query.specs.Plans.{PlanValue, plan_of}
@@ -25,7 +25,7 @@ use Rattle.zeb_register.specs.Terms.{HasTexts}
 use Rattle.zeb_engine.specs.declared.refusals.Refusal.{Refusal}
 use Rattle.zeb_engine.specs.declared.replies.Hit.{Hit}
 use Rattle.zeb_engine.specs.Answers.{Answer, Why, found, refused, diagnostic, unsupported, why_of, IsFailure}
-use Rattle.zeb_engine.specs.Conditions.{Conditions}
+use Rattle.zeb_engine.specs.Conditions.{Conditions, AreSessions}
 use Rattle.zeb_engine.specs.Finding.{OccursIn, plan_key, shown_of, IsFoundBy, IsPlanned}
 use Rattle.zeb_engine.specs.Found.{key_or, asked_of, AreNumbersOf, AreShown, KeepsEach}
 use Rattle.zeb_engine.specs.Holdings.{Holdings, Base, Kept, base_named}
@@ -35,15 +35,16 @@ use Rattle.zeb_engine.specs.Steps.{ready, no_database, found_or, existing, Found
 use Rattle.zeb_engine.specs.Works.{Meets}
 use Rattle.zeb_engine.proofs.Bases.{named_found}
 use Rattle.zeb_engine.proofs.KeptLemmas.{one_number}
-use Rattle.zeb_engine.proofs.Listed.{image_ready}
+use Rattle.zeb_engine.proofs.ReadyImages.{image_ready}
 use Rattle.zeb_engine.proofs.TermTexts.{posted_texts}
 use Rattle.zeb_engine.proofs.Picking.{ArePicked, AreOfKey, picked, has_taken, has_dropped}
+use Rattle.zeb_register.specs.Formats.{Format, holds_in}
 
 -- ---- what the tables hold of one database
 
-pub record IsHeld (holds : Trees → Content → Type 0) (profile : List Directive) (trees : Trees) (id : ℤ) (base : Base) : Type 0 where
+pub record IsHeld (format : Format) (profile : List Directive) (trees : Trees) (id : ℤ) (base : Base) : Type 0 where
   pub content : Content
-  pub held : holds trees content
+  pub held : holds_in format trees content
   pub rising : IsRising content
   pub posted : (key : Key) → AreOfKey profile key base.records (content id key)
   pub kept : (sysno : ℤ) (ident bytes : List ℕ) → HasRecord trees id sysno ident bytes
@@ -51,9 +52,9 @@ pub record IsHeld (holds : Trees → Content → Type 0) (profile : List Directi
   pub sound : IsBase profile base
   pub texts : HasTexts content
 
-pub base_held : (holds : Trees → Content → Type 0) (profile : List Directive) (trees : Trees) (bases : List Base) → AreBases profile bases → (image : IsImageOf holds profile trees bases)
-    → (id : ℤ) (base : Base) → Contains bases base → HasDatabase trees id base.name (pos base.last) → IsHeld holds profile trees id base
-base_held holds profile trees bases are image id base there row =
+pub base_held : (format : Format) (profile : List Directive) (trees : Trees) (bases : List Base) → AreBases profile bases → (image : IsImageOf format profile trees bases)
+    → (id : ℤ) (base : Base) → Contains bases base → HasDatabase trees id base.name (pos base.last) → IsHeld format profile trees id base
+base_held format profile trees bases are image id base there row =
     let of = (image.listed id base.name (pos base.last)).0 row in
     let same : image.records_of id ≡ base.records = ap image.records_of (of.2 ∙ ap image.id_of (sym of.3)) ∙ image.of_base base there in
     record {
@@ -68,7 +69,7 @@ base_held holds profile trees bases are image id base there row =
       texts = posted_texts profile image.records_of image.stored.content image.stored.posted;
     }
 
-module _ (holds : Trees → Content → Type 0) (profile : List Directive) (trees : Trees) (id : ℤ) (base : Base) (held : IsHeld holds profile trees id base) where
+module _ (format : Format) (profile : List Directive) (trees : Trees) (id : ℤ) (base : Base) (held : IsHeld format profile trees id base) where
   pub postings_picked : (key : Key) (postings : List Posting) (numbers : List ℕ) → postings ≡ held.content id key → AreNumbersOf postings numbers → ArePicked profile key base.records numbers
   postings_picked key postings numbers is are =
       picked profile key base.records held.sound.rising postings (subst (AreOfKey profile key base.records) (sym is) (held.posted key)) numbers are
@@ -130,15 +131,15 @@ existing_met Good name (Some base) x met = (base, refl, met)
 existing_met Good name None x met = absurd met
 
 -- the database that was looked up
-pub looked_up : (holds : Trees → Content → Type 0) (c : Conditions) (old : State) (before : Holdings) (bases : List Base) (name : List ℕ) (it : Database) (Opened : Type 0)
-    → ready c before ≡ Ok bases → IsImage holds c old.now.trees before
+pub looked_up : (format : Format) (c : Conditions) → AreSessions format c → (old : State) (before : Holdings) (bases : List Base) (name : List ℕ) (it : Database) (Opened : Type 0)
+    → ready c before ≡ Ok bases → IsImage old.now.trees before
     → Meets {X = Database} (λ base d. HasDatabase old.now.trees d.id.0 base.name (pos base.last) × (d.last ≡ base.last) × Opened) (existing name bases) (Ok it)
-    → (base : Base) × (base_named name bases ≡ Some base) × IsHeld holds c.profile old.now.trees it.id.0 base × Opened
-looked_up holds c old before bases name it Opened is image met =
-    let all = (image_ready holds c old.now.trees before bases is image).2 refl refl in
+    → (base : Base) × (base_named name bases ≡ Some base) × IsHeld format c.profile old.now.trees it.id.0 base × Opened
+looked_up format c session old before bases name it Opened is image met =
+    let at = image_ready format c session old.now.trees before bases is image in
     let base = existing_met (λ (base : Base) (d : Database). HasDatabase old.now.trees d.id.0 base.name (pos base.last) × (d.last ≡ base.last) × Opened) name (base_named name bases) it met in
     let there = named_found name bases base.0 base.1 in
-    (base.0, base.1, base_held holds c.profile old.now.trees bases all.1 all.2 it.id.0 base.0 (contains_had bases base.0 there.0) base.2.0, base.2.2)
+    (base.0, base.1, base_held format c.profile old.now.trees bases at.are at.image it.id.0 base.0 (contains_had bases base.0 there.0) base.2.0, base.2.2)
 
 -- ---- the answers
 

@@ -16,6 +16,7 @@ use Rattle.zeb_engine.specs.Reading.{HasFailedAt, NoneFailed}
 use Rattle.zeb_engine.specs.Steps.{splits_of}
 use Rattle.zeb_engine.specs.Works.{IsFolded, IsUnderWay, Meets, StandsFor}
 use Rattle.zeb_engine.proofs.FoldFiles.{Good}
+use Rattle.zeb_register.specs.Formats.{Format}
 
 -- what the reader at a place tells, and the texts of those behind it
 pub text_at : {R : Type 0} (remaining : R → Option (List ℕ)) (readers : List R) (texts : List (List ℕ)) (i : ℕ) (r : R) → map remaining readers ≡ map Some texts → i < length readers → r ≡ get_or readers i r
@@ -107,21 +108,21 @@ one_failed failed (x ∷ xs) = by (failed x) refl (one_failed failed xs)
     )
 
 -- the progress of which the tables are the image, and the files that are left
-pub record Over (holds : Trees → Content → Type 0) (c : Conditions) (kind : Kind) (index : ℕ) (texts : List (List ℕ)) (id : ℤ) (records_of : ℤ → List Kept) (told : Result Progress Why) (old now : State) (fold : Fold) : Type 0 where
+pub record Over (format : Format) (c : Conditions) (kind : Kind) (index : ℕ) (texts : List (List ℕ)) (id : ℤ) (records_of : ℤ → List Kept) (told : Result Progress Why) (old now : State) (fold : Fold) : Type 0 where
   pub progress : Progress
-  pub is_folded : IsFolded holds c.profile id records_of old now fold progress
+  pub is_folded : IsFolded format c.profile id records_of old now fold progress
   pub rest : told ≡ files_folded c kind (index + 1) (splits_of (drop index texts)) progress
 
-pub before_files : (holds : Trees → Content → Type 0) (c : Conditions) (kind : Kind) (texts : List (List ℕ)) (id : ℤ) (records_of : ℤ → List Kept) (old : State) (fold : Fold) (p : Progress) → StandsFor fold p → IsUnderWay holds c.profile id records_of old p.base
-    → Over holds c kind 0 texts id records_of (files_folded c kind 1 (splits_of texts) p) old old fold
-before_files holds c kind texts id records_of old fold p stands under_way = record { progress = p; is_folded = record { stands = stands; under_way = under_way; names = (refl, refl) }; rest = refl }
+pub before_files : (format : Format) (c : Conditions) (kind : Kind) (texts : List (List ℕ)) (id : ℤ) (records_of : ℤ → List Kept) (old : State) (fold : Fold) (p : Progress) → StandsFor fold p → IsUnderWay format c.profile id records_of old p.base
+    → Over format c kind 0 texts id records_of (files_folded c kind 1 (splits_of texts) p) old old fold
+before_files format c kind texts id records_of old fold p stands under_way = record { progress = p; is_folded = record { stands = stands; under_way = under_way; names = (refl, refl) }; rest = refl }
 
-module _ (holds : Trees → Content → Type 0) (c : Conditions) (kind : Kind) (index : ℕ) (texts : List (List ℕ)) (id : ℤ) (records_of : ℤ → List Kept) (told : Result Progress Why) (old now : State) (fold : Fold)
-    (over : Over holds c kind index texts id records_of told old now fold) where
-  pub all_files : length texts ≤ index → Meets {A = Progress} {X = Unit {0}} (Good holds c id records_of old now fold) told (Ok tt)
+module _ (format : Format) (c : Conditions) (kind : Kind) (index : ℕ) (texts : List (List ℕ)) (id : ℤ) (records_of : ℤ → List Kept) (told : Result Progress Why) (old now : State) (fold : Fold)
+    (over : Over format c kind index texts id records_of told old now fold) where
+  pub all_files : length texts ≤ index → Meets {A = Progress} {X = Unit {0}} (Good format c id records_of old now fold) told (Ok tt)
   all_files none =
       let is : told ≡ Ok over.progress = over.rest ∙ ap (λ ts. files_folded c kind (index + 1) (splits_of ts) over.progress) (drop_all texts index none) in
-      subst (λ said. Meets {A = Progress} {X = Unit {0}} (Good holds c id records_of old now fold) said (Ok tt)) (sym is) over.is_folded
+      subst (λ said. Meets {A = Progress} {X = Unit {0}} (Good format c id records_of old now fold) said (Ok tt)) (sym is) over.is_folded
 
   module _ (text : List ℕ) (behind : drop index texts ≡ text ∷ drop (suc index) texts) where
     next : drop index texts ≡ text ∷ drop (index + 1) texts
@@ -133,12 +134,12 @@ module _ (holds : Trees → Content → Type 0) (c : Conditions) (kind : Kind) (
     pub file_refused : (why : Why) → file_folded c kind (index + 1) (split_of text) over.progress ≡ Err why → told ≡ Err why
     file_refused why is = says ∙ ap (λ r. r then files_folded c kind (index + 1 + 1) (splits_of (drop (index + 1) texts))) is
 
-    pub file_taken : (new : State) (then_fold : Fold) → Meets {A = Progress} {X = Unit {0}} (Good holds c id records_of now new then_fold) (file_folded c kind (index + 1) (split_of text) over.progress) (Ok tt)
-        → Over holds c kind (index + 1) texts id records_of told old new then_fold
+    pub file_taken : (new : State) (then_fold : Fold) → Meets {A = Progress} {X = Unit {0}} (Good format c id records_of now new then_fold) (file_folded c kind (index + 1) (split_of text) over.progress) (Ok tt)
+        → Over format c kind (index + 1) texts id records_of told old new then_fold
     file_taken new then_fold meets = by (file_folded c kind (index + 1) (split_of text) over.progress) refl meets
       where
-        by : (said : Result Progress Why) → file_folded c kind (index + 1) (split_of text) over.progress ≡ said → Meets {A = Progress} {X = Unit {0}} (Good holds c id records_of now new then_fold) said (Ok tt)
-            → Over holds c kind (index + 1) texts id records_of told old new then_fold
+        by : (said : Result Progress Why) → file_folded c kind (index + 1) (split_of text) over.progress ≡ said → Meets {A = Progress} {X = Unit {0}} (Good format c id records_of now new then_fold) said (Ok tt)
+            → Over format c kind (index + 1) texts id records_of told old new then_fold
         by (Ok q) is taken = record {
           progress = q;
           is_folded = record { stands = taken.stands; under_way = taken.under_way; names = (taken.names.0 ∙ over.is_folded.names.0, taken.names.1 ∙ over.is_folded.names.1) };

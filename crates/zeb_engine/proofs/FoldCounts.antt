@@ -79,21 +79,21 @@ ends_still file nth (Some fault) p q is = cc
 -- what each record keeps true stays true of all files
 module _ (c : Conditions) (kind : Kind) (P : Progress → Type 0) (step : (p : Progress) (changed : Changed) → Did kind p.base changed → P p → P (counted changed.0 p changed.1)) where
   slices_keep : (file nth : ℕ) (slices : List (List ℕ)) (last : Option MarcFault) (p q : Progress) → slices_folded c kind file nth slices last p ≡ Ok q → P p → P q
-  slices_keep file nth [] last p q is holds = subst P (sym (ends_still file nth last p q is)) holds
-  slices_keep file nth (slice ∷ slices) last p q is holds =
+  slices_keep file nth [] last p q is format = subst P (sym (ends_still file nth last p q is)) format
+  slices_keep file nth (slice ∷ slices) last p q is format =
       let it = then_ok (folded c kind file nth slice p) (slices_folded c kind file (nth + 1) slices last) q is in
       let one = folded_did c kind file nth slice p it.0 it.1 in
-      slices_keep file (nth + 1) slices last it.0 q it.2 (subst P (sym one.2) (step p one.0 one.1 holds))
+      slices_keep file (nth + 1) slices last it.0 q it.2 (subst P (sym one.2) (step p one.0 one.1 format))
 
   file_keeps : (file : ℕ) (split : Split) (p q : Progress) → file_folded c kind file split p ≡ Ok q → P p → P q
   unfolding file_folded
-  file_keeps file split p q is holds = slices_keep file 1 split.slices split.fault p q is holds
+  file_keeps file split p q is format = slices_keep file 1 split.slices split.fault p q is format
 
   pub files_keep : (file : ℕ) (files : List Split) (p q : Progress) → files_folded c kind file files p ≡ Ok q → P p → P q
-  files_keep file [] p q is holds = let same : q ≡ p = cc in subst P (sym same) holds
-  files_keep file (split ∷ splits) p q is holds =
+  files_keep file [] p q is format = let same : q ≡ p = cc in subst P (sym same) format
+  files_keep file (split ∷ splits) p q is format =
       let it = then_ok (file_folded c kind file split p) (files_folded c kind (file + 1) splits) q is in
-      files_keep (file + 1) splits it.0 q it.2 (file_keeps file split p it.0 it.1 holds)
+      files_keep (file + 1) splits it.0 q it.2 (file_keeps file split p it.0 it.1 format)
 
 -- ---- how many are taken
 

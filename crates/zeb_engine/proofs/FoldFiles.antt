@@ -16,6 +16,7 @@ use Rattle.zeb_engine.specs.Holdings.{Kept}
 use Rattle.zeb_engine.specs.Outcomes.{marc_refusal}
 use Rattle.zeb_engine.specs.Reading.{ReadsNext}
 use Rattle.zeb_engine.specs.Works.{IsFolded, IsUnderWay, KeepsNames, Meets, StandsFor}
+use Rattle.zeb_register.specs.Formats.{Format}
 
 -- ---- what was read tells what stood next
 
@@ -51,26 +52,26 @@ module _ (c : Conditions) (kind : Kind) (file nth : ℕ) (left : List ℕ) (p : 
   slice_folded slice rest is = rw (split_of-next left, is) refl
 
 -- so far: what is left of the file, and the progress of which the tables are the image
-pub record Under (holds : Trees → Content → Type 0) (c : Conditions) (kind : Kind) (file nth : ℕ) (id : ℤ) (records_of : ℤ → List Kept) (told : Result Progress Why) (remaining : Option (List ℕ)) (old now : State) (fold : Fold) : Type 0 where
+pub record Under (format : Format) (c : Conditions) (kind : Kind) (file nth : ℕ) (id : ℤ) (records_of : ℤ → List Kept) (told : Result Progress Why) (remaining : Option (List ℕ)) (old now : State) (fold : Fold) : Type 0 where
   pub left : List ℕ
   pub progress : Progress
   pub remains : remaining ≡ Some left
-  pub is_folded : IsFolded holds c.profile id records_of old now fold progress
+  pub is_folded : IsFolded format c.profile id records_of old now fold progress
   pub rest : told ≡ rest_folded c kind file nth left progress
 
-abbrev pub Good : (holds : Trees → Content → Type 0) → Conditions → ℤ → (ℤ → List Kept) → State → State → Fold → Progress → Unit {0} → Type 0
-Good holds c id records_of old new fold = λ q _. IsFolded holds c.profile id records_of old new fold q
+abbrev pub Good : (format : Format) → Conditions → ℤ → (ℤ → List Kept) → State → State → Fold → Progress → Unit {0} → Type 0
+Good format c id records_of old new fold = λ q _. IsFolded format c.profile id records_of old new fold q
 
 names_then : (old mid new : State) → KeepsNames old mid → KeepsNames mid new → KeepsNames old new
 names_then old mid new one two = (two.0 ∙ one.0, two.1 ∙ one.1)
 
-module _ (holds : Trees → Content → Type 0) (c : Conditions) (kind : Kind) (file nth : ℕ) (id : ℤ) (records_of : ℤ → List Kept) (told : Result Progress Why) (remaining : Option (List ℕ)) (old now : State) (fold : Fold)
-    (under : Under holds c kind file nth id records_of told remaining old now fold) where
+module _ (format : Format) (c : Conditions) (kind : Kind) (file nth : ℕ) (id : ℤ) (records_of : ℤ → List Kept) (told : Result Progress Why) (remaining : Option (List ℕ)) (old now : State) (fold : Fold)
+    (under : Under format c kind file nth id records_of told remaining old now fold) where
   -- the file ends
-  pub ended : (kept : List ℕ) (after : Option (List ℕ)) → ReadsNext file nth (next_of under.left) (Ok false) kept after → Meets {A = Progress} {X = Unit {0}} (Good holds c id records_of old now fold) told (Ok tt)
+  pub ended : (kept : List ℕ) (after : Option (List ℕ)) → ReadsNext file nth (next_of under.left) (Ok false) kept after → Meets {A = Progress} {X = Unit {0}} (Good format c id records_of old now fold) told (Ok tt)
   ended kept after read =
       let is = under.rest ∙ end_folded c kind file nth under.left under.progress (told_end file nth (next_of under.left) kept after read) in
-      subst (λ said. Meets {A = Progress} {X = Unit {0}} (Good holds c id records_of old now fold) said (Ok tt)) (sym is) under.is_folded
+      subst (λ said. Meets {A = Progress} {X = Unit {0}} (Good format c id records_of old now fold) said (Ok tt)) (sym is) under.is_folded
 
   -- a fault stands next
   pub faulty : (refusal : Refusal) (kept : List ℕ) (after : Option (List ℕ)) → ReadsNext file nth (next_of under.left) (Err refusal) kept after → told ≡ Err (why_of refusal)
@@ -90,12 +91,12 @@ module _ (holds : Trees → Content → Type 0) (c : Conditions) (kind : Kind) (
     record_refused why is = says ∙ ap (λ r. r then rest_folded c kind file (nth + 1) next.0) is
 
     -- a record is folded in
-    pub record_taken : (new : State) (then_fold : Fold) → Meets {A = Progress} {X = Unit {0}} (Good holds c id records_of now new then_fold) (folded c kind file nth slice under.progress) (Ok tt)
-        → Under holds c kind file (nth + 1) id records_of told after old new then_fold
+    pub record_taken : (new : State) (then_fold : Fold) → Meets {A = Progress} {X = Unit {0}} (Good format c id records_of now new then_fold) (folded c kind file nth slice under.progress) (Ok tt)
+        → Under format c kind file (nth + 1) id records_of told after old new then_fold
     record_taken new then_fold meets = by (folded c kind file nth slice under.progress) refl meets
       where
-        by : (said : Result Progress Why) → folded c kind file nth slice under.progress ≡ said → Meets {A = Progress} {X = Unit {0}} (Good holds c id records_of now new then_fold) said (Ok tt)
-            → Under holds c kind file (nth + 1) id records_of told after old new then_fold
+        by : (said : Result Progress Why) → folded c kind file nth slice under.progress ≡ said → Meets {A = Progress} {X = Unit {0}} (Good format c id records_of now new then_fold) said (Ok tt)
+            → Under format c kind file (nth + 1) id records_of told after old new then_fold
         by (Ok q) is taken = record {
           left = next.0;
           progress = q;
@@ -106,10 +107,10 @@ module _ (holds : Trees → Content → Type 0) (c : Conditions) (kind : Kind) (
         by (Err why) is none = absurd none
 
 -- before the first record
-pub at_first : (holds : Trees → Content → Type 0) (c : Conditions) (kind : Kind) (file : ℕ) (id : ℤ) (records_of : ℤ → List Kept) (text : List ℕ) (remaining : Option (List ℕ)) (old : State) (fold : Fold) (p : Progress)
-    → remaining ≡ Some text → StandsFor fold p → IsUnderWay holds c.profile id records_of old p.base → Under holds c kind file 1 id records_of (file_folded c kind file (split_of text) p) remaining old old fold
+pub at_first : (format : Format) (c : Conditions) (kind : Kind) (file : ℕ) (id : ℤ) (records_of : ℤ → List Kept) (text : List ℕ) (remaining : Option (List ℕ)) (old : State) (fold : Fold) (p : Progress)
+    → remaining ≡ Some text → StandsFor fold p → IsUnderWay format c.profile id records_of old p.base → Under format c kind file 1 id records_of (file_folded c kind file (split_of text) p) remaining old old fold
 unfolding file_folded
-at_first holds c kind file id records_of text remaining old fold p is stands under_way = record {
+at_first format c kind file id records_of text remaining old fold p is stands under_way = record {
   left = text;
   progress = p;
   remains = is;

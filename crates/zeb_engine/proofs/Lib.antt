@@ -1,6 +1,7 @@
 pub mod Bases
 pub mod Ready
 pub mod Listed
+pub mod ReadyImages
 pub mod Ids
 pub mod Creating
 pub mod Dropping
@@ -11,6 +12,7 @@ pub mod Serving
 pub mod Commanding
 pub mod ScanCommand
 pub mod RunLemmas
+pub mod StepLemmas
 pub mod RefusedSteps
 pub mod RunCrashes
 pub mod Crashing
@@ -54,6 +56,7 @@ pub mod WorkedRun
 pub mod FaultAnswers
 pub mod OwnAnswers
 pub mod OneText
+pub mod OneHolding
 pub mod FoldCounts
 pub mod FoldRecords
 pub mod Honest

@@ -18,6 +18,7 @@ use Rattle.zeb_engine.specs.Steps.{ready, holding}
 use Rattle.zeb_engine.specs.Works.{Meets}
 use Rattle.zeb_engine.proofs.Bases.{named_found, named_there}
 use Rattle.zeb_engine.proofs.Ready.{ready_is}
+use Rattle.zeb_register.specs.Formats.{Format}
 
 -- a fault of the tables that is no damage is a failure
 pub fault_meets : {A X : Type 0} (Good : A → X → Type 0) (said : Result A Why) (fault : RegFault) → (fault ≡ register.Damaged → ⊥) → Meets Good said (Err (register_refusal fault))
@@ -34,10 +35,6 @@ pub fault_fails_or : (X : Type 0) (fault : RegFault) → (fault ≡ register.Dam
 fault_fails_or X register.Damaged damaged = inr (damaged refl)
 fault_fails_or X register.Store damaged = inl (inl refl)
 fault_fails_or X register.Memory damaged = inl (inr refl)
-
--- what the tables of a ready register hold
-pub image_ready : (holds : Trees → Content → Type 0) (c : Conditions) (trees : Trees) (before : Holdings) (bases : List Base) → ready c before ≡ Ok bases → IsImage holds c trees before → IsImage holds c trees (holding c bases)
-image_ready holds c trees before bases is image = subst (IsImage holds c trees) (ready_is c before bases is) image
 
 module _ (trees : Trees) (bases : List Base) (id_of : List ℕ → ℤ) (listed : AreListed trees bases id_of) where
   pub counted : (name : List ℕ) → AreCountedDatabases trees name

@@ -6,7 +6,7 @@ use Rattle.zeb_text.specs.Symbols.{Symbol, Char, Star, literal}
 use Rattle.zeb_text.specs.Patterns.{Matches}
 use Rattle.zeb_text.proofs.MatchLemmas.{literal-same, same-literal}
 use Rattle.zeb_profile.specs.declared.directives.Directive.{Directive}
-use Rattle.zeb_query.specs.Plans.{PlanValue, TermOf, PairOf, PhraseOf, RecordNumberOf, AlwaysOf, NumberOf, OrderedOf, CompleteOf, AllWordsOf, AnyWordOf}
+use Rattle.zeb_query.specs.Plans.{PlanValue, TermOf, PairOf, NearOf, PhraseOf, RecordNumberOf, AlwaysOf, NumberOf, OrderedOf, CompleteOf, AllWordsOf, AnyWordOf}
 use Rattle.zeb_extract.specs.declared.keys.Key.{Key}
 use Rattle.zeb_engine.specs.Finding.{HasKey, plain_text, plan_key, word_key}
 use Rattle.zeb_engine.specs.Holdings.{Kept}
@@ -46,6 +46,7 @@ key_asks (TermOf (PhraseOf index patterns first)) key is = phrase_asks index pat
 key_asks (TermOf (AllWordsOf index patterns)) key is = cc
 key_asks (TermOf (AnyWordOf index patterns)) key is = cc
 key_asks (PairOf op left right) key is = cc
+key_asks (NearOf index left right separation) key is = cc
 
 module _ (profile : List Directive) (index : ℕ) (kept : Kept) where
   has_match : (pattern : List Symbol) (text : List ℕ) → pattern ≡ literal text → HasKey profile (word_key index text) kept → HasMatch profile index pattern kept

@@ -9,7 +9,7 @@ use Rattle.zeb_query.specs.Faults.{Refusal}
 use Rattle.zeb_query.specs.Queries.{QueryValue}
 use Rattle.zeb_query.specs.Plans.{PlanValue, plan_of, ScanValue, scan_of}
 use Rattle.zeb_query.specs.Reading.{query_fault}
-use Rattle.zeb_query.proofs.GrammarOnce.{same_query}
+use Rattle.zeb_query.proofs.TextFaults.{one_query}
 use Rattle.zeb_extract.specs.declared.keys.Key.{Key}
 use Rattle.zeb_register.specs.Terms.{key_in}
 use Rattle.zeb_register.proofs.RisingLists.{same_list}
@@ -21,7 +21,8 @@ use Rattle.zeb_engine.specs.Finding.{HasKey, Picks, IsFoundBy, IsPlanned, IsAnsw
 use Rattle.zeb_engine.specs.Holdings.{Base, Holdings, Kept, base_named}
 use Rattle.zeb_engine.specs.NameOf.{name_bytes}
 use Rattle.zeb_engine.specs.Scanning.{AreEntriesOf, Entry, HaveKey, IsScanned, IsScanPlanned, around}
-use Rattle.zeb_engine.specs.Steps.{Answers, AskedAmong, AskedFrom, AskedIn, IsTold, Outcome, ready}
+use Rattle.zeb_engine.specs.Steps.{AskedAmong, AskedFrom, AskedIn, Outcome, ready, Step}
+use Rattle.zeb_engine.proofs.StepLemmas.{Answers, IsTold, step_told}
 use Rattle.zeb_engine.proofs.OneCount.{counted_once}
 
 -- ---- records that are picked
@@ -46,7 +47,7 @@ module _ (profile : List Directive) (first count : ℕ) (base : Base) (one other
 
   answered_once : (text : List ℕ) → IsAnswered profile text first count base one → IsAnswered profile text first count base other → one ≡ other
   answered_once text x y =
-      let same : x.0 ≡ y.0 = same_query _ x.0 y.0 x.1 y.1 in
+      let same : x.0 ≡ y.0 = one_query text x.0 y.0 x.1 y.1 in
       planned_once (plan_of profile y.0) (subst (λ (query : QueryValue). IsPlanned profile (plan_of profile query) first count base one) same x.2) y.2
 
 -- ---- scans
@@ -87,7 +88,7 @@ module _ (profile : List Directive) (number position : ℕ) (base : Base) (one o
 
   scanned_once : (text : List ℕ) → IsScanned profile text number position base one → IsScanned profile text number position base other → one ≡ other
   scanned_once text x y =
-      let same : x.0 ≡ y.0 = same_query _ x.0 y.0 x.1 y.1 in
+      let same : x.0 ≡ y.0 = one_query text x.0 y.0 x.1 y.1 in
       scan_planned_once (scan_of profile y.0) (subst (λ (query : QueryValue). IsScanPlanned profile (scan_of profile query) number position base one) same x.2) y.2
 
 -- ---- any command
@@ -123,3 +124,10 @@ answers_once c (Dump name) before one other x y = x ∙ sym y
 answers_once c (Scan name query number position) before one other x y =
     asked_once one other (IsScanned c.profile (string_bytes query) number position) (λ base. scanned_once c.profile number position base one other (string_bytes query)) (name_bytes name) (string_bytes query) (ready c before) x y
 answers_once c (Analyse files) before one other x y = x ∙ sym y
+
+pub steps_once : (c : Conditions) (command : Command) (before : Holdings) (one other : Answer) (left right : Holdings) → Step c command before one left → Step c command before other right
+    → (one ≡ other) × (left ≡ right)
+steps_once c command before one other left right x y =
+    let a = step_told c command before one left x in
+    let b = step_told c command before other right y in
+    (answers_once c command before one other a.0 b.0, a.1 ∙ sym b.1)

@@ -1,5 +1,6 @@
 -- Two profiles that say the same have the same images.
 use Rattle.std.proofs.Common.{◌≡◌, ◌↔◌, ◌∙◌, ℕ, ℤ, List, sym, ap, subst}
+use Rattle.std.proofs.Math.Logic.{∥∥₁_elim}
 use Rattle.std.specs.List.{Contains}
 use Rattle.std.specs.Option.{option_and_then, option_map}
 use Rattle.sqlite.specs.Tree.{Trees}
@@ -9,14 +10,15 @@ use Rattle.zeb_profile.specs.declared.directives.Directive.{Directive}
 use Rattle.zeb_profile.specs.Canonical.{canonical_text, pattern_text}
 use Rattle.zeb_profile.specs.Laws.{IsProfile, SaysTheSame}
 use Rattle.zeb_profile.proofs.ProfilesBack.{one_text_says_the_same}
+use Rattle.zeb_profile.proofs.SaysProps.{SaysTheSame-prop}
 use Rattle.zeb_extract.specs.declared.keys.Occurrence.{Occurrence}
 use Rattle.zeb_extract.specs.Identifier.{first_fitting, held_in}
 use Rattle.zeb_register.specs.Content.{Content}
-use Rattle.zeb_engine.specs.Conditions.{Conditions}
 use Rattle.zeb_engine.specs.Finding.{OccursIn}
 use Rattle.zeb_engine.specs.Folding.{ident_in}
-use Rattle.zeb_engine.specs.Holdings.{Base, Holdings, Kept, nothing_yet, under}
-use Rattle.zeb_engine.specs.Image.{AreBases, ArePosted, AreStored, IsBase, IsImage, IsImageOf, IsKept}
+use Rattle.zeb_engine.specs.Holdings.{Base, Kept}
+use Rattle.zeb_engine.specs.Image.{AreBases, ArePosted, AreStored, IsBase, IsImageOf, IsImageUnder, IsKept}
+use Rattle.zeb_register.specs.Formats.{Format}
 
 turned_round : (one other : List Directive) → SaysTheSame one other → SaysTheSame other one
 turned_round one other same = record {
@@ -54,7 +56,7 @@ module _ (one other : List Directive) (same : SaysTheSame one other) where
   }
 
   bases_so : (bases : List Base) → AreBases one bases → AreBases other bases
-  bases_so bases are = record { rising = are.rising; each = λ base there. base_so base (are.each base there) }
+  bases_so bases are = record { rising = are.rising; each = λ base there. base_so base (are.each base there); named = are.named }
 
   posted_so : (records_of : ℤ → List Kept) (content : Content) → ArePosted one records_of content → ArePosted other records_of content
   posted_so records_of content are = record {
@@ -65,11 +67,11 @@ module _ (one other : List Directive) (same : SaysTheSame one other) where
     );
   }
 
-  module _ (holds : Trees → Content → Type 0) (trees : Trees) where
-    stored_so : (records_of : ℤ → List Kept) → AreStored holds one trees records_of → AreStored holds other trees records_of
+  module _ (format : Format) (trees : Trees) where
+    stored_so : (records_of : ℤ → List Kept) → AreStored format one trees records_of → AreStored format other trees records_of
     stored_so records_of are = record { kept = are.kept; content = are.content; held = are.held; posted = posted_so records_of are.content are.posted }
 
-    image_of_so : (bases : List Base) → IsImageOf holds one trees bases → IsImageOf holds other trees bases
+    image_of_so : (bases : List Base) → IsImageOf format one trees bases → IsImageOf format other trees bases
     image_of_so bases is = record {
       id_of = is.id_of;
       records_of = is.records_of;
@@ -80,28 +82,21 @@ module _ (one other : List Directive) (same : SaysTheSame one other) where
       stored = stored_so is.records_of is.stored;
     }
 
-module _ (holds : Trees → Content → Type 0) (one other : Conditions) (same : SaysTheSame one.profile other.profile)
-    (version : one.version ≡ other.version) (text : canonical_text one.profile ≡ canonical_text other.profile) where
-  image_so : (trees : Trees) (held : Holdings) → IsImage holds one trees held → IsImage holds other trees held
-  image_so trees nothing_yet is = is
-  image_so trees (under said written bases) is = (
-    is.0,
-    is.1,
-    λ is_version is_text.
-        let was = is.2 (is_version ∙ sym version) (is_text ∙ sym text) in (
-          ap (option_map pattern_text) (sym same.identifier) ∙ was.0,
-          bases_so one.profile other.profile same bases was.1,
-          image_of_so one.profile other.profile same holds trees bases was.2,
-        ),
-  )
-
-module _ (holds : Trees → Content → Type 0) (one other : Conditions) (is_one : IsProfile one.profile) (is_other : IsProfile other.profile)
-    (version : one.version ≡ other.version) (text : canonical_text one.profile ≡ canonical_text other.profile) where
-  same : SaysTheSame one.profile other.profile
-  same = (one_text_says_the_same one.profile other.profile is_one is_other text).1
-
-  pub one_image : (trees : Trees) (held : Holdings) → IsImage holds one trees held ↔ IsImage holds other trees held
-  one_image trees held = (
-    image_so holds one other same version text trees held,
-    image_so holds other one (turned_round one.profile other.profile same) (sym version) (sym text) trees held,
-  )
+-- an image is one under each profile of its text
+pub under_other : (one other : List Directive) → ∥ IsProfile other ∥₁ → (trees : Trees) (version text : List ℕ) (bases : List Base) → text ≡ canonical_text other
+    → IsImageUnder one trees version text bases → IsImageUnder other trees version text bases
+under_other one other is_other trees version text bases text_is at =
+    let same : SaysTheSame one other =
+    ∥∥₁_elim at.sound (SaysTheSame-prop one other) (λ first. ∥∥₁_elim is_other (SaysTheSame-prop one other) (λ second.
+    (one_text_says_the_same one other first second (sym at.text_is ∙ text_is)).1)) in
+    record {
+      sound = is_other;
+      text_is = text_is;
+      pattern = at.pattern;
+      pattern_is = ap (option_map pattern_text) (sym same.identifier) ∙ at.pattern_is;
+      texts = at.texts;
+      are = bases_so one other same bases at.are;
+      format = at.format;
+      version_is = at.version_is;
+      image = image_of_so one other same at.format trees bases at.image;
+    }

@@ -29,7 +29,8 @@ use Rattle.zeb_engine.specs.Scanning.{IsScanned, IsScanPlanned}
 use Rattle.zeb_engine.specs.Folding.{Changed, Progress, at_end, at_first, changed_by, changed_record, counted, deleted, file_folded, files_folded, folded, ident_in, slices_folded, updated, with_ident, with_record, ◌then◌}
 use Rattle.zeb_engine.specs.Holdings.{Base, Holdings, Kept, nothing_yet, under, base_named, kept_as, with_new}
 use Rattle.zeb_engine.specs.Outcomes.{marc_refusal}
-use Rattle.zeb_engine.specs.Steps.{Answers, AskedAmong, AskedFrom, AskedIn, CountedFrom, CountedIn, Turn, change_ends, change_from, changed_by_files, created, created_in, dropped, dropped_in, dumped_from, dumped_in, ends, initialised, ready, splits_of, start_of, turned, turned_from, waits}
+use Rattle.zeb_engine.specs.Steps.{AskedAmong, AskedFrom, AskedIn, CountedFrom, CountedIn, Turn, change_ends, change_from, changed_by_files, created, created_in, dropped, dropped_in, dumped_from, dumped_in, ends, initialised, ready, splits_of, start_of, turned, turned_from, waits}
+use Rattle.zeb_engine.proofs.StepLemmas.{Answers}
 use Rattle.zeb_engine.proofs.FaultAnswers.{IsOfText, IsOfRecord, first_of_text, split_of_text, identifier_of_record}
 
 -- a refusal that tells of the command and of what is held

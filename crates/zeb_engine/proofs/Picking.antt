@@ -26,7 +26,7 @@ picks_tested P test (kept ∷ more) told = from (test kept) refl (picks_tested P
   where
     from : (b : Bool) → test kept ≡ b → Picks P more (filter test more) → Picks P (kept ∷ more) (cond b (kept ∷ filter test more) (filter test more))
     from true is rest = inl ((told kept (inl refl)).0 is, (filter test more, refl, rest))
-    from false is rest = inr (λ holds. (let e : true ≡ false = sym ((told kept (inl refl)).1 holds) ∙ is in cc), rest)
+    from false is rest = inr (λ so. (let e : true ≡ false = sym ((told kept (inl refl)).1 so) ∙ is in cc), rest)
 
 numbers_above : (n : ℕ) (records : List Kept) → AllByRecursion (λ (k : Kept). nat_cmp n k.sysno ≡ Less) records → AllByRecursion (λ m. nat_cmp n m ≡ Less) (map (λ (k : Kept). k.sysno) records)
 numbers_above n [] all = tt

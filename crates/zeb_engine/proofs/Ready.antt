@@ -20,6 +20,7 @@ use Rattle.zeb_engine.specs.Holdings.{Holdings, nothing_yet, under, Base}
 use Rattle.zeb_engine.specs.Image.{IsImage, HasTexts}
 use Rattle.zeb_engine.specs.Steps.{ready, holding}
 use Rattle.zeb_engine.proofs.Bases.{bytes_other}
+use Rattle.zeb_register.specs.Formats.{Format}
 
 abbrev pub version_in : Holdings → Option (List ℕ)
 version_in nothing_yet = None
@@ -29,11 +30,11 @@ abbrev pub profile_in : Holdings → Option (List ℕ)
 profile_in nothing_yet = None
 profile_in (under version text bases) = Some text
 
-none_there : (trees : Trees) (name value : List ℕ) → trees meta_tree ≡ [] → ¬ HasRow trees meta_tree (entry name value)
+pub none_there : (trees : Trees) (name value : List ℕ) → trees meta_tree ≡ [] → ¬ HasRow trees meta_tree (entry name value)
 none_there trees name value none h = subst (λ rows. Has rows (Int h.0 ∷ entry name value)) none h.1
 
 module _ (trees : Trees) (version text pattern : List ℕ) (texts : HasTexts trees version text pattern) where
-  version_is : (value : List ℕ) → HasRow trees meta_tree (entry (codes "version") value) → value ≡ version
+  pub version_is : (value : List ℕ) → HasRow trees meta_tree (entry (codes "version") value) → value ≡ version
   version_is value there = elim ((texts.each (codes "version") value).0 there) [
     | inl is ↦ is.1
     | inr other ↦ elim other [
@@ -42,7 +43,7 @@ module _ (trees : Trees) (version text pattern : List ℕ) (texts : HasTexts tre
     ]
   ]
 
-  profile_is : (value : List ℕ) → HasRow trees meta_tree (entry (codes "profile") value) → value ≡ text
+  pub profile_is : (value : List ℕ) → HasRow trees meta_tree (entry (codes "profile") value) → value ≡ text
   profile_is value there = elim ((texts.each (codes "profile") value).0 there) [
     | inl is ↦ let e : 112 ≡ 118 = ap (λ (l : List ℕ). get_or l 0 0) is.0 in absurd (omega (arith, e))
     | inr other ↦ elim other [
@@ -51,30 +52,30 @@ module _ (trees : Trees) (version text pattern : List ℕ) (texts : HasTexts tre
     ]
   ]
 
-module _ (holds : Trees → Content → Type 0) (c : Conditions) (trees : Trees) where
-  pub told_version : (before : Holdings) (value : Option (String Global)) → IsImage holds c trees before → IsValueOf trees (codes "version") value → version_in before ≡ option_map string_bytes value
+module _ (format : Format) (c : Conditions) (trees : Trees) where
+  pub told_version : (before : Holdings) (value : Option (String Global)) → IsImage trees before → IsValueOf trees (codes "version") value → version_in before ≡ option_map string_bytes value
   told_version nothing_yet None image value = refl
   told_version nothing_yet (Some v) image value = absurd (none_there trees (codes "version") (string_bytes v) image.0.0 value)
-  told_version (under version text bases) None image value = absurd (value version ((image.1.each (codes "version") version).1 (inl (refl, refl))))
-  told_version (under version text bases) (Some v) image value = ap Some (sym (version_is trees version text image.0 image.1 (string_bytes v) value))
+  told_version (under version text bases) None image value = absurd (value version ((image.1.texts.each (codes "version") version).1 (inl (refl, refl))))
+  told_version (under version text bases) (Some v) image value = ap Some (sym (version_is trees version text image.1.pattern image.1.texts (string_bytes v) value))
 
-  pub told_profile : (before : Holdings) (value : Option (String Global)) → IsImage holds c trees before → IsValueOf trees (codes "profile") value → profile_in before ≡ option_map string_bytes value
+  pub told_profile : (before : Holdings) (value : Option (String Global)) → IsImage trees before → IsValueOf trees (codes "profile") value → profile_in before ≡ option_map string_bytes value
   told_profile nothing_yet None image value = refl
   told_profile nothing_yet (Some v) image value = absurd (none_there trees (codes "profile") (string_bytes v) image.0.0 value)
-  told_profile (under version text bases) None image value = absurd (value text ((image.1.each (codes "profile") text).1 (inr (inl (refl, refl)))))
-  told_profile (under version text bases) (Some v) image value = ap Some (sym (profile_is trees version text image.0 image.1 (string_bytes v) value))
+  told_profile (under version text bases) None image value = absurd (value text ((image.1.texts.each (codes "profile") text).1 (inr (inl (refl, refl)))))
+  told_profile (under version text bases) (Some v) image value = ap Some (sym (profile_is trees version text image.1.pattern image.1.texts (string_bytes v) value))
 
-  pub version_readable : (before : Holdings) → IsImage holds c trees before → AreReadableTexts trees (codes "version")
+  pub version_readable : (before : Holdings) → IsImage trees before → AreReadableTexts trees (codes "version")
   version_readable nothing_yet image value there = absurd (none_there trees (codes "version") value image.0.0 there)
-  version_readable (under version text bases) image value there = subst IsUtf8 (sym (version_is trees version text image.0 image.1 value there)) image.1.readable.0
+  version_readable (under version text bases) image value there = subst IsUtf8 (sym (version_is trees version text image.1.pattern image.1.texts value there)) image.1.texts.readable.0
 
-  pub profile_readable : (before : Holdings) → IsImage holds c trees before → AreReadableTexts trees (codes "profile")
+  pub profile_readable : (before : Holdings) → IsImage trees before → AreReadableTexts trees (codes "profile")
   profile_readable nothing_yet image value there = absurd (none_there trees (codes "profile") value image.0.0 there)
-  profile_readable (under version text bases) image value there = subst IsUtf8 (sym (profile_is trees version text image.0 image.1 value there)) image.1.readable.1
+  profile_readable (under version text bases) image value there = subst IsUtf8 (sym (profile_is trees version text image.1.pattern image.1.texts value there)) image.1.texts.readable.1
 
 -- what is seen is what was seen, so it is the same image
-pub image_still : (holds : Trees → Content → Type 0) (c : Conditions) (before : Holdings) (a b : State) → b.now ≡ a.now → IsStore a × IsImage holds c a.now.trees before → IsStore b × IsImage holds c b.now.trees before
-image_still holds c before a b same at = (store_same a b same at.0, subst (λ (d : Database). IsImage holds c d.trees before) (sym same) at.1)
+pub image_still : (before : Holdings) (a b : State) → b.now ≡ a.now → IsStore a × IsImage a.now.trees before → IsStore b × IsImage b.now.trees before
+image_still before a b same at = (store_same a b same at.0, subst (λ (d : Database). IsImage d.trees before) (sym same) at.1)
 
 -- ---- what a test of two texts told
 

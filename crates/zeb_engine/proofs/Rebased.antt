@@ -13,11 +13,13 @@ use Rattle.zeb_register.specs.Catalog.{PutsDatabase}
 use Rattle.zeb_register.specs.Content.{Content}
 use Rattle.zeb_register.specs.Store.{HasDatabase, KeepsRegisters, databases_tree}
 use Rattle.zeb_engine.specs.Holdings.{Base, Kept, base_placed, with_base}
+use Rattle.zeb_engine.specs.Names.{IsDatabaseName}
 use Rattle.zeb_engine.specs.Image.{AreBases, AreListed, AreStored, IsBase, IsImageOf}
 use Rattle.zeb_engine.specs.Works.{with_records}
 use Rattle.zeb_engine.proofs.Bases.{bytes_told, name_order, with_base_has, with_base_in_order}
 use Rattle.zeb_engine.proofs.Ids.{id_same, id_other, ids_told}
 use Rattle.zeb_engine.proofs.UnderWay.{same_kept}
+use Rattle.zeb_register.specs.Formats.{Format, holds_in}
 
 -- ---- one put over the other, of the same name
 
@@ -47,10 +49,10 @@ module _ (id : ℤ) (records : List Kept) (records_of : ℤ → List Kept) where
   pub records_else : (i : ℤ) → i ≢ id → with_records id records records_of i ≡ records_of i
   records_else i other = ap (λ (b : Bool). if b then records else records_of i) (id_other i id other)
 
-module _ (holds : Trees → Content → Type 0) (profile : List Directive) (bases : List Base) (base : Base) (there : Contains bases base) where
+module _ (format : Format) (profile : List Directive) (bases : List Base) (base : Base) (there : Contains bases base) where
   -- the tables hold what they did before any record of the database was changed
-  pub stored_at_first : (trees : Trees) (image : IsImageOf holds profile trees bases) (id : ℤ) → id ≡ image.id_of base.name → AreStored holds profile trees (with_records id base.records image.records_of)
-  stored_at_first trees image id is = subst (AreStored holds profile trees) (sym (λ i x. each x i)) image.stored
+  pub stored_at_first : (trees : Trees) (image : IsImageOf format profile trees bases) (id : ℤ) → id ≡ image.id_of base.name → AreStored format profile trees (with_records id base.records image.records_of)
+  stored_at_first trees image id is = subst (AreStored format profile trees) (sym (λ i x. each x i)) image.stored
     where
       each : (x : ℤ) → with_records id base.records image.records_of x ≡ image.records_of x
       each x = elim (ids_told x id) [
@@ -88,10 +90,14 @@ module _ (holds : Trees → Content → Type 0) (profile : List Directive) (base
         | inl one ↦ subst (IsBase profile) (sym one) is
         | inr kept ↦ are.each z kept.0
       ];
+      named = λ z h. elim (among z h) [
+        | inl one ↦ subst IsDatabaseName (sym (name_of z one ∙ named)) (are.named base there)
+        | inr kept ↦ are.named z kept.0
+      ];
     }
 
-    module _ (stays : (a b : Trees) (content : Content) → KeepsRegisters a b → holds a content → holds b content) (old now new : Trees) (image : IsImageOf holds profile old bases) (id : ℤ) (its_id : id ≡ image.id_of base.name)
-        (stored : AreStored holds profile now (with_records id next.records image.records_of)) (names : now databases_tree ≡ old databases_tree)
+    module _ (stays : (a b : Trees) (content : Content) → KeepsRegisters a b → holds_in format a content → holds_in format b content) (old now new : Trees) (image : IsImageOf format profile old bases) (id : ℤ) (its_id : id ≡ image.id_of base.name)
+        (stored : AreStored format profile now (with_records id next.records image.records_of)) (names : now databases_tree ≡ old databases_tree)
         (put_id : ℤ) (put : PutsDatabase put_id next.name (pos next.last) databases_tree now new) (records : new 4 ≡ now 4) (registers : KeepsRegisters now new) where
       there_now : (i : ℤ) (n : List ℕ) (l : ℤ) → HasDatabase old i n l → HasDatabase now i n l
       there_now i n l h = subst (λ rows. Has rows (Int i ∷ Null ∷ Text n ∷ Int l ∷ [])) (sym names) h
@@ -119,7 +125,7 @@ module _ (holds : Trees → Content → Type 0) (profile : List Directive) (base
       apart : (z : Base) → Contains bases z → z.name ≢ next.name → image.id_of z.name ≢ id
       apart z h other same = other (image.distinct z base h there (same ∙ its_id) ∙ sym named)
 
-      pub image_with : IsImageOf holds profile new (with_base next bases)
+      pub image_with : IsImageOf format profile new (with_base next bases)
       image_with = record {
         id_of = image.id_of;
         records_of = with_records id next.records image.records_of;

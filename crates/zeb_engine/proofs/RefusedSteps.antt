@@ -10,7 +10,8 @@ use Rattle.zeb_engine.specs.Crashes.{Accepts, IsRefused}
 use Rattle.zeb_engine.specs.Folding.{Progress, at_first, files_folded}
 use Rattle.zeb_engine.specs.Holdings.{Base, Holdings, base_named}
 use Rattle.zeb_engine.specs.NameOf.{name_bytes}
-use Rattle.zeb_engine.specs.Steps.{Answers, Turn, after, change_ends, change_from, changed_by_files, created, created_in, dropped, dropped_in, ends, initialised, ready, splits_of, start_of, turned, turned_from}
+use Rattle.zeb_engine.specs.Steps.{Turn, change_ends, change_from, changed_by_files, created, created_in, dropped, dropped_in, ends, initialised, ready, splits_of, start_of, turned, turned_from}
+use Rattle.zeb_engine.proofs.StepLemmas.{Answers, after}
 
 -- what a turn answers that is taken is no refusal
 abbrev IsFine : Result (Answer × List Base) Why → Type 0

@@ -14,27 +14,24 @@ use Rattle.zeb_engine.specs.Adopting.{StaysOpen}
 use Rattle.zeb_engine.specs.Answers.{Answer, answer_of}
 use Rattle.zeb_engine.specs.Conditions.{Conditions}
 use Rattle.zeb_engine.specs.Holdings.{Holdings}
-use Rattle.zeb_engine.specs.Steps.{Run, after}
+use Rattle.zeb_engine.specs.Steps.{Run}
 use Rattle.zeb_engine.specs.Works.{FindOpen, Runs, ServesCommand}
 use Rattle.zeb_engine.proofs.Serving.{on_ok}
+use Rattle.zeb_register.specs.Formats.{Format}
 
 pub run_more : (c : Conditions) (commands : List Command) (answers : List Answer) (before mid last : Holdings) (command : Command) (answer : Answer) → Run c before commands answers mid → Run c mid (command ∷ []) (answer ∷ []) last
     → Run c before (commands ++ command ∷ []) (answers ++ answer ∷ []) last
 run_more c [] [] before mid last command answer run took = subst (λ held. Run c held (command ∷ []) (answer ∷ []) last) run took
-run_more c (first ∷ commands) (told ∷ answers) before mid last command answer (inl run) took = inl (run.0, run_more c commands answers (after c first before) mid last command answer run.1 took)
-run_more c (first ∷ commands) (told ∷ answers) before mid last command answer (inr run) took = inr (run.0, run_more c commands answers before mid last command answer run.1 took)
+run_more c (first ∷ commands) (told ∷ answers) before mid last command answer run took = (run.0, run.1, run_more c commands answers run.0 mid last command answer run.2 took)
 run_more c [] (told ∷ answers) before mid last command answer run took = absurd run
 run_more c (first ∷ commands) [] before mid last command answer run took = absurd run
 
-pub runs_more : (holds : Trees → Content → Type 0) (c : Conditions) (old now next : State) (commands : List Command) (answers : List Answer) (command : Command) (result : Result Reply Refusal) → Runs holds c commands answers old now
-    → ServesCommand holds c command now next result → Runs holds c (commands ++ command ∷ []) (answers ++ answer_of result ∷ []) old next
-runs_more holds c old now next commands answers command result runs serves before keeps =
+pub runs_more : (c : Conditions) (old now next : State) (commands : List Command) (answers : List Answer) (command : Command) (result : Result Reply Refusal) → Runs c commands answers old now
+    → ServesCommand c command now next result → Runs c (commands ++ command ∷ []) (answers ++ answer_of result ∷ []) old next
+runs_more c old now next commands answers command result runs serves before keeps =
     let so_far = runs before keeps in
-    let more = λ (last : Holdings) (took : Run c so_far.0 (command ∷ []) (answer_of result ∷ []) last). run_more c commands answers before so_far.0 last command (answer_of result) so_far.1 took in
-    elim (serves so_far.0 so_far.2) [
-      | inl step ↦ (after c command so_far.0, more (after c command so_far.0) (inl (step.0, refl)), step.1)
-      | inr failed ↦ (so_far.0, more so_far.0 (inr (failed.0, refl)), failed.1)
-    ]
+    let served = serves so_far.0 so_far.2 in
+    (served.0, run_more c commands answers before so_far.0 served.0 command (answer_of result) so_far.1 (served.0, served.1, refl), served.2)
 
 -- ---- commands that are all refused
 

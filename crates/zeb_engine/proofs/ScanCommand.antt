@@ -20,16 +20,18 @@ use Rattle.zeb_engine.specs.Holdings.{Holdings, Base}
 use Rattle.zeb_engine.specs.Image.{Keeps}
 use Rattle.zeb_engine.specs.NameOf.{name_bytes}
 use Rattle.zeb_engine.specs.Scanned.{Scans, ScansIn}
-use Rattle.zeb_engine.specs.Steps.{AskedAmong, AskedFrom, ready}
+use Rattle.zeb_engine.specs.Steps.{AskedAmong, AskedFrom, ScannedFrom, ready}
 use Rattle.zeb_engine.specs.Works.{Asks, ScansFrom, ServesCommand}
+use Rattle.zeb_engine.proofs.Commanding.{asks_serve}
 use Rattle.zeb_engine.proofs.Serving.{keeps_still}
+use Rattle.zeb_register.specs.Formats.{Format, holds_in}
 
 -- a register that isn't ready
-pub unready_asked : (holds : Trees → Content → Type 0) (c : Conditions) (old new : State) (refusal : Refusal) → ChangesNothing old new
-    → ((before : Holdings) → Keeps holds c old before → IsFailure (refused (why_of refusal)) ⊎ (ready c before ≡ Err (why_of refusal)))
-    → (Says : Base → Answer → Type 0) (name query : List ℕ) → Asks holds c (λ before answer. AskedFrom Says name query (ready c before) answer) old new (Err refusal)
-unready_asked holds c old new refusal nothing told Says name query before keeps =
-    let still = keeps_still holds c before old new nothing keeps in
+pub unready_asked : (format : Format) (c : Conditions) (old new : State) (refusal : Refusal) → ChangesNothing old new
+    → ((before : Holdings) → Keeps old before → IsFailure (refused (why_of refusal)) ⊎ (ready c before ≡ Err (why_of refusal)))
+    → (Says : Base → Answer → Type 0) (name query : List ℕ) → Asks (λ before answer. AskedFrom Says name query (ready c before) answer) old new (Err refusal)
+unready_asked format c old new refusal nothing told Says name query before keeps =
+    let still = keeps_still before old new nothing keeps in
     elim (told before keeps) [
       | inl failed ↦ inr (failed, still)
       | inr said ↦ inl (subst (λ (r : Result (List Base) Why). AskedFrom Says name query r (refused (why_of refusal))) (sym said) refl, still)
@@ -43,27 +45,28 @@ ready_asked c before bases Says name query answer Kept is kept asked = elim aske
   | inr failed ↦ inr (failed, kept)
 ]
 
-pub scan_serves : (holds : Trees → Content → Type 0) (c : Conditions) (old new : State) (result : Result Reply Refusal) (database : DbName) (query : String Global) (number position : ℕ)
+pub scan_serves : (c : Conditions) (old new : State) (result : Result Reply Refusal) (database : DbName) (query : String Global) (number position : ℕ)
     → (name asked : List ℕ) (many at : ℕ) → name ≡ name_bytes database → asked ≡ string_bytes query → many ≡ number → at ≡ position
-    → ScansFrom holds c name asked many at old new result → ServesCommand holds c (Scan database query number position) old new result
-scan_serves holds c old new result database query number position name asked many at is_name is_asked is_many is_at scans =
-    subst₂ (λ (n q : List ℕ). ScansFrom holds c n q number position old new result) is_name is_asked
-    (subst₂ (λ (m p : ℕ). ScansFrom holds c name asked m p old new result) is_many is_at scans)
+    → ScansFrom c name asked many at old new result → ServesCommand c (Scan database query number position) old new result
+scan_serves c old new result database query number position name asked many at is_name is_asked is_many is_at scans =
+    asks_serve (λ before. ScannedFrom c (name_bytes database) (string_bytes query) number position (ready c before)) old new result
+    (subst₂ (λ (n q : List ℕ). ScansFrom c n q number position old new result) is_name is_asked
+    (subst₂ (λ (m p : ℕ). ScansFrom c name asked m p old new result) is_many is_at scans))
 
 -- ---- a scan by the registers alone
 
-module _ (holds : Trees → Content → Type 0) (profile : List Directive) where
+module _ (format : Format) (profile : List Directive) where
   pub scans_same : (s : State) (result : Result Reply Refusal) (name name2 text text2 : List ℕ) (number number2 position position2 : ℕ) → name ≡ name2 → text ≡ text2 → number ≡ number2 → position ≡ position2
-      → Scans holds profile name text number position s result → Scans holds profile name2 text2 number2 position2 s result
+      → Scans format profile name text number position s result → Scans format profile name2 text2 number2 position2 s result
   scans_same s result name name2 text text2 number number2 position position2 is_name is_text is_number is_position scans =
-      subst₂ (λ (n t : List ℕ). Scans holds profile n t number2 position2 s result) is_name is_text
-      (subst₂ (λ (m p : ℕ). Scans holds profile name text m p s result) is_number is_position scans)
+      subst₂ (λ (n t : List ℕ). Scans format profile n t number2 position2 s result) is_name is_text
+      (subst₂ (λ (m p : ℕ). Scans format profile name text m p s result) is_number is_position scans)
 
   -- after a look at the tables
   pub scans_after : (old mid new : State) (name text : List ℕ) (number position : ℕ) (result : Result Reply Refusal) → ChangesNothing old mid → OnOk result (StaysOpen mid new)
-      → Scans holds profile name text number position mid result → Scans holds profile name text number position old result
+      → Scans format profile name text number position mid result → Scans format profile name text number position old result
   scans_after old mid new name text number position (Ok reply) nothing opened scans store content has =
       let same = nothing opened.0 in
       subst (λ (d : Database). ScansIn profile content d.trees name text number position (answer_of (Ok reply))) same.1
-      (scans (store_same old mid same.1 store) content (subst (λ (d : Database). holds d.trees content) (sym same.1) has))
+      (scans (store_same old mid same.1 store) content (subst (λ (d : Database). holds_in format d.trees content) (sym same.1) has))
   scans_after old mid new name text number position (Err refusal) nothing opened scans store content has = tt

@@ -15,7 +15,7 @@ use Rattle.zeb_profile.specs.declared.registers.Register.{Register}
 use Rattle.zeb_query.specs.declared.faults.QueryFault.{QueryFault}
 use Rattle.zeb_query.specs.declared.faults.QueryFault.TheVariants.{Diagnostic, Memory}
 use Rattle.zeb_query.specs.Faults.{Fails}
-use Rattle.zeb_query.specs.Parsing.{IsFault}
+use Rattle.zeb_query.specs.Faults.{IsFault}
 use Rattle.zeb_query.specs.Queries.{QueryValue}
 use Rattle.zeb_query.specs.Reading.{SpellsQuery, query_fault}
 use Rattle.zeb_query.specs.Plans.{ScanValue, scan_of}
@@ -36,6 +36,7 @@ use Rattle.zeb_engine.specs.Scanning.{Entry, AreEntriesOf, HaveKey, IsTermIn, Is
 use Rattle.zeb_engine.specs.Steps.{no_database, found_or, existing, AskedIn, AskedAmong}
 use Rattle.zeb_engine.specs.Works.{Meets}
 use Rattle.zeb_engine.proofs.Finds.{IsHeld, postings_picked}
+use Rattle.zeb_register.specs.Formats.{Format}
 
 -- ---- what the registers list
 
@@ -60,7 +61,7 @@ pub none_had : (list : List Posting) (p : Posting) → Has list p → list ≢ [
 none_had [] p there = absurd there
 none_had (q ∷ rest) p there = λ none. cc
 
-module _ (holds : Trees → Content → Type 0) (profile : List Directive) (trees : Trees) (id : ℤ) (base : Base) (held : IsHeld holds profile trees id base) (index : ℕ) (register : Register)
+module _ (format : Format) (profile : List Directive) (trees : Trees) (id : ℤ) (base : Base) (held : IsHeld format profile trees id base) (index : ℕ) (register : Register)
     (all : List TermCount) (are : AreTermsOf held.content id index register all) where
   -- an entry is a term that is listed
   entry_listed : (entry : Entry) → Contains (map entry_of all) entry → (t : TermCount) × Has all t × (entry ≡ entry_of t)
@@ -71,7 +72,7 @@ module _ (holds : Trees → Content → Type 0) (profile : List Directive) (tree
       let key = key_in index register t.term in
       let count = are.counts t there in
       let numbers : AreNumbersOf (held.content id key) count.numbers = record { rising = count.rising; each = count.each } in
-      let picked = postings_picked holds profile trees id base held key (held.content id key) count.numbers refl numbers in
+      let picked = postings_picked format profile trees id base held key (held.content id key) count.numbers refl numbers in
       (picked.hits, picked.picks, count.count_is ∙ ap length (sym picked.numbers_are) ∙ length-map picked.hits (λ (k : Kept). k.sysno))
 
   listed_term : (term : List ℕ) → Has (map (λ (e : Entry). e.0) (map entry_of all)) term → (t : TermCount) × Has all t × (t.term ≡ term)
@@ -191,11 +192,11 @@ module _ (profile : List Directive) (name query : List ℕ) (number position : �
   plan_ends (Diagnostic number_of place addinfo) said =
       planned_ends (refused (diagnostic number_of place (string_bytes addinfo))) (subst (λ r. IsScanPlanned profile r number position base (refused (diagnostic number_of place (string_bytes addinfo)))) (sym said) refl)
 
-  pub scanned_ends : (holds : Trees → Content → Type 0) (trees : Trees) (id : ℤ) (held : IsHeld holds profile trees id base) (plan : ScanValue) → scan_of profile value ≡ Ok plan
+  pub scanned_ends : (format : Format) (trees : Trees) (id : ℤ) (held : IsHeld format profile trees id base) (plan : ScanValue) → scan_of profile value ≡ Ok plan
       → (terms : List TermCount) → AreAround held.content id plan number position terms → ScanEnds (scanned plan.register (map entry_of terms))
-  scanned_ends holds trees id held plan planned terms are =
+  scanned_ends format trees id held plan planned terms are =
       planned_ends (scanned plan.register (map entry_of terms)) (subst (λ r. IsScanPlanned profile r number position base (scanned plan.register (map entry_of terms))) (sym planned) (
         map entry_of are.all,
-        entries_are holds profile trees id base held plan.index plan.register are.all are.are,
+        entries_are format profile trees id base held plan.index plan.register are.all are.are,
         ap (scanned plan.register) (ap (map entry_of) are.is ∙ around_mapped number position plan.start are.all),
       ))

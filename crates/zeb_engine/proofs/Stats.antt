@@ -41,6 +41,7 @@ use Rattle.zeb_engine.specs.Steps.{CountedFrom, CountedIn, existing, found_or, n
 use Rattle.zeb_engine.specs.Works.{Meets}
 use Rattle.zeb_engine.proofs.Finds.{IsHeld, existing_met}
 use Rattle.zeb_engine.proofs.Serving.{keeps_still}
+use Rattle.zeb_register.specs.Formats.{Format}
 
 -- ---- lists of pairs
 
@@ -129,7 +130,7 @@ module _ (list_of : List ℕ → List Posting) (rising : (term : List ℕ) → I
 
 -- ---- one register
 
-module _ (holds : Trees → Content → Type 0) (profile : List Directive) (trees : Trees) (id : ℤ) (base : Base) (held : IsHeld holds profile trees id base) where
+module _ (format : Format) (profile : List Directive) (trees : Trees) (id : ℤ) (base : Base) (held : IsHeld format profile trees id base) where
   module _ (target : Target) where
     abbrev key_at : List ℕ → Key
     key_at term = key_in target.0 target.1 term
@@ -211,23 +212,23 @@ last_named name bases it trees Opened met base named =
 
 -- ---- the answer
 
-module _ (holds : Trees → Content → Type 0) (c : Conditions) (name : List ℕ) (old new : State) (nothing : ChangesNothing old new) where
+module _ (format : Format) (c : Conditions) (name : List ℕ) (old new : State) (nothing : ChangesNothing old new) where
   -- what a stat answers, or a failure
   abbrev pub Counts : Holdings → Result Reply Refusal → Type 0
-  Counts before result = (CountedFrom c name (ready c before) (answer_of result) × Keeps holds c new before) ⊎ (IsFailure (answer_of result) × Keeps holds c new before)
+  Counts before result = (CountedFrom c name (ready c before) (answer_of result) × Keeps new before) ⊎ (IsFailure (answer_of result) × Keeps new before)
 
-  pub unready_counts : (refusal : Refusal) → ((before : Holdings) → Keeps holds c old before → IsFailure (refused (why_of refusal)) ⊎ (ready c before ≡ Err (why_of refusal)))
-      → (before : Holdings) → Keeps holds c old before → Counts before (Err refusal)
+  pub unready_counts : (refusal : Refusal) → ((before : Holdings) → Keeps old before → IsFailure (refused (why_of refusal)) ⊎ (ready c before ≡ Err (why_of refusal)))
+      → (before : Holdings) → Keeps old before → Counts before (Err refusal)
   unready_counts refusal told before keeps =
-      let still = keeps_still holds c before old new nothing keeps in
+      let still = keeps_still before old new nothing keeps in
       elim (told before keeps) [
         | inl failed ↦ inr (failed, still)
         | inr said ↦ inl (subst (λ (r : Result (List Base) Why). CountedFrom c name r (refused (why_of refusal))) (sym said) refl, still)
       ]
 
-  module _ (before : Holdings) (bases : List Base) (is : ready c before ≡ Ok bases) (keeps : Keeps holds c old before) where
-    still : Keeps holds c new before
-    still = keeps_still holds c before old new nothing keeps
+  module _ (before : Holdings) (bases : List Base) (is : ready c before ≡ Ok bases) (keeps : Keeps old before) where
+    still : Keeps new before
+    still = keeps_still before old new nothing keeps
 
     pub count_fails : (result : Result Reply Refusal) → IsFailure (answer_of result) → Counts before result
     count_fails result failed = inr (failed, still)

@@ -19,20 +19,21 @@ use Rattle.zeb_engine.proofs.KeptChanges.{IsPutIn, IsTakenFrom, kept_of, new_put
 use Rattle.zeb_engine.proofs.PostedLemmas.{IsSwap, no_occurrences, put_occurrences, elder_occurrences}
 use Rattle.zeb_engine.proofs.StoredLemmas.{put_kept, take_kept}
 use Rattle.zeb_engine.proofs.UnderWay.{IsMoved, held_still, found_still, further}
+use Rattle.zeb_register.specs.Formats.{Format, holds_in}
 
 -- a record with its identifier and its occurrences can be kept
 newer_kept : (profile : List Directive) (sysno : ℕ) (ident bytes : List ℕ) (newer : List Occurrence) → IsNewer profile ident bytes newer → IsKept profile (kept_of sysno ident bytes)
 newer_kept profile sysno ident bytes newer is = record { whole = is.whole; named = is.named; text = is.text }
 
 -- what the registers hold of a record, if it is just these occurrences
-pub record IsFoundAt (holds : Trees → Content → Type 0) (id : ℤ) (sysno : ℕ) (elder : List Occurrence) (s : State) : Type 0 where
+pub record IsFoundAt (format : Format) (id : ℤ) (sysno : ℕ) (elder : List Occurrence) (s : State) : Type 0 where
   pub content : Content
-  pub held : holds s.now.trees content
+  pub held : holds_in format s.now.trees content
   pub rising : IsRising content
   pub found : ArePostingsOf sysno elder (content id)
 
-module _ (holds : Trees → Content → Type 0) (stays : (old new : Trees) (content : Content) → KeepsRegisters old new → holds old content → holds new content)
-    (profile : List Directive) (id : ℤ) (records_of : ℤ → List Kept) (old mid : State) (base : Base) (under : IsUnderWay holds profile id records_of old base) where
+module _ (format : Format) (stays : (old new : Trees) (content : Content) → KeepsRegisters old new → holds_in format old content → holds_in format new content)
+    (profile : List Directive) (id : ℤ) (records_of : ℤ → List Kept) (old mid : State) (base : Base) (under : IsUnderWay format profile id records_of old base) where
   abbrev pub PutAs : ℕ → List ℕ → List ℕ → Type 0
   PutAs sysno ident bytes = Changes records_tree (Replaces (SharesRecord id (pos sysno) ident) (record_row id (pos sysno) ident bytes)) old mid
 
@@ -49,19 +50,19 @@ module _ (holds : Trees → Content → Type 0) (stays : (old new : Trees) (cont
       others = others_put (kept_of (base.last + 1) ident bytes) base.records (with_new ident bytes base).records new_one;
     }
 
-    pub insert_found : IsFoundAt holds id (base.last + 1) [] mid
+    pub insert_found : IsFoundAt format id (base.last + 1) [] mid
     insert_found = record {
       content = under.1.content;
-      held = held_still holds profile id records_of stays old mid base (with_new ident bytes base) under _ put;
+      held = held_still format profile id records_of stays old mid base (with_new ident bytes base) under _ put;
       rising = under.1.posted.rising;
-      found = found_still holds profile id records_of stays old mid base (with_new ident bytes base) under _ put (base.last + 1) [] newer new_swap;
+      found = found_still format profile id records_of stays old mid base (with_new ident bytes base) under _ put (base.last + 1) [] newer new_swap;
     }
 
-    pub insert_taken : (new : State) → base.last < 999999999 → IsMoved holds profile id records_of (base.last + 1) [] newer mid new
-        → IsTaken holds profile id records_of old new (base.last + 1) (with_new ident bytes base, Inserted) Inserted
+    pub insert_taken : (new : State) → base.last < 999999999 → IsMoved format profile id records_of (base.last + 1) [] newer mid new
+        → IsTaken format profile id records_of old new (base.last + 1) (with_new ident bytes base, Inserted) Inserted
     insert_taken new few moved =
         let kept = put_kept id records_of old.now.trees mid.now.trees base.records (with_new ident bytes base).records under.1.kept (kept_of (base.last + 1) ident bytes) new_one put.rows in
-        let on = further holds profile id records_of stays old mid base (with_new ident bytes base) under _ put (base.last + 1) [] newer new_swap new kept
+        let on = further format profile id records_of stays old mid base (with_new ident bytes base) under _ put (base.last + 1) [] newer new_swap new kept
         (new_base profile base under.2 ident bytes none few (newer_kept profile (base.last + 1) ident bytes newer is)) moved in
         record { fate_is = refl; last_is = refl; under_way = on.0; names = on.1 }
 
@@ -79,18 +80,18 @@ module _ (holds : Trees → Content → Type 0) (stays : (old new : Trees) (cont
         others = others_put (kept_of kept.sysno ident bytes) base.records (with_bytes ident bytes base).records one_put;
       }
 
-      pub replace_found : IsFoundAt holds id kept.sysno elder mid
+      pub replace_found : IsFoundAt format id kept.sysno elder mid
       replace_found = record {
         content = under.1.content;
-        held = held_still holds profile id records_of stays old mid base (with_bytes ident bytes base) under _ put;
+        held = held_still format profile id records_of stays old mid base (with_bytes ident bytes base) under _ put;
         rising = under.1.posted.rising;
-        found = found_still holds profile id records_of stays old mid base (with_bytes ident bytes base) under _ put kept.sysno elder newer put_swap;
+        found = found_still format profile id records_of stays old mid base (with_bytes ident bytes base) under _ put kept.sysno elder newer put_swap;
       }
 
-      pub replace_taken : (new : State) → IsMoved holds profile id records_of kept.sysno elder newer mid new → IsTaken holds profile id records_of old new base.last (with_bytes ident bytes base, Updated) Updated
+      pub replace_taken : (new : State) → IsMoved format profile id records_of kept.sysno elder newer mid new → IsTaken format profile id records_of old new base.last (with_bytes ident bytes base, Updated) Updated
       replace_taken new moved =
           let rows = put_kept id records_of old.now.trees mid.now.trees base.records (with_bytes ident bytes base).records under.1.kept (kept_of kept.sysno ident bytes) one_put put.rows in
-          let on = further holds profile id records_of stays old mid base (with_bytes ident bytes base) under _ put kept.sysno elder newer put_swap new rows
+          let on = further format profile id records_of stays old mid base (with_bytes ident bytes base) under _ put kept.sysno elder newer put_swap new rows
           (bytes_base profile base under.2 ident kept there bytes (newer_kept profile kept.sysno ident bytes newer is)) moved in
           record { fate_is = refl; last_is = refl; under_way = on.0; names = on.1 }
 
@@ -105,17 +106,17 @@ module _ (holds : Trees → Content → Type 0) (stays : (old new : Trees) (cont
         others = others_taken kept.sysno base.records (without_ident ident base).records one_taken;
       }
 
-      pub withdraw_found : IsFoundAt holds id kept.sysno elder mid
+      pub withdraw_found : IsFoundAt format id kept.sysno elder mid
       withdraw_found = record {
         content = under.1.content;
-        held = held_still holds profile id records_of stays old mid base (without_ident ident base) under _ take;
+        held = held_still format profile id records_of stays old mid base (without_ident ident base) under _ take;
         rising = under.1.posted.rising;
-        found = found_still holds profile id records_of stays old mid base (without_ident ident base) under _ take kept.sysno elder [] take_swap;
+        found = found_still format profile id records_of stays old mid base (without_ident ident base) under _ take kept.sysno elder [] take_swap;
       }
 
-      pub withdraw_taken : (new : State) → IsMoved holds profile id records_of kept.sysno elder [] mid new → IsTaken holds profile id records_of old new base.last (without_ident ident base, Deleted) Deleted
+      pub withdraw_taken : (new : State) → IsMoved format profile id records_of kept.sysno elder [] mid new → IsTaken format profile id records_of old new base.last (without_ident ident base, Deleted) Deleted
       withdraw_taken new moved =
           let rows = take_kept id records_of old.now.trees mid.now.trees base.records (without_ident ident base).records under.1.kept kept.sysno one_taken take.rows in
-          let on = further holds profile id records_of stays old mid base (without_ident ident base) under _ take kept.sysno elder [] take_swap new rows
+          let on = further format profile id records_of stays old mid base (without_ident ident base) under _ take kept.sysno elder [] take_swap new rows
           (ident_base profile base under.2 ident kept there) moved in
           record { fate_is = refl; last_is = refl; under_way = on.0; names = on.1 }

@@ -26,23 +26,24 @@ use Rattle.zeb_engine.specs.Works.{Meets, IsTaken, IsUnderWay}
 use Rattle.zeb_engine.proofs.KeptLemmas.{kept_found}
 use Rattle.zeb_engine.proofs.UnderWay.{meets_failure, meets_so, same_way, same_names, taken_after, IsMoved}
 use Rattle.zeb_engine.proofs.TakenLemmas.{IsFoundAt, PutAs, insert_found, insert_taken, replace_found, replace_taken, withdraw_found, withdraw_taken}
+use Rattle.zeb_register.specs.Formats.{Format, holds_in}
 
 -- the error of a call that failed, passed on
 pub passed_on : {A X : Type 0} (Good : A → X → Type 0) (said : Result A Why) (r : Result X Refusal) (refusal : Refusal) → r ≡ Err refusal → IsFailure (refused (why_of refusal)) → Meets Good said r
 passed_on Good said r refusal told failed = subst (Meets Good said) (sym told) (meets_failure Good said refusal failed)
 
 -- a record is taken in after it was looked for, which changes nothing
-pub turned_so : (holds : Trees → Content → Type 0) (profile : List Directive) (id : ℤ) (records_of : ℤ → List Kept) (old mid new : State) (last : ℕ) (one two : Result Changed Why) (r : Result Fate Refusal)
-    → mid.now ≡ old.now → two ≡ one → Meets (IsTaken holds profile id records_of mid new last) one r → Meets (IsTaken holds profile id records_of old new last) two r
-turned_so holds profile id records_of old mid new last one two r same said met =
-    subst (λ (x : Result Changed Why). Meets (IsTaken holds profile id records_of old new last) x r) (sym said)
-    (meets_so (IsTaken holds profile id records_of mid new last) (IsTaken holds profile id records_of old new last) one r (λ changed fate. taken_after holds profile id records_of old mid new last changed fate same) met)
+pub turned_so : (format : Format) (profile : List Directive) (id : ℤ) (records_of : ℤ → List Kept) (old mid new : State) (last : ℕ) (one two : Result Changed Why) (r : Result Fate Refusal)
+    → mid.now ≡ old.now → two ≡ one → Meets (IsTaken format profile id records_of mid new last) one r → Meets (IsTaken format profile id records_of old new last) two r
+turned_so format profile id records_of old mid new last one two r same said met =
+    subst (λ (x : Result Changed Why). Meets (IsTaken format profile id records_of old new last) x r) (sym said)
+    (meets_so (IsTaken format profile id records_of mid new last) (IsTaken format profile id records_of old new last) one r (λ changed fate. taken_after format profile id records_of old mid new last changed fate same) met)
 
 -- nothing becomes of a record
-pub passed_over : (holds : Trees → Content → Type 0) (profile : List Directive) (id : ℤ) (records_of : ℤ → List Kept) (old mid : State) (last : ℕ) (base : Base) (fate : Fate)
-    → mid.now ≡ old.now → last ≡ base.last → IsUnderWay holds profile id records_of old base → IsTaken holds profile id records_of old mid last (base, fate) fate
-passed_over holds profile id records_of old mid last base fate same is_last under =
-    record { fate_is = refl; last_is = is_last; under_way = same_way holds profile id records_of old mid base same under; names = same_names holds profile id records_of old mid same }
+pub passed_over : (format : Format) (profile : List Directive) (id : ℤ) (records_of : ℤ → List Kept) (old mid : State) (last : ℕ) (base : Base) (fate : Fate)
+    → mid.now ≡ old.now → last ≡ base.last → IsUnderWay format profile id records_of old base → IsTaken format profile id records_of old mid last (base, fate) fate
+passed_over format profile id records_of old mid last base fate same is_last under =
+    record { fate_is = refl; last_is = is_last; under_way = same_way format profile id records_of old mid base same under; names = same_names format profile id records_of old mid same }
 
 pub none_rise : AreRising []
 unfolding IsStrictlySortedBy
@@ -56,45 +57,45 @@ pub elder_whole : (profile : List Directive) (ident : List ℕ) (base : Base) (e
 elder_whole profile ident base elder is there =
     subst (λ (bytes : List ℕ). first_fault bytes ≡ None) there.3 (is.sound there.0 (contains_had base.records there.0 (kept_found ident base there.0 there.1).0)).whole
 
-module _ (holds : Trees → Content → Type 0) (stays : (old new : Trees) (content : Content) → KeepsRegisters old new → holds old content → holds new content)
-    (profile : List Directive) (id : ℤ) (records_of : ℤ → List Kept) (old mid : State) (base : Base) (under : IsUnderWay holds profile id records_of old base) (ident : List ℕ) where
+module _ (format : Format) (stays : (old new : Trees) (content : Content) → KeepsRegisters old new → holds_in format old content → holds_in format new content)
+    (profile : List Directive) (id : ℤ) (records_of : ℤ → List Kept) (old mid : State) (base : Base) (under : IsUnderWay format profile id records_of old base) (ident : List ℕ) where
   module _ (bytes : List ℕ) (newer : List Occurrence) (is : IsNewer profile ident bytes newer) where
-    module _ (last : ℕ) (same : last ≡ base.last) (none : kept_as ident base ≡ None) (put : PutAs holds stays profile id records_of old mid base under (last + 1) ident bytes) where
-      put_next : PutAs holds stays profile id records_of old mid base under (base.last + 1) ident bytes
-      put_next = subst (λ (n : ℕ). PutAs holds stays profile id records_of old mid base under (n + 1) ident bytes) same put
+    module _ (last : ℕ) (same : last ≡ base.last) (none : kept_as ident base ≡ None) (put : PutAs format stays profile id records_of old mid base under (last + 1) ident bytes) where
+      put_next : PutAs format stays profile id records_of old mid base under (base.last + 1) ident bytes
+      put_next = subst (λ (n : ℕ). PutAs format stays profile id records_of old mid base under (n + 1) ident bytes) same put
 
-      pub inserted_at : IsFoundAt holds id (last + 1) [] mid
-      inserted_at = subst (λ (n : ℕ). IsFoundAt holds id (n + 1) [] mid) (sym same) (insert_found holds stays profile id records_of old mid base under ident bytes newer none is put_next)
+      pub inserted_at : IsFoundAt format id (last + 1) [] mid
+      inserted_at = subst (λ (n : ℕ). IsFoundAt format id (n + 1) [] mid) (sym same) (insert_found format stays profile id records_of old mid base under ident bytes newer none is put_next)
 
-      pub inserted : (c : Conditions) (new : State) (after : ℕ) → after ≡ last + 1 → last < c.limits.numbers → c.limits.numbers ≤ 999999999 → IsMoved holds profile id records_of (last + 1) [] newer mid new
-          → Meets (IsTaken holds profile id records_of old new after) (updated c ident bytes base (kept_as ident base)) (Ok Inserted)
+      pub inserted : (c : Conditions) (new : State) (after : ℕ) → after ≡ last + 1 → last < c.limits.numbers → c.limits.numbers ≤ 999999999 → IsMoved format profile id records_of (last + 1) [] newer mid new
+          → Meets (IsTaken format profile id records_of old new after) (updated c ident bytes base (kept_as ident base)) (Ok Inserted)
       inserted c new after is_next below most moved =
-          let moved_next = subst (λ (n : ℕ). IsMoved holds profile id records_of (n + 1) [] newer mid new) same moved in
+          let moved_next = subst (λ (n : ℕ). IsMoved format profile id records_of (n + 1) [] newer mid new) same moved in
           let few : base.last < 999999999 = omega (arith, same) in
-          let taken = insert_taken holds stays profile id records_of old mid base under ident bytes newer none is put_next new few moved_next in
+          let taken = insert_taken format stays profile id records_of old mid base under ident bytes newer none is put_next new few moved_next in
           let free : nat_le c.limits.numbers base.last ≡ false = not_full c.limits.numbers base.last (omega (arith, same)) in
-          subst (λ (found : Option Kept). Meets (IsTaken holds profile id records_of old new after) (updated c ident bytes base found) (Ok Inserted)) (sym none)
-          (rw free (subst (λ (n : ℕ). IsTaken holds profile id records_of old new n (with_new ident bytes base, Inserted) Inserted) (sym (is_next ∙ ap (λ (n : ℕ). n + 1) same)) taken))
+          subst (λ (found : Option Kept). Meets (IsTaken format profile id records_of old new after) (updated c ident bytes base found) (Ok Inserted)) (sym none)
+          (rw free (subst (λ (n : ℕ). IsTaken format profile id records_of old new n (with_new ident bytes base, Inserted) Inserted) (sym (is_next ∙ ap (λ (n : ℕ). n + 1) same)) taken))
 
     module _ (elder : Elder) (there : IsElderAs ident base (Some elder)) (occurrences : List Occurrence) (was : AreOccurrencesOf profile elder.bytes.items occurrences)
-        (put : PutAs holds stays profile id records_of old mid base under elder.sysno ident bytes) where
-      put_again : PutAs holds stays profile id records_of old mid base under there.0.sysno ident bytes
-      put_again = subst (λ (n : ℕ). PutAs holds stays profile id records_of old mid base under n ident bytes) there.2 put
+        (put : PutAs format stays profile id records_of old mid base under elder.sysno ident bytes) where
+      put_again : PutAs format stays profile id records_of old mid base under there.0.sysno ident bytes
+      put_again = subst (λ (n : ℕ). PutAs format stays profile id records_of old mid base under n ident bytes) there.2 put
 
       of_kept : AreOccurrencesOf profile there.0.bytes occurrences
       of_kept = subst (λ (b : List ℕ). AreOccurrencesOf profile b occurrences) (sym there.3) was
 
-      pub replaced_at : IsFoundAt holds id elder.sysno occurrences mid
-      replaced_at = subst (λ (n : ℕ). IsFoundAt holds id n occurrences mid) (sym there.2)
-          (replace_found holds stays profile id records_of old mid base under ident there.0 occurrences there.1 of_kept bytes newer is put_again)
+      pub replaced_at : IsFoundAt format id elder.sysno occurrences mid
+      replaced_at = subst (λ (n : ℕ). IsFoundAt format id n occurrences mid) (sym there.2)
+          (replace_found format stays profile id records_of old mid base under ident there.0 occurrences there.1 of_kept bytes newer is put_again)
 
-      pub replaced : (c : Conditions) (new : State) (after : ℕ) → after ≡ base.last → IsMoved holds profile id records_of elder.sysno occurrences newer mid new
-          → Meets (IsTaken holds profile id records_of old new after) (updated c ident bytes base (kept_as ident base)) (Ok Updated)
+      pub replaced : (c : Conditions) (new : State) (after : ℕ) → after ≡ base.last → IsMoved format profile id records_of elder.sysno occurrences newer mid new
+          → Meets (IsTaken format profile id records_of old new after) (updated c ident bytes base (kept_as ident base)) (Ok Updated)
       replaced c new after is_last moved =
-          let moved_kept = subst (λ (n : ℕ). IsMoved holds profile id records_of n occurrences newer mid new) there.2 moved in
-          let taken = replace_taken holds stays profile id records_of old mid base under ident there.0 occurrences there.1 of_kept bytes newer is put_again new moved_kept in
-          subst (λ (found : Option Kept). Meets (IsTaken holds profile id records_of old new after) (updated c ident bytes base found) (Ok Updated)) (sym there.1)
-          (subst (λ (n : ℕ). IsTaken holds profile id records_of old new n (with_bytes ident bytes base, Updated) Updated) (sym is_last) taken)
+          let moved_kept = subst (λ (n : ℕ). IsMoved format profile id records_of n occurrences newer mid new) there.2 moved in
+          let taken = replace_taken format stays profile id records_of old mid base under ident there.0 occurrences there.1 of_kept bytes newer is put_again new moved_kept in
+          subst (λ (found : Option Kept). Meets (IsTaken format profile id records_of old new after) (updated c ident bytes base found) (Ok Updated)) (sym there.1)
+          (subst (λ (n : ℕ). IsTaken format profile id records_of old new n (with_bytes ident bytes base, Updated) Updated) (sym is_last) taken)
 
   module _ (elder : Elder) (there : IsElderAs ident base (Some elder)) (occurrences : List Occurrence) (was : AreOccurrencesOf profile elder.bytes.items occurrences)
       (take : Changes records_tree (Loses (HasNumber id (pos elder.sysno))) old mid) where
@@ -104,14 +105,14 @@ module _ (holds : Trees → Content → Type 0) (stays : (old new : Trees) (cont
     of_taken : AreOccurrencesOf profile there.0.bytes occurrences
     of_taken = subst (λ (b : List ℕ). AreOccurrencesOf profile b occurrences) (sym there.3) was
 
-    pub withdrawn_at : IsFoundAt holds id elder.sysno occurrences mid
-    withdrawn_at = subst (λ (n : ℕ). IsFoundAt holds id n occurrences mid) (sym there.2)
-        (withdraw_found holds stays profile id records_of old mid base under ident there.0 occurrences there.1 of_taken take_kept_one)
+    pub withdrawn_at : IsFoundAt format id elder.sysno occurrences mid
+    withdrawn_at = subst (λ (n : ℕ). IsFoundAt format id n occurrences mid) (sym there.2)
+        (withdraw_found format stays profile id records_of old mid base under ident there.0 occurrences there.1 of_taken take_kept_one)
 
-    pub withdrawn : (absent : Result Changed Why) (new : State) (after : ℕ) → after ≡ base.last → IsMoved holds profile id records_of elder.sysno occurrences [] mid new
-        → Meets (IsTaken holds profile id records_of old new after) (deleted absent ident base (kept_as ident base)) (Ok Deleted)
+    pub withdrawn : (absent : Result Changed Why) (new : State) (after : ℕ) → after ≡ base.last → IsMoved format profile id records_of elder.sysno occurrences [] mid new
+        → Meets (IsTaken format profile id records_of old new after) (deleted absent ident base (kept_as ident base)) (Ok Deleted)
     withdrawn absent new after is_last moved =
-        let moved_kept = subst (λ (n : ℕ). IsMoved holds profile id records_of n occurrences [] mid new) there.2 moved in
-        let taken = withdraw_taken holds stays profile id records_of old mid base under ident there.0 occurrences there.1 of_taken take_kept_one new moved_kept in
-        subst (λ (found : Option Kept). Meets (IsTaken holds profile id records_of old new after) (deleted absent ident base found) (Ok Deleted)) (sym there.1)
-        (subst (λ (n : ℕ). IsTaken holds profile id records_of old new n (without_ident ident base, Deleted) Deleted) (sym is_last) taken)
+        let moved_kept = subst (λ (n : ℕ). IsMoved format profile id records_of n occurrences [] mid new) there.2 moved in
+        let taken = withdraw_taken format stays profile id records_of old mid base under ident there.0 occurrences there.1 of_taken take_kept_one new moved_kept in
+        subst (λ (found : Option Kept). Meets (IsTaken format profile id records_of old new after) (deleted absent ident base found) (Ok Deleted)) (sym there.1)
+        (subst (λ (n : ℕ). IsTaken format profile id records_of old new n (without_ident ident base, Deleted) Deleted) (sym is_last) taken)

@@ -23,6 +23,7 @@ use Rattle.zeb_engine.specs.Outcomes.{register_refusal}
 use Rattle.zeb_engine.specs.Works.{Meets, IsTaken, IsUnderWay, KeepsNames, with_records}
 use Rattle.zeb_engine.proofs.PostedLemmas.{IsSwap, posted_elder, posted_after}
 use Rattle.zeb_engine.proofs.Reposted.{reposted, reposted_is}
+use Rattle.zeb_register.specs.Formats.{Format, holds_in}
 
 -- the registers are as they were where the table of records is written
 pub registers_still : (old new : State) (Rows : ℕ → Trees → Trees → Type 0) → Changes records_tree Rows old new → KeepsRegisters old.now.trees new.now.trees
@@ -62,19 +63,19 @@ same_kept old new records_of same are i sysno ident bytes = (
   λ row. let there = (are i sysno ident bytes).1 row in (there.0, subst (λ rows. Has rows (Int there.0 ∷ record_row i sysno ident bytes)) (sym same) there.1),
 )
 
-module _ (holds : Trees → Content → Type 0) (profile : List Directive) (id : ℤ) (records_of : ℤ → List Kept) where
+module _ (format : Format) (profile : List Directive) (id : ℤ) (records_of : ℤ → List Kept) where
   -- what is seen tells how far a change is
-  pub same_way : (old new : State) (base : Base) → new.now ≡ old.now → IsUnderWay holds profile id records_of old base → IsUnderWay holds profile id records_of new base
+  pub same_way : (old new : State) (base : Base) → new.now ≡ old.now → IsUnderWay format profile id records_of old base → IsUnderWay format profile id records_of new base
   same_way old new base same under = (
     store_same old new same under.0,
-    subst (λ (db : Database). AreStored holds profile db.trees (with_records id base.records records_of)) (sym same) under.1,
+    subst (λ (db : Database). AreStored format profile db.trees (with_records id base.records records_of)) (sym same) under.1,
     under.2,
   )
 
   pub same_names : (old new : State) → new.now ≡ old.now → KeepsNames old new
   same_names old new same = (ap (λ (db : Database). db.trees 0) same, ap (λ (db : Database). db.trees 2) same)
 
-  pub taken_after : (old mid new : State) (last : ℕ) (changed : Changed) (fate : Fate) → mid.now ≡ old.now → IsTaken holds profile id records_of mid new last changed fate → IsTaken holds profile id records_of old new last changed fate
+  pub taken_after : (old mid new : State) (last : ℕ) (changed : Changed) (fate : Fate) → mid.now ≡ old.now → IsTaken format profile id records_of mid new last changed fate → IsTaken format profile id records_of old new last changed fate
   taken_after old mid new last changed fate same taken = record {
     fate_is = taken.fate_is;
     last_is = taken.last_is;
@@ -86,15 +87,15 @@ module _ (holds : Trees → Content → Type 0) (profile : List Directive) (id :
   abbrev pub IsMoved : ℕ → List Occurrence → List Occurrence → State → State → Type 0
   IsMoved sysno elder newer mid new =
       IsStore new × KeepsLists mid.now.trees new.now.trees
-      × ((before after : Content) → holds mid.now.trees before → IsRising before → ArePostingsOf sysno elder (before id) → IsReposted id sysno newer before after → holds new.now.trees after)
+      × ((before after : Content) → holds_in format mid.now.trees before → IsRising before → ArePostingsOf sysno elder (before id) → IsReposted id sysno newer before after → holds_in format new.now.trees after)
 
-  module _ (stays : (old new : Trees) (content : Content) → KeepsRegisters old new → holds old content → holds new content) (old mid : State) (base next : Base)
-      (under : IsUnderWay holds profile id records_of old base) (Rows : ℕ → Trees → Trees → Type 0) (put : Changes records_tree Rows old mid) where
+  module _ (stays : (old new : Trees) (content : Content) → KeepsRegisters old new → holds_in format old content → holds_in format new content) (old mid : State) (base next : Base)
+      (under : IsUnderWay format profile id records_of old base) (Rows : ℕ → Trees → Trees → Type 0) (put : Changes records_tree Rows old mid) where
     registers_kept : KeepsRegisters old.now.trees mid.now.trees
     registers_kept = registers_still old mid Rows put
 
     -- the registers hold then what they held
-    pub held_still : holds mid.now.trees under.1.content
+    pub held_still : holds_in format mid.now.trees under.1.content
     held_still = stays old.now.trees mid.now.trees under.1.content registers_kept under.1.held
 
     module _ (sysno : ℕ) (elder newer : List Occurrence) (swap : IsSwap profile sysno elder newer base.records next.records) where
@@ -103,7 +104,7 @@ module _ (holds : Trees → Content → Type 0) (profile : List Directive) (id :
       found_still = posted_elder profile id records_of sysno elder newer base.records next.records swap under.1.content under.1.posted
 
       pub further : (new : State) → AreKept mid.now.trees (with_records id next.records records_of) → IsBase profile next → IsMoved sysno elder newer mid new
-          → IsUnderWay holds profile id records_of new next × KeepsNames old new
+          → IsUnderWay format profile id records_of new next × KeepsNames old new
       further new kept is moved =
           let after = reposted id sysno newer under.1.content in
           let change = reposted_is id sysno newer under.1.content under.1.posted.rising in (

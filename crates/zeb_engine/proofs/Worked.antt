@@ -30,7 +30,8 @@ use Rattle.zeb_engine.specs.Conditions.{Conditions}
 use Rattle.zeb_engine.specs.Finding.{HasKey, Picks, shown_of, IsFound}
 use Rattle.zeb_engine.specs.Folding.{Progress, at_first, counted, folded, ident_in}
 use Rattle.zeb_engine.specs.Holdings.{Holdings, Base, Kept, new_base, with_base, with_new, with_bytes}
-use Rattle.zeb_engine.specs.Steps.{outcome, initialised, turned, changed_by_files, splits_of}
+use Rattle.zeb_engine.specs.Steps.{initialised, turned, changed_by_files, splits_of}
+use Rattle.zeb_engine.proofs.StepLemmas.{outcome}
 use Rattle.zeb_engine.specs.Worked.{book, book_base, book_conditions, faulty_file, no_books, one_book, title_word, IsUpdateBy}
 use Rattle.zeb_engine.proofs.WorkedLemmas.{new_folded, old_folded, whole_file, faulty_file as fault_behind, update_done, update_refused}
 

@@ -11,7 +11,8 @@ use Rattle.zeb_text.specs.Truncation.{truncated}
 use Rattle.zeb_query.specs.Words.{Word, words_at, unquoted}
 use Rattle.zeb_query.specs.Queries.{QueryValue, TermValue}
 use Rattle.zeb_query.specs.Grammar.{IsQuery, is_term, is_attribute, is_structure, kind_and_value, no_head, under, with_attribute}
-use Rattle.zeb_query.proofs.GrammarOnce.{same_query}
+use Rattle.zeb_query.proofs.TextFaults.{one_query}
+use Rattle.zeb_query.proofs.WordStretches.{words_are_read}
 use Rattle.zeb_query.specs.Reading.{SpellsQuery, query_fault}
 use Rattle.zeb_query.specs.Holding.{holding_of}
 use Rattle.zeb_query.specs.Plans.{PlanValue, TermOf, PhraseOf, leaf_plan, plan_asked, plan_of}
@@ -23,7 +24,8 @@ use Rattle.zeb_engine.specs.NameOf.{name_bytes}
 use Rattle.zeb_engine.specs.Answers.{Answer}
 use Rattle.zeb_engine.specs.Conditions.{Conditions}
 use Rattle.zeb_engine.specs.Finding.{IsFound, IsPlanned, IsAnswered, word_key}
-use Rattle.zeb_engine.specs.Steps.{Answers, FoundFrom, FoundAmong, ready}
+use Rattle.zeb_engine.specs.Holdings.{Holdings}
+use Rattle.zeb_engine.specs.Steps.{FoundFrom, FoundAmong, ready, Step}
 use Rattle.zeb_engine.specs.Worked.{book_base, book_conditions, one_book, title_word, IsFindBy}
 use Rattle.zeb_engine.proofs.Worked.{one_found, word_found}
 use Rattle.zeb_engine.proofs.WorkedLemmas.{ready_held}
@@ -52,7 +54,7 @@ unfolding kind_and_value
 spells_words = is_structure _ _ (is_attribute (plain 0 (codes "@attr")) (plain 6 (codes "1=4")) (term ∷ []) _ (1, codes "4") refl refl refl (is_term term refl refl))
 
 spells : SpellsQuery text query
-spells = subst (λ words. IsQuery words query) (sym words_are) spells_words
+spells = record { words = words_at 0 (chars text); are_words = words_are_read (chars text); spelled = subst (λ words. IsQuery words query) (sym words_are) spells_words }
 
 sound : query_fault text ≡ None
 unfolding chars is_utf8 encode kind_and_value
@@ -74,7 +76,7 @@ answered =
 -- no other query is spelled, and so nothing else is answered
 answered_once : (answer : Answer) → IsAnswered title_profile text 1 20 book_base answer → answer ≡ one_found
 answered_once answer is =
-    let same : is.0 ≡ query = same_query (words_at 0 (chars text)) is.0 query is.1 spells in
+    let same : is.0 ≡ query = one_query text is.0 query is.1 spells in
     let by_query = subst (λ q. IsPlanned title_profile (plan_of title_profile q) 1 20 book_base answer) same is.2 in
     let by_plan = subst (λ p. IsPlanned title_profile p 1 20 book_base answer) planned by_query in
     (word_found answer).0 (subst (λ key. IsFound title_profile key 1 20 book_base answer) key_is by_plan)
@@ -105,14 +107,16 @@ module _ (version : List ℕ) (limits : Limits) (answer : Answer) where
       let by_first = subst (λ n. FoundFrom c name words n 20 (ready c (one_book version)) answer ↔ (answer ≡ one_found)) (sym is_first) by_text in
       subst (λ n. FoundFrom c name words first n (ready c (one_book version)) answer ↔ (answer ≡ one_found)) (sym is_count) by_first
 
-  pub asked : (command : Command) → IsFindBy text command → Answers c command (one_book version) answer ↔ (answer ≡ one_found)
-  asked (Find name asked_for first count) is = asked_as (name_bytes name) (string_bytes asked_for) first count is.0 is.1 is.2 is.3
-  asked (Change kind name files) is = absurd is
-  asked Init is = absurd is
-  asked Check is = absurd is
-  asked (Create name) is = absurd is
-  asked (Drop name) is = absurd is
-  asked (Stat name) is = absurd is
-  asked (Dump name) is = absurd is
-  asked (Scan name asked_for number position) is = absurd is
-  asked (Analyse files) is = absurd is
+  pub asked : (later : Holdings) (command : Command) → IsFindBy text command → Step c command (one_book version) answer later ↔ ((answer ≡ one_found) × (later ≡ one_book version))
+  asked later (Find name asked_for first count) is =
+      let it = asked_as (name_bytes name) (string_bytes asked_for) first count is.0 is.1 is.2 is.3 in
+      (λ step. (it.0 step.0, step.1), λ both. (it.1 both.0, both.1))
+  asked later (Change kind name files) is = absurd is
+  asked later Init is = absurd is
+  asked later Check is = absurd is
+  asked later (Create name) is = absurd is
+  asked later (Drop name) is = absurd is
+  asked later (Stat name) is = absurd is
+  asked later (Dump name) is = absurd is
+  asked later (Scan name asked_for number position) is = absurd is
+  asked later (Analyse files) is = absurd is

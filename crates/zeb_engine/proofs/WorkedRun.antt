@@ -8,17 +8,18 @@ use Rattle.zeb_engine.specs.declared.commands.Limits.{Limits}
 use Rattle.zeb_engine.specs.Answers.{Answer, done, changed}
 use Rattle.zeb_engine.specs.Conditions.{Conditions}
 use Rattle.zeb_engine.specs.Holdings.{Holdings, nothing_yet}
-use Rattle.zeb_engine.specs.Steps.{Answers, IsTold, Outcome, Run, left_by, outcome}
+use Rattle.zeb_engine.specs.Steps.{Outcome, Run, Step}
+use Rattle.zeb_engine.proofs.StepLemmas.{outcome, step_is}
 use Rattle.zeb_engine.specs.Worked.{book_conditions, no_books, one_book, IsFindBy, IsUpdateBy}
 use Rattle.zeb_engine.proofs.Worked.{begun, kept, one_found}
 use Rattle.zeb_engine.proofs.WorkedQuery.{asked}
 
 module _ (c : Conditions) (before : Holdings) (commands : List Command) (answers : List Answer) (last : Holdings) where
   begins : (o : Outcome) → outcome c Init before ≡ Some o → Run c o.1 commands answers last → Run c before (Init ∷ commands) (o.0 ∷ answers) last
-  begins o is rest = inl (subst (λ told. IsTold told o.0) (sym is) refl, subst (λ held. Run c held commands answers last) (sym (ap (left_by before) is)) rest)
+  begins o is rest = (o.1, inl ((step_is o.0 o.1 c Init before o is).1 (refl, refl)), rest)
 
   updates : (texts : List (List ℕ)) (o : Outcome) (command : Command) → IsUpdateBy texts command → outcome c command before ≡ Some o → Run c o.1 commands answers last → Run c before (command ∷ commands) (o.0 ∷ answers) last
-  updates texts o (Change Update name files) by is rest = inl (subst (λ told. IsTold told o.0) (sym is) refl, subst (λ held. Run c held commands answers last) (sym (ap (left_by before) is)) rest)
+  updates texts o (Change Update name files) by is rest = (o.1, inl ((step_is o.0 o.1 c (Change Update name files) before o is).1 (refl, refl)), rest)
   updates texts o (Change Delete name files) by is rest = absurd by
   updates texts o (Change Adelete name files) by is rest = absurd by
   updates texts o Init by is rest = absurd by
@@ -31,8 +32,8 @@ module _ (c : Conditions) (before : Holdings) (commands : List Command) (answers
   updates texts o (Scan name query number position) by is rest = absurd by
   updates texts o (Analyse files) by is rest = absurd by
 
-  finds : (text : List ℕ) (answer : Answer) (command : Command) → IsFindBy text command → Answers c command before answer → Run c before commands answers last → Run c before (command ∷ commands) (answer ∷ answers) last
-  finds text answer (Find name query first count) by is rest = inl (is, rest)
+  finds : (text : List ℕ) (answer : Answer) (command : Command) → IsFindBy text command → Step c command before answer before → Run c before commands answers last → Run c before (command ∷ commands) (answer ∷ answers) last
+  finds text answer (Find name query first count) by is rest = (before, inl is, rest)
   finds text answer (Change kind name files) by is rest = absurd by
   finds text answer Init by is rest = absurd by
   finds text answer Check by is rest = absurd by
@@ -47,6 +48,6 @@ pub run : (version : List ℕ) (limits : Limits) (update ask : Command) → IsUp
     → Run (book_conditions version limits) nothing_yet (Init ∷ update ∷ ask ∷ []) (done ∷ changed 1 0 0 ∷ one_found ∷ []) (one_book version)
 run version limits update ask by asks =
     let c = book_conditions version limits in
-    let found_it = finds c (one_book version) [] [] (one_book version) (codes "@attr 1=4 whale") one_found ask asks ((asked version limits one_found ask asks).1 refl) refl in
+    let found_it = finds c (one_book version) [] [] (one_book version) (codes "@attr 1=4 whale") one_found ask asks ((asked version limits one_found (one_book version) ask asks).1 (refl, refl)) refl in
     let kept_it = updates c (no_books version) (ask ∷ []) (one_found ∷ []) (one_book version) (worked_record ∷ []) (changed 1 0 0, one_book version) update by (kept version limits update by) found_it in
     begins c nothing_yet (update ∷ ask ∷ []) (changed 1 0 0 ∷ one_found ∷ []) (one_book version) (done, no_books version) (begun version limits nothing_yet) kept_it

@@ -12,7 +12,7 @@ use Rattle.zeb_profile.specs.Indexes.{unit_targets}
 use Rattle.zeb_query.specs.Faults.{Refusal}
 use Rattle.zeb_query.specs.Queries.{QueryValue}
 use Rattle.zeb_query.specs.Reading.{SpellsQuery}
-use Rattle.zeb_query.specs.Plans.{PlanValue, TermOf, PairOf, TermPlanValue, PhraseOf, plan_of}
+use Rattle.zeb_query.specs.Plans.{PlanValue, TermOf, PairOf, NearOf, TermPlanValue, PhraseOf, plan_of}
 use Rattle.zeb_extract.specs.declared.keys.Key.{Key}
 use Rattle.zeb_extract.specs.declared.keys.Occurrence.{Occurrence}
 use Rattle.zeb_extract.specs.Occurrences.{IsOccurrence}
@@ -64,6 +64,7 @@ term_key other = None
 abbrev pub plan_key : PlanValue → Option Key
 plan_key (TermOf plan) = term_key plan
 plan_key (PairOf op left right) = None
+plan_key (NearOf index left right separation) = None
 
 abbrev pub IsFoundBy : List Directive → Option Key → ℕ → ℕ → Base → Answer → Type 0
 IsFoundBy profile None first count base answer = answer ≡ refused unsupported

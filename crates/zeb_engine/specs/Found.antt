@@ -25,6 +25,7 @@ use Rattle.zeb_engine.specs.declared.replies.Reply.{Reply}
 use Rattle.zeb_engine.specs.Answers.{Answer, Why, found, diagnostic, unsupported, answer_of}
 use Rattle.zeb_engine.specs.Finding.{plan_key}
 use Rattle.zeb_engine.specs.NameOf.{name_bytes}
+use Rattle.zeb_register.specs.Formats.{Format, holds_in}
 
 -- the key that is asked for; a plan that has none is not there yet
 abbrev pub key_or : Option Key → Result Key Why
@@ -75,11 +76,11 @@ pub record FindsIn (profile : List Directive) (content : Content) (trees : Trees
   pub answered : answer ≡ found (length numbers) (map (λ hit. (hit.sysno, string_bytes hit.ident)) shown)
 
 -- on the tables of a store, whatever records they keep, an answer that is no refusal is the registers'
-abbrev pub LooksUp : (holds : Trees → Content → Type 0) → List Directive → (name text : List ℕ) → (first count : ℕ) → State → Result Reply Refusal → Type 0
-LooksUp holds profile name text first count s result =
-    IsStore s → (content : Content) → IsRising content → holds s.now.trees content → OnOk result (FindsIn profile content s.now.trees name text first count (answer_of result))
+abbrev pub LooksUp : (format : Format) → List Directive → (name text : List ℕ) → (first count : ℕ) → State → Result Reply Refusal → Type 0
+LooksUp format profile name text first count s result =
+    IsStore s → (content : Content) → IsRising content → holds_in format s.now.trees content → OnOk result (FindsIn profile content s.now.trees name text first count (answer_of result))
 
 -- the same of a command that is a find
-abbrev pub LooksUpFor : (holds : Trees → Content → Type 0) → List Directive → Command → State → Result Reply Refusal → Type 0
-LooksUpFor holds profile command s result =
-    (name : DbName) (query : String Global) (first count : ℕ) → command ≡ Find name query first count → LooksUp holds profile (name_bytes name) (string_bytes query) first count s result
+abbrev pub LooksUpFor : (format : Format) → List Directive → Command → State → Result Reply Refusal → Type 0
+LooksUpFor format profile command s result =
+    (name : DbName) (query : String Global) (first count : ℕ) → command ≡ Find name query first count → LooksUp format profile (name_bytes name) (string_bytes query) first count s result

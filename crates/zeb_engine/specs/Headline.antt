@@ -11,8 +11,9 @@ use Rattle.zeb_engine.specs.declared.replies.Reply.{Reply}
 use Rattle.zeb_engine.specs.Answers.{answer_of}
 use Rattle.zeb_engine.specs.Conditions.{Conditions}
 use Rattle.zeb_engine.specs.Works.{Runs}
+use Rattle.zeb_register.specs.Formats.{Format}
 
 -- From tables that are an image, on a disk that has returned what was written: the answers are those of a run of the commands,
 -- and the tables are then the image of what the run leaves.
-abbrev pub Headline : (holds : Trees → Content → Type 0) → Conditions → List Command → List (Result Reply Refusal) → State → State → Type 0
-Headline holds c commands results old new = HasCleanDisk new → Runs holds c commands (map answer_of results) old new
+abbrev pub Headline : Conditions → List Command → List (Result Reply Refusal) → State → State → Type 0
+Headline c commands results old new = HasCleanDisk new → Runs c commands (map answer_of results) old new

@@ -12,15 +12,17 @@ use Rattle.zeb_marc.specs.Records.{first_fault}
 use Rattle.zeb_profile.specs.declared.directives.Directive.{Directive}
 use Rattle.zeb_profile.specs.Indexes.{identifier_pattern}
 use Rattle.zeb_profile.specs.Canonical.{canonical_text, pattern_text}
+use Rattle.zeb_profile.specs.Laws.{IsProfile}
 use Rattle.zeb_extract.specs.declared.keys.Key.{Key}
 use Rattle.zeb_register.specs.declared.registers.Posting.{Posting}
 use Rattle.zeb_register.specs.Content.{Content, IsRising}
 use Rattle.zeb_register.specs.Sql.{HasRow}
 use Rattle.zeb_register.specs.Store.{IsStore, HasDatabase, HasRecord, LacksLists, LacksRegisters, entry, meta_tree}
-use Rattle.zeb_engine.specs.Conditions.{Conditions}
+use Rattle.zeb_engine.specs.Names.{IsDatabaseName}
 use Rattle.zeb_engine.specs.Finding.{OccursIn}
 use Rattle.zeb_engine.specs.Folding.{ident_in}
 use Rattle.zeb_engine.specs.Holdings.{Holdings, nothing_yet, under, Base, Kept}
+use Rattle.zeb_register.specs.Formats.{Format, holds_in, version_of}
 
 -- ---- what can be held
 
@@ -42,6 +44,7 @@ pub record IsBase (profile : List Directive) (base : Base) : Type 0 where
 pub record AreBases (profile : List Directive) (bases : List Base) : Type 0 where
   pub rising : IsStrictlySortedBy (λ (a b : Base). slice_cmp nat_cmp a.name b.name) bases
   pub each : (base : Base) → Contains bases base → IsBase profile base
+  pub named : (base : Base) → Contains bases base → IsDatabaseName base.name
 
 -- ---- the tables of the lists
 
@@ -69,35 +72,45 @@ AreKept trees records_of = (id sysno : ℤ) (ident bytes : List ℕ) → HasReco
     ↔ ((kept : Kept) × Contains (records_of id) kept × (sysno ≡ pos kept.sysno) × (ident ≡ kept.ident) × (bytes ≡ kept.bytes))
 
 -- `holds` is what a layout says of registers
-pub record AreStored (holds : Trees → Content → Type 0) (profile : List Directive) (trees : Trees) (records_of : ℤ → List Kept) : Type 0 where
+pub record AreStored (format : Format) (profile : List Directive) (trees : Trees) (records_of : ℤ → List Kept) : Type 0 where
   pub kept : AreKept trees records_of
   pub content : Content
-  pub held : holds trees content
+  pub held : holds_in format trees content
   pub posted : ArePosted profile records_of content
 
 -- ---- all tables
 
 -- under some ids, a different one for each name: the databases, their records and the postings of these, and no others
-pub record IsImageOf (holds : Trees → Content → Type 0) (profile : List Directive) (trees : Trees) (bases : List Base) : Type 0 where
+pub record IsImageOf (format : Format) (profile : List Directive) (trees : Trees) (bases : List Base) : Type 0 where
   pub id_of : List ℕ → ℤ
   pub records_of : ℤ → List Kept
   pub distinct : (a b : Base) → Contains bases a → Contains bases b → id_of a.name ≡ id_of b.name → a.name ≡ b.name
   pub listed : AreListed trees bases id_of
   pub of_base : (base : Base) → Contains bases base → records_of (id_of base.name) ≡ base.records
   pub of_none : (id : ℤ) → ((base : Base) → Contains bases base → id ≢ id_of base.name) → (kept : Kept) → ¬ Contains (records_of id) kept
-  pub stored : AreStored holds profile trees records_of
+  pub stored : AreStored format profile trees records_of
 
--- A register of another version or under another profile is refused, whatever else its tables hold.
-abbrev pub IsImage : (holds : Trees → Content → Type 0) → Conditions → Trees → Holdings → Type 0
-IsImage holds c trees nothing_yet = LacksLists trees × LacksRegisters trees
-IsImage holds c trees (under version text bases) = (pattern : List ℕ) × HasTexts trees version text pattern
-    × (version ≡ c.version → text ≡ canonical_text c.profile
-    → (option_map pattern_text (identifier_pattern c.profile) ≡ Some pattern) × AreBases c.profile bases × IsImageOf holds c.profile trees bases)
+-- the tables of a register of this version and under this profile
+pub record IsImageUnder (profile : List Directive) (trees : Trees) (version text : List ℕ) (bases : List Base) : Type 0 where
+  pub sound : ∥ IsProfile profile ∥₁
+  pub text_is : text ≡ canonical_text profile
+  pub pattern : List ℕ
+  pub pattern_is : option_map pattern_text (identifier_pattern profile) ≡ Some pattern
+  pub texts : HasTexts trees version text pattern
+  pub are : AreBases profile bases
+  pub format : Format
+  pub version_is : version ≡ version_of format
+  pub image : IsImageOf format profile trees bases
+
+-- of what is held alone: the texts of the store tell its version and its profile, and all rows follow from these
+abbrev pub IsImage : Trees → Holdings → Type 0
+IsImage trees nothing_yet = LacksLists trees × LacksRegisters trees
+IsImage trees (under version text bases) = (profile : List Directive) × IsImageUnder profile trees version text bases
 
 -- a shut connection shows nothing
-abbrev pub Sees : (holds : Trees → Content → Type 0) → Conditions → State → Holdings → Type 0
-Sees holds c s held = IsTrue s.is_open → IsStore s × IsImage holds c s.now.trees held
+abbrev pub Sees : State → Holdings → Type 0
+Sees s held = IsTrue s.is_open → IsStore s × IsImage s.now.trees held
 
 -- the same outside a transaction, where it is also what was committed
-abbrev pub Keeps : (holds : Trees → Content → Type 0) → Conditions → State → Holdings → Type 0
-Keeps holds c s held = IsTrue s.is_open → (IsStore s × IsImage holds c s.now.trees held) × (s.committed ≡ s.now)
+abbrev pub Keeps : State → Holdings → Type 0
+Keeps s held = IsTrue s.is_open → (IsStore s × IsImage s.now.trees held) × (s.committed ≡ s.now)

@@ -20,6 +20,7 @@ use Rattle.zeb_engine.specs.Answers.{Why}
 use Rattle.zeb_engine.specs.Folding.{Changed, ident_in}
 use Rattle.zeb_engine.specs.Holdings.{Base, Kept, kept_as}
 use Rattle.zeb_engine.specs.Works.{Meets, IsTaken, IsUnderWay}
+use Rattle.zeb_register.specs.Formats.{Format}
 
 -- the occurrences of the record with these bytes, rising
 pub record AreOccurrencesOf (profile : List Directive) (bytes : List ℕ) (occurrences : List Occurrence) : Type 0 where
@@ -40,10 +41,10 @@ IsElderAs ident base (Some elder) = (kept : Kept) × (kept_as ident base ≡ Som
 
 -- One record of a change is taken as the definition says of each database that fits; `last` and `after` are the last numbers before
 -- it and after it.
-abbrev pub Takes : (holds : Trees → Content → Type 0) → List Directive → ℤ → State → State → ℕ → ℕ → (Base → Type 0) → (Base → Result Changed Why) → Result Fate Refusal → Type 0
-Takes holds profile id old new last after Fits said result =
-    (records_of : ℤ → List Kept) (base : Base) → last ≡ base.last → IsUnderWay holds profile id records_of old base → Fits base
-    → Meets (IsTaken holds profile id records_of old new after) (said base) result
+abbrev pub Takes : (format : Format) → List Directive → ℤ → State → State → ℕ → ℕ → (Base → Type 0) → (Base → Result Changed Why) → Result Fate Refusal → Type 0
+Takes format profile id old new last after Fits said result =
+    (records_of : ℤ → List Kept) (base : Base) → last ≡ base.last → IsUnderWay format profile id records_of old base → Fits base
+    → Meets (IsTaken format profile id records_of old new after) (said base) result
 
 -- a record that is replaced by the same bytes counts as updated, and each table of the registers has the rows that it had
 abbrev pub IsIdle : State → State → Fate → Type 0

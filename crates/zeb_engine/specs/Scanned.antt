@@ -19,6 +19,7 @@ use Rattle.zeb_engine.specs.declared.replies.Reply.{Reply}
 use Rattle.zeb_engine.specs.Answers.{Answer, scanned, answer_of}
 use Rattle.zeb_engine.specs.NameOf.{name_bytes}
 use Rattle.zeb_engine.specs.Scanning.{around}
+use Rattle.zeb_register.specs.Formats.{Format, holds_in}
 
 -- the terms around the start of a plan, as the registers of a database list them
 pub record AreAround (content : Content) (db : ℤ) (plan : ScanValue) (number position : ℕ) (terms : List TermCount) : Type 0 where
@@ -40,11 +41,11 @@ pub record ScansIn (profile : List Directive) (content : Content) (trees : Trees
   pub answered : answer ≡ scanned plan.register (around number position plan.start (map (λ t. (t.term, t.records)) all))
 
 -- on the tables of a store, whatever records they keep, an answer that is no refusal is the registers'
-abbrev pub Scans : (holds : Trees → Content → Type 0) → List Directive → (name text : List ℕ) → (number position : ℕ) → State → Result Reply Refusal → Type 0
-Scans holds profile name text number position s result =
-    IsStore s → (content : Content) → holds s.now.trees content → OnOk result (ScansIn profile content s.now.trees name text number position (answer_of result))
+abbrev pub Scans : (format : Format) → List Directive → (name text : List ℕ) → (number position : ℕ) → State → Result Reply Refusal → Type 0
+Scans format profile name text number position s result =
+    IsStore s → (content : Content) → holds_in format s.now.trees content → OnOk result (ScansIn profile content s.now.trees name text number position (answer_of result))
 
 -- the same of a command that is a scan
-abbrev pub ScansFor : (holds : Trees → Content → Type 0) → List Directive → Command → State → Result Reply Refusal → Type 0
-ScansFor holds profile command s result =
-    (name : DbName) (query : String Global) (number position : ℕ) → command ≡ Scan name query number position → Scans holds profile (name_bytes name) (string_bytes query) number position s result
+abbrev pub ScansFor : (format : Format) → List Directive → Command → State → Result Reply Refusal → Type 0
+ScansFor format profile command s result =
+    (name : DbName) (query : String Global) (number position : ℕ) → command ≡ Scan name query number position → Scans format profile (name_bytes name) (string_bytes query) number position s result

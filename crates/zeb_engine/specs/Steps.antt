@@ -161,37 +161,30 @@ waited c before = (waits (ready c before), before)
 abbrev pub splits_of : List (List ℕ) → List Split
 splits_of files = map split_of files
 
--- What a command answers and leaves. A find, a scan and a stat have none: what they answer is said by the records that are kept.
-abbrev pub outcome : Conditions → Command → Holdings → Option Outcome
-outcome c Init before = Some (initialised c before)
-outcome c (Create name) before = Some (turned c (created (name_bytes name)) before)
-outcome c (Drop name) before = Some (turned c (dropped (name_bytes name)) before)
-outcome c (Change kind name files) before = Some (turned c (changed_by_files c kind (name_bytes name) (splits_of (map (λ file. file.items) files.items))) before)
-outcome c (Find name query first count) before = None
-outcome c Check before = Some (waited c before)
-outcome c (Stat name) before = None
-outcome c (Dump name) before = Some (dumped_by c (name_bytes name) before)
-outcome c (Scan name query number position) before = None
-outcome c (Analyse files) before = Some (refused unsupported, before)
+-- an outcome that is computed
+abbrev pub Ends : Outcome → Answer → Holdings → Type 0
+Ends told answer later = (answer ≡ told.0) × (later ≡ told.1)
 
-abbrev pub left_by : Holdings → Option Outcome → Holdings
-left_by before None = before
-left_by before (Some told) = told.1
+-- an answer that is described, and leaves what was held
+abbrev pub OnlyAnswers : (Says : Answer → Type 0) → Holdings → Answer → Holdings → Type 0
+OnlyAnswers Says before answer later = Says answer × (later ≡ before)
 
--- what is held after a command; a find, a scan and a stat leave what was held
-abbrev pub after : Conditions → Command → Holdings → Holdings
-after c command before = left_by before (outcome c command before)
+-- a change of a database by files of these bytes
+abbrev pub TakesFiles : Conditions → Kind → List ℕ → List (List ℕ) → Holdings → Answer → Holdings → Type 0
+TakesFiles c kind name texts before = Ends (turned c (changed_by_files c kind name (splits_of texts)) before)
 
-abbrev pub IsTold : Option Outcome → Answer → Type 0
-IsTold None answer = ⊥
-IsTold (Some told) answer = answer ≡ told.0
-
--- what a command answers: a find, a scan and a stat by the kept records, each other by its outcome
-abbrev pub Answers : Conditions → Command → Holdings → Answer → Type 0
-Answers c (Find name query first count) before answer = FoundFrom c (name_bytes name) (string_bytes query) first count (ready c before) answer
-Answers c (Scan name query number position) before answer = ScannedFrom c (name_bytes name) (string_bytes query) number position (ready c before) answer
-Answers c (Stat name) before answer = CountedFrom c (name_bytes name) (ready c before) answer
-Answers c command before answer = IsTold (outcome c command before) answer
+-- what a command answers on what is held, and what is held then
+abbrev pub Step : Conditions → Command → Holdings → Answer → Holdings → Type 0
+Step c Init before = Ends (initialised c before)
+Step c (Create name) before = Ends (turned c (created (name_bytes name)) before)
+Step c (Drop name) before = Ends (turned c (dropped (name_bytes name)) before)
+Step c (Change kind name files) before = TakesFiles c kind (name_bytes name) (map (λ file. file.items) files.items) before
+Step c (Find name query first count) before = OnlyAnswers (FoundFrom c (name_bytes name) (string_bytes query) first count (ready c before)) before
+Step c Check before = Ends (waited c before)
+Step c (Stat name) before = OnlyAnswers (CountedFrom c (name_bytes name) (ready c before)) before
+Step c (Dump name) before = Ends (dumped_by c (name_bytes name) before)
+Step c (Scan name query number position) before = OnlyAnswers (ScannedFrom c (name_bytes name) (string_bytes query) number position (ready c before)) before
+Step c (Analyse files) before = Ends (refused unsupported, before)
 
 -- the commands that change nothing that is held, whatever it is
 abbrev pub OnlyAsks : Command → Type 0
@@ -206,11 +199,15 @@ OnlyAsks (Dump name) = Unit {0}
 OnlyAsks (Scan name query number position) = Unit {0}
 OnlyAsks (Analyse files) = Unit {0}
 
--- ---- a list of commands: each takes its step, or the store or the memory fails and nothing changes
+-- ---- a list of commands
 
+-- `Told` is what a command may answer on what is held, and what is held then: it is that, or the store or the memory failed and nothing changes
+abbrev pub Answered : (Told : Holdings → Answer → Holdings → Type 0) → Holdings → Answer → Holdings → Type 0
+Answered Told before answer later = Told before answer later ⊎ (IsFailure answer × (later ≡ before))
+
+-- one answer for each command, on what the one before it left
 abbrev pub Run : Conditions → Holdings → List Command → List Answer → Holdings → Type 0
 Run c before [] [] last = last ≡ before
-Run c before (command ∷ commands) (answer ∷ answers) last =
-    (Answers c command before answer × Run c (after c command before) commands answers last) ⊎ (IsFailure answer × Run c before commands answers last)
+Run c before (command ∷ commands) (answer ∷ answers) last = (later : Holdings) × Answered (Step c command) before answer later × Run c later commands answers last
 Run c before [] (answer ∷ answers) last = ⊥
 Run c before (command ∷ commands) [] last = ⊥

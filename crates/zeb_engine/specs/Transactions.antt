@@ -1,7 +1,9 @@
 -- What the engine's work does to a connection, whatever it does to rows.
-use Rattle.std.specs.Prelude.{◌≡◌, ◌≢◌, IsTrue, Result, MatchResult}
-use Rattle.sqlite.specs.State.{State, KeepsCommit}
+use Rattle.std.specs.Prelude.{◌≡◌, ◌≢◌, IfErr, IsTrue, MatchResult, OnErr, OnOk, Result}
+use Rattle.sqlite.specs.State.{State, HasCleanDisk, KeepsCommit}
 use Rattle.sqlite.specs.Tree.{Trees}
+use Rattle.zeb_register.specs.Calls.{ChangesNothing}
+use Rattle.zeb_engine.specs.Adopting.{StaysOpen}
 use Rattle.zeb_engine.specs.declared.refusals.Refusal.{Refusal}
 use Rattle.zeb_engine.specs.declared.refusals.Refusal.TheVariants.{Store}
 
@@ -26,3 +28,10 @@ LeavesNoMore old new = (db : Trees) → new.may_leave db → old.may_leave db
 -- A refusal lets a crash leave nothing more, but for one of the store: a commit that failed may still have reached the disk.
 abbrev pub EnduresRefusal : State → State → Refusal → Type 0
 EnduresRefusal old new refusal = refusal ≢ Store → LeavesNoMore old new
+
+-- A command on a connection: accepted, the connection was open and is; refused, nothing is changed, and but for a failed store a crash
+-- leaves nothing more than before.
+pub record Commanded {T : Type 0} (old new : State) (result : Result T Refusal) : Type 0 where
+  pub accepted : HasCleanDisk new → OnOk result (StaysOpen old new)
+  pub refused : HasCleanDisk new → OnErr result (ChangesNothing old new)
+  pub endures : HasCleanDisk new → IfErr result (EnduresRefusal old new)

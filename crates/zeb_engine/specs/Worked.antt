@@ -1,6 +1,6 @@
 -- Worked commands: "Moby Dick" is kept in a database, and again, and found by a word of its title; behind it in a file stands a
 -- record of five letters.
-use Rattle.std.specs.Prelude.{◌≡◌, ℕ, List, [], ◌∷◌, ◌++◌, map, codes, string_bytes}
+use Rattle.std.specs.Prelude.{◌≡◌, ◌↔◌, ℕ, List, [], ◌∷◌, ◌++◌, map, codes, string_bytes}
 use Rattle.zeb_profile.specs.declared.registers.Register.TheVariants.{Word}
 use Rattle.zeb_profile.specs.Canonical.{canonical_text}
 use Rattle.zeb_marc.specs.Worked.{worked_record}
@@ -10,6 +10,7 @@ use Rattle.zeb_engine.specs.declared.commands.Command.{Command}
 use Rattle.zeb_engine.specs.declared.commands.Command.TheVariants.{Change, Find}
 use Rattle.zeb_engine.specs.declared.commands.Kind.TheVariants.{Update}
 use Rattle.zeb_engine.specs.declared.commands.Limits.{Limits}
+use Rattle.zeb_engine.specs.Answers.{Answer}
 use Rattle.zeb_engine.specs.NameOf.{name_bytes}
 use Rattle.zeb_engine.specs.Conditions.{Conditions, conditions}
 use Rattle.zeb_engine.specs.Holdings.{Holdings, under, Base, Kept}
@@ -49,3 +50,7 @@ IsUpdateBy texts other = ⊥
 abbrev pub IsFindBy : List ℕ → Command → Type 0
 IsFindBy text (Find name query first count) = (name_bytes name ≡ codes "Default") × (string_bytes query ≡ text) × (first ≡ 1) × (count ≡ 20)
 IsFindBy text other = ⊥
+
+-- a command may give this answer, with this held then, and nothing else
+abbrev pub IsJust : (Told : Answer → Holdings → Type 0) → Answer → Holdings → Type 0
+IsJust Told answer later = (other : Answer) (held : Holdings) → Told other held ↔ ((other ≡ answer) × (held ≡ later))

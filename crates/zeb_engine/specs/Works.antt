@@ -19,7 +19,8 @@ use Rattle.zeb_engine.specs.declared.changes.Fold.{Fold}
 use Rattle.zeb_engine.specs.declared.records.Setting.{Setting}
 use Rattle.zeb_engine.specs.declared.tally.Fate.{Fate}
 use Rattle.zeb_engine.specs.Folding.{Changed, Progress}
-use Rattle.zeb_engine.specs.Steps.{Outcome, Answers, FoundFrom, ScannedFrom, Run, after, ready}
+use Rattle.zeb_engine.specs.Steps.{Outcome, Answered, FoundFrom, ScannedFrom, Run, Step, ready}
+use Rattle.zeb_register.specs.Formats.{Format}
 
 -- ---- a value or a refusal, as a definition says
 
@@ -37,12 +38,12 @@ IsReady c trees before = (bases : List Base) × (ready c before ≡ Ok bases)
 
 -- Work that takes holdings to an outcome: at a reply the tables show what it leaves, and a refusal commits nothing. `Fits` is what
 -- was found out before the transaction began, of the tables and the holdings that they are the image of.
-abbrev pub Works : (holds : Trees → Content → Type 0) → Conditions → (Fits : Trees → Holdings → Type 0) → (Holdings → Outcome) → State → State → Result Reply Refusal → Type 0
-Works holds c Fits outcome old new (Ok reply) =
-    GoesOn old new × ((before : Holdings) → Fits old.now.trees before → IsStore old → IsImage holds c old.now.trees before
-    → ((outcome before).0 ≡ reply_answer reply) × IsStore new × IsImage holds c new.now.trees (outcome before).1)
-Works holds c Fits outcome old new (Err refusal) =
-    KeepsCommit old new × ((before : Holdings) → (IsTrue old.is_open → Fits old.now.trees before) → Sees holds c old before
+abbrev pub Works : (Fits : Trees → Holdings → Type 0) → (Holdings → Outcome) → State → State → Result Reply Refusal → Type 0
+Works Fits outcome old new (Ok reply) =
+    GoesOn old new × ((before : Holdings) → Fits old.now.trees before → IsStore old → IsImage old.now.trees before
+    → ((outcome before).0 ≡ reply_answer reply) × IsStore new × IsImage new.now.trees (outcome before).1)
+Works Fits outcome old new (Err refusal) =
+    KeepsCommit old new × ((before : Holdings) → (IsTrue old.is_open → Fits old.now.trees before) → Sees old before
     → IsFailure (refused (why_of refusal)) ⊎ (outcome before ≡ (refused (why_of refusal), before)))
 
 -- ---- a change on its way
@@ -56,18 +57,18 @@ abbrev pub with_records : ℤ → List Kept → (ℤ → List Kept) → ℤ → 
 with_records id records records_of other = if int_eq other id then records else records_of other
 
 -- the database with this id is as given, and each other has the records that it had
-abbrev pub IsUnderWay : (holds : Trees → Content → Type 0) → List Directive → ℤ → (ℤ → List Kept) → State → Base → Type 0
-IsUnderWay holds profile id records_of s base = IsStore s × AreStored holds profile s.now.trees (with_records id base.records records_of) × IsBase profile base
+abbrev pub IsUnderWay : (format : Format) → List Directive → ℤ → (ℤ → List Kept) → State → Base → Type 0
+IsUnderWay format profile id records_of s base = IsStore s × AreStored format profile s.now.trees (with_records id base.records records_of) × IsBase profile base
 
 -- the texts and the databases are as they were
 abbrev pub KeepsNames : State → State → Type 0
 KeepsNames old new = (new.now.trees meta_tree ≡ old.now.trees meta_tree) × (new.now.trees databases_tree ≡ old.now.trees databases_tree)
 
 -- one record of a change is taken as the definition says
-pub record IsTaken (holds : Trees → Content → Type 0) (profile : List Directive) (id : ℤ) (records_of : ℤ → List Kept) (old new : State) (last : ℕ) (changed : Changed) (fate : Fate) : Type 0 where
+pub record IsTaken (format : Format) (profile : List Directive) (id : ℤ) (records_of : ℤ → List Kept) (old new : State) (last : ℕ) (changed : Changed) (fate : Fate) : Type 0 where
   pub fate_is : fate ≡ changed.1
   pub last_is : last ≡ changed.0.last
-  pub under_way : IsUnderWay holds profile id records_of new changed.0
+  pub under_way : IsUnderWay format profile id records_of new changed.0
   pub names : KeepsNames old new
 
 -- how far the code has come is how far the definition has
@@ -79,9 +80,9 @@ pub record StandsFor (fold : Fold) (p : Progress) : Type 0 where
   pub deleted : fold.tally.deleted ≡ p.deleted
 
 -- some records of a change are folded in as the definition says
-pub record IsFolded (holds : Trees → Content → Type 0) (profile : List Directive) (id : ℤ) (records_of : ℤ → List Kept) (old new : State) (fold : Fold) (p : Progress) : Type 0 where
+pub record IsFolded (format : Format) (profile : List Directive) (id : ℤ) (records_of : ℤ → List Kept) (old new : State) (fold : Fold) (p : Progress) : Type 0 where
   pub stands : StandsFor fold p
-  pub under_way : IsUnderWay holds profile id records_of new p.base
+  pub under_way : IsUnderWay format profile id records_of new p.base
   pub names : KeepsNames old new
 
 -- ---- outside a transaction
@@ -91,33 +92,34 @@ abbrev pub Always : Trees → Holdings → Type 0
 Always trees before = Unit {0}
 
 -- a command that takes holdings to an outcome: it answers that and the tables hold what it leaves, or it fails and they hold what they held
-abbrev pub Serves : (holds : Trees → Content → Type 0) → Conditions → (Fits : Trees → Holdings → Type 0) → (Holdings → Outcome) → State → State → Result Reply Refusal → Type 0
-Serves holds c Fits outcome old new result =
-    (before : Holdings) → (IsTrue old.is_open → Fits old.now.trees before) → Keeps holds c old before
-    → (((outcome before).0 ≡ answer_of result) × Keeps holds c new (outcome before).1) ⊎ (IsFailure (answer_of result) × Keeps holds c new before)
+abbrev pub Serves : (Fits : Trees → Holdings → Type 0) → (Holdings → Outcome) → State → State → Result Reply Refusal → Type 0
+Serves Fits outcome old new result =
+    (before : Holdings) → (IsTrue old.is_open → Fits old.now.trees before) → Keeps old before
+    → (((outcome before).0 ≡ answer_of result) × Keeps new (outcome before).1) ⊎ (IsFailure (answer_of result) × Keeps new before)
 
 -- a command that reads: it answers what is said of what is held, or it fails, and the tables hold what they held
-abbrev pub Asks : (holds : Trees → Content → Type 0) → Conditions → (Answered : Holdings → Answer → Type 0) → State → State → Result Reply Refusal → Type 0
-Asks holds c Answered old new result =
-    (before : Holdings) → Keeps holds c old before
-    → (Answered before (answer_of result) × Keeps holds c new before) ⊎ (IsFailure (answer_of result) × Keeps holds c new before)
+abbrev pub Asks : (Answered : Holdings → Answer → Type 0) → State → State → Result Reply Refusal → Type 0
+Asks Answered old new result =
+    (before : Holdings) → Keeps old before
+    → (Answered before (answer_of result) × Keeps new before) ⊎ (IsFailure (answer_of result) × Keeps new before)
 
-abbrev pub Finds : (holds : Trees → Content → Type 0) → Conditions → (name query : List ℕ) → (first count : ℕ) → State → State → Result Reply Refusal → Type 0
-Finds holds c name query first count = Asks holds c (λ before answer. FoundFrom c name query first count (ready c before) answer)
+abbrev pub Finds : Conditions → (name query : List ℕ) → (first count : ℕ) → State → State → Result Reply Refusal → Type 0
+Finds c name query first count = Asks (λ before answer. FoundFrom c name query first count (ready c before) answer)
 
-abbrev pub ScansFrom : (holds : Trees → Content → Type 0) → Conditions → (name query : List ℕ) → (number position : ℕ) → State → State → Result Reply Refusal → Type 0
-ScansFrom holds c name query number position = Asks holds c (λ before answer. ScannedFrom c name query number position (ready c before) answer)
+abbrev pub ScansFrom : Conditions → (name query : List ℕ) → (number position : ℕ) → State → State → Result Reply Refusal → Type 0
+ScansFrom c name query number position = Asks (λ before answer. ScannedFrom c name query number position (ready c before) answer)
 
--- the same of any command
-abbrev pub ServesCommand : (holds : Trees → Content → Type 0) → Conditions → Command → State → State → Result Reply Refusal → Type 0
-ServesCommand holds c command old new result =
-    (before : Holdings) → Keeps holds c old before
-    → (Answers c command before (answer_of result) × Keeps holds c new (after c command before)) ⊎ (IsFailure (answer_of result) × Keeps holds c new before)
+-- a command that is carried out: it answers what it may, and the tables hold what is held then
+abbrev pub ServesBy : (Told : Holdings → Answer → Holdings → Type 0) → State → State → Result Reply Refusal → Type 0
+ServesBy Told old new result = (before : Holdings) → Keeps old before → (later : Holdings) × Answered Told before (answer_of result) later × Keeps new later
+
+abbrev pub ServesCommand : Conditions → Command → State → State → Result Reply Refusal → Type 0
+ServesCommand c command = ServesBy (Step c command)
 
 -- the same of commands in turn
-abbrev pub Runs : (holds : Trees → Content → Type 0) → Conditions → List Command → List Answer → State → State → Type 0
-Runs holds c commands answers old new =
-    (before : Holdings) → Keeps holds c old before → (last : Holdings) × Run c before commands answers last × Keeps holds c new last
+abbrev pub Runs : Conditions → List Command → List Answer → State → State → Type 0
+Runs c commands answers old new =
+    (before : Holdings) → Keeps old before → (last : Holdings) × Run c before commands answers last × Keeps new last
 
 -- where one of the commands is accepted, the connection was open, and where the last one is, it is open still
 abbrev pub FindOpen : List (Result Reply Refusal) → State → State → Type 0

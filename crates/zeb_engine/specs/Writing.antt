@@ -6,7 +6,7 @@ use Rattle.sqlite.specs.State.{State}
 use Rattle.zeb_profile.specs.declared.directives.Directive.{Directive}
 use Rattle.zeb_profile.specs.Indexes.{identifier_pattern}
 use Rattle.zeb_profile.specs.Canonical.{pattern_text}
-use Rattle.zeb_register.specs.Content.{Content}
+use Rattle.zeb_profile.specs.Laws.{IsProfile}
 use Rattle.zeb_register.specs.Store.{IsStore, HasDatabase}
 use Rattle.zeb_engine.specs.declared.writes.Write.{Write}
 use Rattle.zeb_engine.specs.declared.writes.Write.TheVariants as write
@@ -21,6 +21,7 @@ pub record AreOf (version : List ℕ) (profile : List Directive) (pattern : List
   pub version_is : c.version ≡ version
   pub profile_is : c.profile ≡ profile
   pub pattern_is : option_map pattern_text (identifier_pattern profile) ≡ Some pattern
+  pub sound : ∥ IsProfile profile ∥₁
 
 -- the register is ready, and no database has the name
 abbrev pub IsFree : List ℕ → Conditions → Trees → Holdings → Type 0
@@ -39,7 +40,7 @@ written c (write.Drop name id) = turned c (dropped (name_bytes name.now))
 abbrev pub Fits : List ℕ → Conditions → Write → Trees → Holdings → Type 0
 Fits version c (write.Init profile pattern) trees before = AreOf version profile.now pattern.now c
 Fits version c (write.Create name) trees before = IsFree (name_bytes name.now) c trees before
-Fits version c (write.Drop name id) trees before = IsKnown (name_bytes name.now) id.0 c trees before
+Fits version c (write.Drop name id) trees before = (c.version ≡ version) × IsKnown (name_bytes name.now) id.0 c trees before
 
 -- a write that rests on what was read needs a connection that is open
 abbrev pub IsReached : Write → State → Type 0
@@ -58,7 +59,7 @@ pub record PutsTexts (version text pattern : List ℕ) (old new : State) : Type 
   pub others : KeepsBesideTexts old.now.trees new.now.trees
 
 -- `init` leaves the image of no database, whatever rows the tables held
-abbrev pub Begins : (holds : Trees → Content → Type 0) → List ℕ → Write → State → State → Type 0
-Begins holds version (write.Init profile pattern) old new = IsStore old → IsStore new × ((c : Conditions) → AreOf version profile.now pattern.now c → IsImage holds c new.now.trees (holding c []))
-Begins holds version (write.Create name) old new = Unit {0}
-Begins holds version (write.Drop name id) old new = Unit {0}
+abbrev pub Begins : List ℕ → Write → State → State → Type 0
+Begins version (write.Init profile pattern) old new = IsStore old → IsStore new × ((c : Conditions) → AreOf version profile.now pattern.now c → IsImage new.now.trees (holding c []))
+Begins version (write.Create name) old new = Unit {0}
+Begins version (write.Drop name id) old new = Unit {0}

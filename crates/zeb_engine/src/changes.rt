@@ -1,11 +1,11 @@
 //! Updates and deletes: the records of files, folded into a database in one transaction.
 
-ghost use Rattle.std.specs.Prelude.{◌≡◌, ◌⊎◌, ◌+◌, ℕ, ℤ, List, map, Some, Ok, Err, true, false, IsTrue, OnErr, IfErr, OnOk};
+ghost use Rattle.std.specs.Prelude.{◌≡◌, ◌⊎◌, ◌+◌, ℕ, ℤ, List, map, Some, Ok, Err, true, false, IsTrue, IfErr, OnOk};
 ghost use Rattle.sqlite.specs.Held.{state};
 ghost use Rattle.sqlite.specs.State.{HasCleanDisk, Survives};
 ghost use Rattle.zeb_register.specs.Calls.{ChangesNothing};
+ghost use Rattle.zeb_register.specs.Formats.{version_of};
 ghost use Rattle.zeb_marc.specs.Splits.{next_of, split_of};
-ghost use Rattle.zeb_engine.specs.Adopting.{StaysOpen};
 ghost use Rattle.zeb_engine.specs.Changing.{BeginsWith, last_of};
 ghost use Rattle.zeb_engine.specs.Conditions.{Conditions};
 ghost use Rattle.zeb_engine.specs.Crashes.{Commits};
@@ -15,7 +15,7 @@ ghost use Rattle.zeb_engine.specs.Image.{Keeps};
 ghost use Rattle.zeb_engine.specs.NameOf.{name_bytes};
 ghost use Rattle.zeb_engine.specs.Reading.{HasFailedAt, NamesFailed, NoneFailed, NoReadFault, ReadsNext};
 ghost use Rattle.zeb_engine.specs.Steps.{changed_by_files, ready, splits_of, start_of, turned};
-ghost use Rattle.zeb_engine.specs.Transactions.{EnduresRefusal, Stays};
+ghost use Rattle.zeb_engine.specs.Transactions.{Commanded, Stays};
 ghost use Rattle.zeb_engine.specs.Works.{IsFolded, IsReady, IsUnderWay, Meets, Serves, StandsFor, Works, conditions_of};
 
 use crate::commands::Kind;
@@ -36,7 +36,8 @@ fn read_record<R: Source>(
     file: u64,
     nth: u64,
 ) -> Result<bool, Refusal>
-    ensures told { (text : List ℕ) → R.remaining reader.old ≡ Some text → R.has_failed reader.new ≡ false → ReadsNext file nth (next_of text) result buffer.new (R.remaining reader.new) }
+    ensures told { (text : List ℕ) → R.remaining reader.old ≡ Some text → R.has_failed reader.new ≡ false
+        → ReadsNext file nth (next_of text) result buffer.new (R.remaining reader.new) }
     ensures failed { R.has_failed reader.new ≡ true → result ≡ Err (Refusal.ReadFault file) }
     ensures fault { (other : ℕ) → result ≡ Err (Refusal.ReadFault other) → (other ≡ file) × (R.has_failed reader.new ≡ true) }
 {
@@ -79,14 +80,17 @@ fn take_record<S: Alter, L: Layout>(
     incoming: Incoming<'_>,
 ) -> Result<(), Refusal>
     ensures same { tx.new.conn.ghost_name ≡ tx.old.conn.ghost_name }
-    ensures stays { HasCleanDisk (state S.Store tx.new.conn.now) → IsTrue (state S.Store tx.old.conn.now).in_transaction → Stays (state S.Store tx.old.conn.now) (state S.Store tx.new.conn.now) result }
+    ensures stays { HasCleanDisk (state S.Store tx.new.conn.now) → IsTrue (state S.Store tx.old.conn.now).in_transaction
+        → Stays (state S.Store tx.old.conn.now) (state S.Store tx.new.conn.now) result }
     ensures database { fold.new.progress.database ≡ fold.old.progress.database }
     ensures counted { OnOk result (fold.new.tally.records ≡ fold.old.tally.records + 1) }
     ensures folded { HasCleanDisk (state S.Store tx.new.conn.now) → IsTrue (state S.Store tx.old.conn.now).in_transaction
         → (version : List ℕ) (records_of : ℤ → List Kept) (p : FoldProgress) → StandsFor fold.old p
-        → IsUnderWay L.holds setting.now.profile.now fold.old.progress.database.0 records_of (state S.Store tx.old.conn.now) p.base
-        → Meets (λ after _. IsFolded L.holds setting.now.profile.now fold.old.progress.database.0 records_of (state S.Store tx.old.conn.now) (state S.Store tx.new.conn.now) fold.new after)
-        (folded (conditions_of version setting.now) setting.now.kind incoming.entry.file incoming.entry.nth incoming.entry.bytes.now p) result }
+        → IsUnderWay L.format setting.now.profile.now fold.old.progress.database.0 records_of (state S.Store tx.old.conn.now) p.base
+        → Meets (λ after _. IsFolded L.format setting.now.profile.now fold.old.progress.database.0 records_of
+        (state S.Store tx.old.conn.now) (state S.Store tx.new.conn.now) fold.new after)
+        (folded (conditions_of version setting.now) setting.now.kind incoming.entry.file incoming.entry.nth incoming.entry.bytes.now p)
+        result }
     ensures unread { NoReadFault result }
     ensures crash { Survives (state S.Store tx.old.conn.now) (state S.Store tx.new.conn.now) (λ _. ⊥) }
 {
@@ -108,13 +112,15 @@ fn fold_file<S: Alter, L: Layout, R: Source>(
     file: u64,
 ) -> Result<(), Refusal>
     ensures same { tx.new.conn.ghost_name ≡ tx.old.conn.ghost_name }
-    ensures stays { HasCleanDisk (state S.Store tx.new.conn.now) → IsTrue (state S.Store tx.old.conn.now).in_transaction → Stays (state S.Store tx.old.conn.now) (state S.Store tx.new.conn.now) result }
+    ensures stays { HasCleanDisk (state S.Store tx.new.conn.now) → IsTrue (state S.Store tx.old.conn.now).in_transaction
+        → Stays (state S.Store tx.old.conn.now) (state S.Store tx.new.conn.now) result }
     ensures database { fold.new.progress.database ≡ fold.old.progress.database }
     ensures folded { HasCleanDisk (state S.Store tx.new.conn.now) → IsTrue (state S.Store tx.old.conn.now).in_transaction
         → (text : List ℕ) → R.remaining reader.old ≡ Some text → R.has_failed reader.new ≡ false
         → (version : List ℕ) (records_of : ℤ → List Kept) (p : FoldProgress) → StandsFor fold.old p
-        → IsUnderWay L.holds setting.now.profile.now fold.old.progress.database.0 records_of (state S.Store tx.old.conn.now) p.base
-        → Meets (λ after _. IsFolded L.holds setting.now.profile.now fold.old.progress.database.0 records_of (state S.Store tx.old.conn.now) (state S.Store tx.new.conn.now) fold.new after)
+        → IsUnderWay L.format setting.now.profile.now fold.old.progress.database.0 records_of (state S.Store tx.old.conn.now) p.base
+        → Meets (λ after _. IsFolded L.format setting.now.profile.now fold.old.progress.database.0 records_of
+        (state S.Store tx.old.conn.now) (state S.Store tx.new.conn.now) fold.new after)
         (file_folded (conditions_of version setting.now) setting.now.kind file (split_of text) p) result }
     ensures failed { R.has_failed reader.new ≡ true → result ≡ Err (Refusal.ReadFault file) }
     ensures fault { (other : ℕ) → result ≡ Err (Refusal.ReadFault other) → (other ≡ file) × (R.has_failed reader.new ≡ true) }
@@ -143,15 +149,18 @@ fn fold_files<S: Alter, L: Layout, R: Source>(
     readers: &mut [R],
 ) -> Result<(), Refusal>
     ensures same { tx.new.conn.ghost_name ≡ tx.old.conn.ghost_name }
-    ensures stays { HasCleanDisk (state S.Store tx.new.conn.now) → IsTrue (state S.Store tx.old.conn.now).in_transaction → Stays (state S.Store tx.old.conn.now) (state S.Store tx.new.conn.now) result }
+    ensures stays { HasCleanDisk (state S.Store tx.new.conn.now) → IsTrue (state S.Store tx.old.conn.now).in_transaction
+        → Stays (state S.Store tx.old.conn.now) (state S.Store tx.new.conn.now) result }
     ensures database { fold.new.progress.database ≡ fold.old.progress.database }
     ensures folded { HasCleanDisk (state S.Store tx.new.conn.now) → IsTrue (state S.Store tx.old.conn.now).in_transaction
         → (texts : List (List ℕ)) → map R.remaining readers.old ≡ map Some texts → NoneFailed R.has_failed readers.new
         → (version : List ℕ) (records_of : ℤ → List Kept) (p : FoldProgress) → StandsFor fold.old p
-        → IsUnderWay L.holds setting.now.profile.now fold.old.progress.database.0 records_of (state S.Store tx.old.conn.now) p.base
-        → Meets (λ after _. IsFolded L.holds setting.now.profile.now fold.old.progress.database.0 records_of (state S.Store tx.old.conn.now) (state S.Store tx.new.conn.now) fold.new after)
+        → IsUnderWay L.format setting.now.profile.now fold.old.progress.database.0 records_of (state S.Store tx.old.conn.now) p.base
+        → Meets (λ after _. IsFolded L.format setting.now.profile.now fold.old.progress.database.0 records_of
+        (state S.Store tx.old.conn.now) (state S.Store tx.new.conn.now) fold.new after)
         (files_folded (conditions_of version setting.now) setting.now.kind 1 (splits_of texts) p) result }
-    ensures failed { NoneFailed R.has_failed readers.old → (file : ℕ) → HasFailedAt R.has_failed readers.new file → result ≡ Err (Refusal.ReadFault file) }
+    ensures failed { NoneFailed R.has_failed readers.old → (file : ℕ) → HasFailedAt R.has_failed readers.new file
+        → result ≡ Err (Refusal.ReadFault file) }
     ensures fault { (file : ℕ) → result ≡ Err (Refusal.ReadFault file) → HasFailedAt R.has_failed readers.new file }
     ensures crash { Survives (state S.Store tx.old.conn.now) (state S.Store tx.new.conn.now) (λ _. ⊥) }
 {
@@ -188,16 +197,24 @@ fn apply<S: Alter, L: Layout, R: Source>(
     readers: &mut [R],
 ) -> Result<Reply, Refusal>
     ensures same { tx.new.conn.ghost_name ≡ tx.old.conn.ghost_name }
-    ensures stays { HasCleanDisk (state S.Store tx.new.conn.now) → IsTrue (state S.Store tx.old.conn.now).in_transaction → Stays (state S.Store tx.old.conn.now) (state S.Store tx.new.conn.now) result }
-    ensures works { HasCleanDisk (state S.Store tx.new.conn.now) → IsTrue (state S.Store tx.old.conn.now).in_transaction → IsTrue (state S.Store tx.old.conn.now).is_open
-        → (texts : List (List ℕ)) → map R.remaining readers.old ≡ map Some texts → NoneFailed R.has_failed readers.new → (version : List ℕ)
-        → Works L.holds (conditions_of version change.now.setting) (BeginsWith change.now.setting.kind (name_bytes change.now.name.now) change.now.found (conditions_of version change.now.setting))
-        (turned (conditions_of version change.now.setting) (changed_by_files (conditions_of version change.now.setting) change.now.setting.kind (name_bytes change.now.name.now) (splits_of texts)))
+    ensures stays { HasCleanDisk (state S.Store tx.new.conn.now) → IsTrue (state S.Store tx.old.conn.now).in_transaction
+        → Stays (state S.Store tx.old.conn.now) (state S.Store tx.new.conn.now) result }
+    ensures works { HasCleanDisk (state S.Store tx.new.conn.now) → IsTrue (state S.Store tx.old.conn.now).in_transaction
+        → IsTrue (state S.Store tx.old.conn.now).is_open
+        → (texts : List (List ℕ)) → map R.remaining readers.old ≡ map Some texts → NoneFailed R.has_failed readers.new
+        → Works (BeginsWith change.now.setting.kind (name_bytes change.now.name.now) change.now.found
+        (conditions_of (version_of L.format) change.now.setting))
+        (turned (conditions_of (version_of L.format) change.now.setting)
+        (changed_by_files (conditions_of (version_of L.format) change.now.setting) change.now.setting.kind
+        (name_bytes change.now.name.now) (splits_of texts)))
         (state S.Store tx.old.conn.now) (state S.Store tx.new.conn.now) result }
-    ensures failed { NoneFailed R.has_failed readers.old → (file : ℕ) → HasFailedAt R.has_failed readers.new file → result ≡ Err (Refusal.ReadFault file) }
+    ensures failed { NoneFailed R.has_failed readers.old → (file : ℕ) → HasFailedAt R.has_failed readers.new file
+        → result ≡ Err (Refusal.ReadFault file) }
     ensures fault { (file : ℕ) → result ≡ Err (Refusal.ReadFault file) → HasFailedAt R.has_failed readers.new file }
     ensures crash { Survives (state S.Store tx.old.conn.now) (state S.Store tx.new.conn.now) (λ _. ⊥) }
 {
+    // Its profile is some text's.
+    change.setting.profile.is_of_some_text();
     let name = change.name.as_str();
     let last = change.last();
     let database = database_put(tx, name, last)?;
@@ -225,20 +242,26 @@ fn transact<S: Alter, L: Layout, R: Source>(
 ) -> Result<Reply, Refusal>
     requires idle { connection.old.in_transaction ≡ false }
     ensures idle { connection.new.in_transaction ≡ false }
-    ensures open { HasCleanDisk (state S.Store connection.new) → OnOk result (StaysOpen (state S.Store connection.old) (state S.Store connection.new)) }
-    ensures refused { HasCleanDisk (state S.Store connection.new) → OnErr result (ChangesNothing (state S.Store connection.old) (state S.Store connection.new)) }
-    ensures endures { HasCleanDisk (state S.Store connection.new) → IfErr result (EnduresRefusal (state S.Store connection.old) (state S.Store connection.new)) }
-    ensures survives { Survives (state S.Store connection.old) (state S.Store connection.new) (λ db. IsTrue (state S.Store connection.old).is_open
-        → (texts : List (List ℕ)) → map R.remaining readers.old ≡ map Some texts → NoneFailed R.has_failed readers.new → (version : List ℕ)
-        → Commits L.holds (conditions_of version change.now.setting) (BeginsWith change.now.setting.kind (name_bytes change.now.name.now) change.now.found (conditions_of version change.now.setting))
-        (turned (conditions_of version change.now.setting) (changed_by_files (conditions_of version change.now.setting) change.now.setting.kind (name_bytes change.now.name.now) (splits_of texts)))
+    ensures call { Commanded (state S.Store connection.old) (state S.Store connection.new) result }
+    ensures survives { Survives (state S.Store connection.old) (state S.Store connection.new)
+        (λ db. IsTrue (state S.Store connection.old).is_open
+        → (texts : List (List ℕ)) → map R.remaining readers.old ≡ map Some texts → NoneFailed R.has_failed readers.new
+        → Commits (BeginsWith change.now.setting.kind (name_bytes change.now.name.now) change.now.found
+        (conditions_of (version_of L.format) change.now.setting))
+        (turned (conditions_of (version_of L.format) change.now.setting)
+        (changed_by_files (conditions_of (version_of L.format) change.now.setting) change.now.setting.kind
+        (name_bytes change.now.name.now) (splits_of texts)))
         (state S.Store connection.old) db) }
     ensures serves { HasCleanDisk (state S.Store connection.new) → IsTrue (state S.Store connection.old).is_open
-        → (texts : List (List ℕ)) → map R.remaining readers.old ≡ map Some texts → NoneFailed R.has_failed readers.new → (version : List ℕ)
-        → Serves L.holds (conditions_of version change.now.setting) (BeginsWith change.now.setting.kind (name_bytes change.now.name.now) change.now.found (conditions_of version change.now.setting))
-        (turned (conditions_of version change.now.setting) (changed_by_files (conditions_of version change.now.setting) change.now.setting.kind (name_bytes change.now.name.now) (splits_of texts)))
+        → (texts : List (List ℕ)) → map R.remaining readers.old ≡ map Some texts → NoneFailed R.has_failed readers.new
+        → Serves (BeginsWith change.now.setting.kind (name_bytes change.now.name.now) change.now.found
+        (conditions_of (version_of L.format) change.now.setting))
+        (turned (conditions_of (version_of L.format) change.now.setting)
+        (changed_by_files (conditions_of (version_of L.format) change.now.setting) change.now.setting.kind
+        (name_bytes change.now.name.now) (splits_of texts)))
         (state S.Store connection.old) (state S.Store connection.new) result }
-    ensures failed { NoneFailed R.has_failed readers.old → (file : ℕ) → HasFailedAt R.has_failed readers.new file → result ≡ Err (Refusal.ReadFault file) }
+    ensures failed { NoneFailed R.has_failed readers.old → (file : ℕ) → HasFailedAt R.has_failed readers.new file
+        → result ≡ Err (Refusal.ReadFault file) }
     ensures fault { (file : ℕ) → result ≡ Err (Refusal.ReadFault file) → HasFailedAt R.has_failed readers.new file }
 {
     let _settled = connection.is_autocommit();
@@ -256,10 +279,12 @@ fn found_for<S: Alter, L: Layout>(
 ) -> Result<Option<Database>, Refusal>
     requires idle { connection.old.in_transaction ≡ false }
     ensures idle { connection.new.in_transaction ≡ false }
-    ensures same { HasCleanDisk (state S.Store connection.new) → ChangesNothing (state S.Store connection.old) (state S.Store connection.new) }
+    ensures same { HasCleanDisk (state S.Store connection.new)
+        → ChangesNothing (state S.Store connection.old) (state S.Store connection.new) }
     ensures begins { HasCleanDisk (state S.Store connection.new) → IsTrue (state S.Store connection.old).is_open
-        → (c : Conditions) (before : Holdings) (bases : List Base) → ready c before ≡ Ok bases → Keeps L.holds c (state S.Store connection.old) before
-        → Meets (λ base found. BeginsWith setting.now.kind (name_bytes name.now) found c (state S.Store connection.old).now.trees before × IsTrue (state S.Store connection.new).is_open)
+        → (c : Conditions) (before : Holdings) (bases : List Base) → ready c before ≡ Ok bases → Keeps (state S.Store connection.old) before
+        → Meets (λ base found. BeginsWith setting.now.kind (name_bytes name.now) found c (state S.Store connection.old).now.trees before
+        × IsTrue (state S.Store connection.new).is_open)
         (start_of setting.now.kind (name_bytes name.now) (base_named (name_bytes name.now) bases)) result }
     ensures unread { NoReadFault result }
     ensures crash { Survives (state S.Store connection.old) (state S.Store connection.new) (λ _. ⊥) }
@@ -284,20 +309,22 @@ pub(crate) fn change_database<S: Alter, L: Layout, R: Source>(
 ) -> Result<Reply, Refusal>
     requires idle { connection.old.in_transaction ≡ false }
     ensures idle { connection.new.in_transaction ≡ false }
-    ensures open { HasCleanDisk (state S.Store connection.new) → OnOk result (StaysOpen (state S.Store connection.old) (state S.Store connection.new)) }
-    ensures refused { HasCleanDisk (state S.Store connection.new) → OnErr result (ChangesNothing (state S.Store connection.old) (state S.Store connection.new)) }
-    ensures endures { HasCleanDisk (state S.Store connection.new) → IfErr result (EnduresRefusal (state S.Store connection.old) (state S.Store connection.new)) }
-    ensures survives { Survives (state S.Store connection.old) (state S.Store connection.new) (λ db. IsTrue (state S.Store connection.old).is_open
-        → (texts : List (List ℕ)) → map R.remaining readers.old ≡ map Some texts → NoneFailed R.has_failed readers.new → (version : List ℕ)
-        → Commits L.holds (conditions_of version setting.entry) (IsReady (conditions_of version setting.entry))
-        (turned (conditions_of version setting.entry) (changed_by_files (conditions_of version setting.entry) setting.entry.kind (name_bytes name.now) (splits_of texts)))
+    ensures call { Commanded (state S.Store connection.old) (state S.Store connection.new) result }
+    ensures survives { Survives (state S.Store connection.old) (state S.Store connection.new)
+        (λ db. IsTrue (state S.Store connection.old).is_open
+        → (texts : List (List ℕ)) → map R.remaining readers.old ≡ map Some texts → NoneFailed R.has_failed readers.new
+        → Commits (IsReady (conditions_of (version_of L.format) setting.entry))
+        (turned (conditions_of (version_of L.format) setting.entry)
+        (changed_by_files (conditions_of (version_of L.format) setting.entry) setting.entry.kind (name_bytes name.now) (splits_of texts)))
         (state S.Store connection.old) db) }
     ensures serves { HasCleanDisk (state S.Store connection.new) → IsTrue (state S.Store connection.old).is_open
-        → (texts : List (List ℕ)) → map R.remaining readers.old ≡ map Some texts → NoneFailed R.has_failed readers.new → (version : List ℕ)
-        → Serves L.holds (conditions_of version setting.entry) (IsReady (conditions_of version setting.entry))
-        (turned (conditions_of version setting.entry) (changed_by_files (conditions_of version setting.entry) setting.entry.kind (name_bytes name.now) (splits_of texts)))
+        → (texts : List (List ℕ)) → map R.remaining readers.old ≡ map Some texts → NoneFailed R.has_failed readers.new
+        → Serves (IsReady (conditions_of (version_of L.format) setting.entry))
+        (turned (conditions_of (version_of L.format) setting.entry)
+        (changed_by_files (conditions_of (version_of L.format) setting.entry) setting.entry.kind (name_bytes name.now) (splits_of texts)))
         (state S.Store connection.old) (state S.Store connection.new) result }
-    ensures failed { NoneFailed R.has_failed readers.old → (file : ℕ) → HasFailedAt R.has_failed readers.new file → result ≡ Err (Refusal.ReadFault file) }
+    ensures failed { NoneFailed R.has_failed readers.old → (file : ℕ) → HasFailedAt R.has_failed readers.new file
+        → result ≡ Err (Refusal.ReadFault file) }
     ensures fault { (file : ℕ) → result ≡ Err (Refusal.ReadFault file) → HasFailedAt R.has_failed readers.new file }
 {
     let found = found_for::<S, L>(connection, &setting, name)?;

@@ -16,32 +16,36 @@ ghost use Rattle.zeb_engine.specs.Finding.{HasKey, plan_key};
 ghost use Rattle.zeb_engine.specs.Matching.{AsksFor, HasMatch};
 ghost use Rattle.zeb_engine.specs.Folding.{Progress};
 ghost use Rattle.zeb_engine.specs.Holdings.{Base, Holdings, Kept};
-ghost use Rattle.zeb_engine.specs.Image.{IsBase, IsImage};
-ghost use Rattle.zeb_engine.specs.Steps.{Answers, changed_by_files, turned};
+ghost use Rattle.zeb_engine.specs.Image.{IsBase, IsImage, IsImageUnder};
+ghost use Rattle.zeb_engine.specs.Steps.{Step, changed_by_files, turned};
 
 use crate::commands::{Command, Kind};
-use zeb_register::Layout;
 
 /// No answer that the definition names is damage, or a failure of the store, of the memory or of a reader, whatever is
 /// held and whatever is asked. So such an answer always tells of the machine or of the tables, and never of the command:
 /// a register that is what commands left answers no damage.
 pub fn no_definition_answers_damage()
-    ensures damage { (c : Conditions) (command : Command) (before : Holdings) (answer : Answer) → Answers c command before answer
+    ensures damage { (c : Conditions) (command : Command) (before : Holdings) (answer : Answer) (later : Holdings)
+        → Step c command before answer later
         → answer ≢ refused damaged }
-    ensures store { (c : Conditions) (command : Command) (before : Holdings) (answer : Answer) → Answers c command before answer
+    ensures store { (c : Conditions) (command : Command) (before : Holdings) (answer : Answer) (later : Holdings)
+        → Step c command before answer later
         → answer ≢ refused store_failed }
-    ensures memory { (c : Conditions) (command : Command) (before : Holdings) (answer : Answer) → Answers c command before answer
+    ensures memory { (c : Conditions) (command : Command) (before : Holdings) (answer : Answer) (later : Holdings)
+        → Step c command before answer later
         → answer ≢ refused out_of_memory }
-    ensures reader { (c : Conditions) (command : Command) (before : Holdings) (answer : Answer) → Answers c command before answer
+    ensures reader { (c : Conditions) (command : Command) (before : Holdings) (answer : Answer) (later : Holdings)
+        → Step c command before answer later
         → (file : ℕ) → answer ≢ refused (read_fault file) }
 {}
 
 /// The definition leaves no choice: whatever is held and whatever is asked, a command has at most one answer, also a find, a
-/// scan and a stat, whose answers are not computed but described by the kept records. So an answer that a reader works out from the
-/// definition is the one that the program gives, unless the store or the memory fails.
+/// scan and a stat, whose answers are not computed but described by the kept records, and at most one thing that is held then. So an
+/// answer that a reader works out from the definition is the one that the program gives, unless the store or the memory fails.
 pub fn a_command_has_one_answer()
-    ensures { (c : Conditions) (command : Command) (before : Holdings) (one other : Answer) → Answers c command before one
-        → Answers c command before other → one ≡ other }
+    ensures { (c : Conditions) (command : Command) (before : Holdings) (one other : Answer) (left right : Holdings)
+        → Step c command before one left
+        → Step c command before other right → (one ≡ other) × (left ≡ right) }
 {}
 
 /// What a find asks for, said by matching and not by keys: a plan that has a key is that of one word in one index, and a record
@@ -59,7 +63,8 @@ pub fn a_word_is_found_where_it_stands()
 /// last number given has risen by just the number of those inserted, so that no number is lost or given twice. So a reader
 /// can check a reply against the files and against the database.
 pub fn counts_add_up()
-    ensures accepted { (c : Conditions) (kind : Kind) (name : List ℕ) (files : List Split) (before : Holdings) (inserted updated deleted : ℕ)
+    ensures accepted { (c : Conditions) (kind : Kind) (name : List ℕ) (files : List Split) (before : Holdings)
+        (inserted updated deleted : ℕ)
         → (turned c (changed_by_files c kind name files) before).0 ≡ changed inserted updated deleted
         → IsAccepted c kind name files before (turned c (changed_by_files c kind name files) before) }
     ensures taken { (c : Conditions) (kind : Kind) (files : List Split) (base : Base) (p : Progress) → FoldsTo c kind files base p
@@ -87,8 +92,14 @@ pub fn numbers_stay()
 
 /// Two profiles with one canonical text have the same images. So what a register holds doesn't depend on how its profile is
 /// spelled, nor on the `store` line: a session under either profile finds the same held.
-pub fn one_text_one_image<L: Layout>()
-    ensures { (one other : Conditions) → IsProfile one.profile → IsProfile other.profile
-        → one.version ≡ other.version → canonical_text one.profile ≡ canonical_text other.profile
-        → (trees : Trees) (held : Holdings) → IsImage L.holds one trees held ↔ IsImage L.holds other trees held }
+pub fn one_text_one_image()
+    ensures { (one other : List Directive) → ∥ IsProfile other ∥₁ → (trees : Trees) (version text : List ℕ) (bases : List Base)
+        → text ≡ canonical_text other
+        → IsImageUnder one trees version text bases → IsImageUnder other trees version text bases }
+{}
+
+/// Tables are the image of one holding at most. So what a register holds is read off its tables alone: its version, its profile's
+/// canonical text, its databases, their last numbers and their records.
+pub fn an_image_is_of_one_holding()
+    ensures { (trees : Trees) (one other : Holdings) → IsImage trees one → IsImage trees other → one ≡ other }
 {}

@@ -5,6 +5,7 @@ ghost use Rattle.std.specs.List.{flat_map};
 ghost use Rattle.sqlite.specs.Held.{state};
 ghost use Rattle.sqlite.specs.State.{HasCleanDisk, Survives};
 ghost use Rattle.zeb_register.specs.Calls.{ChangesNothing};
+ghost use Rattle.zeb_register.specs.Formats.{version_of};
 ghost use Rattle.zeb_engine.specs.Adopting.{StaysOpen};
 ghost use Rattle.zeb_engine.specs.Conditions.{conditions};
 ghost use Rattle.zeb_engine.specs.declared.commands.Limits.{Limits};
@@ -42,13 +43,18 @@ pub(crate) fn dump<S: Alter, L: Layout>(
 ) -> Result<Reply, Refusal>
     requires idle { connection.old.in_transaction ≡ false }
     ensures idle { connection.new.in_transaction ≡ false }
-    ensures open { HasCleanDisk (state S.Store connection.new) → OnOk result (StaysOpen (state S.Store connection.old) (state S.Store connection.new)) }
-    ensures same { HasCleanDisk (state S.Store connection.new) → ChangesNothing (state S.Store connection.old) (state S.Store connection.new) }
+    ensures open { HasCleanDisk (state S.Store connection.new)
+        → OnOk result (StaysOpen (state S.Store connection.old) (state S.Store connection.new)) }
+    ensures same { HasCleanDisk (state S.Store connection.new)
+        → ChangesNothing (state S.Store connection.old) (state S.Store connection.new) }
     ensures serves { HasCleanDisk (state S.Store connection.new) → (limits : Limits)
-        → Serves L.holds (conditions L.version profile.now limits) Always (dumped_by (conditions L.version profile.now limits) (name_bytes name.now)) (state S.Store connection.old) (state S.Store connection.new) result }
+        → Serves Always (dumped_by (conditions (version_of L.format) profile.now limits) (name_bytes name.now))
+        (state S.Store connection.old) (state S.Store connection.new) result }
     ensures crash { Survives (state S.Store connection.old) (state S.Store connection.new) (λ _. ⊥) }
     ensures unread { NoReadFault result }
 {
+    // Its profile is some text's.
+    profile.is_of_some_text();
     check_ready::<S, L>(connection, profile)?;
     let database = existing_database::<S, L>(alloc, connection, name)?;
     let kept = records(alloc, connection, database.id)?;

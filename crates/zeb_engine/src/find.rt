@@ -8,6 +8,7 @@ ghost use Rattle.sqlite.specs.Tree.{Trees};
 ghost use Rattle.zeb_query.specs.Plans.{plan_value};
 ghost use Rattle.zeb_query.specs.Reading.{query_fault};
 ghost use Rattle.zeb_register.specs.Calls.{ChangesNothing};
+ghost use Rattle.zeb_register.specs.Formats.{version_of};
 ghost use Rattle.zeb_register.specs.Content.{posting_cmp};
 ghost use Rattle.zeb_engine.specs.declared.commands.Limits.{Limits};
 ghost use Rattle.zeb_engine.specs.Adopting.{StaysOpen};
@@ -156,15 +157,17 @@ pub(crate) fn find<S: Alter, L: Layout>(
     ensures open { HasCleanDisk (state S.Store connection.new) → OnOk result (StaysOpen (state S.Store connection.old) (state S.Store connection.new)) }
     ensures same { HasCleanDisk (state S.Store connection.new) → ChangesNothing (state S.Store connection.old) (state S.Store connection.new) }
     ensures found { HasCleanDisk (state S.Store connection.new) → IsTrue (state S.Store connection.old).is_open → (limits : Limits) (before : Holdings) (bases : List Base)
-        → ready (conditions L.version profile.now limits) before ≡ Ok bases → Keeps L.holds (conditions L.version profile.now limits) (state S.Store connection.old) before
-        → FoundAmong (conditions L.version profile.now limits) (name_bytes name.now) question.entry.query.now question.entry.first question.entry.count bases (query_fault question.entry.query.now) (answer_of result)
+        → ready (conditions (version_of L.format) profile.now limits) before ≡ Ok bases → Keeps (state S.Store connection.old) before
+        → FoundAmong (conditions (version_of L.format) profile.now limits) (name_bytes name.now) question.entry.query.now question.entry.first question.entry.count bases (query_fault question.entry.query.now) (answer_of result)
         ⊎ IsFailure (answer_of result) }
     ensures crash { Survives (state S.Store connection.old) (state S.Store connection.new) (λ _. ⊥) }
     ensures unread { NoReadFault result }
     // The hits are read from the registers, on any tables that hold a content.
     ensures alone { HasCleanDisk (state S.Store connection.new)
-        → LooksUp L.holds profile.now (name_bytes name.now) question.entry.query.now question.entry.first question.entry.count (state S.Store connection.old) result }
+        → LooksUp L.format profile.now (name_bytes name.now) question.entry.query.now question.entry.first question.entry.count (state S.Store connection.old) result }
 {
+    // Its profile is some text's.
+    profile.is_of_some_text();
     let query = read_pqf(alloc, question.query)?;
     let database = existing_database::<S, L>(alloc, connection, name)?;
     let key = key_of_plan(alloc, &plan(alloc, &query, profile)?)?;

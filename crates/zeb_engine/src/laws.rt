@@ -1,12 +1,12 @@
 //! The definitions that the contracts cite, tried on a worked example: a function with no code, whose contract is the example.
-ghost use Rattle.std.specs.Prelude.{◌≡◌, ◌↔◌, ℕ, List, [], ◌∷◌, Some, codes};
+ghost use Rattle.std.specs.Prelude.{◌≡◌, ◌↔◌, ℕ, List, [], ◌∷◌, codes};
 ghost use Rattle.zeb_marc.specs.Worked.{worked_record};
 ghost use Rattle.zeb_extract.specs.Sample.{title_profile};
 ghost use Rattle.zeb_engine.specs.Answers.{Answer, done, changed, refused, found, faulty};
 ghost use Rattle.zeb_engine.specs.Finding.{HasKey, IsFound};
 ghost use Rattle.zeb_engine.specs.Holdings.{Holdings, nothing_yet};
-ghost use Rattle.zeb_engine.specs.Steps.{Answers, Run, outcome};
-ghost use Rattle.zeb_engine.specs.Worked.{book, book_base, book_conditions, faulty_file, no_books, one_book, title_word, IsFindBy, IsUpdateBy};
+ghost use Rattle.zeb_engine.specs.Steps.{Run, Step};
+ghost use Rattle.zeb_engine.specs.Worked.{book, book_base, book_conditions, faulty_file, no_books, one_book, title_word, IsFindBy, IsJust, IsUpdateBy};
 
 use crate::commands::{Command, Limits};
 use crate::faults::RecordFault;
@@ -18,25 +18,24 @@ use crate::faults::RecordFault;
 /// find, one after the other, are a run from nothing.
 pub fn worked_examples()
     ensures begun { (version : List ℕ) (limits : Limits) (before : Holdings)
-        → outcome (book_conditions version limits) Command.Init before ≡ Some (done, no_books version) }
+        → IsJust (Step (book_conditions version limits) Command.Init before) done (no_books version) }
     ensures kept { (version : List ℕ) (limits : Limits) (command : Command) → IsUpdateBy (worked_record ∷ []) command
-        → outcome (book_conditions version limits) command (no_books version) ≡ Some (changed 1 0 0, one_book version) }
+        → IsJust (Step (book_conditions version limits) command (no_books version)) (changed 1 0 0) (one_book version) }
     ensures again { (version : List ℕ) (limits : Limits) (command : Command) → IsUpdateBy (worked_record ∷ []) command
-        → outcome (book_conditions version limits) command (one_book version) ≡ Some (changed 0 1 0, one_book version) }
+        → IsJust (Step (book_conditions version limits) command (one_book version)) (changed 0 1 0) (one_book version) }
     ensures refused { (version : List ℕ) (limits : Limits) (command : Command) → IsUpdateBy (faulty_file ∷ []) command
-        → outcome (book_conditions version limits) command (no_books version)
-        ≡ Some (refused (faulty 1 2 RecordFault.LengthDigits), no_books version) }
+        → IsJust (Step (book_conditions version limits) command (no_books version)) (refused (faulty 1 2 RecordFault.LengthDigits))
+        (no_books version) }
     ensures refused_again { (version : List ℕ) (limits : Limits) (command : Command) → IsUpdateBy (faulty_file ∷ []) command
-        → outcome (book_conditions version limits) command (one_book version)
-        ≡ Some (refused (faulty 1 2 RecordFault.LengthDigits), one_book version) }
+        → IsJust (Step (book_conditions version limits) command (one_book version)) (refused (faulty 1 2 RecordFault.LengthDigits))
+        (one_book version) }
     ensures found { (answer : Answer) → IsFound title_profile (title_word (codes "whale")) 1 20 book_base answer
         ↔ (answer ≡ found 1 ((1, codes "a1") ∷ [])) }
     ensures other_word { ¬ HasKey title_profile (title_word (codes "ahab")) book }
     ensures not_found { (answer : Answer) → IsFound title_profile (title_word (codes "ahab")) 1 20 book_base answer
         ↔ (answer ≡ found 0 []) }
-    ensures asked { (version : List ℕ) (limits : Limits) (answer : Answer) (command : Command) → IsFindBy (codes "@attr 1=4 whale") command
-        → Answers (book_conditions version limits) command (one_book version) answer
-        ↔ (answer ≡ found 1 ((1, codes "a1") ∷ [])) }
+    ensures asked { (version : List ℕ) (limits : Limits) (command : Command) → IsFindBy (codes "@attr 1=4 whale") command
+        → IsJust (Step (book_conditions version limits) command (one_book version)) (found 1 ((1, codes "a1") ∷ [])) (one_book version) }
     ensures run { (version : List ℕ) (limits : Limits) (update ask : Command) → IsUpdateBy (worked_record ∷ []) update
         → IsFindBy (codes "@attr 1=4 whale") ask
         → Run (book_conditions version limits) nothing_yet (Command.Init ∷ update ∷ ask ∷ [])

@@ -21,14 +21,12 @@ mod session;
 mod stat;
 mod tables;
 mod tally;
-#[cfg(test)]
-mod tests;
 mod writes;
 
 pub use commands::{Command, Kind, Limits};
 pub use definition_laws::{
-    a_command_has_one_answer, a_word_is_found_where_it_stands, counts_add_up,
-    no_definition_answers_damage, numbers_stay, one_text_one_image,
+    a_command_has_one_answer, a_word_is_found_where_it_stands, an_image_is_of_one_holding,
+    counts_add_up, no_definition_answers_damage, numbers_stay, one_text_one_image,
 };
 pub use faults::RecordFault;
 pub use holding_laws::{a_database_is_in_its_place, the_last_record_stays};

@@ -9,6 +9,7 @@ use arrayvec::ArrayString;
 #[derive(Clone, Copy, Debug, PartialEq, Eq)]
 pub struct DbName {
     text: ArrayString<64>,
+    ghost named: { IsDatabaseName text.bytes },
 }
 
 /// An ASCII letter or digit, `-`, `_` or `.`.

@@ -4,6 +4,7 @@ ghost use Rattle.std.specs.Prelude.{◌≡◌, ◌⊎◌, ℕ, List, false, pos,
 ghost use Rattle.sqlite.specs.Held.{state};
 ghost use Rattle.sqlite.specs.State.{HasCleanDisk, Survives};
 ghost use Rattle.zeb_register.specs.Calls.{ChangesNothing};
+ghost use Rattle.zeb_register.specs.Formats.{version_of};
 ghost use Rattle.zeb_register.specs.Store.{IsStore, HasDatabase};
 ghost use Rattle.zeb_engine.specs.Answers.{IsFailure, refused, why_of};
 ghost use Rattle.zeb_engine.specs.Conditions.{Conditions, conditions};
@@ -41,9 +42,12 @@ pub(crate) fn check_ready<S: Alter, L: Layout>(
 ) -> Result<(), Refusal>
     requires idle { connection.old.in_transaction ≡ false }
     ensures idle { connection.new.in_transaction ≡ false }
-    ensures same { HasCleanDisk (state S.Store connection.new) → ChangesNothing (state S.Store connection.old) (state S.Store connection.new) }
-    ensures ready { HasCleanDisk (state S.Store connection.new) → (limits : Limits) (before : Holdings) → Keeps L.holds (conditions L.version profile.now limits) (state S.Store connection.old) before
-        → Meets (λ bases _. IsTrue (state S.Store connection.old).is_open × IsTrue (state S.Store connection.new).is_open) (ready (conditions L.version profile.now limits) before) result }
+    ensures same { HasCleanDisk (state S.Store connection.new)
+        → ChangesNothing (state S.Store connection.old) (state S.Store connection.new) }
+    ensures ready { HasCleanDisk (state S.Store connection.new) → (limits : Limits) (before : Holdings)
+        → Keeps (state S.Store connection.old) before
+        → Meets (λ bases _. IsTrue (state S.Store connection.old).is_open
+        × IsTrue (state S.Store connection.new).is_open) (ready (conditions (version_of L.format) profile.now limits) before) result }
     ensures unread { NoReadFault result }
     ensures crash { Survives (state S.Store connection.old) (state S.Store connection.new) (λ _. ⊥) }
 {
@@ -70,13 +74,16 @@ pub(crate) fn existing_database<S: Alter, L: Layout>(
 ) -> Result<Database, Refusal>
     requires idle { connection.old.in_transaction ≡ false }
     ensures idle { connection.new.in_transaction ≡ false }
-    ensures same { HasCleanDisk (state S.Store connection.new) → ChangesNothing (state S.Store connection.old) (state S.Store connection.new) }
+    ensures same { HasCleanDisk (state S.Store connection.new)
+        → ChangesNothing (state S.Store connection.old) (state S.Store connection.new) }
     ensures exists { HasCleanDisk (state S.Store connection.new) → IsTrue (state S.Store connection.old).is_open
-        → (c : Conditions) (before : Holdings) (bases : List Base) → ready c before ≡ Ok bases → Keeps L.holds c (state S.Store connection.old) before
-        → Meets (λ base found. HasDatabase (state S.Store connection.old).now.trees found.id.0 base.name (pos base.last) × (found.last ≡ base.last) × IsTrue (state S.Store connection.new).is_open)
+        → (c : Conditions) (before : Holdings) (bases : List Base) → ready c before ≡ Ok bases → Keeps (state S.Store connection.old) before
+        → Meets (λ base found. HasDatabase (state S.Store connection.old).now.trees found.id.0 base.name (pos base.last)
+        × (found.last ≡ base.last) × IsTrue (state S.Store connection.new).is_open)
         (existing (name_bytes name.now) bases) result }
     ensures found { HasCleanDisk (state S.Store connection.new) → OnOk result (IsTrue (state S.Store connection.old).is_open) }
-    ensures opened { HasCleanDisk (state S.Store connection.new) → IfErr result (λ refusal. IsFailure (refused (why_of refusal)) ⊎ IsTrue (state S.Store connection.old).is_open) }
+    ensures opened { HasCleanDisk (state S.Store connection.new)
+        → IfErr result (λ refusal. IsFailure (refused (why_of refusal)) ⊎ IsTrue (state S.Store connection.old).is_open) }
     ensures unread { NoReadFault result }
     ensures crash { Survives (state S.Store connection.old) (state S.Store connection.new) (λ _. ⊥) }
     ensures row { HasCleanDisk (state S.Store connection.new) → IsStore (state S.Store connection.old)

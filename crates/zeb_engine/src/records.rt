@@ -7,6 +7,7 @@ ghost use Rattle.sqlite.specs.State.{HasCleanDisk, KeepsCounts, Survives};
 ghost use Rattle.zeb_marc.specs.Records.{first_fault, IsRecord};
 ghost use Rattle.zeb_extract.specs.Order.{IsRising as AreRising};
 ghost use Rattle.zeb_register.specs.Content.{Content, IsRising};
+ghost use Rattle.zeb_register.specs.Formats.{holds_in};
 ghost use Rattle.zeb_register.specs.Store.{IsStore, KeepsLists};
 ghost use Rattle.zeb_engine.specs.ChangedKeys.{ArePostingsOf, AreTheSame, IsReposted};
 ghost use Rattle.zeb_engine.specs.Answers.{Why, why_of, refused, IsFailure};
@@ -71,20 +72,28 @@ fn change_keys<S: Alter, L: Layout>(
     newer: &[Occurrence],
 ) -> Result<(), Refusal>
     ensures same { tx.new.conn.ghost_name ≡ tx.old.conn.ghost_name }
-    ensures stays { HasCleanDisk (state S.Store tx.new.conn.now) → IsTrue (state S.Store tx.old.conn.now).in_transaction → Stays (state S.Store tx.old.conn.now) (state S.Store tx.new.conn.now) result }
+    ensures stays { HasCleanDisk (state S.Store tx.new.conn.now) → IsTrue (state S.Store tx.old.conn.now).in_transaction
+        → Stays (state S.Store tx.old.conn.now) (state S.Store tx.new.conn.now) result }
     ensures place { (progress.new.database ≡ progress.old.database) × (progress.new.last ≡ progress.old.last) }
-    ensures moved { HasCleanDisk (state S.Store tx.new.conn.now) → IsTrue (state S.Store tx.old.conn.now).in_transaction → IsStore (state S.Store tx.old.conn.now)
+    ensures moved { HasCleanDisk (state S.Store tx.new.conn.now) → IsTrue (state S.Store tx.old.conn.now).in_transaction
+        → IsStore (state S.Store tx.old.conn.now)
         → AreRising elder.now → AreRising newer.now
-        → OnOk result (IsStore (state S.Store tx.new.conn.now) × KeepsLists (state S.Store tx.old.conn.now).now.trees (state S.Store tx.new.conn.now).now.trees
-        × ((before after : Content) → L.holds (state S.Store tx.old.conn.now).now.trees before → IsRising before → ArePostingsOf sysno elder.now (before progress.old.database.0)
-        → IsReposted progress.old.database.0 sysno newer.now before after → L.holds (state S.Store tx.new.conn.now).now.trees after)) }
+        → OnOk result (IsStore (state S.Store tx.new.conn.now)
+        × KeepsLists (state S.Store tx.old.conn.now).now.trees (state S.Store tx.new.conn.now).now.trees
+        × ((before after : Content) → holds_in L.format (state S.Store tx.old.conn.now).now.trees before → IsRising before
+        → ArePostingsOf sysno elder.now (before progress.old.database.0)
+        → IsReposted progress.old.database.0 sysno newer.now before after
+        → holds_in L.format (state S.Store tx.new.conn.now).now.trees after)) }
     ensures fails { IfErr result (λ refusal. (refusal ≡ Refusal.Damaged) ⊎ IsFailure (refused (why_of refusal))) }
-    ensures honest { HasCleanDisk (state S.Store tx.new.conn.now) → IsTrue (state S.Store tx.old.conn.now).in_transaction → IsStore (state S.Store tx.old.conn.now)
+    ensures honest { HasCleanDisk (state S.Store tx.new.conn.now) → IsTrue (state S.Store tx.old.conn.now).in_transaction
+        → IsStore (state S.Store tx.old.conn.now)
         → AreRising elder.now → AreRising newer.now → result ≡ Err Refusal.Damaged
-        → (content : Content) → L.holds (state S.Store tx.old.conn.now).now.trees content → IsRising content → ¬ ArePostingsOf sysno elder.now (content progress.old.database.0) }
+        → (content : Content) → holds_in L.format (state S.Store tx.old.conn.now).now.trees content → IsRising content
+        → ¬ ArePostingsOf sysno elder.now (content progress.old.database.0) }
     ensures crash { Survives (state S.Store tx.old.conn.now) (state S.Store tx.new.conn.now) (λ _. ⊥) }
     ensures idle { AreRising elder.now → AreRising newer.now → AreTheSame elder.now newer.now
-        → ((state S.Store tx.new.conn.now).now ≡ (state S.Store tx.old.conn.now).now) × KeepsCounts (state S.Store tx.old.conn.now) (state S.Store tx.new.conn.now) × (progress.new ≡ progress.old) }
+        → ((state S.Store tx.new.conn.now).now ≡ (state S.Store tx.old.conn.now).now)
+        × KeepsCounts (state S.Store tx.old.conn.now) (state S.Store tx.new.conn.now) × (progress.new ≡ progress.old) }
 {
     let changed_keys = changed_keys(alloc, elder, newer)?;
     for changed in &changed_keys {
@@ -121,12 +130,15 @@ fn insert<S: Alter, L: Layout>(
     newer: &Newer<'_>,
 ) -> Result<Fate, Refusal>
     ensures same { tx.new.conn.ghost_name ≡ tx.old.conn.ghost_name }
-    ensures stays { HasCleanDisk (state S.Store tx.new.conn.now) → IsTrue (state S.Store tx.old.conn.now).in_transaction → Stays (state S.Store tx.old.conn.now) (state S.Store tx.new.conn.now) result }
+    ensures stays { HasCleanDisk (state S.Store tx.new.conn.now) → IsTrue (state S.Store tx.old.conn.now).in_transaction
+        → Stays (state S.Store tx.old.conn.now) (state S.Store tx.new.conn.now) result }
     ensures place { progress.new.database ≡ progress.old.database }
     ensures taken { HasCleanDisk (state S.Store tx.new.conn.now) → IsTrue (state S.Store tx.old.conn.now).in_transaction
         → (version : List ℕ) → IsNewer setting.now.profile.now newer.now.ident.now newer.now.bytes.now newer.now.occurrences.items
-        → Takes L.holds setting.now.profile.now progress.old.database.0 (state S.Store tx.old.conn.now) (state S.Store tx.new.conn.now) progress.old.last progress.new.last
-        (λ base. IsElderAs newer.now.ident.now base None) (λ base. updated (conditions_of version setting.now) newer.now.ident.now newer.now.bytes.now base (kept_as newer.now.ident.now base)) result }
+        → Takes L.format setting.now.profile.now progress.old.database.0 (state S.Store tx.old.conn.now)
+        (state S.Store tx.new.conn.now) progress.old.last progress.new.last
+        (λ base. IsElderAs newer.now.ident.now base None) (λ base. updated
+        (conditions_of version setting.now) newer.now.ident.now newer.now.bytes.now base (kept_as newer.now.ident.now base)) result }
     ensures unread { NoReadFault result }
     ensures crash { Survives (state S.Store tx.old.conn.now) (state S.Store tx.new.conn.now) (λ _. ⊥) }
 {
@@ -149,17 +161,24 @@ fn replace<S: Alter, L: Layout>(
     newer: &Newer<'_>,
 ) -> Result<Fate, Refusal>
     ensures same { tx.new.conn.ghost_name ≡ tx.old.conn.ghost_name }
-    ensures stays { HasCleanDisk (state S.Store tx.new.conn.now) → IsTrue (state S.Store tx.old.conn.now).in_transaction → Stays (state S.Store tx.old.conn.now) (state S.Store tx.new.conn.now) result }
+    ensures stays { HasCleanDisk (state S.Store tx.new.conn.now) → IsTrue (state S.Store tx.old.conn.now).in_transaction
+        → Stays (state S.Store tx.old.conn.now) (state S.Store tx.new.conn.now) result }
     ensures place { progress.new.database ≡ progress.old.database }
     ensures taken { HasCleanDisk (state S.Store tx.new.conn.now) → IsTrue (state S.Store tx.old.conn.now).in_transaction
         → (version : List ℕ) → IsNewer setting.now.profile.now newer.now.ident.now newer.now.bytes.now newer.now.occurrences.items
-        → Takes L.holds setting.now.profile.now progress.old.database.0 (state S.Store tx.old.conn.now) (state S.Store tx.new.conn.now) progress.old.last progress.new.last
-        (λ base. IsElderAs newer.now.ident.now base (Some elder.now)) (λ base. updated (conditions_of version setting.now) newer.now.ident.now newer.now.bytes.now base (kept_as newer.now.ident.now base)) result }
+        → Takes L.format setting.now.profile.now progress.old.database.0 (state S.Store tx.old.conn.now)
+        (state S.Store tx.new.conn.now) progress.old.last progress.new.last
+        (λ base. IsElderAs newer.now.ident.now base (Some elder.now))
+        (λ base. updated (conditions_of version setting.now) newer.now.ident.now newer.now.bytes.now base
+        (kept_as newer.now.ident.now base)) result }
     ensures unread { NoReadFault result }
     ensures crash { Survives (state S.Store tx.old.conn.now) (state S.Store tx.new.conn.now) (λ _. ⊥) }
-    ensures idle { HasCleanDisk (state S.Store tx.new.conn.now) → IsTrue (state S.Store tx.old.conn.now).in_transaction → IsStore (state S.Store tx.old.conn.now)
+    ensures idle { HasCleanDisk (state S.Store tx.new.conn.now) → IsTrue (state S.Store tx.old.conn.now).in_transaction
+        → IsStore (state S.Store tx.old.conn.now)
         → IsNewer setting.now.profile.now newer.now.ident.now newer.now.bytes.now newer.now.occurrences.items
-        → elder.now.bytes.items ≡ newer.now.bytes.now → IfOk result (λ fate. IsIdle (state S.Store tx.old.conn.now) (state S.Store tx.new.conn.now) fate × (progress.new ≡ progress.old)) }
+        → elder.now.bytes.items ≡ newer.now.bytes.now
+        → IfOk result (λ fate. IsIdle (state S.Store tx.old.conn.now) (state S.Store tx.new.conn.now) fate
+        × (progress.new ≡ progress.old)) }
 {
     let old = kept_occurrences(setting, elder)?;
     let sysno = elder.sysno;
@@ -176,11 +195,13 @@ fn withdraw<S: Alter, L: Layout>(
     elder: &Elder,
 ) -> Result<Fate, Refusal>
     ensures same { tx.new.conn.ghost_name ≡ tx.old.conn.ghost_name }
-    ensures stays { HasCleanDisk (state S.Store tx.new.conn.now) → IsTrue (state S.Store tx.old.conn.now).in_transaction → Stays (state S.Store tx.old.conn.now) (state S.Store tx.new.conn.now) result }
+    ensures stays { HasCleanDisk (state S.Store tx.new.conn.now) → IsTrue (state S.Store tx.old.conn.now).in_transaction
+        → Stays (state S.Store tx.old.conn.now) (state S.Store tx.new.conn.now) result }
     ensures place { progress.new.database ≡ progress.old.database }
     ensures taken { HasCleanDisk (state S.Store tx.new.conn.now) → IsTrue (state S.Store tx.old.conn.now).in_transaction
         → (ident : List ℕ) (absent : Result Changed Why)
-        → Takes L.holds setting.now.profile.now progress.old.database.0 (state S.Store tx.old.conn.now) (state S.Store tx.new.conn.now) progress.old.last progress.new.last
+        → Takes L.format setting.now.profile.now progress.old.database.0 (state S.Store tx.old.conn.now)
+        (state S.Store tx.new.conn.now) progress.old.last progress.new.last
         (λ base. IsElderAs ident base (Some elder.now)) (λ base. deleted absent ident base (kept_as ident base)) result }
     ensures unread { NoReadFault result }
     ensures crash { Survives (state S.Store tx.old.conn.now) (state S.Store tx.new.conn.now) (λ _. ⊥) }
@@ -201,17 +222,23 @@ fn keep<S: Alter, L: Layout>(
     newer: &Newer<'_>,
 ) -> Result<Fate, Refusal>
     ensures same { tx.new.conn.ghost_name ≡ tx.old.conn.ghost_name }
-    ensures stays { HasCleanDisk (state S.Store tx.new.conn.now) → IsTrue (state S.Store tx.old.conn.now).in_transaction → Stays (state S.Store tx.old.conn.now) (state S.Store tx.new.conn.now) result }
+    ensures stays { HasCleanDisk (state S.Store tx.new.conn.now) → IsTrue (state S.Store tx.old.conn.now).in_transaction
+        → Stays (state S.Store tx.old.conn.now) (state S.Store tx.new.conn.now) result }
     ensures place { progress.new.database ≡ progress.old.database }
     ensures taken { HasCleanDisk (state S.Store tx.new.conn.now) → IsTrue (state S.Store tx.old.conn.now).in_transaction
         → (version : List ℕ) → IsNewer setting.now.profile.now newer.now.ident.now newer.now.bytes.now newer.now.occurrences.items
-        → Takes L.holds setting.now.profile.now progress.old.database.0 (state S.Store tx.old.conn.now) (state S.Store tx.new.conn.now) progress.old.last progress.new.last
-        (λ base. IsElderAs newer.now.ident.now base elder) (λ base. updated (conditions_of version setting.now) newer.now.ident.now newer.now.bytes.now base (kept_as newer.now.ident.now base)) result }
+        → Takes L.format setting.now.profile.now progress.old.database.0 (state S.Store tx.old.conn.now)
+        (state S.Store tx.new.conn.now) progress.old.last progress.new.last
+        (λ base. IsElderAs newer.now.ident.now base elder) (λ base. updated
+        (conditions_of version setting.now) newer.now.ident.now newer.now.bytes.now base (kept_as newer.now.ident.now base)) result }
     ensures unread { NoReadFault result }
     ensures crash { Survives (state S.Store tx.old.conn.now) (state S.Store tx.new.conn.now) (λ _. ⊥) }
-    ensures idle { HasCleanDisk (state S.Store tx.new.conn.now) → IsTrue (state S.Store tx.old.conn.now).in_transaction → IsStore (state S.Store tx.old.conn.now)
+    ensures idle { HasCleanDisk (state S.Store tx.new.conn.now) → IsTrue (state S.Store tx.old.conn.now).in_transaction
+        → IsStore (state S.Store tx.old.conn.now)
         → IsNewer setting.now.profile.now newer.now.ident.now newer.now.bytes.now newer.now.occurrences.items
-        → (same : Elder) → elder ≡ Some same → same.bytes.items ≡ newer.now.bytes.now → IfOk result (λ fate. IsIdle (state S.Store tx.old.conn.now) (state S.Store tx.new.conn.now) fate × (progress.new ≡ progress.old)) }
+        → (same : Elder) → elder ≡ Some same → same.bytes.items ≡ newer.now.bytes.now
+        → IfOk result (λ fate. IsIdle (state S.Store tx.old.conn.now) (state S.Store tx.new.conn.now) fate
+        × (progress.new ≡ progress.old)) }
 {
     match elder {
         Some(elder) => replace::<S, L>(tx, setting, progress, &elder, newer),
@@ -227,7 +254,9 @@ fn sound_record<'a>(
     ensures whole { IfOk result (λ sound. IsRecord incoming.entry.bytes.now sound.0) }
     ensures named { IfOk result (λ sound. ident_in setting.now.profile.now incoming.entry.bytes.now ≡ Ok (string_bytes sound.1)) }
     ensures refused { IfErr result (λ refusal. (version : List ℕ) (kind : Kind) (base : Base) → IsFailure (refused (why_of refusal))
-        ⊎ (changed_record (conditions_of version setting.now) kind incoming.entry.file incoming.entry.nth incoming.entry.bytes.now base ≡ Err (why_of refusal))) }
+        ⊎ (changed_record
+        (conditions_of version setting.now) kind incoming.entry.file incoming.entry.nth incoming.entry.bytes.now base ≡ Err
+        (why_of refusal))) }
     ensures unread { NoReadFault result }
 {
     let Incoming { bytes, file, nth } = incoming;
@@ -249,19 +278,25 @@ pub(crate) fn change_record<S: Alter, L: Layout>(
     incoming: Incoming<'_>,
 ) -> Result<Fate, Refusal>
     ensures same { tx.new.conn.ghost_name ≡ tx.old.conn.ghost_name }
-    ensures stays { HasCleanDisk (state S.Store tx.new.conn.now) → IsTrue (state S.Store tx.old.conn.now).in_transaction → Stays (state S.Store tx.old.conn.now) (state S.Store tx.new.conn.now) result }
+    ensures stays { HasCleanDisk (state S.Store tx.new.conn.now) → IsTrue (state S.Store tx.old.conn.now).in_transaction
+        → Stays (state S.Store tx.old.conn.now) (state S.Store tx.new.conn.now) result }
     ensures database { progress.new.database ≡ progress.old.database }
     ensures taken { HasCleanDisk (state S.Store tx.new.conn.now) → IsTrue (state S.Store tx.old.conn.now).in_transaction
         → (version : List ℕ) (records_of : ℤ → List Kept) (base : Base) → progress.old.last ≡ base.last
-        → IsUnderWay L.holds setting.now.profile.now progress.old.database.0 records_of (state S.Store tx.old.conn.now) base
-        → Meets (IsTaken L.holds setting.now.profile.now progress.old.database.0 records_of (state S.Store tx.old.conn.now) (state S.Store tx.new.conn.now) progress.new.last)
-        (changed_record (conditions_of version setting.now) setting.now.kind incoming.entry.file incoming.entry.nth incoming.entry.bytes.now base) result }
+        → IsUnderWay L.format setting.now.profile.now progress.old.database.0 records_of (state S.Store tx.old.conn.now) base
+        → Meets (IsTaken L.format setting.now.profile.now progress.old.database.0 records_of (state S.Store tx.old.conn.now)
+        (state S.Store tx.new.conn.now) progress.new.last)
+        (changed_record
+        (conditions_of version setting.now) setting.now.kind incoming.entry.file incoming.entry.nth incoming.entry.bytes.now base) result }
     ensures unread { NoReadFault result }
     ensures crash { Survives (state S.Store tx.old.conn.now) (state S.Store tx.new.conn.now) (λ _. ⊥) }
-    ensures idle { HasCleanDisk (state S.Store tx.new.conn.now) → IsTrue (state S.Store tx.old.conn.now).in_transaction → setting.now.kind ≡ Kind.Update
-        → (records_of : ℤ → List Kept) (base : Base) → IsUnderWay L.holds setting.now.profile.now progress.old.database.0 records_of (state S.Store tx.old.conn.now) base
+    ensures idle { HasCleanDisk (state S.Store tx.new.conn.now) → IsTrue (state S.Store tx.old.conn.now).in_transaction
+        → setting.now.kind ≡ Kind.Update
+        → (records_of : ℤ → List Kept) (base : Base)
+        → IsUnderWay L.format setting.now.profile.now progress.old.database.0 records_of (state S.Store tx.old.conn.now) base
         → (kept : Kept) → Contains base.records kept → kept.bytes ≡ incoming.entry.bytes.now
-        → IfOk result (λ fate. IsIdle (state S.Store tx.old.conn.now) (state S.Store tx.new.conn.now) fate × (progress.new ≡ progress.old)) }
+        → IfOk result (λ fate. IsIdle (state S.Store tx.old.conn.now) (state S.Store tx.new.conn.now) fate
+        × (progress.new ≡ progress.old)) }
 {
     let Incoming { bytes, file, nth } = incoming;
     let (record, ident) = sound_record(setting, incoming)?;

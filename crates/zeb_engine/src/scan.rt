@@ -6,6 +6,7 @@ ghost use Rattle.sqlite.specs.State.{HasCleanDisk, Survives};
 ghost use Rattle.zeb_query.specs.Plans.{scan_value};
 ghost use Rattle.zeb_query.specs.Reading.{query_fault};
 ghost use Rattle.zeb_register.specs.Calls.{ChangesNothing};
+ghost use Rattle.zeb_register.specs.Formats.{holds_in, version_of};
 ghost use Rattle.zeb_register.specs.Content.{Content};
 ghost use Rattle.zeb_register.specs.Store.{IsStore};
 ghost use Rattle.zeb_register.specs.Terms.{HasTexts};
@@ -64,9 +65,9 @@ fn terms_around<S: Alter, L: Layout>(
     ensures open { HasCleanDisk (state S.Store connection.new) → OnOk result (StaysOpen (state S.Store connection.old) (state S.Store connection.new)) }
     ensures same { HasCleanDisk (state S.Store connection.new) → ChangesNothing (state S.Store connection.old) (state S.Store connection.new) }
     ensures around { HasCleanDisk (state S.Store connection.new) → IsStore (state S.Store connection.old)
-        → IfOk result (λ terms. (content : Content) → L.holds (state S.Store connection.old).now.trees content → AreAround content database.0 (scan_value plan.now) around.now.number around.now.position terms.items) }
+        → IfOk result (λ terms. (content : Content) → holds_in L.format (state S.Store connection.old).now.trees content → AreAround content database.0 (scan_value plan.now) around.now.number around.now.position terms.items) }
     ensures failed { HasCleanDisk (state S.Store connection.new) → IsStore (state S.Store connection.old)
-        → (content : Content) → HasTexts content → L.holds (state S.Store connection.old).now.trees content → IfErr result (λ refusal. IsFailure (refused (why_of refusal))) }
+        → (content : Content) → HasTexts content → holds_in L.format (state S.Store connection.old).now.trees content → IfErr result (λ refusal. IsFailure (refused (why_of refusal))) }
     ensures crash { Survives (state S.Store connection.old) (state S.Store connection.new) (λ _. ⊥) }
     ensures unread { NoReadFault result }
 {
@@ -97,15 +98,17 @@ pub(crate) fn scan<S: Alter, L: Layout>(
     ensures open { HasCleanDisk (state S.Store connection.new) → OnOk result (StaysOpen (state S.Store connection.old) (state S.Store connection.new)) }
     ensures same { HasCleanDisk (state S.Store connection.new) → ChangesNothing (state S.Store connection.old) (state S.Store connection.new) }
     ensures scanned { HasCleanDisk (state S.Store connection.new) → IsTrue (state S.Store connection.old).is_open → (limits : Limits) (before : Holdings) (bases : List Base)
-        → ready (conditions L.version profile.now limits) before ≡ Ok bases → Keeps L.holds (conditions L.version profile.now limits) (state S.Store connection.old) before
+        → ready (conditions (version_of L.format) profile.now limits) before ≡ Ok bases → Keeps (state S.Store connection.old) before
         → AskedAmong (IsScanned profile.now around.entry.query.now around.entry.number around.entry.position) (name_bytes name.now) bases (query_fault around.entry.query.now) (answer_of result)
         ⊎ IsFailure (answer_of result) }
     ensures crash { Survives (state S.Store connection.old) (state S.Store connection.new) (λ _. ⊥) }
     ensures unread { NoReadFault result }
     // The terms are read from the registers, on any tables that hold a content.
     ensures alone { HasCleanDisk (state S.Store connection.new)
-        → Scans L.holds profile.now (name_bytes name.now) around.entry.query.now around.entry.number around.entry.position (state S.Store connection.old) result }
+        → Scans L.format profile.now (name_bytes name.now) around.entry.query.now around.entry.number around.entry.position (state S.Store connection.old) result }
 {
+    // Its profile is some text's.
+    profile.is_of_some_text();
     let query = read_pqf(alloc, around.query)?;
     let database = existing_database::<S, L>(alloc, connection, name)?;
     let plan = plan_scan(alloc, &query, profile)?;

@@ -1,6 +1,6 @@
 //! A register that commands are given to.
 
-ghost use Rattle.std.specs.Prelude.{◌≡◌, ◌⊎◌, ℕ, List, [], map, Some, Err, false, IsTrue, IfOk, IfErr, IsErrAnd, OnOk, OnErr, length};
+ghost use Rattle.std.specs.Prelude.{◌≡◌, ◌⊎◌, ℕ, List, [], map, Some, Err, false, IsTrue, IfOk, IfErr, IsErrAnd, OnOk, length};
 ghost use Rattle.std.specs.List.{AllByRecursion};
 ghost use Rattle.std.specs.Result.{IsErr};
 ghost use Rattle.sqlite.specs.Held.{state};
@@ -11,9 +11,10 @@ ghost use Rattle.zeb_engine.specs.Found.{LooksUpFor};
 ghost use Rattle.zeb_engine.specs.NameOf.{name_bytes};
 ghost use Rattle.zeb_engine.specs.Scanned.{ScansFor};
 ghost use Rattle.zeb_engine.specs.Reading.{HasFailedAt, NamesFailed, NoneFailed, NoReadFault};
-ghost use Rattle.zeb_engine.specs.Steps.{after, changed_by_files, created, dropped, holding, OnlyAsks, splits_of, turned};
-ghost use Rattle.zeb_engine.specs.Transactions.{EnduresRefusal, IsDurable};
+ghost use Rattle.zeb_engine.specs.Steps.{Step, TakesFiles, created, dropped, holding, OnlyAsks, turned};
+ghost use Rattle.zeb_engine.specs.Transactions.{Commanded, EnduresRefusal, IsDurable};
 ghost use Rattle.zeb_register.specs.Calls.{ChangesNothing};
+ghost use Rattle.zeb_register.specs.Formats.{version_of};
 ghost use Rattle.zeb_register.specs.Store.{IsStore};
 
 use crate::changes::{change_database, check_readers};
@@ -63,15 +64,14 @@ impl<S: Alter + Drop, L: Layout> Drop for Session<S, L> {
 }
 
 impl<S: Alter, L: Layout> Session<S, L> {
-    ghost use Rattle.zeb_engine.specs.Works.{Always, FindOpen, Serves, ServesCommand};
-    ghost use Rattle.zeb_engine.specs.Crashes.{Commits, CommitsCommand, CommitsAdopted, CommitsSome, Endures, EnduresRun, held_after, Stands};
+    ghost use Rattle.zeb_engine.specs.Works.{Always, FindOpen, Serves, ServesBy, ServesCommand};
+    ghost use Rattle.zeb_engine.specs.Crashes.{Bears, Commits, CommitsBy, CommitsCommand, CommitsAdopted, CommitsSome, Endures, EnduresRun, KeepsDisk, Stands};
     ghost use Rattle.zeb_engine.specs.Headline.{Headline};
     ghost use Rattle.zeb_engine.specs.Adopting.{StaysOpen};
-    ghost use Rattle.zeb_engine.specs.Conditions.{Conditions};
-    ghost use Rattle.zeb_engine.specs.Holdings.{Holdings, nothing_yet};
+    ghost use Rattle.zeb_engine.specs.Holdings.{Holdings};
     ghost use Rattle.zeb_engine.specs.Image.{IsImage, Keeps};
     ghost use Rattle.zeb_register.specs.Sql.{KeepsTables};
-    ghost use Rattle.zeb_register.specs.Tables.{no_schema, store_schema};
+    ghost use Rattle.zeb_register.specs.Tables.{store_schema};
 
     /// Takes a store over: the tables that are absent are made, and no row changes. No work is counted yet. Refused
     /// (`Store`, `Memory`), it gives the connection back, and the tables are as before.
@@ -82,30 +82,42 @@ impl<S: Alter, L: Layout> Session<S, L> {
         limits: Limits,
     ) -> Result<Session<S, L>, (Connection<S>, Refusal)>
         requires idle { connection.in_transaction ≡ false }
-        // A database without a table is then the store of a register that holds nothing yet.
-        ensures made { IfOk result (λ session. HasCleanDisk (state S.Store session.connection) → (state S.Store connection).now.schema ≡ no_schema
-            → (c : Conditions) → Keeps L.holds c (state S.Store session.connection) nothing_yet) }
         // A store that has all its tables is as it was, and so it holds what it held.
-        ensures there { IfOk result (λ session. HasCleanDisk (state S.Store session.connection) → (state S.Store connection).now.schema ≡ store_schema
+        ensures there { IfOk result (λ session. HasCleanDisk (state S.Store session.connection)
+            → (state S.Store connection).now.schema ≡ store_schema
             → ChangesNothing (state S.Store connection) (state S.Store session.connection)) }
+        // Where it held nothing yet, a database without a table too, it is the store of that.
         ensures keeps { IfOk result (λ session. HasCleanDisk (state S.Store session.connection)
-            → (c : Conditions) (before : Holdings) → Keeps L.holds c (state S.Store connection) before → Keeps L.holds c (state S.Store session.connection) before) }
+            → (before : Holdings) → Bears (state S.Store connection) before → Keeps (state S.Store session.connection) before) }
         // So it holds what the disk stands for that an open has found.
-        ensures reopened { IfOk result (λ session. HasCleanDisk (state S.Store session.connection) → IsLive (state S.Store connection) → Opens (state S.Store connection)
-            → (c : Conditions) (before : Holdings) → Stands L.holds c (state S.Store connection).now.trees before → Keeps L.holds c (state S.Store session.connection) before) }
+        ensures reopened { IfOk result (λ session. HasCleanDisk (state S.Store session.connection) → IsLive (state S.Store connection)
+            → Opens (state S.Store connection)
+            → (before : Holdings) → Stands (state S.Store connection).now.trees before → Keeps (state S.Store session.connection) before) }
         // Whatever tables the store has, each is there still, with the rows that it had.
-        ensures rows { IfOk result (λ session. HasCleanDisk (state S.Store session.connection) → IsTrue (state S.Store session.connection).is_open
+        ensures rows { IfOk result (λ session. HasCleanDisk (state S.Store session.connection)
+            → IsTrue (state S.Store session.connection).is_open
             → KeepsTables (state S.Store connection).now (state S.Store session.connection).now) }
-        ensures open { IfOk result (λ session. HasCleanDisk (state S.Store session.connection) → StaysOpen (state S.Store connection) (state S.Store session.connection)) }
-        ensures durable { IfOk result (λ session. HasCleanDisk (state S.Store session.connection) → IsDurable (state S.Store session.connection)) }
+        ensures open { IfOk result (λ session. HasCleanDisk (state S.Store session.connection)
+            → StaysOpen (state S.Store connection) (state S.Store session.connection)) }
+        ensures durable { IfOk result (λ session. HasCleanDisk (state S.Store session.connection)
+            → IsDurable (state S.Store session.connection)) }
         // Taken over or refused: a crash leaves what it left before, or the store of the holdings that were there.
-        ensures survives { IfOk result (λ session. Survives (state S.Store connection) (state S.Store session.connection) (CommitsAdopted L.holds (state S.Store connection))) }
-        ensures survives_refused { IfErr result (λ back. Survives (state S.Store connection) (state S.Store back.0) (CommitsAdopted L.holds (state S.Store connection))) }
+        ensures survives { IfOk result (λ session. Survives (state S.Store connection) (state S.Store session.connection) (CommitsAdopted
+            (state S.Store connection))) }
+        ensures survives_refused { IfErr result (λ back. Survives (state S.Store connection) (state S.Store back.0) (CommitsAdopted
+            (state S.Store connection))) }
+        ensures crash { IfOk result (λ session. HasCleanDisk (state S.Store session.connection)
+            → KeepsDisk (state S.Store connection) (state S.Store session.connection)) }
+        ensures crash_refused { IfErr result (λ back. HasCleanDisk (state S.Store back.0)
+            → KeepsDisk (state S.Store connection) (state S.Store back.0)) }
         ensures given { IfOk result (λ session. (session.profile ≡ profile) × (session.limits ≡ limits)) }
-        ensures fresh { IfOk result (λ session. session.work ≡ record { dict_read = 0; dict_written = 0; block_read = 0; block_written = 0 }) }
+        ensures fresh { IfOk result
+            (λ session. session.work ≡ record { dict_read = 0; dict_written = 0; block_read = 0; block_written = 0 }) }
         ensures idle { IfErr result (λ back. back.0.in_transaction ≡ false) }
-        ensures refused { IfErr result (λ back. HasCleanDisk (state S.Store back.0) → ChangesNothing (state S.Store connection) (state S.Store back.0)) }
-        ensures endures { IfErr result (λ back. HasCleanDisk (state S.Store back.0) → EnduresRefusal (state S.Store connection) (state S.Store back.0) back.1) }
+        ensures refused { IfErr result (λ back. HasCleanDisk (state S.Store back.0)
+            → ChangesNothing (state S.Store connection) (state S.Store back.0)) }
+        ensures endures { IfErr result (λ back. HasCleanDisk (state S.Store back.0)
+            → EnduresRefusal (state S.Store connection) (state S.Store back.0) back.1) }
         ensures failed { IfErr result (λ back. (back.1 ≡ Refusal.Store) ⊎ (back.1 ≡ Refusal.Memory)) }
     {
         let mut connection = connection;
@@ -150,27 +162,34 @@ impl<S: Alter, L: Layout> Session<S, L> {
     /// Carries out one command. A command that writes is one transaction; refused, it changes nothing.
     pub fn command(&mut self, command: &Command) -> Result<Reply, Refusal>
         ensures durable { HasCleanDisk (state S.Store self.new.connection) → IsDurable (state S.Store self.new.connection) }
-        ensures open { HasCleanDisk (state S.Store self.new.connection) → OnOk result (StaysOpen (state S.Store self.old.connection) (state S.Store self.new.connection)) }
-        ensures refused { HasCleanDisk (state S.Store self.new.connection) → OnErr result (ChangesNothing (state S.Store self.old.connection) (state S.Store self.new.connection)) }
-        ensures endures { HasCleanDisk (state S.Store self.new.connection) → IfErr result (EnduresRefusal (state S.Store self.old.connection) (state S.Store self.new.connection)) }
-        ensures survives { Survives (state S.Store self.old.connection) (state S.Store self.new.connection) (CommitsCommand L.holds (conditions L.version self.old.profile self.old.limits) command.now (state S.Store self.old.connection)) }
+        ensures call { Commanded (state S.Store self.old.connection) (state S.Store self.new.connection) result }
+        ensures survives { Survives (state S.Store self.old.connection) (state S.Store self.new.connection)
+            (CommitsCommand (conditions (version_of L.format) self.old.profile self.old.limits) command.now
+            (state S.Store self.old.connection)) }
         // A crash then leaves what the command left, or what was there before it.
-        ensures crash { HasCleanDisk (state S.Store self.new.connection) → Endures L.holds (conditions L.version self.old.profile self.old.limits) (after (conditions L.version self.old.profile self.old.limits) command.now) (state S.Store self.old.connection) (state S.Store self.new.connection) result }
+        ensures crash { HasCleanDisk (state S.Store self.new.connection)
+            → Endures (Step (conditions (version_of L.format) self.old.profile self.old.limits) command.now)
+            (state S.Store self.old.connection) (state S.Store self.new.connection) result }
         ensures under { (self.new.profile ≡ self.old.profile) × (self.new.limits ≡ self.old.limits) }
         ensures serves { HasCleanDisk (state S.Store self.new.connection)
-            → ServesCommand L.holds (conditions L.version self.old.profile self.old.limits) command.now (state S.Store self.old.connection) (state S.Store self.new.connection) result }
+            → ServesCommand (conditions (version_of L.format) self.old.profile self.old.limits) command.now
+            (state S.Store self.old.connection) (state S.Store self.new.connection) result }
         ensures unread { NoReadFault result }
         // An accepted `init` leaves a register without a database, whatever rows the tables held.
-        ensures begun { HasCleanDisk (state S.Store self.new.connection) → command.now ≡ Command.Init → OnOk result (IsStore (state S.Store self.old.connection)
-            → Keeps L.holds (conditions L.version self.old.profile self.old.limits) (state S.Store self.new.connection) (holding (conditions L.version self.old.profile self.old.limits) [])) }
+        ensures begun { HasCleanDisk (state S.Store self.new.connection) → command.now ≡ Command.Init
+            → OnOk result (IsStore (state S.Store self.old.connection)
+            → Keeps (state S.Store self.new.connection) (holding (conditions (version_of L.format) self.old.profile self.old.limits) [])) }
         // A find and a scan are answered by the registers, on any tables that hold a content.
-        ensures alone { HasCleanDisk (state S.Store self.new.connection) → LooksUpFor L.holds self.old.profile command.now (state S.Store self.old.connection) result }
+        ensures alone { HasCleanDisk (state S.Store self.new.connection)
+            → LooksUpFor L.format self.old.profile command.now (state S.Store self.old.connection) result }
         // Damage is answered only where the tables are the image of nothing that can be held.
         ensures honest { HasCleanDisk (state S.Store self.new.connection) → result ≡ Err Refusal.Damaged
-            → (before : Holdings) → ¬ Keeps L.holds (conditions L.version self.old.profile self.old.limits) (state S.Store self.old.connection) before }
+            → (before : Holdings) → ¬ Keeps (state S.Store self.old.connection) before }
         // A command that only asks changes nothing, whatever it answers and whatever the tables hold.
-        ensures reads { HasCleanDisk (state S.Store self.new.connection) → OnlyAsks command.now → ChangesNothing (state S.Store self.old.connection) (state S.Store self.new.connection) }
-        ensures scans { HasCleanDisk (state S.Store self.new.connection) → ScansFor L.holds self.old.profile command.now (state S.Store self.old.connection) result }
+        ensures reads { HasCleanDisk (state S.Store self.new.connection) → OnlyAsks command.now
+            → ChangesNothing (state S.Store self.old.connection) (state S.Store self.new.connection) }
+        ensures scans { HasCleanDisk (state S.Store self.new.connection)
+            → ScansFor L.format self.old.profile command.now (state S.Store self.old.connection) result }
     {
         let answer = self.carry_out(command);
         // What is shown is what was committed.
@@ -179,20 +198,26 @@ impl<S: Alter, L: Layout> Session<S, L> {
     }
 
     fn carry_out(&mut self, command: &Command) -> Result<Reply, Refusal>
-        ensures open { HasCleanDisk (state S.Store self.new.connection) → OnOk result (StaysOpen (state S.Store self.old.connection) (state S.Store self.new.connection)) }
-        ensures refused { HasCleanDisk (state S.Store self.new.connection) → OnErr result (ChangesNothing (state S.Store self.old.connection) (state S.Store self.new.connection)) }
-        ensures endures { HasCleanDisk (state S.Store self.new.connection) → IfErr result (EnduresRefusal (state S.Store self.old.connection) (state S.Store self.new.connection)) }
-        ensures survives { Survives (state S.Store self.old.connection) (state S.Store self.new.connection) (CommitsCommand L.holds (conditions L.version self.old.profile self.old.limits) command.now (state S.Store self.old.connection)) }
+        ensures call { Commanded (state S.Store self.old.connection) (state S.Store self.new.connection) result }
+        ensures survives { Survives (state S.Store self.old.connection) (state S.Store self.new.connection)
+            (CommitsCommand (conditions (version_of L.format) self.old.profile self.old.limits) command.now
+            (state S.Store self.old.connection)) }
         ensures under { (self.new.profile ≡ self.old.profile) × (self.new.limits ≡ self.old.limits) }
         ensures serves { HasCleanDisk (state S.Store self.new.connection)
-            → ServesCommand L.holds (conditions L.version self.old.profile self.old.limits) command.now (state S.Store self.old.connection) (state S.Store self.new.connection) result }
+            → ServesCommand (conditions (version_of L.format) self.old.profile self.old.limits) command.now
+            (state S.Store self.old.connection) (state S.Store self.new.connection) result }
         ensures unread { NoReadFault result }
-        ensures begun { HasCleanDisk (state S.Store self.new.connection) → command.now ≡ Command.Init → OnOk result (IsStore (state S.Store self.old.connection)
+        ensures begun { HasCleanDisk (state S.Store self.new.connection) → command.now ≡ Command.Init
+            → OnOk result (IsStore (state S.Store self.old.connection)
             → IsStore (state S.Store self.new.connection)
-            × IsImage L.holds (conditions L.version self.old.profile self.old.limits) (state S.Store self.new.connection).now.trees (holding (conditions L.version self.old.profile self.old.limits) [])) }
-        ensures alone { HasCleanDisk (state S.Store self.new.connection) → LooksUpFor L.holds self.old.profile command.now (state S.Store self.old.connection) result }
-        ensures reads { HasCleanDisk (state S.Store self.new.connection) → OnlyAsks command.now → ChangesNothing (state S.Store self.old.connection) (state S.Store self.new.connection) }
-        ensures scans { HasCleanDisk (state S.Store self.new.connection) → ScansFor L.holds self.old.profile command.now (state S.Store self.old.connection) result }
+            × IsImage (state S.Store self.new.connection).now.trees
+            (holding (conditions (version_of L.format) self.old.profile self.old.limits) [])) }
+        ensures alone { HasCleanDisk (state S.Store self.new.connection)
+            → LooksUpFor L.format self.old.profile command.now (state S.Store self.old.connection) result }
+        ensures reads { HasCleanDisk (state S.Store self.new.connection) → OnlyAsks command.now
+            → ChangesNothing (state S.Store self.old.connection) (state S.Store self.new.connection) }
+        ensures scans { HasCleanDisk (state S.Store self.new.connection)
+            → ScansFor L.format self.old.profile command.now (state S.Store self.old.connection) result }
     {
         self.work = Work::default();
         match command {
@@ -249,13 +274,14 @@ impl<S: Alter, L: Layout> Session<S, L> {
 
     /// An empty database, on a register that is ready.
     fn create(&mut self, name: &DbName) -> Result<Reply, Refusal>
-        ensures open { HasCleanDisk (state S.Store self.new.connection) → OnOk result (StaysOpen (state S.Store self.old.connection) (state S.Store self.new.connection)) }
-        ensures refused { HasCleanDisk (state S.Store self.new.connection) → OnErr result (ChangesNothing (state S.Store self.old.connection) (state S.Store self.new.connection)) }
-        ensures endures { HasCleanDisk (state S.Store self.new.connection) → IfErr result (EnduresRefusal (state S.Store self.old.connection) (state S.Store self.new.connection)) }
-        ensures survives { Survives (state S.Store self.old.connection) (state S.Store self.new.connection) (Commits L.holds (conditions L.version self.old.profile self.old.limits) Always (turned (conditions L.version self.old.profile self.old.limits) (created (name_bytes name.now))) (state S.Store self.old.connection)) }
+        ensures call { Commanded (state S.Store self.old.connection) (state S.Store self.new.connection) result }
+        ensures survives { Survives (state S.Store self.old.connection) (state S.Store self.new.connection)
+            (Commits Always (turned (conditions (version_of L.format) self.old.profile self.old.limits) (created (name_bytes name.now)))
+            (state S.Store self.old.connection)) }
         ensures under { (self.new.profile ≡ self.old.profile) × (self.new.limits ≡ self.old.limits) }
         ensures serves { HasCleanDisk (state S.Store self.new.connection)
-            → Serves L.holds (conditions L.version self.old.profile self.old.limits) Always (turned (conditions L.version self.old.profile self.old.limits) (created (name_bytes name.now))) (state S.Store self.old.connection) (state S.Store self.new.connection) result }
+            → Serves Always (turned (conditions (version_of L.format) self.old.profile self.old.limits) (created (name_bytes name.now)))
+            (state S.Store self.old.connection) (state S.Store self.new.connection) result }
         ensures unread { NoReadFault result }
     {
         check_ready::<S, L>(&mut self.connection, &self.profile)?;
@@ -264,13 +290,14 @@ impl<S: Alter, L: Layout> Session<S, L> {
 
     /// No database of this name any more, on a register that is ready.
     fn take(&mut self, name: &DbName) -> Result<Reply, Refusal>
-        ensures open { HasCleanDisk (state S.Store self.new.connection) → OnOk result (StaysOpen (state S.Store self.old.connection) (state S.Store self.new.connection)) }
-        ensures refused { HasCleanDisk (state S.Store self.new.connection) → OnErr result (ChangesNothing (state S.Store self.old.connection) (state S.Store self.new.connection)) }
-        ensures endures { HasCleanDisk (state S.Store self.new.connection) → IfErr result (EnduresRefusal (state S.Store self.old.connection) (state S.Store self.new.connection)) }
-        ensures survives { Survives (state S.Store self.old.connection) (state S.Store self.new.connection) (Commits L.holds (conditions L.version self.old.profile self.old.limits) Always (turned (conditions L.version self.old.profile self.old.limits) (dropped (name_bytes name.now))) (state S.Store self.old.connection)) }
+        ensures call { Commanded (state S.Store self.old.connection) (state S.Store self.new.connection) result }
+        ensures survives { Survives (state S.Store self.old.connection) (state S.Store self.new.connection)
+            (Commits Always (turned (conditions (version_of L.format) self.old.profile self.old.limits) (dropped (name_bytes name.now)))
+            (state S.Store self.old.connection)) }
         ensures under { (self.new.profile ≡ self.old.profile) × (self.new.limits ≡ self.old.limits) }
         ensures serves { HasCleanDisk (state S.Store self.new.connection)
-            → Serves L.holds (conditions L.version self.old.profile self.old.limits) Always (turned (conditions L.version self.old.profile self.old.limits) (dropped (name_bytes name.now))) (state S.Store self.old.connection) (state S.Store self.new.connection) result }
+            → Serves Always (turned (conditions (version_of L.format) self.old.profile self.old.limits) (dropped (name_bytes name.now)))
+            (state S.Store self.old.connection) (state S.Store self.new.connection) result }
         ensures unread { NoReadFault result }
     {
         check_ready::<S, L>(&mut self.connection, &self.profile)?;
@@ -279,15 +306,14 @@ impl<S: Alter, L: Layout> Session<S, L> {
 
     /// Changes a database by files that are given as their bytes.
     fn change(&mut self, kind: Kind, database: &DbName, files: &[Vec<u8>]) -> Result<Reply, Refusal>
-        ensures open { HasCleanDisk (state S.Store self.new.connection) → OnOk result (StaysOpen (state S.Store self.old.connection) (state S.Store self.new.connection)) }
-        ensures refused { HasCleanDisk (state S.Store self.new.connection) → OnErr result (ChangesNothing (state S.Store self.old.connection) (state S.Store self.new.connection)) }
-        ensures endures { HasCleanDisk (state S.Store self.new.connection) → IfErr result (EnduresRefusal (state S.Store self.old.connection) (state S.Store self.new.connection)) }
-        ensures survives { Survives (state S.Store self.old.connection) (state S.Store self.new.connection) (Commits L.holds (conditions L.version self.old.profile self.old.limits) Always (turned (conditions L.version self.old.profile self.old.limits)
-            (changed_by_files (conditions L.version self.old.profile self.old.limits) kind (name_bytes database.now) (splits_of (map (λ file. file.items) files.now)))) (state S.Store self.old.connection)) }
+        ensures call { Commanded (state S.Store self.old.connection) (state S.Store self.new.connection) result }
+        ensures survives { Survives (state S.Store self.old.connection) (state S.Store self.new.connection)
+            (CommitsBy (TakesFiles (conditions (version_of L.format) self.old.profile self.old.limits) kind (name_bytes database.now) (map
+            (λ file. file.items) files.now)) (state S.Store self.old.connection)) }
         ensures under { (self.new.profile ≡ self.old.profile) × (self.new.limits ≡ self.old.limits) }
         ensures serves { HasCleanDisk (state S.Store self.new.connection)
-            → Serves L.holds (conditions L.version self.old.profile self.old.limits) Always (turned (conditions L.version self.old.profile self.old.limits)
-            (changed_by_files (conditions L.version self.old.profile self.old.limits) kind (name_bytes database.now) (splits_of (map (λ file. file.items) files.now)))) (state S.Store self.old.connection) (state S.Store self.new.connection) result }
+            → ServesBy (TakesFiles (conditions (version_of L.format) self.old.profile self.old.limits) kind (name_bytes database.now)
+            (map (λ file. file.items) files.now)) (state S.Store self.old.connection) (state S.Store self.new.connection) result }
         ensures unread { NoReadFault result }
     {
         let mut readers = Vec::with_capacity(self.alloc, files.len())?;
@@ -306,27 +332,29 @@ impl<S: Alter, L: Layout> Session<S, L> {
         readers: &mut [R],
     ) -> Result<Reply, Refusal>
         ensures durable { HasCleanDisk (state S.Store self.new.connection) → IsDurable (state S.Store self.new.connection) }
-        ensures open { HasCleanDisk (state S.Store self.new.connection) → OnOk result (StaysOpen (state S.Store self.old.connection) (state S.Store self.new.connection)) }
-        ensures refused { HasCleanDisk (state S.Store self.new.connection) → OnErr result (ChangesNothing (state S.Store self.old.connection) (state S.Store self.new.connection)) }
-        ensures endures { HasCleanDisk (state S.Store self.new.connection) → IfErr result (EnduresRefusal (state S.Store self.old.connection) (state S.Store self.new.connection)) }
-        ensures survives { Survives (state S.Store self.old.connection) (state S.Store self.new.connection) (λ db. (texts : List (List ℕ)) → map R.remaining readers.old ≡ map Some texts → NoneFailed R.has_failed readers.new
-            → Commits L.holds (conditions L.version self.old.profile self.old.limits) Always (turned (conditions L.version self.old.profile self.old.limits)
-            (changed_by_files (conditions L.version self.old.profile self.old.limits) kind (name_bytes database.now) (splits_of texts))) (state S.Store self.old.connection) db) }
+        ensures call { Commanded (state S.Store self.old.connection) (state S.Store self.new.connection) result }
+        ensures survives { Survives (state S.Store self.old.connection) (state S.Store self.new.connection) (λ db. (texts : List (List ℕ))
+            → map R.remaining readers.old ≡ map Some texts → NoneFailed R.has_failed readers.new
+            → CommitsBy (TakesFiles (conditions (version_of L.format) self.old.profile self.old.limits) kind
+            (name_bytes database.now) texts) (state S.Store self.old.connection) db) }
         // A crash then leaves what the change left, or what was there before it.
-        ensures crash { HasCleanDisk (state S.Store self.new.connection) → (texts : List (List ℕ)) → map R.remaining readers.old ≡ map Some texts → NoneFailed R.has_failed readers.new
-            → Endures L.holds (conditions L.version self.old.profile self.old.limits) (held_after (turned (conditions L.version self.old.profile self.old.limits)
-            (changed_by_files (conditions L.version self.old.profile self.old.limits) kind (name_bytes database.now) (splits_of texts)))) (state S.Store self.old.connection) (state S.Store self.new.connection) result }
+        ensures crash { HasCleanDisk (state S.Store self.new.connection) → (texts : List (List ℕ))
+            → map R.remaining readers.old ≡ map Some texts → NoneFailed R.has_failed readers.new
+            → Endures (TakesFiles (conditions (version_of L.format) self.old.profile self.old.limits) kind
+            (name_bytes database.now) texts) (state S.Store self.old.connection) (state S.Store self.new.connection) result }
         ensures under { (self.new.profile ≡ self.old.profile) × (self.new.limits ≡ self.old.limits) }
-        ensures serves { HasCleanDisk (state S.Store self.new.connection) → (texts : List (List ℕ)) → map R.remaining readers.old ≡ map Some texts → NoneFailed R.has_failed readers.new
-            → Serves L.holds (conditions L.version self.old.profile self.old.limits) Always (turned (conditions L.version self.old.profile self.old.limits)
-            (changed_by_files (conditions L.version self.old.profile self.old.limits) kind (name_bytes database.now) (splits_of texts))) (state S.Store self.old.connection) (state S.Store self.new.connection) result }
+        ensures serves { HasCleanDisk (state S.Store self.new.connection) → (texts : List (List ℕ))
+            → map R.remaining readers.old ≡ map Some texts → NoneFailed R.has_failed readers.new
+            → ServesBy (TakesFiles (conditions (version_of L.format) self.old.profile self.old.limits) kind
+            (name_bytes database.now) texts) (state S.Store self.old.connection) (state S.Store self.new.connection) result }
         // A reader that has failed, also before the call, is named, whatever else would be refused.
         ensures sound { NoneFailed R.has_failed readers.new ⊎ IsErrAnd result (NamesFailed R.has_failed readers.new) }
         ensures fault { (file : ℕ) → result ≡ Err (Refusal.ReadFault file) → HasFailedAt R.has_failed readers.new file }
         // Damage is answered only where the tables are the image of nothing that can be held.
-        ensures honest { HasCleanDisk (state S.Store self.new.connection) → (texts : List (List ℕ)) → map R.remaining readers.old ≡ map Some texts → NoneFailed R.has_failed readers.new
+        ensures honest { HasCleanDisk (state S.Store self.new.connection) → (texts : List (List ℕ))
+            → map R.remaining readers.old ≡ map Some texts → NoneFailed R.has_failed readers.new
             → result ≡ Err Refusal.Damaged
-            → (before : Holdings) → ¬ Keeps L.holds (conditions L.version self.old.profile self.old.limits) (state S.Store self.old.connection) before }
+            → (before : Holdings) → ¬ Keeps (state S.Store self.old.connection) before }
     {
         let answer = self.change_from(database, kind, readers);
         // What is shown is what was committed.
@@ -340,16 +368,16 @@ impl<S: Alter, L: Layout> Session<S, L> {
         kind: Kind,
         readers: &mut [R],
     ) -> Result<Reply, Refusal>
-        ensures open { HasCleanDisk (state S.Store self.new.connection) → OnOk result (StaysOpen (state S.Store self.old.connection) (state S.Store self.new.connection)) }
-        ensures refused { HasCleanDisk (state S.Store self.new.connection) → OnErr result (ChangesNothing (state S.Store self.old.connection) (state S.Store self.new.connection)) }
-        ensures endures { HasCleanDisk (state S.Store self.new.connection) → IfErr result (EnduresRefusal (state S.Store self.old.connection) (state S.Store self.new.connection)) }
-        ensures survives { Survives (state S.Store self.old.connection) (state S.Store self.new.connection) (λ db. (texts : List (List ℕ)) → map R.remaining readers.old ≡ map Some texts → NoneFailed R.has_failed readers.new
-            → Commits L.holds (conditions L.version self.old.profile self.old.limits) Always (turned (conditions L.version self.old.profile self.old.limits)
-            (changed_by_files (conditions L.version self.old.profile self.old.limits) kind (name_bytes database.now) (splits_of texts))) (state S.Store self.old.connection) db) }
+        ensures call { Commanded (state S.Store self.old.connection) (state S.Store self.new.connection) result }
+        ensures survives { Survives (state S.Store self.old.connection) (state S.Store self.new.connection) (λ db. (texts : List (List ℕ))
+            → map R.remaining readers.old ≡ map Some texts → NoneFailed R.has_failed readers.new
+            → CommitsBy (TakesFiles (conditions (version_of L.format) self.old.profile self.old.limits) kind
+            (name_bytes database.now) texts) (state S.Store self.old.connection) db) }
         ensures under { (self.new.profile ≡ self.old.profile) × (self.new.limits ≡ self.old.limits) }
-        ensures serves { HasCleanDisk (state S.Store self.new.connection) → (texts : List (List ℕ)) → map R.remaining readers.old ≡ map Some texts → NoneFailed R.has_failed readers.new
-            → Serves L.holds (conditions L.version self.old.profile self.old.limits) Always (turned (conditions L.version self.old.profile self.old.limits)
-            (changed_by_files (conditions L.version self.old.profile self.old.limits) kind (name_bytes database.now) (splits_of texts))) (state S.Store self.old.connection) (state S.Store self.new.connection) result }
+        ensures serves { HasCleanDisk (state S.Store self.new.connection) → (texts : List (List ℕ))
+            → map R.remaining readers.old ≡ map Some texts → NoneFailed R.has_failed readers.new
+            → ServesBy (TakesFiles (conditions (version_of L.format) self.old.profile self.old.limits) kind
+            (name_bytes database.now) texts) (state S.Store self.old.connection) (state S.Store self.new.connection) result }
         ensures sound { NoneFailed R.has_failed readers.new ⊎ IsErrAnd result (NamesFailed R.has_failed readers.new) }
         ensures fault { (file : ℕ) → result ≡ Err (Refusal.ReadFault file) → HasFailedAt R.has_failed readers.new file }
     {
@@ -375,17 +403,26 @@ impl<S: Alter, L: Layout> Session<S, L> {
     /// for the answers: nothing was carried out then.
     pub fn run_all(&mut self, commands: &[Command]) -> Result<Vec<Result<Reply, Refusal>>, Refusal>
         ensures durable { HasCleanDisk (state S.Store self.new.connection) → OnOk result (IsDurable (state S.Store self.new.connection)) }
-        ensures run { IfOk result (λ answers. Headline L.holds (conditions L.version self.old.profile self.old.limits) commands.now answers.items (state S.Store self.old.connection) (state S.Store self.new.connection)) }
+        ensures run { IfOk result (λ answers. Headline (conditions
+            (version_of L.format) self.old.profile self.old.limits) commands.now answers.items (state S.Store self.old.connection)
+            (state S.Store self.new.connection)) }
         ensures count { IfOk result (λ answers. length answers.items ≡ length commands.now) }
         ensures memory { IfErr result (λ refusal. (refusal ≡ Refusal.Memory) × (self.new.connection ≡ self.old.connection)) }
         ensures under { (self.new.profile ≡ self.old.profile) × (self.new.limits ≡ self.old.limits) }
-        ensures survives { Survives (state S.Store self.old.connection) (state S.Store self.new.connection) (CommitsSome L.holds (conditions L.version self.old.profile self.old.limits) commands.now (state S.Store self.old.connection)) }
+        ensures survives { Survives (state S.Store self.old.connection) (state S.Store self.new.connection)
+            (CommitsSome (conditions (version_of L.format) self.old.profile self.old.limits) commands.now
+            (state S.Store self.old.connection)) }
         // A crash then leaves what the run left, but that a command whose store failed may have been carried out.
-        ensures crash { HasCleanDisk (state S.Store self.new.connection) → IfOk result (λ answers. EnduresRun L.holds (conditions L.version self.old.profile self.old.limits) commands.now (map answer_of answers.items) (state S.Store self.old.connection) (state S.Store self.new.connection)) }
+        ensures crash { HasCleanDisk (state S.Store self.new.connection)
+            → IfOk result (λ answers. EnduresRun (conditions (version_of L.format) self.old.profile self.old.limits) commands.now
+            (map answer_of answers.items) (state S.Store self.old.connection) (state S.Store self.new.connection)) }
         // A command is accepted on an open connection only, and leaves it open.
-        ensures open { HasCleanDisk (state S.Store self.new.connection) → IfOk result (λ answers. FindOpen answers.items (state S.Store self.old.connection) (state S.Store self.new.connection)) }
+        ensures open { HasCleanDisk (state S.Store self.new.connection)
+            → IfOk result (λ answers. FindOpen answers.items (state S.Store self.old.connection) (state S.Store self.new.connection)) }
         // Where each command is refused, nothing changes, whatever the tables hold.
-        ensures refused { HasCleanDisk (state S.Store self.new.connection) → IfOk result (λ answers. AllByRecursion IsErr answers.items → ChangesNothing (state S.Store self.old.connection) (state S.Store self.new.connection)) }
+        ensures refused { HasCleanDisk (state S.Store self.new.connection)
+            → IfOk result (λ answers. AllByRecursion IsErr answers.items
+            → ChangesNothing (state S.Store self.old.connection) (state S.Store self.new.connection)) }
     {
         let Ok(mut answers) = Vec::with_capacity(self.alloc, commands.len()) else {
             return Err(Refusal::Memory);

@@ -5,6 +5,7 @@ ghost use Rattle.sqlite.specs.Held.{state};
 ghost use Rattle.sqlite.specs.State.{HasCleanDisk, Survives};
 ghost use Rattle.sqlite.specs.Tree.{Trees};
 ghost use Rattle.zeb_register.specs.Calls.{ChangesNothing};
+ghost use Rattle.zeb_register.specs.Formats.{holds_in, version_of};
 ghost use Rattle.zeb_register.specs.Content.{Content};
 ghost use Rattle.zeb_register.specs.Terms.{HasTexts};
 ghost use Rattle.zeb_engine.specs.Adopting.{StaysOpen};
@@ -92,9 +93,9 @@ fn holdings_of<S: Alter, L: Layout>(
     ensures open { HasCleanDisk (state S.Store connection.new) → OnOk result (IsTrue (state S.Store connection.old).is_open → IsTrue (state S.Store connection.new).is_open) }
     ensures same { HasCleanDisk (state S.Store connection.new) → ChangesNothing (state S.Store connection.old) (state S.Store connection.new) }
     ensures held { HasCleanDisk (state S.Store connection.new) → (trees : Trees) → ShowsStore (state S.Store connection.old) trees → IsTrue (state S.Store connection.old).is_open
-        → (content : Content) → L.holds trees content → IfOk result (λ holdings. Paired (IsHolding profile.now content database.0) targets.now holdings.items) }
+        → (content : Content) → holds_in L.format trees content → IfOk result (λ holdings. Paired (IsHolding profile.now content database.0) targets.now holdings.items) }
     ensures failed { HasCleanDisk (state S.Store connection.new) → (trees : Trees) → ShowsStore (state S.Store connection.old) trees → IsTrue (state S.Store connection.old).is_open
-        → (content : Content) → HasTexts content → L.holds trees content → IfErr result (λ refusal. IsFailure (refused (why_of refusal))) }
+        → (content : Content) → HasTexts content → holds_in L.format trees content → IfErr result (λ refusal. IsFailure (refused (why_of refusal))) }
     ensures crash { Survives (state S.Store connection.old) (state S.Store connection.new) (λ _. ⊥) }
     ensures unread { NoReadFault result }
 {
@@ -120,11 +121,13 @@ pub(crate) fn stat<S: Alter, L: Layout>(
     ensures open { HasCleanDisk (state S.Store connection.new) → OnOk result (StaysOpen (state S.Store connection.old) (state S.Store connection.new)) }
     ensures same { HasCleanDisk (state S.Store connection.new) → ChangesNothing (state S.Store connection.old) (state S.Store connection.new) }
     ensures serves { HasCleanDisk (state S.Store connection.new) → (limits : Limits)
-        → Asks L.holds (conditions L.version profile.now limits) (λ before answer. CountedFrom (conditions L.version profile.now limits) (name_bytes name.now) (ready (conditions L.version profile.now limits) before) answer)
+        → Asks (λ before answer. CountedFrom (conditions (version_of L.format) profile.now limits) (name_bytes name.now) (ready (conditions (version_of L.format) profile.now limits) before) answer)
         (state S.Store connection.old) (state S.Store connection.new) result }
     ensures crash { Survives (state S.Store connection.old) (state S.Store connection.new) (λ _. ⊥) }
     ensures unread { NoReadFault result }
 {
+    // Its profile is some text's.
+    profile.is_of_some_text();
     check_ready::<S, L>(connection, profile)?;
     let database = existing_database::<S, L>(alloc, connection, name)?;
     let kept = records(alloc, connection, database.id)?;

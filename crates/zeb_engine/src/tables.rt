@@ -18,13 +18,21 @@ use zeb_register::make_tables;
 pub(crate) fn make_absent_tables<S: Alter>(connection: &mut Connection<S>) -> Result<(), Refusal>
     requires idle { connection.old.in_transaction ≡ false }
     ensures idle { connection.new.in_transaction ≡ false }
-    ensures made { HasCleanDisk (state S.Store connection.new) → (state S.Store connection.old).now.schema ≡ no_schema → OnOk result (HoldsNothing (state S.Store connection.new)) }
-    ensures there { HasCleanDisk (state S.Store connection.new) → (state S.Store connection.old).now.schema ≡ store_schema → OnOk result (ChangesNothing (state S.Store connection.old) (state S.Store connection.new)) }
-    ensures open { HasCleanDisk (state S.Store connection.new) → OnOk result (StaysOpen (state S.Store connection.old) (state S.Store connection.new)) }
-    ensures rows { HasCleanDisk (state S.Store connection.new) → OnOk result (IsTrue (state S.Store connection.new).is_open → KeepsTables (state S.Store connection.old).now (state S.Store connection.new).now) }
-    ensures refused { HasCleanDisk (state S.Store connection.new) → OnErr result (ChangesNothing (state S.Store connection.old) (state S.Store connection.new)) }
-    ensures endures { HasCleanDisk (state S.Store connection.new) → IfErr result (EnduresRefusal (state S.Store connection.old) (state S.Store connection.new)) }
-    ensures survives { Survives (state S.Store connection.old) (state S.Store connection.new) (CommitsTables (state S.Store connection.old)) }
+    ensures made { HasCleanDisk (state S.Store connection.new) → (state S.Store connection.old).now.schema ≡ no_schema
+        → OnOk result (HoldsNothing (state S.Store connection.new)) }
+    ensures there { HasCleanDisk (state S.Store connection.new) → (state S.Store connection.old).now.schema ≡ store_schema
+        → OnOk result (ChangesNothing (state S.Store connection.old) (state S.Store connection.new)) }
+    ensures open { HasCleanDisk (state S.Store connection.new)
+        → OnOk result (StaysOpen (state S.Store connection.old) (state S.Store connection.new)) }
+    ensures rows { HasCleanDisk (state S.Store connection.new)
+        → OnOk result (IsTrue (state S.Store connection.new).is_open
+        → KeepsTables (state S.Store connection.old).now (state S.Store connection.new).now) }
+    ensures refused { HasCleanDisk (state S.Store connection.new)
+        → OnErr result (ChangesNothing (state S.Store connection.old) (state S.Store connection.new)) }
+    ensures endures { HasCleanDisk (state S.Store connection.new)
+        → IfErr result (EnduresRefusal (state S.Store connection.old) (state S.Store connection.new)) }
+    ensures survives { Survives (state S.Store connection.old) (state S.Store connection.new)
+        (CommitsTables (state S.Store connection.old)) }
     ensures failed { IfErr result (λ refusal. (refusal ≡ Refusal.Store) ⊎ (refusal ≡ Refusal.Memory)) }
 {
     let _settled = connection.is_autocommit();

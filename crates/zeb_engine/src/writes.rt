@@ -3,11 +3,10 @@
 ghost use Rattle.std.specs.Prelude.{◌≡◌, false, [], IsTrue, OnOk, OnErr, IfErr};
 ghost use Rattle.sqlite.specs.Held.{state};
 ghost use Rattle.sqlite.specs.State.{HasCleanDisk, KeepsCommit, Survives};
-ghost use Rattle.zeb_register.specs.Calls.{ChangesNothing, GoesOn};
-ghost use Rattle.zeb_register.specs.Sql.{Replaces};
-ghost use Rattle.zeb_register.specs.Store.{IsStore, meta_tree, entry, IsEntryOf};
+ghost use Rattle.zeb_register.specs.Calls.{GoesOn};
+ghost use Rattle.zeb_register.specs.Formats.{version_of};
+ghost use Rattle.zeb_register.specs.Store.{IsStore, meta_tree};
 ghost use Rattle.zeb_engine.specs.declared.commands.Limits.{Limits};
-ghost use Rattle.zeb_engine.specs.Adopting.{StaysOpen};
 ghost use Rattle.zeb_engine.specs.Answers.{IsFailure, refused, why_of};
 ghost use Rattle.zeb_engine.specs.Conditions.{Conditions, conditions};
 ghost use Rattle.zeb_engine.specs.Crashes.{Commits};
@@ -15,7 +14,7 @@ ghost use Rattle.zeb_engine.specs.Image.{IsImage};
 ghost use Rattle.zeb_engine.specs.NameOf.{name_bytes};
 ghost use Rattle.zeb_engine.specs.Reading.{NoReadFault};
 ghost use Rattle.zeb_engine.specs.Steps.{holding, initialised, turned, created, dropped};
-ghost use Rattle.zeb_engine.specs.Transactions.{EnduresRefusal, Stays};
+ghost use Rattle.zeb_engine.specs.Transactions.{Commanded, Stays};
 ghost use Rattle.zeb_engine.specs.Works.{Always, IsReady, Serves, Works};
 ghost use Rattle.zeb_engine.specs.Writing.{AreOf, Begins, IsFree, IsKnown, Fits, IsReached, PutsTexts, written};
 
@@ -50,9 +49,12 @@ fn put_texts<S: Alter>(
     pattern: &str,
 ) -> Result<(), Refusal>
     ensures same { tx.new.conn.ghost_name ≡ tx.old.conn.ghost_name }
-    ensures ok { HasCleanDisk (state S.Store tx.new.conn.now) → IsTrue (state S.Store tx.old.conn.now).in_transaction → OnOk result (GoesOn (state S.Store tx.old.conn.now) (state S.Store tx.new.conn.now)) }
-    ensures err { HasCleanDisk (state S.Store tx.new.conn.now) → IsTrue (state S.Store tx.old.conn.now).in_transaction → OnErr result (KeepsCommit (state S.Store tx.old.conn.now) (state S.Store tx.new.conn.now)) }
-    ensures put { HasCleanDisk (state S.Store tx.new.conn.now) → IsTrue (state S.Store tx.old.conn.now).in_transaction → IsStore (state S.Store tx.old.conn.now) → (state S.Store tx.old.conn.now).now.trees meta_tree ≡ []
+    ensures ok { HasCleanDisk (state S.Store tx.new.conn.now) → IsTrue (state S.Store tx.old.conn.now).in_transaction
+        → OnOk result (GoesOn (state S.Store tx.old.conn.now) (state S.Store tx.new.conn.now)) }
+    ensures err { HasCleanDisk (state S.Store tx.new.conn.now) → IsTrue (state S.Store tx.old.conn.now).in_transaction
+        → OnErr result (KeepsCommit (state S.Store tx.old.conn.now) (state S.Store tx.new.conn.now)) }
+    ensures put { HasCleanDisk (state S.Store tx.new.conn.now) → IsTrue (state S.Store tx.old.conn.now).in_transaction
+        → IsStore (state S.Store tx.old.conn.now) → (state S.Store tx.old.conn.now).now.trees meta_tree ≡ []
         → OnOk result (PutsTexts version.now text.now pattern.now (state S.Store tx.old.conn.now) (state S.Store tx.new.conn.now)) }
     ensures failed { IfErr result (λ refusal. IsFailure (refused (why_of refusal))) }
     ensures crash { Survives (state S.Store tx.old.conn.now) (state S.Store tx.new.conn.now) (λ _. ⊥) }
@@ -71,10 +73,15 @@ fn init<S: Alter, L: Layout>(
     pattern: &str,
 ) -> Result<Reply, Refusal>
     ensures same { tx.new.conn.ghost_name ≡ tx.old.conn.ghost_name }
-    ensures stays { HasCleanDisk (state S.Store tx.new.conn.now) → IsTrue (state S.Store tx.old.conn.now).in_transaction → Stays (state S.Store tx.old.conn.now) (state S.Store tx.new.conn.now) result }
-    ensures ok { HasCleanDisk (state S.Store tx.new.conn.now) → IsTrue (state S.Store tx.old.conn.now).in_transaction → OnOk result (GoesOn (state S.Store tx.old.conn.now) (state S.Store tx.new.conn.now) × (result ≡ Ok Reply.Done)) }
-    ensures begun { HasCleanDisk (state S.Store tx.new.conn.now) → IsTrue (state S.Store tx.old.conn.now).in_transaction → IsStore (state S.Store tx.old.conn.now)
-        → OnOk result (IsStore (state S.Store tx.new.conn.now) × ((c : Conditions) → AreOf L.version profile.now pattern.now c → IsImage L.holds c (state S.Store tx.new.conn.now).now.trees (holding c []))) }
+    ensures stays { HasCleanDisk (state S.Store tx.new.conn.now) → IsTrue (state S.Store tx.old.conn.now).in_transaction
+        → Stays (state S.Store tx.old.conn.now) (state S.Store tx.new.conn.now) result }
+    ensures ok { HasCleanDisk (state S.Store tx.new.conn.now) → IsTrue (state S.Store tx.old.conn.now).in_transaction
+        → OnOk result (GoesOn (state S.Store tx.old.conn.now) (state S.Store tx.new.conn.now) × (result ≡ Ok Reply.Done)) }
+    ensures begun { HasCleanDisk (state S.Store tx.new.conn.now) → IsTrue (state S.Store tx.old.conn.now).in_transaction
+        → IsStore (state S.Store tx.old.conn.now)
+        → OnOk result (IsStore (state S.Store tx.new.conn.now)
+        × ((c : Conditions) → AreOf (version_of L.format) profile.now pattern.now c
+        → IsImage (state S.Store tx.new.conn.now).now.trees (holding c []))) }
     ensures failed { IfErr result (λ refusal. IsFailure (refused (why_of refusal))) }
     ensures crash { Survives (state S.Store tx.old.conn.now) (state S.Store tx.new.conn.now) (λ _. ⊥) }
     ensures unread { NoReadFault result }
@@ -87,9 +94,12 @@ fn init<S: Alter, L: Layout>(
 /// An empty database under a name that has none.
 fn create<S: Alter, L: Layout>(tx: &mut Transaction<'_, S>, name: &DbName) -> Result<Reply, Refusal>
     ensures same { tx.new.conn.ghost_name ≡ tx.old.conn.ghost_name }
-    ensures stays { HasCleanDisk (state S.Store tx.new.conn.now) → IsTrue (state S.Store tx.old.conn.now).in_transaction → Stays (state S.Store tx.old.conn.now) (state S.Store tx.new.conn.now) result }
-    ensures works { HasCleanDisk (state S.Store tx.new.conn.now) → IsTrue (state S.Store tx.old.conn.now).in_transaction → IsTrue (state S.Store tx.old.conn.now).is_open → (c : Conditions)
-        → Works L.holds c (IsFree (name_bytes name.now) c) (turned c (created (name_bytes name.now))) (state S.Store tx.old.conn.now) (state S.Store tx.new.conn.now) result }
+    ensures stays { HasCleanDisk (state S.Store tx.new.conn.now) → IsTrue (state S.Store tx.old.conn.now).in_transaction
+        → Stays (state S.Store tx.old.conn.now) (state S.Store tx.new.conn.now) result }
+    ensures works { HasCleanDisk (state S.Store tx.new.conn.now) → IsTrue (state S.Store tx.old.conn.now).in_transaction
+        → IsTrue (state S.Store tx.old.conn.now).is_open → (c : Conditions)
+        → Works (IsFree (name_bytes name.now) c) (turned c (created (name_bytes name.now))) (state S.Store tx.old.conn.now)
+        (state S.Store tx.new.conn.now) result }
     ensures crash { Survives (state S.Store tx.old.conn.now) (state S.Store tx.new.conn.now) (λ _. ⊥) }
     ensures unread { NoReadFault result }
 {
@@ -104,9 +114,12 @@ fn take<S: Alter, L: Layout>(
     id: DatabaseId,
 ) -> Result<Reply, Refusal>
     ensures same { tx.new.conn.ghost_name ≡ tx.old.conn.ghost_name }
-    ensures stays { HasCleanDisk (state S.Store tx.new.conn.now) → IsTrue (state S.Store tx.old.conn.now).in_transaction → Stays (state S.Store tx.old.conn.now) (state S.Store tx.new.conn.now) result }
+    ensures stays { HasCleanDisk (state S.Store tx.new.conn.now) → IsTrue (state S.Store tx.old.conn.now).in_transaction
+        → Stays (state S.Store tx.old.conn.now) (state S.Store tx.new.conn.now) result }
     ensures works { HasCleanDisk (state S.Store tx.new.conn.now) → IsTrue (state S.Store tx.old.conn.now).in_transaction → (c : Conditions)
-        → Works L.holds c (IsKnown (name_bytes name.now) id.0 c) (turned c (dropped (name_bytes name.now))) (state S.Store tx.old.conn.now) (state S.Store tx.new.conn.now) result }
+        → Works (λ trees before. (c.version ≡ version_of L.format)
+        × IsKnown (name_bytes name.now) id.0 c trees before) (turned c (dropped (name_bytes name.now))) (state S.Store tx.old.conn.now)
+        (state S.Store tx.new.conn.now) result }
     ensures crash { Survives (state S.Store tx.old.conn.now) (state S.Store tx.new.conn.now) (λ _. ⊥) }
     ensures unread { NoReadFault result }
 {
@@ -119,10 +132,14 @@ fn apply<S: Alter, L: Layout>(
     write: &Write<'_>,
 ) -> Result<Reply, Refusal>
     ensures same { tx.new.conn.ghost_name ≡ tx.old.conn.ghost_name }
-    ensures stays { HasCleanDisk (state S.Store tx.new.conn.now) → IsTrue (state S.Store tx.old.conn.now).in_transaction → Stays (state S.Store tx.old.conn.now) (state S.Store tx.new.conn.now) result }
-    ensures works { HasCleanDisk (state S.Store tx.new.conn.now) → IsTrue (state S.Store tx.old.conn.now).in_transaction → (c : Conditions) → IsReached write.now (state S.Store tx.old.conn.now)
-        → Works L.holds c (Fits L.version c write.now) (written c write.now) (state S.Store tx.old.conn.now) (state S.Store tx.new.conn.now) result }
-    ensures begun { HasCleanDisk (state S.Store tx.new.conn.now) → IsTrue (state S.Store tx.old.conn.now).in_transaction → OnOk result (Begins L.holds L.version write.now (state S.Store tx.old.conn.now) (state S.Store tx.new.conn.now)) }
+    ensures stays { HasCleanDisk (state S.Store tx.new.conn.now) → IsTrue (state S.Store tx.old.conn.now).in_transaction
+        → Stays (state S.Store tx.old.conn.now) (state S.Store tx.new.conn.now) result }
+    ensures works { HasCleanDisk (state S.Store tx.new.conn.now) → IsTrue (state S.Store tx.old.conn.now).in_transaction
+        → (c : Conditions) → IsReached write.now (state S.Store tx.old.conn.now)
+        → Works (Fits (version_of L.format) c write.now) (written c write.now) (state S.Store tx.old.conn.now)
+        (state S.Store tx.new.conn.now) result }
+    ensures begun { HasCleanDisk (state S.Store tx.new.conn.now) → IsTrue (state S.Store tx.old.conn.now).in_transaction
+        → OnOk result (Begins (version_of L.format) write.now (state S.Store tx.old.conn.now) (state S.Store tx.new.conn.now)) }
     ensures crash { Survives (state S.Store tx.old.conn.now) (state S.Store tx.new.conn.now) (λ _. ⊥) }
     ensures unread { NoReadFault result }
 {
@@ -140,14 +157,15 @@ fn transact<S: Alter, L: Layout>(
 ) -> Result<Reply, Refusal>
     requires idle { connection.old.in_transaction ≡ false }
     ensures idle { connection.new.in_transaction ≡ false }
-    ensures open { HasCleanDisk (state S.Store connection.new) → OnOk result (StaysOpen (state S.Store connection.old) (state S.Store connection.new)) }
-    ensures refused { HasCleanDisk (state S.Store connection.new) → OnErr result (ChangesNothing (state S.Store connection.old) (state S.Store connection.new)) }
-    ensures endures { HasCleanDisk (state S.Store connection.new) → IfErr result (EnduresRefusal (state S.Store connection.old) (state S.Store connection.new)) }
-    ensures survives { Survives (state S.Store connection.old) (state S.Store connection.new) (λ db. (c : Conditions) → IsReached write.now (state S.Store connection.old)
-        → Commits L.holds c (Fits L.version c write.now) (written c write.now) (state S.Store connection.old) db) }
-    ensures begun { HasCleanDisk (state S.Store connection.new) → OnOk result (Begins L.holds L.version write.now (state S.Store connection.old) (state S.Store connection.new)) }
+    ensures call { Commanded (state S.Store connection.old) (state S.Store connection.new) result }
+    ensures survives { Survives (state S.Store connection.old) (state S.Store connection.new) (λ db. (c : Conditions)
+        → IsReached write.now (state S.Store connection.old)
+        → Commits (Fits (version_of L.format) c write.now) (written c write.now) (state S.Store connection.old) db) }
+    ensures begun { HasCleanDisk (state S.Store connection.new)
+        → OnOk result (Begins (version_of L.format) write.now (state S.Store connection.old) (state S.Store connection.new)) }
     ensures serves { HasCleanDisk (state S.Store connection.new) → (c : Conditions) → IsReached write.now (state S.Store connection.old)
-        → Serves L.holds c (Fits L.version c write.now) (written c write.now) (state S.Store connection.old) (state S.Store connection.new) result }
+        → Serves (Fits (version_of L.format) c write.now) (written c write.now) (state S.Store connection.old)
+        (state S.Store connection.new) result }
     ensures unread { NoReadFault result }
 {
     let _settled = connection.is_autocommit();
@@ -165,17 +183,19 @@ pub(crate) fn init_register<S: Alter, L: Layout>(
 ) -> Result<Reply, Refusal>
     requires idle { connection.old.in_transaction ≡ false }
     ensures idle { connection.new.in_transaction ≡ false }
-    ensures open { HasCleanDisk (state S.Store connection.new) → OnOk result (StaysOpen (state S.Store connection.old) (state S.Store connection.new)) }
-    ensures refused { HasCleanDisk (state S.Store connection.new) → OnErr result (ChangesNothing (state S.Store connection.old) (state S.Store connection.new)) }
-    ensures endures { HasCleanDisk (state S.Store connection.new) → IfErr result (EnduresRefusal (state S.Store connection.old) (state S.Store connection.new)) }
+    ensures call { Commanded (state S.Store connection.old) (state S.Store connection.new) result }
     ensures survives { Survives (state S.Store connection.old) (state S.Store connection.new) (λ db. (limits : Limits)
-        → Commits L.holds (conditions L.version profile.now limits) Always (initialised (conditions L.version profile.now limits)) (state S.Store connection.old) db) }
+        → Commits Always (initialised (conditions (version_of L.format) profile.now limits)) (state S.Store connection.old) db) }
     ensures begun { HasCleanDisk (state S.Store connection.new) → OnOk result (IsStore (state S.Store connection.old) → (limits : Limits)
-        → IsStore (state S.Store connection.new) × IsImage L.holds (conditions L.version profile.now limits) (state S.Store connection.new).now.trees (holding (conditions L.version profile.now limits) [])) }
+        → IsStore (state S.Store connection.new)
+        × IsImage (state S.Store connection.new).now.trees (holding (conditions (version_of L.format) profile.now limits) [])) }
     ensures serves { HasCleanDisk (state S.Store connection.new) → (limits : Limits)
-        → Serves L.holds (conditions L.version profile.now limits) (λ _ _. Unit {0}) (initialised (conditions L.version profile.now limits)) (state S.Store connection.old) (state S.Store connection.new) result }
+        → Serves (λ _ _. Unit {0}) (initialised (conditions (version_of L.format) profile.now limits)) (state S.Store connection.old)
+        (state S.Store connection.new) result }
     ensures unread { NoReadFault result }
 {
+    // Its profile is some text's.
+    profile.is_of_some_text();
     let pattern = profile.identifier_rule().to_string(alloc)?;
     transact::<S, L>(
         connection,
@@ -193,13 +213,12 @@ pub(crate) fn create_database<S: Alter, L: Layout>(
 ) -> Result<Reply, Refusal>
     requires idle { connection.old.in_transaction ≡ false }
     ensures idle { connection.new.in_transaction ≡ false }
-    ensures open { HasCleanDisk (state S.Store connection.new) → OnOk result (StaysOpen (state S.Store connection.old) (state S.Store connection.new)) }
-    ensures refused { HasCleanDisk (state S.Store connection.new) → OnErr result (ChangesNothing (state S.Store connection.old) (state S.Store connection.new)) }
-    ensures endures { HasCleanDisk (state S.Store connection.new) → IfErr result (EnduresRefusal (state S.Store connection.old) (state S.Store connection.new)) }
+    ensures call { Commanded (state S.Store connection.old) (state S.Store connection.new) result }
     ensures survives { Survives (state S.Store connection.old) (state S.Store connection.new) (λ db. (c : Conditions)
-        → Commits L.holds c (IsReady c) (turned c (created (name_bytes name.now))) (state S.Store connection.old) db) }
+        → Commits (IsReady c) (turned c (created (name_bytes name.now))) (state S.Store connection.old) db) }
     ensures serves { HasCleanDisk (state S.Store connection.new) → (c : Conditions)
-        → Serves L.holds c (IsReady c) (turned c (created (name_bytes name.now))) (state S.Store connection.old) (state S.Store connection.new) result }
+        → Serves (IsReady c) (turned c (created (name_bytes name.now))) (state S.Store connection.old)
+        (state S.Store connection.new) result }
     ensures unread { NoReadFault result }
 {
     let found = database_of(connection, name.as_str())?;
@@ -217,13 +236,13 @@ pub(crate) fn drop_database<S: Alter, L: Layout>(
 ) -> Result<Reply, Refusal>
     requires idle { connection.old.in_transaction ≡ false }
     ensures idle { connection.new.in_transaction ≡ false }
-    ensures open { HasCleanDisk (state S.Store connection.new) → OnOk result (StaysOpen (state S.Store connection.old) (state S.Store connection.new)) }
-    ensures refused { HasCleanDisk (state S.Store connection.new) → OnErr result (ChangesNothing (state S.Store connection.old) (state S.Store connection.new)) }
-    ensures endures { HasCleanDisk (state S.Store connection.new) → IfErr result (EnduresRefusal (state S.Store connection.old) (state S.Store connection.new)) }
+    ensures call { Commanded (state S.Store connection.old) (state S.Store connection.new) result }
     ensures survives { Survives (state S.Store connection.old) (state S.Store connection.new) (λ db. (c : Conditions)
-        → Commits L.holds c (IsReady c) (turned c (dropped (name_bytes name.now))) (state S.Store connection.old) db) }
-    ensures serves { HasCleanDisk (state S.Store connection.new) → (c : Conditions)
-        → Serves L.holds c (IsReady c) (turned c (dropped (name_bytes name.now))) (state S.Store connection.old) (state S.Store connection.new) result }
+        → c.version ≡ version_of L.format
+        → Commits (IsReady c) (turned c (dropped (name_bytes name.now))) (state S.Store connection.old) db) }
+    ensures serves { HasCleanDisk (state S.Store connection.new) → (c : Conditions) → c.version ≡ version_of L.format
+        → Serves (IsReady c) (turned c (dropped (name_bytes name.now))) (state S.Store connection.old)
+        (state S.Store connection.new) result }
     ensures unread { NoReadFault result }
 {
     let database = existing_database::<S, L>(alloc, connection, name)?;

@@ -1,13 +1,13 @@
 -- Lists of checks: the first that applies, over lists one after the other.
 use Rattle.std.proofs.Common.{◌≡◌, ℕ, Bool, true, false, cond, eqb, List, [], ◌∷◌, ◌++◌, Option, Some, None, refl, ap, sym, subst, ◌∙◌}
-use Rattle.std.specs.Prelude.{Result, not, map, ◌||◌, option_and_then}
+use Rattle.std.specs.Prelude.{Result, Ok, Err, IfOk, not, map, ◌||◌, option_and_then}
 use Rattle.std.specs.Option.{is_none, unwrap_or}
 use Rattle.std.proofs.lemmas.Bool.{eqb-true}
-use Rattle.zeb_query.specs.Attributes.{kept}
+use Rattle.zeb_query.specs.Holding.{kept}
 use Rattle.zeb_query.specs.TermChecks.{Check, check, first_that_applies, is_among, written}
-use Rattle.zeb_query.specs.Terms.{kept_or}
-use Rattle.zeb_query.specs.Plans.{answered}
-use Rattle.zeb_query.specs.Faults.{Refusal, ◌>>=◌}
+use Rattle.zeb_query.specs.PrivatePlanning.{kept_or}
+use Rattle.zeb_query.specs.Faults.{Refusal, ◌>>=◌, Gives, answered}
+use Rattle.zeb_query.specs.declared.faults.QueryFault.{QueryFault}
 
 -- the value, where none of the checks applies
 abbrev pub checked_by : {X : Type 0} → List Check → X → Result X Refusal
@@ -25,6 +25,17 @@ then_checks {X} {Y} r next cs ds x y e h = ap (λ q. q >>= next) e ∙ go cs h
           | true ↦ λ h'. refl
           | false ↦ λ h'. go cs h'
         ] h
+
+-- what an answer is where none applies
+pub answered_ok : {X : Type 0} (o : Option Refusal) (x y : X) → answered o x ≡ Ok y → (o ≡ None) × (x ≡ y)
+answered_ok None x y e = (refl, cc)
+answered_ok (Some refusal) x y e = absurd cc
+
+-- what holds of each answer of a definition holds of what a call gives
+pub given_ok : {X Y : Type 0} (view : X → Y) (P : Y → Type 0) (r : Result X QueryFault) (expected : Result Y Refusal)
+    → Gives view r expected → ((y : Y) → expected ≡ Ok y → P y) → IfOk r (λ x. P (view x))
+given_ok view P (Ok x) expected gives holds = holds (view x) gives
+given_ok view P (Err fault) expected gives holds = tt
 
 -- no check of a list applies where neither its first one does nor one of the others
 pub none-cons : (c : Check) (cs : List Check) → first_that_applies (c ∷ cs) ≡ None → (c.applies ≡ false) × (first_that_applies cs ≡ None)

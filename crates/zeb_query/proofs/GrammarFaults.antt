@@ -7,11 +7,9 @@ use Rattle.zeb_query.specs.declared.queries.Connective.{Connective}
 use Rattle.zeb_query.specs.declared.keywords.Keyword.{Keyword}
 use Rattle.zeb_query.specs.declared.keywords.Keyword.TheVariants.{AttributeSet, Attribute, TermType, ResultSet, Operator}
 use Rattle.zeb_query.specs.Words.{Word}
-use Rattle.zeb_query.specs.Keywords.{keyword_of}
+use Rattle.zeb_query.specs.Grammar.{keyword_of, IsQuery, is_good, has_equals, kind_and_value, parameter_count}
 use Rattle.zeb_query.specs.Queries.{QueryValue}
-use Rattle.zeb_query.specs.Grammar.{IsQuery, is_good, has_equals, kind_and_value, parameter_count}
-use Rattle.zeb_query.specs.Following.{Due, Start, Structures, SetOrSpec, Spec, MoreWords, words_then, fault, fault_at_end, Step, Allowed, Refused, step, good_step, structure_step, start_step, spec_step}
-use Rattle.zeb_query.specs.Laws.{IsBeginning, IsQueryWithin, IsBeginningWithin, IsStrange, IsUnfinished, IsUnspelled, IsCrowded, operators}
+use Rattle.zeb_query.specs.Reading.{Due, Start, Structures, SetOrSpec, Spec, MoreWords, words_then, fault, fault_at_end, Step, Allowed, Refused, step, good_step, structure_step, start_step, spec_step, IsBeginning, IsQueryWithin, IsBeginningWithin, IsStrange, IsUnfinished, IsUnspelled, IsCrowded, operators}
 use Rattle.zeb_query.proofs.GrammarLemmas.{append-nil, step-start, fault-step}
 use Rattle.zeb_query.proofs.GrammarLaws.{over_query}
 use Rattle.zeb_query.proofs.GrammarOnce.{somes_same}
@@ -72,7 +70,7 @@ fault_where_stopped {due} {room} {words} s end =
 fault_where_ended : {due : Due} {room : ℕ} {words : List Word} → (s : Ends due room words) → (end : ℕ) → fault end room due words ≡ fault_at_end end s.after
 fault_where_ended {due} {room} {words} s end = ap (λ ws. fault end room due ws) (sym (append-nil words)) ∙ s.passes.same end []
 
-pairs_same : {a b c d : ℕ} → ◌≡◌ {A = Option (ℕ × ℕ)} (Some (a, b)) (Some (c, d)) → (a ≡ c) × (b ≡ d)
+pub pairs_same : {a b c d : ℕ} → ◌≡◌ {A = Option (ℕ × ℕ)} (Some (a, b)) (Some (c, d)) → (a ≡ c) × (b ≡ d)
 pairs_same e = (ap (λ p. p.0) (somes_same e), ap (λ p. p.1) (somes_same e))
 
 none_some : {x : ℕ × ℕ} → None ≡ Some x → ⊥

@@ -10,9 +10,15 @@ pub mod HoldingLemmas
 pub mod WordReading
 pub mod WordFinding
 pub mod WordStretches
+pub mod TextFaults
 pub mod CheckLemmas
 pub mod ValueLemmas
 pub mod TermCheckLemmas
+pub mod PlanSteps
 pub mod PlanCheckLemmas
+pub mod NearSteps
+pub mod NearLemmas
 pub mod QueryCheckLemmas
 pub mod LookLemmas
+pub mod PlanNumbers
+pub mod ExampleLemmas

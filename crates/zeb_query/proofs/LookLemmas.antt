@@ -1,7 +1,8 @@
 -- In which register a term's plan looks.
-use Rattle.std.proofs.Common.{◌≡◌, ℕ, Bool, true, false, cond, List, [], ◌∷◌, ◌++◌, Option, Some, None, refl, ap, sym, ◌∙◌}
-use Rattle.std.specs.Prelude.{Ok, not, ◌&&◌}
-use Rattle.std.specs.Option.{unwrap_or}
+use Rattle.std.proofs.Common.{◌≡◌, ℕ, Bool, true, false, cond, eqb, List, [], ◌∷◌, ◌++◌, Option, Some, None, refl, ap, sym, subst, ◌∙◌}
+use Rattle.std.specs.Prelude.{Result, Ok, Err, not, ◌&&◌, codes}
+use Rattle.std.specs.Option.{is_none, unwrap_or}
+use Rattle.std.proofs.lemmas.Bool.{eqb-true}
 use Rattle.std.specs.Str.Parse.{digits_value}
 use Rattle.zeb_profile.specs.declared.Profile.{Profile}
 use Rattle.zeb_profile.specs.declared.Register.{Register}
@@ -9,36 +10,43 @@ use Rattle.zeb_profile.specs.declared.Register.TheVariants as register
 use Rattle.zeb_profile.specs.Indexes.{has_pair}
 use Rattle.zeb_text.specs.Symbols.{Symbol}
 use Rattle.zeb_query.specs.declared.plans.Relation.{Relation}
-use Rattle.zeb_query.specs.Queries.{HeadValue}
-use Rattle.zeb_query.specs.Holding.{HoldingValue, holding_of}
-use Rattle.zeb_query.specs.TermChecks.{check, first_that_applies, relation_is, structure_is, position_is, completeness_is, index_used, has_target, register_searched, patterns_held, head_checks, value_checks, words_checks, clash_checks, register_checks, number_checks, find_checks}
-use Rattle.zeb_query.specs.Plans.{TermPlanValue, RecordNumberOf, AlwaysOf, NumberOf, OrderedOf, CompleteOf, PhraseOf, AllWordsOf, AnyWordOf, answered, index_held, relation_held, plan_asked, leaf_plan, plan_register, joined_words, joined_if_any, LooksInto}
-use Rattle.zeb_query.specs.Faults.{Refusal}
-use Rattle.zeb_query.proofs.CheckLemmas.{none-cons, none-append}
+use Rattle.zeb_query.specs.declared.plans.Order.{Order}
+use Rattle.zeb_query.specs.declared.plans.Operator.{Operator}
+use Rattle.zeb_query.specs.declared.plans.Operator.TheVariants as operator
+use Rattle.zeb_query.specs.declared.queries.Connective.TheVariants.{And, Or, Not, Proximity}
+use Rattle.zeb_query.specs.Queries.{HeadValue, TreeValue, TermValue, NamedValue, PairValue, QueryValue}
+use Rattle.zeb_query.specs.Grammar.{heads, no_head}
+use Rattle.zeb_query.specs.Holding.{HoldingValue, holding_of, number_or}
+use Rattle.zeb_query.specs.TermChecks.{Check, check, first_that_applies, is_among, one_of, relation_is, structure_is, position_is, completeness_is, index_used, index_held, has_target, register_searched, patterns_held, head_checks, value_checks, words_checks, clash_checks, near_clash_checks, register_checks, number_checks, term_checks, find_checks}
+use Rattle.zeb_query.specs.Proximity.{Operand, operand_of, parameter_checks, operand_checks, operands_checks, proximity_checks}
+use Rattle.zeb_query.specs.Plans.{TermPlanValue, PlanValue, TermOf, PairOf, RecordNumberOf, AlwaysOf, NumberOf, OrderedOf, CompleteOf, PhraseOf, AllWordsOf, AnyWordOf, relation_held, order_held, plan_asked, leaf_plan, tree_plan, near_plan, plan_of, plan_register, held_in, looked_into, AllLookInto, joined_words_if_any, joined_if_any, LooksInto}
+use Rattle.zeb_query.specs.Faults.{Refusal, ◌>>=◌}
+use Rattle.zeb_query.proofs.CheckLemmas.{answered_ok, none-cons, none-append, by_value}
+use Rattle.zeb_query.proofs.NearLemmas.{near_value, near_checked}
 
 abbrev register_by : Bool → Bool → Register
 register_by numeric complete = cond numeric register.Number (cond complete register.Phrase register.Word)
 
 -- the plans of all terms but local numbers
-abbrev looking : ℕ → Relation → ℕ → List ℕ → Option (List Symbol) → List (List Symbol) → Bool → Bool → Bool → Bool → Bool → Bool → Bool → TermPlanValue
-looking index r number words pattern patterns first always numeric equal complete word_list free_form =
+abbrev looking : ℕ → Relation → Order → ℕ → Option (List ℕ) → Option (List Symbol) → List (List Symbol) → Bool → Bool → Bool → Bool → Bool → Bool → Bool → TermPlanValue
+looking index r order number words pattern patterns first always numeric equal complete word_list free_form =
     cond always (AlwaysOf index (register_by numeric complete))
     (cond numeric (NumberOf index r number)
-    (cond (not equal) (OrderedOf index (register_by numeric complete) r words)
+    (cond (not equal) (OrderedOf index (register_by numeric complete) order words)
     (cond complete (CompleteOf index pattern)
     (cond word_list (AllWordsOf index patterns)
     (cond free_form (AnyWordOf index patterns)
     (PhraseOf index patterns first))))))
 
-looks : (index : ℕ) (r : Relation) (number : ℕ) (words : List ℕ) (pattern : Option (List Symbol)) (patterns : List (List Symbol)) (first always numeric equal complete word_list free_form : Bool)
-    → plan_register (looking index r number words pattern patterns first always numeric equal complete word_list free_form) ≡ Some (index, register_by numeric complete)
-looks index r number words pattern patterns first true n e c w f = refl
-looks index r number words pattern patterns first false true e c w f = refl
-looks index r number words pattern patterns first false false false c w f = refl
-looks index r number words pattern patterns first false false true true w f = refl
-looks index r number words pattern patterns first false false true false true f = refl
-looks index r number words pattern patterns first false false true false false true = refl
-looks index r number words pattern patterns first false false true false false false = refl
+looks : (index : ℕ) (r : Relation) (order : Order) (number : ℕ) (words : Option (List ℕ)) (pattern : Option (List Symbol)) (patterns : List (List Symbol)) (first always numeric equal complete word_list free_form : Bool)
+    → plan_register (looking index r order number words pattern patterns first always numeric equal complete word_list free_form) ≡ Some (index, register_by numeric complete)
+looks index r order number words pattern patterns first true n e c w f = refl
+looks index r order number words pattern patterns first false true e c w f = refl
+looks index r order number words pattern patterns first false false false c w f = refl
+looks index r order number words pattern patterns first false false true true w f = refl
+looks index r order number words pattern patterns first false false true false true f = refl
+looks index r order number words pattern patterns first false false true false false true = refl
+looks index r order number words pattern patterns first false false true false false false = refl
 
 looked : (local : Bool) (number : ℕ) (plan : TermPlanValue) (pair : ℕ × Register) → plan_register plan ≡ Some pair
     → (local ≡ true → plan_register (cond local (RecordNumberOf number) plan) ≡ None) × (local ≡ false → plan_register (cond local (RecordNumberOf number) plan) ≡ Some pair)
@@ -53,29 +61,156 @@ target_found profile false (Some index) r e l = elim (has_pair profile (index, r
   | false ↦ λ e'. absurd cc
 ] e
 
-pub looks_into : (profile : Profile) (set : Option (List ℕ)) (head : HeadValue) (place : ℕ) (text : List ℕ) (plan : TermPlanValue)
+-- what is known of a term where none of its checks applies
+pub record NoneApply (others : List Check) (profile : Profile) (place : ℕ) (h : HoldingValue) (text : List ℕ) : Type 0 where
+  pub further : first_that_applies others ≡ None
+  pub registers : first_that_applies (register_checks profile place h) ≡ None
+  pub numbers : first_that_applies (number_checks place h text) ≡ None
+
+pub none_apply : (further : List Check) (profile : Profile) (place : ℕ) (h : HoldingValue) (text : List ℕ) → first_that_applies (term_checks further profile place h text) ≡ None
+    → NoneApply further profile place h text
+none_apply further profile place h text e =
+    let numbers = number_checks place h text in
+    let registers = register_checks profile place h ++ numbers in
+    let furthers = further ++ registers in
+    let clashes = clash_checks place h ++ furthers in
+    let words = words_checks place h text ++ clashes in
+    let last = none-append further registers
+    (none-append (clash_checks place h) furthers
+    (none-append (words_checks place h text) clashes
+    (none-append (value_checks profile place h) words
+    (none-append (head_checks place h) (value_checks profile place h ++ words) e).1).1).1).1 in
+    let ends = none-append (register_checks profile place h) numbers last.1 in
+    record { further = last.0; registers = ends.0; numbers = ends.1 }
+
+looks_into : (profile : Profile) (set : Option (List ℕ)) (head : HeadValue) (place : ℕ) (text : List ℕ) (plan : TermPlanValue)
     → leaf_plan profile set head place text ≡ Ok plan → LooksInto profile (holding_of set head) (plan_register plan)
 unfolding leaf_plan plan_asked
 looks_into profile set head place text plan e =
     let h : HoldingValue = holding_of set head in
-    let asked = plan_asked profile h text in
-    let answer = at (first_that_applies (find_checks profile place h text)) e in
+    let answer = answered_ok (first_that_applies (find_checks profile place h text)) (plan_asked profile h text) plan e in
     let both = looked (structure_is h (107 ∷ [])) (digits_value 10 text) _ (index_held profile h, register_searched h)
-    (looks (index_held profile h) (relation_held h) (digits_value 10 text) (joined_words text) (joined_if_any (patterns_held h text)) (patterns_held h text) (position_is h (1 ∷ 2 ∷ []))
+    (looks (index_held profile h) (relation_held h) (order_held h) (digits_value 10 text) (joined_words_if_any text) (joined_if_any (patterns_held h text)) (patterns_held h text) (position_is h (1 ∷ 2 ∷ []))
     (relation_is h (103 ∷ [])) (structure_is h (109 ∷ [])) (relation_is h (3 ∷ [])) (completeness_is h (2 ∷ 3 ∷ [])) (structure_is h (6 ∷ [])) (structure_is h (105 ∷ []))) in
-    let numbers = number_checks place h text in
-    let registers = register_checks profile place h ++ numbers in
-    let clashes = clash_checks place h ++ registers in
-    let words = words_checks place h text ++ clashes in
-    let values = value_checks profile place h ++ words in
-    let checks = (none-append (clash_checks place h) registers (none-append (words_checks place h text) clashes (none-append (value_checks profile place h) words (none-append (head_checks place h) values answer.0).1).1).1).1 in
-    let applied = none-cons (check place 123 [] (not (structure_is h (107 ∷ [])) && not (has_target profile (index_used profile h.use_attribute) (register_searched h)))) numbers checks in
+    let applied = none-cons (check place 123 [] (not (structure_is h (107 ∷ [])) && not (has_target profile (index_used profile h.use_attribute) (register_searched h)))) [] (none_apply [] profile place h text answer.0).registers in
     record {
       none = λ l. ap plan_register (sym answer.1) ∙ both.0 l;
       one = λ l. ap plan_register (sym answer.1) ∙ both.1 l;
       found = λ l. target_found profile (structure_is h (107 ∷ [])) (index_used profile h.use_attribute) (register_searched h) applied.0 l;
     }
-  where
-    at : (o : Option Refusal) → answered o (plan_asked profile (holding_of set head) text) ≡ Ok plan → (o ≡ None) × (plan_asked profile (holding_of set head) text ≡ plan)
-    at None h = (refl, cc)
-    at (Some refusal) h = absurd cc
+
+-- ---- whole plans
+
+-- what holds of the plan of a term
+pub term_holds : (P : PlanValue → Type 0) (term : Result TermPlanValue Refusal) (plan : PlanValue) → (term >>= λ found. Ok (TermOf found)) ≡ Ok plan
+    → ((found : TermPlanValue) → term ≡ Ok found → P (TermOf found)) → P plan
+term_holds P (Ok found) plan e holds = let is : TermOf found ≡ plan = cc in subst P is (holds found refl)
+term_holds P (Err refusal) plan e holds = absurd cc
+
+-- what holds of the plan of two operands
+pub pair_holds : (P : PlanValue → Type 0) (left right : Result PlanValue Refusal) (op : Operator) (plan : PlanValue)
+    → (left >>= λ one. (right >>= λ other. Ok (PairOf op one other))) ≡ Ok plan
+    → ((one other : PlanValue) → left ≡ Ok one → right ≡ Ok other → P (PairOf op one other)) → P plan
+pair_holds P (Ok one) (Ok other) op plan e holds = let is : PairOf op one other ≡ plan = cc in subst P is (holds one other refl refl)
+pair_holds P (Ok one) (Err refusal) op plan e holds = absurd cc
+pair_holds P (Err refusal) right op plan e holds = absurd cc
+
+AllLookInto-append : (profile : Profile) (xs : List HoldingValue) (ps : List (Option (ℕ × Register))) (ys : List HoldingValue) (qs : List (Option (ℕ × Register)))
+    → AllLookInto profile xs ps → AllLookInto profile ys qs → AllLookInto profile (xs ++ ys) (ps ++ qs)
+AllLookInto-append profile [] [] ys qs left right = right
+AllLookInto-append profile (x ∷ xs) (p ∷ ps) ys qs left right = (left.0, AllLookInto-append profile xs ps ys qs left.1 right)
+AllLookInto-append profile [] (p ∷ ps) ys qs left right = absurd left
+AllLookInto-append profile (x ∷ xs) [] ys qs left right = absurd left
+
+-- ---- two words near each other
+
+pub true_of_not : (b : Bool) → not b ≡ false → b ≡ true
+true_of_not true e = refl
+true_of_not false e = absurd cc
+
+other_structure : (m : Option ℕ) → is_among (1 ∷ 2 ∷ []) m ≡ true → (is_among (107 ∷ []) m ≡ false) × (is_among (109 ∷ []) m ≡ false)
+other_structure m e = by_value (λ k. (is_among (107 ∷ []) k ≡ false) × (is_among (109 ∷ []) k ≡ false)) m (1 ∷ 2 ∷ []) e ((refl, refl), ((refl, refl), tt))
+
+-- an operand looks into the words of its index
+operand_looks : (profile : Profile) (o : Operand) → first_that_applies (operand_checks profile o) ≡ None → LooksInto profile o.held (Some (index_held profile o.held, register.Word))
+operand_looks profile o e =
+    let h = o.held in
+    let place = o.place in
+    let nothing : NoneApply (near_clash_checks place h o.text) profile place h o.text = none_apply (near_clash_checks place h o.text) profile place h o.text e in
+    let words = check place 123 [] (is_none (one_of (patterns_held h o.text))) in
+    let complete = check place 123 [] (completeness_is h (2 ∷ 3 ∷ [])) in
+    let phrase = check place 123 [] (not (structure_is h (1 ∷ 2 ∷ []))) in
+    let first = check place 123 [] (position_is h (1 ∷ 2 ∷ [])) in
+    let relations = none-cons (check place 123 [] (not (relation_is h (3 ∷ [])))) (first ∷ phrase ∷ complete ∷ words ∷ []) nothing.further in
+    let phrases = none-cons phrase (complete ∷ words ∷ []) (none-cons first (phrase ∷ complete ∷ words ∷ []) relations.1).1 in
+    let completes = none-cons complete (words ∷ []) phrases.1 in
+    let others = other_structure (number_or 1 h.structure) (true_of_not (structure_is h (1 ∷ 2 ∷ [])) phrases.0) in
+    let applied = none-cons (check place 123 [] (not (structure_is h (107 ∷ [])) && not (has_target profile (index_used profile h.use_attribute) (register_searched h)))) [] nothing.registers in
+    let searched : register_searched h ≡ register.Word =
+    ap (λ b. cond b register.Number (cond (completeness_is h (2 ∷ 3 ∷ [])) register.Phrase register.Word)) others.1 ∙ ap (λ b. cond b register.Phrase register.Word) completes.0 in
+    record {
+      none = λ l. let never : ◌≡◌ {A = Bool} true false = sym l ∙ others.0 in absurd cc;
+      one = λ _. ap (λ r. Some (index_held profile h, r)) (sym searched);
+      found = λ l. target_found profile (structure_is h (107 ∷ [])) (index_used profile h.use_attribute) (register_searched h) applied.0 l;
+    }
+
+near_look : (profile : Profile) (place : ℕ) (parameters : List (List ℕ)) (left right : Operand) (plan : PlanValue)
+    → near_plan profile place parameters (Some left) (Some right) ≡ Ok plan → AllLookInto profile (left.held ∷ right.held ∷ []) (looked_into plan)
+near_look profile place parameters left right plan e =
+    let one = index_held profile left.held in
+    let other = index_held profile right.held in
+    let checks = proximity_checks profile place parameters (Some left) (Some right) in
+    let answer = answered_ok (first_that_applies checks) (near_value profile parameters (Some left) (Some right)) plan (sym (near_checked profile place parameters (Some left) (Some right)) ∙ e) in
+    let index_check = check place 123 [] (not (eqb one other)) in
+    let operands = none-append (parameter_checks place parameters) (operands_checks profile place (Some left) (Some right)) answer.0 in
+    let lefts = none-append (operand_checks profile left) (operand_checks profile right ++ index_check ∷ []) operands.1 in
+    let rights = none-append (operand_checks profile right) (index_check ∷ []) lefts.1 in
+    let same : one ≡ other = eqb-true one other (true_of_not (eqb one other) (none-cons index_check [] rights.1).0) in
+    subst (λ p. AllLookInto profile (left.held ∷ right.held ∷ []) (looked_into p)) answer.1
+    (operand_looks profile left lefts.0, (subst (λ i. LooksInto profile right.held (Some (i, register.Word))) (sym same) (operand_looks profile right rights.0), tt))
+
+-- `@prox` has a plan only where both operands are terms
+no_near : (profile : Profile) (place : ℕ) (parameters : List (List ℕ)) (left right : Option Operand) (plan : PlanValue)
+    → first_that_applies (operands_checks profile place left right) ≡ Some (check place 110 (codes "@prox") true).refusal
+    → near_plan profile place parameters left right ≡ Ok plan → ⊥
+no_near profile place parameters left right plan applies e =
+    let checks = proximity_checks profile place parameters left right in
+    let answer = answered_ok (first_that_applies checks) (near_value profile parameters left right) plan (sym (near_checked profile place parameters left right) ∙ e) in
+    let none : ◌≡◌ {A = Option Refusal} (Some (check place 110 (codes "@prox") true).refusal) None = sym applies ∙ (none-append (parameter_checks place parameters) (operands_checks profile place left right) answer.0).1 in
+    absurd cc
+
+all_look : (profile : Profile) (set : Option (List ℕ)) (outer : HeadValue) (tree : TreeValue) (plan : PlanValue)
+    → tree_plan profile set outer tree ≡ Ok plan → AllLookInto profile (held_in set outer tree) (looked_into plan)
+all_look profile set outer (TermValue place head text) plan e =
+    term_holds (λ p. AllLookInto profile (holding_of set (heads outer head) ∷ []) (looked_into p)) (leaf_plan profile set (heads outer head) place text) plan e
+    (λ found is. (looks_into profile set (heads outer head) place text found is, tt))
+all_look profile set outer (NamedValue place head name) plan e = absurd cc
+all_look profile set outer (PairValue place head Proximity parameters (TermValue p h t) (TermValue q i u)) plan e =
+    near_look profile place parameters (record { place = p; held = holding_of set (heads (heads outer head) h); text = t }) (record { place = q; held = holding_of set (heads (heads outer head) i); text = u }) plan e
+all_look profile set outer (PairValue place head Proximity parameters (TermValue p h t) (NamedValue q i u)) plan e =
+    absurd (no_near profile place parameters (operand_of set (heads outer head) (TermValue p h t)) None plan refl e)
+all_look profile set outer (PairValue place head Proximity parameters (TermValue p h t) (PairValue q i c ps l r)) plan e =
+    absurd (no_near profile place parameters (operand_of set (heads outer head) (TermValue p h t)) None plan refl e)
+all_look profile set outer (PairValue place head Proximity parameters (NamedValue p h t) right) plan e =
+    absurd (no_near profile place parameters None (operand_of set (heads outer head) right) plan refl e)
+all_look profile set outer (PairValue place head Proximity parameters (PairValue p h c ps l r) right) plan e =
+    absurd (no_near profile place parameters None (operand_of set (heads outer head) right) plan refl e)
+all_look profile set outer (PairValue place head And parameters left right) plan e =
+    pair_holds (λ p. AllLookInto profile (held_in set (heads outer head) left ++ held_in set (heads outer head) right) (looked_into p))
+    (tree_plan profile set (heads outer head) left) (tree_plan profile set (heads outer head) right) operator.And plan e
+    (λ one other one_is other_is. AllLookInto-append profile (held_in set (heads outer head) left) (looked_into one) (held_in set (heads outer head) right) (looked_into other)
+    (all_look profile set (heads outer head) left one one_is) (all_look profile set (heads outer head) right other other_is))
+all_look profile set outer (PairValue place head Or parameters left right) plan e =
+    pair_holds (λ p. AllLookInto profile (held_in set (heads outer head) left ++ held_in set (heads outer head) right) (looked_into p))
+    (tree_plan profile set (heads outer head) left) (tree_plan profile set (heads outer head) right) operator.Or plan e
+    (λ one other one_is other_is. AllLookInto-append profile (held_in set (heads outer head) left) (looked_into one) (held_in set (heads outer head) right) (looked_into other)
+    (all_look profile set (heads outer head) left one one_is) (all_look profile set (heads outer head) right other other_is))
+all_look profile set outer (PairValue place head Not parameters left right) plan e =
+    pair_holds (λ p. AllLookInto profile (held_in set (heads outer head) left ++ held_in set (heads outer head) right) (looked_into p))
+    (tree_plan profile set (heads outer head) left) (tree_plan profile set (heads outer head) right) operator.Not plan e
+    (λ one other one_is other_is. AllLookInto-append profile (held_in set (heads outer head) left) (looked_into one) (held_in set (heads outer head) right) (looked_into other)
+    (all_look profile set (heads outer head) left one one_is) (all_look profile set (heads outer head) right other other_is))
+
+pub plan_looks : (profile : Profile) (query : QueryValue) (plan : PlanValue) → plan_of profile query ≡ Ok plan
+    → AllLookInto profile (held_in query.attribute_set no_head query.tree) (looked_into plan)
+plan_looks profile query plan e = all_look profile query.attribute_set no_head query.tree plan e

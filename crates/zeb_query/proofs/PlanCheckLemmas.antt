@@ -12,45 +12,48 @@ use Rattle.zeb_text.specs.Numbers.{number_key}
 use Rattle.zeb_text.specs.Truncation.{patterns_of}
 use Rattle.zeb_query.specs.declared.plans.Relation.{Relation}
 use Rattle.zeb_query.specs.declared.plans.Relation.TheVariants.{Less, LessOrEqual, Equal, GreaterOrEqual, Greater}
+use Rattle.zeb_query.specs.declared.plans.Order.{Order}
 use Rattle.zeb_query.specs.declared.attributes.Asked.{Asked}
 use Rattle.zeb_query.specs.declared.attributes.Asked.TheVariants.{Compared, Always}
 use Rattle.zeb_query.specs.declared.attributes.Structure.{Structure}
 use Rattle.zeb_query.specs.declared.attributes.Structure.TheVariants.{Phrase, WordList, FreeForm, LocalNumber, Numeric}
 use Rattle.zeb_query.specs.declared.terms.Values.{Values}
 use Rattle.zeb_query.specs.Queries.{HeadValue}
-use Rattle.zeb_query.specs.Digits.{is_number}
+use Rattle.zeb_query.specs.Grammar.{is_number}
 use Rattle.zeb_query.specs.Holding.{HoldingValue, holding_of}
-use Rattle.zeb_query.specs.TermChecks.{Check, check, first_that_applies, relation_is, structure_is, position_is, truncation_is, completeness_is, index_used, has_target, register_searched, patterns_held, clash_checks, scan_clash_checks, register_checks, number_checks, find_checks, scan_checks}
-use Rattle.zeb_query.specs.Terms.{is_always, is_equal, is_ordered, is_first, is_truncated, is_complete, is_local, is_numeric, is_list, register_of, spread_of, kept_or, term_of}
-use Rattle.zeb_query.specs.Plans.{TermPlanValue, RecordNumberOf, AlwaysOf, NumberOf, OrderedOf, CompleteOf, PhraseOf, AllWordsOf, AnyWordOf, ScanValue, answered, index_held, relation_held, plan_asked, leaf_plan, scan_asked, leaf_scan, joined_words, joined_if_any}
-use Rattle.zeb_query.specs.TermPlans.{number_in, compared_plan, related_plan, indexed_plan, term_plan, scan_start, indexed_scan, term_scan}
-use Rattle.zeb_query.specs.Faults.{Refusal, ◌>>=◌, refused}
+use Rattle.zeb_query.specs.TermChecks.{Check, check, first_that_applies, relation_is, structure_is, position_is, truncation_is, completeness_is, index_used, has_target, register_searched, patterns_held, clash_checks, scan_clash_checks, register_checks, number_checks, find_checks, scan_checks, index_held}
+use Rattle.zeb_query.specs.PrivatePlanning.{is_always, is_equal, is_ordered, is_first, is_truncated, is_complete, is_local, is_numeric, is_list, is_phrase, register_of, spread_of, kept_or, term_of, number_in, compared_plan, scan_start}
+use Rattle.zeb_query.proofs.PlanSteps.{related_plan, indexed_plan, term_plan, indexed_scan, term_scan}
+use Rattle.zeb_query.specs.Plans.{TermPlanValue, RecordNumberOf, AlwaysOf, NumberOf, OrderedOf, CompleteOf, PhraseOf, AllWordsOf, AnyWordOf, ScanValue, relation_held, order_held, plan_asked, leaf_plan, scan_asked, leaf_scan, joined_words, joined_words_if_any, joined_if_any}
+use Rattle.zeb_query.specs.Faults.{Refusal, ◌>>=◌, refused, answered}
 use Rattle.zeb_query.proofs.CheckLemmas.{checked_by, then_checks}
-use Rattle.zeb_query.proofs.ValueLemmas.{compared_by, is_word_list, is_free_form}
+use Rattle.zeb_query.proofs.ValueLemmas.{compared_by, ordered_by, is_word_list, is_free_form}
 use Rattle.zeb_query.proofs.TermCheckLemmas.{values_held, patterns_if, AreHeld, reading_checks, term_stage, term_held}
 
 -- ---- what the checks of a term ask of its attributes
 
-record Says : Type 0 where
-  local : Bool
-  numeric : Bool
-  number : Bool
-  list : Bool
-  word_list : Bool
-  free_form : Bool
-  listed : Bool
-  equal : Bool
-  ordered : Bool
-  always : Bool
-  relation : Relation
-  first : Bool
-  truncated : Bool
-  complete : Bool
-  found : Bool
-  patterns : List (List Symbol)
+pub record Says : Type 0 where
+  pub local : Bool
+  pub numeric : Bool
+  pub number : Bool
+  pub list : Bool
+  pub word_list : Bool
+  pub free_form : Bool
+  pub phrase : Bool
+  pub listed : Bool
+  pub equal : Bool
+  pub ordered : Bool
+  pub always : Bool
+  pub relation : Relation
+  pub order : Order
+  pub first : Bool
+  pub truncated : Bool
+  pub complete : Bool
+  pub found : Bool
+  pub patterns : List (List Symbol)
 
 -- by the numbers of the attributes
-abbrev numbers_say : Profile → HoldingValue → List ℕ → Bool → Says
+abbrev pub numbers_say : Profile → HoldingValue → List ℕ → Bool → Says
 numbers_say profile h text found = record {
   local = structure_is h (107 ∷ []);
   numeric = structure_is h (109 ∷ []);
@@ -58,11 +61,13 @@ numbers_say profile h text found = record {
   list = structure_is h (6 ∷ 105 ∷ []);
   word_list = structure_is h (6 ∷ []);
   free_form = structure_is h (105 ∷ []);
+  phrase = structure_is h (1 ∷ 2 ∷ []);
   listed = structure_is h (6 ∷ 105 ∷ 107 ∷ []);
   equal = relation_is h (3 ∷ []);
   ordered = relation_is h (1 ∷ 2 ∷ 4 ∷ 5 ∷ []);
   always = relation_is h (103 ∷ []);
   relation = relation_held h;
+  order = order_held h;
   first = position_is h (1 ∷ 2 ∷ []);
   truncated = not (truncation_is h (100 ∷ []));
   complete = completeness_is h (2 ∷ 3 ∷ []);
@@ -71,7 +76,7 @@ numbers_say profile h text found = record {
 }
 
 -- by the values that are kept
-abbrev values_say : Values → List ℕ → Bool → Says
+abbrev pub values_say : Values → List ℕ → Bool → Says
 values_say v text found = record {
   local = is_local v.structure;
   numeric = is_numeric v.structure;
@@ -79,11 +84,13 @@ values_say v text found = record {
   list = is_list v.structure;
   word_list = is_word_list v.structure;
   free_form = is_free_form v.structure;
+  phrase = is_phrase v.structure;
   listed = is_list v.structure || is_local v.structure;
   equal = is_equal v.relation;
   ordered = is_ordered v.relation;
   always = is_always v.relation;
   relation = compared_by v.relation;
+  order = ordered_by v.relation;
   first = is_first v.position;
   truncated = is_truncated v.truncation;
   complete = is_complete v.completeness;
@@ -91,26 +98,26 @@ values_say v text found = record {
   patterns = patterns_of v.truncation (spread_of v.structure) (chars text);
 }
 
-same_says : {l l' n n' b b' s s' w w' f f' d d' e e' o o' a a' : Bool} {r r' : Relation} {p p' t t' c c' : Bool} (found : Bool) {z z' : List (List Symbol)}
-    → l ≡ l' → n ≡ n' → b ≡ b' → s ≡ s' → w ≡ w' → f ≡ f' → d ≡ d' → e ≡ e' → o ≡ o' → a ≡ a' → r ≡ r' → p ≡ p' → t ≡ t' → c ≡ c' → z ≡ z'
+same_says : {l l' n n' b b' s s' w w' f f' y y' d d' e e' o o' a a' : Bool} {r r' : Relation} {k k' : Order} {p p' t t' c c' : Bool} (found : Bool) {z z' : List (List Symbol)}
+    → l ≡ l' → n ≡ n' → b ≡ b' → s ≡ s' → w ≡ w' → f ≡ f' → y ≡ y' → d ≡ d' → e ≡ e' → o ≡ o' → a ≡ a' → r ≡ r' → k ≡ k' → p ≡ p' → t ≡ t' → c ≡ c' → z ≡ z'
     → ◌≡◌ {A = Says}
-    (record { local = l; numeric = n; number = b; list = s; word_list = w; free_form = f; listed = d; equal = e; ordered = o; always = a; relation = r; first = p; truncated = t; complete = c; found = found; patterns = z })
-    (record { local = l'; numeric = n'; number = b'; list = s'; word_list = w'; free_form = f'; listed = d'; equal = e'; ordered = o'; always = a'; relation = r'; first = p'; truncated = t'; complete = c'; found = found; patterns = z' })
-same_says found p1 p2 p3 p4 p5 p6 p7 p8 p9 p10 p11 p12 p13 p14 p15 = cc
+    (record { local = l; numeric = n; number = b; list = s; word_list = w; free_form = f; phrase = y; listed = d; equal = e; ordered = o; always = a; relation = r; order = k; first = p; truncated = t; complete = c; found = found; patterns = z })
+    (record { local = l'; numeric = n'; number = b'; list = s'; word_list = w'; free_form = f'; phrase = y'; listed = d'; equal = e'; ordered = o'; always = a'; relation = r'; order = k'; first = p'; truncated = t'; complete = c'; found = found; patterns = z' })
+same_says found p1 p2 p3 p4 p5 p6 p7 p8 p9 p10 p11 p12 p13 p14 p15 p16 p17 = cc
 
-both_say : (profile : Profile) (h : HoldingValue) (text : List ℕ) (found : Bool) → AreHeld profile h (values_held profile h) → numbers_say profile h text found ≡ values_say (values_held profile h) text found
+pub both_say : (profile : Profile) (h : HoldingValue) (text : List ℕ) (found : Bool) → AreHeld profile h (values_held profile h) → numbers_say profile h text found ≡ values_say (values_held profile h) text found
 both_say profile h text found are =
     let v : Values = values_held profile h in
-    same_says found are.structure.local are.structure.numeric are.structure.number are.structure.list are.structure.word_list are.structure.free_form are.structure.listed
-    are.relation.equal are.relation.ordered are.relation.always are.relation.compared are.position are.truncation are.completeness
+    same_says found are.structure.local are.structure.numeric are.structure.number are.structure.list are.structure.word_list are.structure.free_form are.structure.phrase are.structure.listed
+    are.relation.equal are.relation.ordered are.relation.always are.relation.compared are.relation.in_order are.position are.truncation are.completeness
     (ap (λ s. patterns_of v.truncation s (chars text)) are.structure.stars)
 
 -- ---- the checks and the plan by what is said
 
-abbrev register_by : Says → Register
+abbrev pub register_by : Says → Register
 register_by s = cond s.numeric register.Number (cond s.complete register.Phrase register.Word)
 
-abbrev clashes_by : ℕ → Says → List Check
+abbrev pub clashes_by : ℕ → Says → List Check
 clashes_by place s =
     check place 123 [] (s.number && (s.first || (s.truncated || s.complete)))
     ∷ check place 123 [] (s.local && not s.equal)
@@ -122,7 +129,7 @@ abbrev scan_clashes_by : ℕ → Says → List Check
 scan_clashes_by place s =
     check place 123 [] (not s.equal) ∷ check place 123 [] s.first ∷ check place 123 [] s.truncated ∷ check place 123 [] s.listed ∷ []
 
-abbrev last_checks : ℕ → List ℕ → Says → List Check
+abbrev pub last_checks : ℕ → List ℕ → Says → List Check
 last_checks place text s =
     check place 123 [] (not s.local && not s.found)
     ∷ check place 126 text (s.local && not (is_number 9 text))
@@ -134,7 +141,7 @@ plan_by index text s =
     cond s.local (RecordNumberOf (digits_value 10 text))
     (cond s.always (AlwaysOf index (register_by s))
     (cond s.numeric (NumberOf index s.relation (digits_value 10 text))
-    (cond (not s.equal) (OrderedOf index (register_by s) s.relation (joined_words text))
+    (cond (not s.equal) (OrderedOf index (register_by s) s.order (joined_words_if_any text))
     (cond s.complete (CompleteOf index (joined_if_any s.patterns))
     (cond s.word_list (AllWordsOf index s.patterns)
     (cond s.free_form (AnyWordOf index s.patterns)
@@ -163,20 +170,16 @@ clash_stage place false false true d rest cs x e = refl
 clash_stage place false false false true rest cs x e = refl
 clash_stage place false false false false rest cs x e = e
 
-found_stage : {X : Type 0} (place : ℕ) (has found : Bool) (rest : Result X Refusal) (cs : List Check) (x : X) → has ≡ found → rest ≡ checked_by cs x
+pub found_stage : {X : Type 0} (place : ℕ) (has found : Bool) (rest : Result X Refusal) (cs : List Check) (x : X) → has ≡ found → rest ≡ checked_by cs x
     → cond has rest (refused 123 place []) ≡ checked_by (check place 123 [] (not found) ∷ cs) x
 found_stage place has true rest cs x e e' = ap (λ b. cond b rest (refused 123 place [])) e ∙ e'
 found_stage place has false rest cs x e e' = ap (λ b. cond b rest (refused 123 place [])) e
 
-either_ok : {X : Type 0} (b : Bool) (x y : X) → cond b (Ok x) (Ok y) ≡ checked_by [] (cond b x y)
-either_ok true x y = refl
-either_ok false x y = refl
-
 -- values with this relation, structure and index
-abbrev values_with : Values → Asked → Structure → ℕ → Values
+abbrev pub values_with : Values → Asked → Structure → ℕ → Values
 values_with v asked structure index = record v { index = cond (is_local structure) None (Some index); relation = asked; structure = structure }
 
-abbrev number_checks_by : ℕ → List ℕ → Says → List Check
+abbrev pub number_checks_by : ℕ → List ℕ → Says → List Check
 number_checks_by place text s =
     check place 126 text (s.local && not (is_number 9 text))
     ∷ check place 126 text (s.numeric && (not s.always && not (is_number 18 text)))
@@ -192,9 +195,9 @@ related_stage place index text v Always WordList e = refl
 related_stage place index text v Always FreeForm e = refl
 related_stage place index text v Always Numeric e = refl
 related_stage place index text v (Compared r) Numeric e = number_stage 18 place text (λ number. NumberOf index r number)
-related_stage place index text v (Compared Equal) Phrase e = either_ok (is_complete v.completeness) _ _
-related_stage place index text v (Compared Equal) WordList e = either_ok (is_complete v.completeness) _ _
-related_stage place index text v (Compared Equal) FreeForm e = either_ok (is_complete v.completeness) _ _
+related_stage place index text v (Compared Equal) Phrase e = refl
+related_stage place index text v (Compared Equal) WordList e = refl
+related_stage place index text v (Compared Equal) FreeForm e = refl
 related_stage place index text v (Compared Less) Phrase e = refl
 related_stage place index text v (Compared Less) WordList e = refl
 related_stage place index text v (Compared Less) FreeForm e = refl
@@ -221,16 +224,16 @@ indexed_stage profile place index text v a Numeric found e = found_stage place _
 -- ---- a term in a find
 
 -- the term's index has a target with the searched register
-abbrev is_found : Profile → HoldingValue → Bool
+abbrev pub is_found : Profile → HoldingValue → Bool
 is_found profile h = has_target profile (index_used profile h.use_attribute) (register_searched h)
 
-found_is : (profile : Profile) (h : HoldingValue) (text : List ℕ) → AreHeld profile h (values_held profile h) → is_local (values_held profile h).structure ≡ false
+pub found_is : (profile : Profile) (h : HoldingValue) (text : List ℕ) → AreHeld profile h (values_held profile h) → is_local (values_held profile h).structure ≡ false
     → has_pair profile (index_held profile h, register_of (values_held profile h)) ≡ is_found profile h
 found_is profile h text are l =
     ap (λ r. has_pair profile (index_held profile h, r)) (sym (ap register_by (both_say profile h text true are)))
     ∙ sym (are.target (are.structure.local ∙ l) (register_searched h))
 
-index_is : (profile : Profile) (h : HoldingValue) → AreHeld profile h (values_held profile h) → (values_held profile h).index ≡ cond (is_local (values_held profile h).structure) None (Some (index_held profile h))
+pub index_is : (profile : Profile) (h : HoldingValue) → AreHeld profile h (values_held profile h) → (values_held profile h).index ≡ cond (is_local (values_held profile h).structure) None (Some (index_held profile h))
 index_is profile h are = ap (λ b. cond b None (Some (index_held profile h))) are.structure.local
 
 plan_stage : (profile : Profile) (place : ℕ) (h : HoldingValue) (text : List ℕ) → AreHeld profile h (values_held profile h)

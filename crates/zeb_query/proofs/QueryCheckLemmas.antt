@@ -1,5 +1,5 @@
 -- The first check of a query that applies is the one that its plan is refused by.
-use Rattle.std.proofs.Common.{◌≡◌, ℕ, true, false, cond, List, [], ◌∷◌, ◌++◌, Option, Some, None, refl, ◌∙◌}
+use Rattle.std.proofs.Common.{◌≡◌, ℕ, true, false, cond, List, [], ◌∷◌, ◌++◌, Option, Some, None, refl, ap, ◌∙◌}
 use Rattle.std.specs.Prelude.{Result, Ok, Err}
 use Rattle.std.specs.Result.{result_err}
 use Rattle.zeb_profile.specs.declared.Profile.{Profile}
@@ -8,13 +8,18 @@ use Rattle.zeb_query.specs.Queries.{HeadValue, TreeValue, TermValue, NamedValue,
 use Rattle.zeb_query.specs.Grammar.{heads, no_head}
 use Rattle.zeb_query.specs.Holding.{holding_of}
 use Rattle.zeb_query.specs.TermChecks.{Check, first_that_applies, find_checks, scan_checks}
-use Rattle.zeb_query.specs.QueryChecks.{checks_in, query_checks, scan_checks_in, scan_query_checks}
-use Rattle.zeb_query.specs.Faults.{Refusal, ◌>>=◌}
-use Rattle.zeb_query.specs.Plans.{PlanValue, TermOf, answered, plan_asked, leaf_plan, tree_plan, plan_of, scan_asked, leaf_scan, tree_scan, scan_of}
+use Rattle.zeb_query.specs.Proximity.{operand_of, proximity_checks}
+use Rattle.zeb_query.specs.Plans.{checks_in, query_checks, scan_checks_in, scan_query_checks, PlanValue, TermOf, plan_asked, leaf_plan, tree_plan, plan_of, scan_asked, leaf_scan, tree_scan, scan_of}
+use Rattle.zeb_query.specs.Faults.{Refusal, ◌>>=◌, answered}
+use Rattle.zeb_query.proofs.NearLemmas.{near_value, near_checked}
 
 first_of_answer : {A B : Type 0} (o : Option Refusal) (x : A) (f : A → B) → result_err (answered o x >>= λ y. Ok (f y)) ≡ o
 first_of_answer None x f = refl
 first_of_answer (Some refusal) x f = refl
+
+first_of_checked : {A : Type 0} (o : Option Refusal) (x : A) → result_err (answered o x) ≡ o
+first_of_checked None x = refl
+first_of_checked (Some refusal) x = refl
 
 first_then : {A B : Type 0} (r : Result A Refusal) (next : A → Result B Refusal) (cs ds : List Check) → result_err r ≡ first_that_applies cs → ((x : A) → result_err (next x) ≡ first_that_applies ds) → result_err (r >>= next) ≡ first_that_applies (cs ++ ds)
 first_then {A} {B} r next cs ds e h = at r cs e
@@ -46,7 +51,10 @@ unfolding leaf_plan
 first_in_tree profile set outer (TermValue place head text) =
     first_of_answer (first_that_applies (find_checks profile place (holding_of set (heads outer head)) text)) (plan_asked profile (holding_of set (heads outer head)) text) (λ plan. TermOf plan)
 first_in_tree profile set outer (NamedValue place head name) = refl
-first_in_tree profile set outer (PairValue place head Proximity parameters left right) = refl
+first_in_tree profile set outer (PairValue place head Proximity parameters left right) =
+    let one = operand_of set (heads outer head) left in
+    let other = operand_of set (heads outer head) right in
+    ap result_err (near_checked profile place parameters one other) ∙ first_of_checked (first_that_applies (proximity_checks profile place parameters one other)) (near_value profile parameters one other)
 first_in_tree profile set outer (PairValue place head And parameters left right) =
     first_then (tree_plan profile set (heads outer head) left) _ (checks_in profile set (heads outer head) left) (checks_in profile set (heads outer head) right) (first_in_tree profile set (heads outer head) left)
     (λ one. first_of_pair (tree_plan profile set (heads outer head) right) _ (checks_in profile set (heads outer head) right) (first_in_tree profile set (heads outer head) right))
@@ -62,11 +70,8 @@ first_of_query profile query = first_in_tree profile query.attribute_set no_head
 
 first_in_scan : (profile : Profile) (set : Option (List ℕ)) (tree : TreeValue) → result_err (tree_scan profile set tree) ≡ first_that_applies (scan_checks_in profile set tree)
 unfolding leaf_scan
-first_in_scan profile set (TermValue place head text) = at (first_that_applies (scan_checks profile place (holding_of set (heads no_head head)) text))
-  where
-    at : (o : Option Refusal) → result_err (answered o (scan_asked profile (holding_of set (heads no_head head)) text)) ≡ o
-    at None = refl
-    at (Some refusal) = refl
+first_in_scan profile set (TermValue place head text) =
+    first_of_checked (first_that_applies (scan_checks profile place (holding_of set (heads no_head head)) text)) (scan_asked profile (holding_of set (heads no_head head)) text)
 first_in_scan profile set (NamedValue place head name) = refl
 first_in_scan profile set (PairValue place head connective parameters left right) = refl
 

@@ -7,16 +7,18 @@ use Rattle.zeb_text.specs.declared.Spread.{Spread}
 use Rattle.zeb_text.specs.declared.Spread.TheVariants.{Ends, Each}
 use Rattle.zeb_query.specs.declared.plans.Relation.{Relation}
 use Rattle.zeb_query.specs.declared.plans.Relation.TheVariants.{Equal}
+use Rattle.zeb_query.specs.declared.plans.Order.{Order}
+use Rattle.zeb_query.specs.declared.plans.Order.TheVariants as in_order
 use Rattle.zeb_query.specs.declared.attributes.Asked.{Asked}
 use Rattle.zeb_query.specs.declared.attributes.Asked.TheVariants.{Compared, Always}
 use Rattle.zeb_query.specs.declared.attributes.Position.TheVariants.{Any}
 use Rattle.zeb_query.specs.declared.attributes.Structure.{Structure}
 use Rattle.zeb_query.specs.declared.attributes.Structure.TheVariants.{Phrase, WordList, FreeForm, LocalNumber, Numeric}
 use Rattle.zeb_query.specs.declared.attributes.Completeness.TheVariants.{Incomplete}
-use Rattle.zeb_query.specs.Attributes.{relations, positions, structures, truncations, completenesses, kept}
+use Rattle.zeb_query.specs.PrivatePlanning.{relations, positions, structures, completenesses, is_first, is_complete, is_truncated, is_ordered, is_equal, is_always, is_local, is_numeric, is_list, is_phrase, spread_of, order_of}
+use Rattle.zeb_query.specs.Holding.{truncations, kept}
 use Rattle.zeb_query.specs.TermChecks.{is_among}
-use Rattle.zeb_query.specs.Terms.{is_first, is_complete, is_truncated, is_ordered, is_equal, is_always, is_local, is_numeric, is_list, spread_of}
-use Rattle.zeb_query.specs.Plans.{comparisons}
+use Rattle.zeb_query.specs.Plans.{comparisons, orders}
 use Rattle.zeb_query.proofs.CheckLemmas.{unkept, by_value}
 
 -- what a table has for a number, or else a default
@@ -27,25 +29,30 @@ abbrev pub compared_by : Asked → Relation
 compared_by (Compared relation) = relation
 compared_by Always = Equal
 
+-- the order, also where there is none
+abbrev pub ordered_by : Asked → Order
+ordered_by asked = unwrap_or (order_of (compared_by asked)) in_order.Less
+
 pub record RelationIs (m : Option ℕ) (asked : Asked) : Type 0 where
   pub equal : is_among (3 ∷ []) m ≡ is_equal asked
   pub ordered : is_among (1 ∷ 2 ∷ 4 ∷ 5 ∷ []) m ≡ is_ordered asked
   pub always : is_among (103 ∷ []) m ≡ is_always asked
   pub compared : kept_in comparisons Equal m ≡ compared_by asked
+  pub in_order : kept_in orders in_order.Less m ≡ ordered_by asked
 
 pub relation_value : (m : Option ℕ) → is_among (1 ∷ 2 ∷ 3 ∷ 4 ∷ 5 ∷ 103 ∷ []) m ≡ true → RelationIs m (kept_in relations (Compared Equal) m)
 relation_value m e = by_value (λ k. RelationIs k (kept_in relations (Compared Equal) k)) m (1 ∷ 2 ∷ 3 ∷ 4 ∷ 5 ∷ 103 ∷ []) e (
-  record { equal = refl; ordered = refl; always = refl; compared = refl },
+  record { equal = refl; ordered = refl; always = refl; compared = refl; in_order = refl },
   (
-    record { equal = refl; ordered = refl; always = refl; compared = refl },
+    record { equal = refl; ordered = refl; always = refl; compared = refl; in_order = refl },
     (
-      record { equal = refl; ordered = refl; always = refl; compared = refl },
+      record { equal = refl; ordered = refl; always = refl; compared = refl; in_order = refl },
       (
-        record { equal = refl; ordered = refl; always = refl; compared = refl },
+        record { equal = refl; ordered = refl; always = refl; compared = refl; in_order = refl },
         (
-          record { equal = refl; ordered = refl; always = refl; compared = refl },
+          record { equal = refl; ordered = refl; always = refl; compared = refl; in_order = refl },
           (
-            record { equal = refl; ordered = refl; always = refl; compared = refl },
+            record { equal = refl; ordered = refl; always = refl; compared = refl; in_order = refl },
             tt,
           ),
         ),
@@ -78,22 +85,23 @@ pub record StructureIs (m : Option ℕ) (structure : Structure) : Type 0 where
   pub list : is_among (6 ∷ 105 ∷ []) m ≡ is_list structure
   pub word_list : is_among (6 ∷ []) m ≡ is_word_list structure
   pub free_form : is_among (105 ∷ []) m ≡ is_free_form structure
+  pub phrase : is_among (1 ∷ 2 ∷ []) m ≡ is_phrase structure
   pub listed : is_among (6 ∷ 105 ∷ 107 ∷ []) m ≡ (is_list structure || is_local structure)
   pub stars : ◌≡◌ {A = Spread} (if is_among (6 ∷ 105 ∷ []) m then Each else Ends) (spread_of structure)
 
 pub structure_value : (m : Option ℕ) → is_among (1 ∷ 2 ∷ 6 ∷ 105 ∷ 107 ∷ 109 ∷ []) m ≡ true → StructureIs m (kept_in structures Phrase m)
 structure_value m e = by_value (λ k. StructureIs k (kept_in structures Phrase k)) m (1 ∷ 2 ∷ 6 ∷ 105 ∷ 107 ∷ 109 ∷ []) e (
-  record { local = refl; numeric = refl; number = refl; list = refl; word_list = refl; free_form = refl; listed = refl; stars = refl },
+  record { local = refl; numeric = refl; number = refl; list = refl; word_list = refl; free_form = refl; phrase = refl; listed = refl; stars = refl },
   (
-    record { local = refl; numeric = refl; number = refl; list = refl; word_list = refl; free_form = refl; listed = refl; stars = refl },
+    record { local = refl; numeric = refl; number = refl; list = refl; word_list = refl; free_form = refl; phrase = refl; listed = refl; stars = refl },
     (
-      record { local = refl; numeric = refl; number = refl; list = refl; word_list = refl; free_form = refl; listed = refl; stars = refl },
+      record { local = refl; numeric = refl; number = refl; list = refl; word_list = refl; free_form = refl; phrase = refl; listed = refl; stars = refl },
       (
-        record { local = refl; numeric = refl; number = refl; list = refl; word_list = refl; free_form = refl; listed = refl; stars = refl },
+        record { local = refl; numeric = refl; number = refl; list = refl; word_list = refl; free_form = refl; phrase = refl; listed = refl; stars = refl },
         (
-          record { local = refl; numeric = refl; number = refl; list = refl; word_list = refl; free_form = refl; listed = refl; stars = refl },
+          record { local = refl; numeric = refl; number = refl; list = refl; word_list = refl; free_form = refl; phrase = refl; listed = refl; stars = refl },
           (
-            record { local = refl; numeric = refl; number = refl; list = refl; word_list = refl; free_form = refl; listed = refl; stars = refl },
+            record { local = refl; numeric = refl; number = refl; list = refl; word_list = refl; free_form = refl; phrase = refl; listed = refl; stars = refl },
             tt,
           ),
         ),

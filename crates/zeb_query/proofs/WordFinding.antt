@@ -9,8 +9,7 @@ use Rattle.std.proofs.lemmas.List.{append-nil}
 use Rattle.std.proofs.lemmas.List.Elements.{All-cons, All-nil}
 use Rattle.zeb_query.specs.declared.words.Spelling.{Spelling}
 use Rattle.zeb_query.specs.declared.words.Spelling.TheVariants.{Plain, Quoted, Bad}
-use Rattle.zeb_query.specs.Words.{Word, is_blank}
-use Rattle.zeb_query.specs.WordLists.{Sign, Itself, Escaped, sign_text, meant, is_sign, IsCutOff, IsWritten, is_plain, is_braced, is_quoted, is_open}
+use Rattle.zeb_query.specs.Words.{Word, is_blank, Sign, Itself, Escaped, sign_text, meant, is_sign, IsCutOff, IsWritten, is_plain, is_braced, is_quoted, is_open}
 use Rattle.zeb_query.proofs.WordReading.{AreWordsAfter, bytes}
 
 -- a text as characters that aren't blanks, and what follows them

@@ -1,6 +1,6 @@
 -- The diagnostics by which a query is refused (ANSI/NISO Z39.50-2003, Appendix ERR, the list Bib-1), as values, and what
 -- it means that a call gives what a definition says.
-use Rattle.std.specs.Prelude.{◌≡◌, ℕ, List, Result, Ok, Err, string_bytes}
+use Rattle.std.specs.Prelude.{◌≡◌, ℕ, List, Option, Some, None, Result, Ok, Err, string_bytes, []}
 use Rattle.zeb_query.specs.declared.faults.QueryFault.{QueryFault}
 use Rattle.zeb_query.specs.declared.faults.QueryFault.TheVariants.{Diagnostic, Memory}
 
@@ -30,5 +30,15 @@ abbrev pub ◌>>=◌ : {A B : Type 0} → Result A Refusal → (A → Result B R
 (Ok x) >>= f = f x
 (Err e) >>= f = Err e
 
+-- the diagnostic, if one applies
+abbrev pub answered : {A : Type 0} → Option Refusal → A → Result A Refusal
+answered None x = Ok x
+answered (Some refusal) x = Err refusal
+
 abbrev pub refused : {A : Type 0} → ℕ → ℕ → List ℕ → Result A Refusal
 refused number place addinfo = Err (record { number = number; place = place; addinfo = addinfo })
+
+-- the error is want of memory, or the diagnostic with this number and place and without an addinfo
+abbrev pub IsFault : QueryFault → Option (ℕ × ℕ) → Type 0
+IsFault Memory expected = Unit {0}
+IsFault (Diagnostic number place addinfo) expected = (expected ≡ Some (number, place)) × (string_bytes addinfo ≡ [])

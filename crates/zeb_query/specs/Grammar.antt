@@ -5,18 +5,57 @@
 --               | @prox W W W W W W structure structure | @set NAME | TERM
 -- SET, TYPE, NAME and W are any words but bad ones; after @attr a word without `=` is the SET. SPEC is 1 to 9 digits, the
 -- type, then `=`, then a value of at least one character. TERM is a word that is no keyword. @attr and @term hold for all
--- of the structure that follows; of several types the innermost holds.
-use Rattle.std.specs.Prelude.{◌≡◌, ℕ, ◌==◌, Bool, true, false, List, [], ◌∷◌, ◌++◌, Option, Some, None, length, map, nat_lt, if◌then◌else◌, option_and_then}
-use Rattle.std.specs.List.{list_any, list_all, before_first, after_first, position_or_len}
-use Rattle.zeb_query.specs.declared.queries.Connective.{Connective}
+-- of the structure that follows; of several types the innermost holds. That a type and a number have at most nine digits, and
+-- that an unquoted word which begins with @ and is no keyword is a TERM, are this project's own choices.
+use Rattle.std.specs.Prelude.{ℕ, Bool, List, length, Option, Some, None, nat_lt, nat_le, ◌&&◌, if◌then◌else◌, codes, ◌≡◌, ◌==◌, true, false, [], ◌∷◌, ◌++◌, map, option_and_then}
+use Rattle.std.specs.List.{list_all, list_any, before_first, after_first, position_or_len}
+use Rattle.std.specs.Char.{is_ascii_digit}
+use Rattle.std.specs.Str.Parse.{digits_value}
+use Rattle.std.specs.Str.{bytes_eq}
 use Rattle.zeb_query.specs.declared.queries.Connective.TheVariants.{And, Or, Not, Proximity}
 use Rattle.zeb_query.specs.declared.words.Spelling.{Spelling}
 use Rattle.zeb_query.specs.declared.words.Spelling.TheVariants.{Plain, Quoted, Bad}
+use Rattle.zeb_query.specs.declared.keywords.Keyword.{Keyword}
 use Rattle.zeb_query.specs.declared.keywords.Keyword.TheVariants.{AttributeSet, Attribute, TermType, ResultSet, Operator}
-use Rattle.zeb_query.specs.Digits.{number_of}
+use Rattle.zeb_query.specs.declared.queries.Connective.{Connective}
 use Rattle.zeb_query.specs.Words.{Word}
-use Rattle.zeb_query.specs.Keywords.{keyword_of}
 use Rattle.zeb_query.specs.Queries.{HeadValue, TreeValue, TermValue, NamedValue, PairValue, QueryValue}
+
+-- ---- numbers
+
+-- whether a text has 1 to `most` digits and nothing else
+abbrev pub is_number : ℕ → List ℕ → Bool
+is_number most text = nat_lt 0 (length text) && (nat_le (length text) most && list_all is_ascii_digit text)
+
+-- the number that such a text spells
+abbrev pub number_of : ℕ → List ℕ → Option ℕ
+number_of most text = if is_number most text then Some (digits_value 10 text) else None
+
+-- ---- keywords
+
+-- the keyword of a text
+abbrev pub keyword_spelled : List ℕ → Option Keyword
+keyword_spelled text =
+    if bytes_eq text (codes "@attrset") then Some AttributeSet else (
+    if bytes_eq text (codes "@attr") then Some Attribute else (
+    if bytes_eq text (codes "@term") then Some TermType else (
+    if bytes_eq text (codes "@set") then Some ResultSet else (
+    if bytes_eq text (codes "@and") then Some (Operator And) else (
+    if bytes_eq text (codes "@or") then Some (Operator Or) else (
+    if bytes_eq text (codes "@not") then Some (Operator Not) else (
+    if bytes_eq text (codes "@prox") then Some (Operator Proximity) else
+    None)))))))
+
+-- the keyword that a word of this spelling and text is
+abbrev pub keyword_by : Spelling → List ℕ → Option Keyword
+keyword_by Plain text = keyword_spelled text
+keyword_by Quoted text = None
+keyword_by Bad text = None
+
+abbrev pub keyword_of : Word → Option Keyword
+keyword_of word = keyword_by word.spelling word.text
+
+-- ---- structures and queries
 
 abbrev pub is_good_spelling : Spelling → Bool
 is_good_spelling Plain = true

@@ -1,13 +1,15 @@
 -- The attributes that hold for a term (YAZ manual, PQF; ANSI/NISO Z39.50-2003, attribute sets). For each type the innermost
 -- attribute holds. All attributes over a term count for two faults: a set other than Bib-1, and a type outside 1 to 6,
 -- of which the leftmost is told.
-use Rattle.std.specs.Prelude.{ℕ, ◌==◌, ◌||◌, ◌&&◌, Bool, not, List, [], ◌∷◌, ◌++◌, Option, Some, None, map, nat_lt, if◌then◌else◌, codes}
-use Rattle.std.specs.Option.{option_map, option_to_list}
+use Rattle.std.specs.Prelude.{ℕ, ◌==◌, ◌||◌, ◌&&◌, Bool, not, List, [], ◌∷◌, ◌++◌, Option, Some, None, map, nat_lt, if◌then◌else◌, codes, option_and_then}
+use Rattle.std.specs.Option.{option_to_list}
 use Rattle.std.specs.List.{find}
 use Rattle.std.specs.Char.{to_ascii_lowercase}
 use Rattle.std.specs.Str.{bytes_eq}
-use Rattle.zeb_query.specs.declared.holding.Holding.{Holding}
+use Rattle.zeb_text.specs.declared.Cut.{Cut}
+use Rattle.zeb_text.specs.declared.Cut.TheVariants as cut
 use Rattle.zeb_query.specs.Queries.{AttributeValue, HeadValue}
+use Rattle.zeb_query.specs.Grammar.{number_of}
 
 -- the attribute set Bib-1, by its name or its object identifier
 abbrev pub is_bib1 : List ℕ → Bool
@@ -62,38 +64,22 @@ holding_of set head = record {
   completeness = value_held 6 head.attributes;
 }
 
--- what a program keeps of it, without where the texts lie in memory
-abbrev pub holding_value : Holding → HoldingValue
-holding_value holding = record {
-  other_set = option_map (λ text. text.now) holding.other_set;
-  other_kind = holding.other_kind;
-  term_type = option_map (λ text. text.now) holding.term_type;
-  use_attribute = option_map (λ text. text.now) holding.use_attribute;
-  relation = option_map (λ text. text.now) holding.relation;
-  position = option_map (λ text. text.now) holding.position;
-  structure = option_map (λ text. text.now) holding.structure;
-  truncation = option_map (λ text. text.now) holding.truncation;
-  completeness = option_map (λ text. text.now) holding.completeness;
-}
+-- ---- the values of attributes
 
--- one more attribute inside of all others
-abbrev pub first_set : Option (List ℕ) → List ℕ → Option (List ℕ)
-first_set (Some set) other = Some set
-first_set None other = if is_bib1 other then None else Some other
+-- type 5, truncation
+abbrev pub truncations : List (ℕ × Cut)
+truncations = (1, cut.Right) ∷ (2, cut.Left) ∷ (3, cut.Both) ∷ (100, cut.None) ∷ (101, cut.Hash) ∷ []
 
-abbrev pub first_set_of : Option (List ℕ) → Option (List ℕ) → Option (List ℕ)
-first_set_of found None = found
-first_set_of found (Some set) = first_set found set
+-- what a number stands for in a table
+abbrev pub kept : {A : Type 0} → List (ℕ × A) → ℕ → Option A
+kept [] number = None
+kept (row ∷ rows) number = if number == row.0 then Some row.1 else kept rows number
 
-abbrev pub held_with : HoldingValue → AttributeValue → HoldingValue
-held_with holding a = record {
-  other_set = first_set_of holding.other_set a.set;
-  other_kind = or_else holding.other_kind (if is_other_kind a.kind then Some a.kind else None);
-  term_type = holding.term_type;
-  use_attribute = if a.kind == 1 then Some a.value else holding.use_attribute;
-  relation = if a.kind == 2 then Some a.value else holding.relation;
-  position = if a.kind == 3 then Some a.value else holding.position;
-  structure = if a.kind == 4 then Some a.value else holding.structure;
-  truncation = if a.kind == 5 then Some a.value else holding.truncation;
-  completeness = if a.kind == 6 then Some a.value else holding.completeness;
-}
+-- the number of an attribute's value, or the default where there is no attribute
+abbrev pub number_or : ℕ → Option (List ℕ) → Option ℕ
+number_or default None = Some default
+number_or default (Some text) = number_of 9 text
+
+-- what a value stands for, if it is kept
+abbrev pub value_of : {A : Type 0} → List (ℕ × A) → ℕ → Option (List ℕ) → Option A
+value_of table default value = option_and_then (kept table) (number_or default value)

@@ -1,8 +1,9 @@
 -- What a query asks for over a profile (ANSI/NISO Z39.50-2003, attribute set Bib-1): its plan, or its first diagnostic. The
 -- query is walked from left to right, an operator before its operands. A term is refused by the first of its checks that
--- applies; where none does, its plan follows from the attributes that hold over it.
-use Rattle.std.specs.Prelude.{◌≡◌, ℕ, true, false, not, List, [], ◌∷◌, Option, Some, None, Bool, Result, Ok, Err, map, chars, string_bytes, encode_utf8_all, if◌then◌else◌, codes}
-use Rattle.std.specs.Option.{unwrap_or}
+-- applies; where none does, its plan follows from the attributes that hold over it. That 1 and 2 are one for the position and
+-- the structure, and 2 and 3 for the completeness, is this project's own choice, and so is that a scan takes a term alone.
+use Rattle.std.specs.Prelude.{◌≡◌, ℕ, ◌<◌, ◌^◌, ◌==◌, true, false, not, List, [], ◌∷◌, ◌++◌, Option, Some, None, Bool, Result, Ok, map, chars, string_bytes, encode_utf8_all, if◌then◌else◌, codes}
+use Rattle.std.specs.Option.{unwrap_or, option_map}
 use Rattle.std.specs.List.{join_with_byte}
 use Rattle.std.specs.Str.Parse.{digits_value}
 use Rattle.zeb_profile.specs.declared.Register.{Register}
@@ -17,25 +18,28 @@ use Rattle.zeb_query.specs.declared.plans.Operator.{Operator}
 use Rattle.zeb_query.specs.declared.plans.Operator.TheVariants as operator
 use Rattle.zeb_query.specs.declared.plans.Relation.{Relation}
 use Rattle.zeb_query.specs.declared.plans.Relation.TheVariants.{Less, LessOrEqual, Equal, GreaterOrEqual, Greater}
+use Rattle.zeb_query.specs.declared.plans.Order.{Order}
+use Rattle.zeb_query.specs.declared.plans.Order.TheVariants as in_order
 use Rattle.zeb_query.specs.declared.plans.TermPlan.{TermPlan}
 use Rattle.zeb_query.specs.declared.plans.TermPlan.TheVariants as term
-use Rattle.zeb_query.specs.declared.plans.Plan.{Plan, Term, Pair'}
+use Rattle.zeb_query.specs.declared.plans.Separation.{Separation}
+use Rattle.zeb_query.specs.declared.plans.Plan.{Plan, Term, Pair', Near}
 use Rattle.zeb_query.specs.declared.plans.ScanPlan.{ScanPlan}
 use Rattle.zeb_query.specs.declared.queries.Connective.{Connective}
 use Rattle.zeb_query.specs.declared.queries.Connective.TheVariants.{And, Or, Not, Proximity}
-use Rattle.zeb_query.specs.Attributes.{value_of}
+use Rattle.zeb_query.specs.Holding.{value_of, HoldingValue, holding_of}
 use Rattle.zeb_query.specs.Queries.{HeadValue, TreeValue, TermValue, NamedValue, PairValue, QueryValue}
 use Rattle.zeb_query.specs.Grammar.{heads, no_head}
-use Rattle.zeb_query.specs.Holding.{HoldingValue, holding_of}
-use Rattle.zeb_query.specs.TermChecks.{first_that_applies, relation_is, position_is, structure_is, completeness_is, index_used, register_searched, patterns_held, find_checks, scan_checks}
-use Rattle.zeb_query.specs.Faults.{Refusal, ◌>>=◌, refused}
+use Rattle.zeb_query.specs.TermChecks.{first_that_applies, relation_is, position_is, structure_is, completeness_is, index_held, register_searched, patterns_held, find_checks, scan_checks, Check, check}
+use Rattle.zeb_query.specs.Proximity.{Operand, operand_of, separation_asked, word_near, proximity_checks}
+use Rattle.zeb_query.specs.Faults.{Refusal, ◌>>=◌, refused, answered}
 
 -- what a term asks for, without where texts and lists lie in memory
 pub data TermPlanValue : Type 0 where
   RecordNumberOf : ℕ → TermPlanValue
   AlwaysOf : ℕ → Register → TermPlanValue
   NumberOf : ℕ → Relation → ℕ → TermPlanValue
-  OrderedOf : ℕ → Register → Relation → List ℕ → TermPlanValue
+  OrderedOf : ℕ → Register → Order → Option (List ℕ) → TermPlanValue
   CompleteOf : ℕ → Option (List Symbol) → TermPlanValue
   PhraseOf : ℕ → List (List Symbol) → Bool → TermPlanValue
   AllWordsOf : ℕ → List (List Symbol) → TermPlanValue
@@ -44,6 +48,7 @@ pub data TermPlanValue : Type 0 where
 pub data PlanValue : Type 0 where
   TermOf : TermPlanValue → PlanValue
   PairOf : Operator → PlanValue → PlanValue → PlanValue
+  NearOf : ℕ → List Symbol → List Symbol → Separation → PlanValue
 
 pub record ScanValue : Type 0 where
   pub index : ℕ
@@ -54,7 +59,7 @@ abbrev pub term_plan_value : TermPlan → TermPlanValue
 term_plan_value (term.RecordNumber number) = RecordNumberOf number
 term_plan_value (term.Always index register) = AlwaysOf index register
 term_plan_value (term.Number index relation number) = NumberOf index relation number
-term_plan_value (term.Ordered index register relation start) = OrderedOf index register relation (string_bytes start)
+term_plan_value (term.Ordered index register order start) = OrderedOf index register order (option_map string_bytes start)
 term_plan_value (term.Complete index pattern) = CompleteOf index pattern
 term_plan_value (term.Phrase index patterns first) = PhraseOf index patterns.items first
 term_plan_value (term.AllWords index patterns) = AllWordsOf index patterns.items
@@ -63,13 +68,14 @@ term_plan_value (term.AnyWord index patterns) = AnyWordOf index patterns.items
 abbrev pub plan_value : Plan → PlanValue
 plan_value (Term plan) = TermOf (term_plan_value plan)
 plan_value (Pair' p op left right) = PairOf op (plan_value left) (plan_value right)
+plan_value (Near plan) = NearOf plan.index plan.left plan.right plan.separation
 
 -- the index and the register in which a term's plan looks; a record's own number is looked up in none
 abbrev pub plan_register : TermPlanValue → Option (ℕ × Register)
 plan_register (RecordNumberOf number) = None
 plan_register (AlwaysOf index r) = Some (index, r)
 plan_register (NumberOf index relation number) = Some (index, register.Number)
-plan_register (OrderedOf index r relation start) = Some (index, r)
+plan_register (OrderedOf index r order start) = Some (index, r)
 plan_register (CompleteOf index pattern) = Some (index, register.Phrase)
 plan_register (PhraseOf index patterns first) = Some (index, register.Word)
 plan_register (AllWordsOf index patterns) = Some (index, register.Word)
@@ -82,6 +88,14 @@ scan_value plan = record { index = plan.index; register = plan.register; start =
 abbrev pub joined_words : List ℕ → List ℕ
 joined_words text = join_with_byte 32 (map encode_utf8_all (words_of (chars text)))
 
+-- the same, where the term has a word
+abbrev pub words_if_any : List (List ℕ) → Option (List ℕ)
+words_if_any [] = None
+words_if_any (word ∷ words) = Some (join_with_byte 32 (word ∷ words))
+
+abbrev pub joined_words_if_any : List ℕ → Option (List ℕ)
+joined_words_if_any text = words_if_any (map encode_utf8_all (words_of (chars text)))
+
 abbrev pub joined_if_any : List (List Symbol) → Option (List Symbol)
 joined_if_any [] = None
 joined_if_any (pattern ∷ patterns) = Some (joined_patterns (pattern ∷ patterns))
@@ -90,12 +104,16 @@ joined_if_any (pattern ∷ patterns) = Some (joined_patterns (pattern ∷ patter
 abbrev pub comparisons : List (ℕ × Relation)
 comparisons = (1, Less) ∷ (2, LessOrEqual) ∷ (3, Equal) ∷ (4, GreaterOrEqual) ∷ (5, Greater) ∷ []
 
--- the relation and the index that hold; where there is none, a check applies
+-- the relation and the order that hold; where there is none, a check applies, or another relation holds
 abbrev pub relation_held : HoldingValue → Relation
 relation_held h = unwrap_or (value_of comparisons 3 h.relation) Equal
 
-abbrev pub index_held : Profile → HoldingValue → ℕ
-index_held profile h = unwrap_or (index_used profile h.use_attribute) 0
+-- the relations of order
+abbrev pub orders : List (ℕ × Order)
+orders = (1, in_order.Less) ∷ (2, in_order.LessOrEqual) ∷ (4, in_order.GreaterOrEqual) ∷ (5, in_order.Greater) ∷ []
+
+abbrev pub order_held : HoldingValue → Order
+order_held h = unwrap_or (value_of orders 3 h.relation) in_order.Less
 
 -- what a term asks for, where none of its checks applies
 unfoldable pub plan_asked : Profile → HoldingValue → List ℕ → TermPlanValue
@@ -105,16 +123,11 @@ plan_asked profile h text =
     if structure_is h (107 ∷ []) then RecordNumberOf (digits_value 10 text) else (
     if relation_is h (103 ∷ []) then AlwaysOf index (register_searched h) else (
     if structure_is h (109 ∷ []) then NumberOf index (relation_held h) (digits_value 10 text) else (
-    if not (relation_is h (3 ∷ [])) then OrderedOf index (register_searched h) (relation_held h) (joined_words text) else (
+    if not (relation_is h (3 ∷ [])) then OrderedOf index (register_searched h) (order_held h) (joined_words_if_any text) else (
     if completeness_is h (2 ∷ 3 ∷ []) then CompleteOf index (joined_if_any patterns) else (
     if structure_is h (6 ∷ []) then AllWordsOf index patterns else (
     if structure_is h (105 ∷ []) then AnyWordOf index patterns else
     PhraseOf index patterns (position_is h (1 ∷ 2 ∷ []))))))))
-
--- the diagnostic, if one applies
-abbrev pub answered : {A : Type 0} → Option Refusal → A → Result A Refusal
-answered None x = Ok x
-answered (Some refusal) x = Err refusal
 
 -- a plan looks into the register that the attributes ask for, at an index that has a target with it; with structure 107 into
 -- none
@@ -123,11 +136,12 @@ pub record LooksInto (profile : Profile) (h : HoldingValue) (looked : Option (�
   pub one : structure_is h (107 ∷ []) ≡ false → looked ≡ Some (index_held profile h, register_searched h)
   pub found : structure_is h (107 ∷ []) ≡ false → has_pair profile (index_held profile h, register_searched h) ≡ true
 
-abbrev pub operator_of : ℕ → Connective → Result Operator Refusal
-operator_of place And = Ok operator.And
-operator_of place Or = Ok operator.Or
-operator_of place Not = Ok operator.Not
-operator_of place Proximity = refused 110 place (codes "@prox")
+-- the operators on sets of records; proximity is none
+abbrev pub operator_of : Connective → Option Operator
+operator_of And = Some operator.And
+operator_of Or = Some operator.Or
+operator_of Not = Some operator.Not
+operator_of Proximity = None
 
 -- a term over which the set is named and the head stands
 unfoldable pub leaf_plan : Profile → Option (List ℕ) → HeadValue → ℕ → List ℕ → Result TermPlanValue Refusal
@@ -135,16 +149,32 @@ leaf_plan profile set head place text =
     let h = holding_of set head in
     answered (first_that_applies (find_checks profile place h text)) (plan_asked profile h text)
 
+-- the plan of `@prox`: its parameters, its operands from the left, and then their indexes, which have to be one
+abbrev pub operands_plan : Profile → ℕ → Separation → Option Operand → Option Operand → Result PlanValue Refusal
+operands_plan profile place separation (Some one) (Some other) = do
+  left ← word_near profile one
+  right ← word_near profile other
+  if left.0 == right.0 then Ok (NearOf left.0 left.1 right.1 separation) else refused 123 place []
+operands_plan profile place separation (Some one) None = refused 110 place (codes "@prox")
+operands_plan profile place separation None other = refused 110 place (codes "@prox")
+
+abbrev pub near_plan : Profile → ℕ → List (List ℕ) → Option Operand → Option Operand → Result PlanValue Refusal
+near_plan profile place parameters left right =
+    separation_asked place parameters >>= λ separation. operands_plan profile place separation left right
+
+-- the plan of an operator by those of its operands, or of what stands for it where it is none on sets of records
+abbrev pub pair_plan : Option Operator → Result PlanValue Refusal → Result PlanValue Refusal → Result PlanValue Refusal → Result PlanValue Refusal
+pair_plan (Some op) left right other = left >>= λ one. (right >>= λ second. Ok (PairOf op one second))
+pair_plan None left right other = other
+
 -- the plan of a structure, over which the set is named and the head stands
 abbrev pub tree_plan : Profile → Option (List ℕ) → HeadValue → TreeValue → Result PlanValue Refusal
 tree_plan profile set outer (TermValue place head text) =
     leaf_plan profile set (heads outer head) place text >>= λ plan. Ok (TermOf plan)
 tree_plan profile set outer (NamedValue place head name) = refused 18 place name
 tree_plan profile set outer (PairValue place head connective parameters left right) =
-    operator_of place connective >>= λ op.
-    (tree_plan profile set (heads outer head) left >>= λ one.
-    (tree_plan profile set (heads outer head) right >>= λ other.
-    Ok (PairOf op one other)))
+    pair_plan (operator_of connective) (tree_plan profile set (heads outer head) left) (tree_plan profile set (heads outer head) right)
+    (near_plan profile place parameters (operand_of set (heads outer head) left) (operand_of set (heads outer head) right))
 
 abbrev pub plan_of : Profile → QueryValue → Result PlanValue Refusal
 plan_of profile query = tree_plan profile query.attribute_set no_head query.tree
@@ -155,6 +185,47 @@ operator_word And = codes "@and"
 operator_word Or = codes "@or"
 operator_word Not = codes "@not"
 operator_word Proximity = codes "@prox"
+
+-- ---- what every plan says of its numbers
+
+-- a record's own number and a distance are below 10^9, and another number below 10^18
+abbrev pub HasSmallNumber : TermPlanValue → Type 0
+HasSmallNumber (RecordNumberOf number) = number < 10 ^ 9
+HasSmallNumber (NumberOf index relation number) = number < 10 ^ 18
+HasSmallNumber other = Unit {0}
+
+abbrev pub HasSmallNumbers : PlanValue → Type 0
+HasSmallNumbers (TermOf plan) = HasSmallNumber plan
+HasSmallNumbers (PairOf op left right) = HasSmallNumbers left × HasSmallNumbers right
+HasSmallNumbers (NearOf index left right separation) = separation.distance < 10 ^ 9
+
+-- in the register of numbers a scan begins at the key of a number below 10^18
+abbrev pub BeginsAtKey : ScanValue → Type 0
+BeginsAtKey scan = scan.register ≡ register.Number → (number : ℕ) × (number < 10 ^ 18) × (scan.start ≡ number_key number)
+
+-- ---- in which registers a plan looks
+
+-- the attributes that hold over each term of a structure, from the left
+abbrev pub held_in : Option (List ℕ) → HeadValue → TreeValue → List HoldingValue
+held_in set outer (TermValue place head text) = holding_of set (heads outer head) ∷ []
+held_in set outer (NamedValue place head name) = []
+held_in set outer (PairValue place head connective parameters left right) =
+    held_in set (heads outer head) left ++ held_in set (heads outer head) right
+
+-- the index and the register in which each term of a plan looks, from the left
+abbrev pub looked_into : PlanValue → List (Option (ℕ × Register))
+looked_into (TermOf plan) = plan_register plan ∷ []
+looked_into (PairOf op left right) = looked_into left ++ looked_into right
+looked_into (NearOf index left right separation) = Some (index, register.Word) ∷ Some (index, register.Word) ∷ []
+
+-- each term looks into the register that its attributes ask for
+abbrev pub AllLookInto : Profile → List HoldingValue → List (Option (ℕ × Register)) → Type 0
+AllLookInto profile [] [] = Unit {0}
+AllLookInto profile (h ∷ held) (looked ∷ others) = LooksInto profile h looked × AllLookInto profile held others
+AllLookInto profile [] (looked ∷ others) = ⊥
+AllLookInto profile (h ∷ held) [] = ⊥
+
+-- ---- scans
 
 -- where a scan begins, where none of the term's checks applies: at the key of a number, or at the words
 unfoldable pub scan_asked : Profile → HoldingValue → List ℕ → ScanValue
@@ -176,3 +247,33 @@ tree_scan profile set (PairValue place head connective parameters left right) = 
 
 abbrev pub scan_of : Profile → QueryValue → Result ScanValue Refusal
 scan_of profile query = tree_scan profile query.attribute_set query.tree
+
+-- ---- the checks of a whole query
+
+abbrev pub is_proximity : Connective → Bool
+is_proximity And = false
+is_proximity Or = false
+is_proximity Not = false
+is_proximity Proximity = true
+
+-- the checks of a structure, over which the set is named and the head stands
+abbrev pub checks_in : Profile → Option (List ℕ) → HeadValue → TreeValue → List Check
+checks_in profile set outer (TermValue place head text) = find_checks profile place (holding_of set (heads outer head)) text
+checks_in profile set outer (NamedValue place head name) = check place 18 name true ∷ []
+checks_in profile set outer (PairValue place head connective parameters left right) =
+    if is_proximity connective
+    then proximity_checks profile place parameters (operand_of set (heads outer head) left) (operand_of set (heads outer head) right)
+    else (checks_in profile set (heads outer head) left ++ checks_in profile set (heads outer head) right)
+
+abbrev pub query_checks : Profile → QueryValue → List Check
+query_checks profile query = checks_in profile query.attribute_set no_head query.tree
+
+-- the checks of a scan, which takes a term alone
+abbrev pub scan_checks_in : Profile → Option (List ℕ) → TreeValue → List Check
+scan_checks_in profile set (TermValue place head text) = scan_checks profile place (holding_of set (heads no_head head)) text
+scan_checks_in profile set (NamedValue place head name) = check place 18 name true ∷ []
+scan_checks_in profile set (PairValue place head connective parameters left right) =
+    check place 110 (operator_word connective) true ∷ []
+
+abbrev pub scan_query_checks : Profile → QueryValue → List Check
+scan_query_checks profile query = scan_checks_in profile query.attribute_set query.tree

@@ -3,6 +3,9 @@
 -- profile where it applies. They are in the order in which they are asked, and the first that applies refuses the term, at
 -- its place. Attributes are spoken of by their types and values: 1 use, 2 relation, 3 position, 4 structure, 5 truncation,
 -- 6 completeness.
+-- The diagnostics and the values are Bib-1's. This project's own choices are: the order of the checks; that other values than
+-- these are refused; that 107, a local number, is the record's system number; that a term has at most 64 words (5) and a number
+-- at most 9 or 18 digits (126); and which values aren't taken together (123).
 use Rattle.std.specs.Prelude.{ℕ, ◌==◌, ◌||◌, ◌&&◌, Bool, false, not, List, [], ◌∷◌, ◌++◌, Option, Some, None, length, nat_lt, chars, if◌then◌else◌, codes}
 use Rattle.std.specs.Option.{is_some, is_none, unwrap_or}
 use Rattle.std.specs.List.{list_any}
@@ -18,9 +21,8 @@ use Rattle.zeb_text.specs.declared.Spread.{Spread}
 use Rattle.zeb_text.specs.declared.Spread.TheVariants.{Ends, Each}
 use Rattle.zeb_text.specs.Symbols.{Symbol}
 use Rattle.zeb_text.specs.Truncation.{patterns_of}
-use Rattle.zeb_query.specs.Digits.{is_number, number_of}
-use Rattle.zeb_query.specs.Attributes.{truncations, number_or, value_of}
-use Rattle.zeb_query.specs.Holding.{HoldingValue}
+use Rattle.zeb_query.specs.Grammar.{is_number, number_of}
+use Rattle.zeb_query.specs.Holding.{truncations, number_or, value_of, HoldingValue}
 use Rattle.zeb_query.specs.Faults.{Refusal}
 
 -- ---- checks
@@ -70,6 +72,9 @@ index_named profile name None = index_by_name profile name
 abbrev pub index_used : Profile → Option (List ℕ) → Option ℕ
 index_used profile None = index_by_use profile 1016
 index_used profile (Some text) = index_named profile text (number_of 9 text)
+
+abbrev pub index_held : Profile → HoldingValue → ℕ
+index_held profile h = unwrap_or (index_used profile h.use_attribute) 0
 
 -- the register that is searched: numbers for structure 109, whole texts for completeness 2 and 3, else words
 abbrev pub register_searched : HoldingValue → Register
@@ -165,6 +170,22 @@ scan_clash_checks place h =
     ∷ check place 123 [] (structure_is h (6 ∷ 105 ∷ 107 ∷ []))
     ∷ []
 
+-- the one element of a list, if it has just one
+abbrev pub one_of : {A : Type 0} → List A → Option A
+one_of [] = None
+one_of (x ∷ []) = Some x
+one_of (x ∷ y ∷ others) = None
+
+-- values that a word near another doesn't take, and another number of words than one
+abbrev pub near_clash_checks : ℕ → HoldingValue → List ℕ → List Check
+near_clash_checks place h text =
+    check place 123 [] (not (relation_is h (3 ∷ [])))
+    ∷ check place 123 [] (position_is h (1 ∷ 2 ∷ []))
+    ∷ check place 123 [] (not (structure_is h (1 ∷ 2 ∷ [])))
+    ∷ check place 123 [] (completeness_is h (2 ∷ 3 ∷ []))
+    ∷ check place 123 [] (is_none (one_of (patterns_held h text)))
+    ∷ []
+
 -- an index without the searched register
 abbrev pub register_checks : Profile → ℕ → HoldingValue → List Check
 register_checks profile place h =
@@ -180,23 +201,23 @@ number_checks place h text =
     ∷ check place 126 text (structure_is h (109 ∷ []) && (not (relation_is h (103 ∷ [])) && not (is_number 18 text)))
     ∷ []
 
--- the checks of a term in a find
-abbrev pub find_checks : Profile → ℕ → HoldingValue → List ℕ → List Check
-find_checks profile place h text =
+-- the checks of a term, with those of further values that aren't taken
+abbrev pub term_checks : List Check → Profile → ℕ → HoldingValue → List ℕ → List Check
+term_checks further profile place h text =
     head_checks place h
     ++ (value_checks profile place h
     ++ (words_checks place h text
     ++ (clash_checks place h
-    ++ (register_checks profile place h
-    ++ number_checks place h text))))
-
--- the checks of a term in a scan
-abbrev pub scan_checks : Profile → ℕ → HoldingValue → List ℕ → List Check
-scan_checks profile place h text =
-    head_checks place h
-    ++ (value_checks profile place h
-    ++ (words_checks place h text
-    ++ (clash_checks place h
-    ++ (scan_clash_checks place h
+    ++ (further
     ++ (register_checks profile place h
     ++ number_checks place h text)))))
+
+-- the checks of a term in a find, in a scan, and near another term
+abbrev pub find_checks : Profile → ℕ → HoldingValue → List ℕ → List Check
+find_checks profile place h text = term_checks [] profile place h text
+
+abbrev pub scan_checks : Profile → ℕ → HoldingValue → List ℕ → List Check
+scan_checks profile place h text = term_checks (scan_clash_checks place h) profile place h text
+
+abbrev pub near_checks : Profile → ℕ → HoldingValue → List ℕ → List Check
+near_checks profile place h text = term_checks (near_clash_checks place h text) profile place h text

@@ -1,9 +1,10 @@
 ghost use Rattle.std.specs.Prelude.{◌≡◌, IfSome, ◌<◌, ◌^◌};
 ghost use Rattle.std.specs.Option.{option_map};
-ghost use Rattle.zeb_query.specs.Attributes.{relations, positions, structures, truncations, completenesses, number_or, value_of};
+ghost use Rattle.zeb_query.specs.PrivatePlanning.{relations, positions, structures, completenesses};
+ghost use Rattle.zeb_query.specs.Holding.{truncations, number_or, value_of};
 
-use crate::Relation;
 use crate::digits::number_of;
+use crate::{Order, Relation};
 use zeb_text::Cut;
 
 /// What a relation attribute asks for (Bib-1, attribute type 2).
@@ -13,6 +14,24 @@ pub(crate) enum Asked {
     Compared(Relation),
     /// 103, always matches.
     Always,
+}
+
+impl Relation {
+    ghost use Rattle.std.specs.Prelude.{◌≡◌};
+    ghost use Rattle.zeb_query.specs.PrivatePlanning.{order_of};
+
+    /// The order that it is, if it isn't equality.
+    pub(crate) fn order(self) -> Option<Order>
+        ensures { result ≡ order_of self }
+    {
+        match self {
+            Relation::Less => Some(Order::Less),
+            Relation::LessOrEqual => Some(Order::LessOrEqual),
+            Relation::Equal => None,
+            Relation::GreaterOrEqual => Some(Order::GreaterOrEqual),
+            Relation::Greater => Some(Order::Greater),
+        }
+    }
 }
 
 /// Where in a field a term stands (Bib-1, attribute type 3).

@@ -1,7 +1,7 @@
 ghost use Rattle.std.specs.Prelude.{◌≡◌, ◌^◌, ◌<◌, ◌≤◌, IfSome};
 ghost use Rattle.std.specs.List.{list_all};
 ghost use Rattle.std.specs.Char.{is_ascii_digit};
-ghost use Rattle.zeb_query.specs.Digits.{is_number, number_of};
+ghost use Rattle.zeb_query.specs.Grammar.{is_number, number_of};
 
 /// Whether the text has ASCII digits alone.
 fn has_digits_alone(text: &str) -> bool

@@ -29,7 +29,8 @@ impl<'a> Holding<'a> {
     ghost use Rattle.std.specs.Option.{option_map};
     ghost use Rattle.zeb_query.specs.Queries.{attribute_value, head_value, query_value, HeadValue};
     ghost use Rattle.zeb_query.specs.Grammar.{heads, no_head};
-    ghost use Rattle.zeb_query.specs.Holding.{holding_value, holding_of, held_with, first_set};
+    ghost use Rattle.zeb_query.specs.PrivateReading.{holding_value, held_with, first_set};
+    ghost use Rattle.zeb_query.specs.Holding.{holding_of};
 
     /// What holds over the whole of a query.
     pub(crate) fn over(query: &'a Query) -> Holding<'a>

@@ -17,8 +17,8 @@ pub(crate) enum Keyword {
 
 impl Word {
     ghost use Rattle.std.specs.Prelude.{◌≡◌};
-    ghost use Rattle.zeb_query.specs.Cutting.{word_of};
-    ghost use Rattle.zeb_query.specs.Keywords.{keyword_of};
+    ghost use Rattle.zeb_query.specs.PrivateReading.{word_of};
+    ghost use Rattle.zeb_query.specs.Grammar.{keyword_of};
 
     /// The keyword that the word is: unquoted, and in lower case.
     pub(crate) fn keyword(&self) -> Option<Keyword>

@@ -1,18 +1,14 @@
 //! Laws of words, of the grammar and of plans, each the contract of a function that does nothing.
-ghost use Rattle.std.specs.Prelude.{◌≡◌, ◌↔◌, ◌≤◌, ◌⊎◌, ℕ, List, [], ◌∷◌, Option, None, Some, Ok, codes, length, slice_get};
+ghost use Rattle.std.specs.Prelude.{◌≡◌, ◌↔◌, ℕ, List, [], ◌∷◌, None, Some, Ok, codes};
 ghost use Rattle.std.specs.Result.{result_err};
 ghost use Rattle.zeb_profile.specs.declared.Profile.{Profile};
 ghost use Rattle.zeb_query.specs.declared.words.Spelling.TheVariants.{Bad, Plain, Quoted};
-ghost use Rattle.zeb_query.specs.Words.{Word, words_at};
-ghost use Rattle.zeb_query.specs.WordLists.{AreWords};
-ghost use Rattle.zeb_query.specs.Queries.{HeadValue, QueryValue};
-ghost use Rattle.zeb_query.specs.Grammar.{IsQuery};
-ghost use Rattle.zeb_query.specs.Following.{Start, fault};
-ghost use Rattle.zeb_query.specs.Laws.{IsQueryWithin, IsUnspelled, IsCrowded, operators};
-ghost use Rattle.zeb_query.specs.Holding.{holding_of};
+ghost use Rattle.zeb_query.specs.Words.{Word, words_at, AreWords};
+ghost use Rattle.zeb_query.specs.Queries.{QueryValue};
+ghost use Rattle.zeb_query.specs.Grammar.{no_head};
+ghost use Rattle.zeb_query.specs.Reading.{SpellsQuery, IsReadable, IsFaulty, query_fault};
 ghost use Rattle.zeb_query.specs.TermChecks.{first_that_applies};
-ghost use Rattle.zeb_query.specs.Plans.{TermPlanValue, leaf_plan, plan_register, LooksInto, plan_of, scan_of};
-ghost use Rattle.zeb_query.specs.QueryChecks.{query_checks, scan_query_checks};
+ghost use Rattle.zeb_query.specs.Plans.{PlanValue, held_in, looked_into, AllLookInto, plan_of, scan_of, query_checks, scan_query_checks};
 
 /// A text has one list of words that stand in it one after the other, with the blanks before, between and after them; and
 /// these words, with their places, are those that [`read_pqf`](crate::read_pqf) reads.
@@ -40,42 +36,22 @@ pub fn words_at_examples()
         ∷ record { place = 5; spelling = Quoted; text = [] } ∷ []) }
 {}
 
-/// No words spell two queries.
+/// No text spells two queries.
 pub fn no_text_spells_two_queries()
-    ensures { (words : List Word) (x y : QueryValue) → IsQuery words x → IsQuery words y → x ≡ y }
+    ensures { (text : List ℕ) (x y : QueryValue) → SpellsQuery text x → SpellsQuery text y → x ≡ y }
 {}
 
-/// Words that spell a query with no more operators than there is room for have no fault.
-pub fn a_query_has_no_fault()
-    ensures { (end room : ℕ) (words : List Word) (query : QueryValue) → IsQuery words query
-        → length (operators query.tree) ≤ room → fault end room Start words ≡ None }
+/// The texts without a fault are just those of at most 65,535 bytes that spell a query with at most 100 operators.
+pub fn a_text_without_fault_spells_a_query()
+    ensures { (text : List ℕ) → (query_fault text ≡ None) ↔ IsReadable text }
 {}
 
-/// 108 stands at the first word that no query has after the words before it, and nowhere else; without such a word it
-/// stands at the end, and then the words are the beginning of a query and no query. Before it there are no more
-/// operators than there is room for, so it is the first fault.
-pub fn words_are_unspelled_where_no_query_goes_on()
-    ensures stands { (end room : ℕ) (words : List Word) (place : ℕ)
-        → fault end room Start words ≡ Some (108, place) → IsUnspelled end room words place }
-    ensures found { (end room : ℕ) (words : List Word) (place : ℕ)
-        → IsUnspelled end room words place → fault end room Start words ≡ Some (108, place) }
-{}
-
-/// 6 stands at the first operator with which the operators so far are more than there is room for, and nowhere else.
-/// Some query begins with the words up to it, so it is the first fault.
-pub fn operators_are_too_many_where_no_query_has_room()
-    ensures stands { (end room : ℕ) (words : List Word) (place : ℕ)
-        → fault end room Start words ≡ Some (6, place) → IsCrowded room words place }
-    ensures found { (end room : ℕ) (words : List Word) (place : ℕ)
-        → IsCrowded room words place → fault end room Start words ≡ Some (6, place) }
-{}
-
-/// Words without a fault spell a query with no more operators than there is room for, and each fault is 6 or 108.
-pub fn words_are_a_query_or_have_a_fault()
-    ensures query { (end room : ℕ) (words : List Word)
-        → fault end room Start words ≡ None → IsQueryWithin room words }
-    ensures fault { (end room : ℕ) (words : List Word) (number place : ℕ)
-        → fault end room Start words ≡ Some (number, place) → (number ≡ 6) ⊎ (number ≡ 108) }
+/// Where the fault of a text stands. 108 stands at the first word that no query has after the words before it, and without
+/// such a word at the end, where the words are the beginning of a query and no query; before it there are at most 100
+/// operators. 6 stands at the 101st operator, where some query begins with the words up to it. So of the two the first is
+/// answered, and 11, at place 0, for a text of more than 65,535 bytes.
+pub fn faults_stand_where_no_query_goes_on()
+    ensures { (text : List ℕ) (number place : ℕ) → (query_fault text ≡ Some (number, place)) ↔ IsFaulty text number place }
 {}
 
 /// A plan is refused by the first check that applies of all checks of the query's operators, named sets and terms, in the
@@ -92,10 +68,9 @@ pub fn the_first_diagnostic_of_a_scan_is_told()
         → result_err (scan_of profile query) ≡ first_that_applies (scan_query_checks profile query) }
 {}
 
-/// A term's plan looks into the register that its attributes ask for, and its index has a target with that register; a
-/// local number is looked up in no register.
+/// Each term of a query's plan looks into the register that its attributes ask for, and its index has a target with that
+/// register; a local number is looked up in no register.
 pub fn a_plan_looks_into_its_register()
-    ensures { (profile : Profile) (set : Option (List ℕ)) (head : HeadValue) (place : ℕ) (text : List ℕ) (plan : TermPlanValue)
-        → leaf_plan profile set head place text ≡ Ok plan
-        → LooksInto profile (holding_of set head) (plan_register plan) }
+    ensures { (profile : Profile) (query : QueryValue) (plan : PlanValue) → plan_of profile query ≡ Ok plan
+        → AllLookInto profile (held_in query.attribute_set no_head query.tree) (looked_into plan) }
 {}

@@ -5,6 +5,7 @@
 
 mod attributes;
 mod digits;
+mod examples;
 mod faults;
 mod grammar;
 mod holding;
@@ -12,22 +13,29 @@ mod keywords;
 mod laws;
 mod planning;
 mod plans;
+mod proximity;
 mod queries;
 mod reading;
 mod scanning;
 mod terms;
 mod words;
 
+pub use examples::{
+    diagnostics_at_examples, faults_at_examples, plans_at_examples, proximity_at_examples,
+    scans_at_examples,
+};
 pub use faults::QueryFault;
 pub use laws::{
-    a_plan_looks_into_its_register, a_query_has_no_fault, a_text_has_one_list_of_words,
-    no_text_spells_two_queries, operators_are_too_many_where_no_query_has_room,
-    the_first_diagnostic_is_told, the_first_diagnostic_of_a_scan_is_told,
-    words_are_a_query_or_have_a_fault, words_are_unspelled_where_no_query_goes_on,
-    words_at_examples,
+    a_plan_looks_into_its_register, a_text_has_one_list_of_words,
+    a_text_without_fault_spells_a_query, faults_stand_where_no_query_goes_on,
+    no_text_spells_two_queries, the_first_diagnostic_is_told,
+    the_first_diagnostic_of_a_scan_is_told, words_at_examples,
 };
 pub use planning::plan;
-pub use plans::{Operator, PairPlan, Plan, Relation, ScanPlan, TermPlan};
+pub use plans::{
+    DistanceRelation, NearPlan, Operator, Order, PairPlan, Plan, Relation, ScanPlan, Separation,
+    TermPlan,
+};
 pub use queries::{Attribute, Connective, Head, Leaf, Query, Tree};
 pub use reading::read_pqf;
 pub use scanning::plan_scan;

@@ -1,15 +1,18 @@
 ghost use Rattle.std.specs.Prelude.{◌≡◌, List, ℕ, Option, ◌≤◌, ◌<◌, ◌^◌, IfOk, string_bytes};
+ghost use Rattle.std.specs.Option.{option_map};
 ghost use Rattle.zeb_query.specs.Queries.{HeadValue, tree_value, query_value, head_value};
 ghost use Rattle.zeb_query.specs.Grammar.{heads};
 ghost use Rattle.zeb_query.specs.Faults.{Gives};
-ghost use Rattle.zeb_query.specs.Holding.{holding_of, holding_value};
-ghost use Rattle.zeb_query.specs.Terms.{term_of};
+ghost use Rattle.zeb_query.specs.Holding.{holding_of};
+ghost use Rattle.zeb_query.specs.PrivateReading.{holding_value};
+ghost use Rattle.zeb_query.specs.PrivatePlanning.{term_of};
 ghost use Rattle.zeb_query.specs.Plans as plans;
-ghost use Rattle.zeb_query.specs.TermPlans as steps;
+ghost use Rattle.zeb_query.specs.PrivatePlanning as steps;
 
 use crate::attributes::{Asked, Completeness, Position, Structure};
 use crate::digits::number_of;
 use crate::holding::Holding;
+use crate::proximity::plan_near;
 use crate::terms::{Values, read_term};
 use crate::{
     Connective, Leaf, Operator, PairPlan, Plan, Query, QueryFault, Relation, TermPlan, Tree,
@@ -22,7 +25,11 @@ use zeb_text::{Pattern, join, join_patterns, words};
 ///
 /// The query is walked from left to right, an operator before its operands, and the first fault is answered, with the
 /// place of the word that it stands at:
-/// - 18 at a named result set, about its name; 110 at `@prox`, about that word;
+/// - 18 at a named result set, about its name;
+/// - at `@prox`, 110 about the first of its parameters that isn't kept, or about `@prox` where an operand isn't a term or
+///   there aren't six parameters; then the faults of its operands, for which 123 is answered also for a relation other than
+///   equal, a position other than any, a structure other than phrase and word, a completeness other than incomplete, and a
+///   number of words other than one; and last 123 where their indexes differ;
 /// - at a term, 229 about a term type other than `general` and `string`; 121 about the leftmost attribute set other
 ///   than Bib-1 over the term; 113 about the leftmost attribute type outside 1 to 6;
 /// - 114, 117, 119, 118, 120, 122 about the value of an attribute of type 1 to 6 that isn't kept, in the order of the
@@ -31,7 +38,8 @@ use zeb_text::{Pattern, join, join_patterns, words};
 /// - 123 for values that aren't kept together, and for an index that has no target with the searched register;
 /// - 126 about a term that had to be a number, of 1 to 9 digits for a local number, of 1 to 18 otherwise.
 pub fn plan(alloc: Global, query: &Query, profile: &Profile) -> Result<Plan, QueryFault>
-    ensures { Gives plans.plan_value result (plans.plan_of profile.now (query_value query.now)) }
+    ensures planned { Gives plans.plan_value result (plans.plan_of profile.now (query_value query.now)) }
+    ensures numbers { IfOk result (λ plan. plans.HasSmallNumbers (plans.plan_value plan)) }
 {
     plan_tree(alloc, &query.tree, Holding::over(query), profile)
 }
@@ -52,12 +60,14 @@ fn plan_tree(
             place,
             head,
             connective,
+            parameters,
             left,
             right,
-            ..
         } => {
-            let operator = operator_of(alloc, *connective, *place)?;
             let holding = over.within(head);
+            let Some(operator) = operator_of(*connective) else {
+                return plan_near(alloc, *place, parameters, left, right, holding, profile);
+            };
             let left = plan_tree(alloc, left, holding, profile)?;
             let right = plan_tree(alloc, right, holding, profile)?;
             Ok(pair_of(alloc, operator, left, right)?)
@@ -78,18 +88,18 @@ fn pair_of(alloc: Global, operator: Operator, left: Plan, right: Plan) -> Result
 }
 
 /// The operator on sets of records; `@prox` is none.
-fn operator_of(alloc: Global, connective: Connective, place: usize) -> Result<Operator, QueryFault>
-    ensures { Gives (λ x. x) result (plans.operator_of place connective) }
+fn operator_of(connective: Connective) -> Option<Operator>
+    ensures { result ≡ plans.operator_of connective }
 {
     match connective {
-        Connective::And => Ok(Operator::And),
-        Connective::Or => Ok(Operator::Or),
-        Connective::Not => Ok(Operator::Not),
-        Connective::Proximity => Err(QueryFault::about(alloc, 110, place, "@prox")),
+        Connective::And => Some(Operator::And),
+        Connective::Or => Some(Operator::Or),
+        Connective::Not => Some(Operator::Not),
+        Connective::Proximity => None,
     }
 }
 
-#[tactic(auto, using(crate::proofs::PlanCheckLemmas::leaf_steps))]
+#[tactic(auto, using(crate::proofs::PlanCheckLemmas::leaf_steps), unfolding(crate::proofs::PlanSteps::term_plan))]
 fn plan_leaf(
     alloc: Global,
     leaf: &Leaf,
@@ -102,20 +112,6 @@ fn plan_leaf(
 {
     let holding = over.within(&leaf.head);
     let (values, patterns) = read_term(alloc, leaf, &holding, profile)?;
-    plan_term(alloc, leaf, values, patterns, profile)
-}
-
-#[tactic(auto, unfolding(crate::specs::TermPlans::term_plan))]
-fn plan_term(
-    alloc: Global,
-    leaf: &Leaf,
-    values: Values,
-    patterns: Vec<Pattern>,
-    profile: &Profile,
-) -> Result<TermPlan, QueryFault>
-    ensures { Gives plans.term_plan_value result
-        (steps.term_plan profile.now leaf.now.place (string_bytes leaf.now.text) (values, patterns.items)) }
-{
     if values.clashes() {
         return Err(QueryFault::diagnostic(alloc, 123, leaf.place));
     }
@@ -154,8 +150,20 @@ pub(crate) fn joined_words(alloc: Global, leaf: &Leaf) -> Result<String, AllocEr
     join(alloc, &words(alloc, leaf.text.as_str())?)
 }
 
+/// The same, if the term has a word.
+fn joined_words_if_any(alloc: Global, leaf: &Leaf) -> Result<Option<String>, AllocError>
+    ensures { IfOk result (λ joined. option_map string_bytes joined ≡ plans.joined_words_if_any (string_bytes leaf.now.text)) }
+{
+    let words = words(alloc, leaf.text.as_str())?;
+    if words.is_empty() {
+        Ok(None)
+    } else {
+        Ok(Some(join(alloc, &words)?))
+    }
+}
+
 /// The plan of a term that is compared with the entries of an index.
-#[tactic(auto, unfolding(crate::specs::TermPlans::compared_plan))]
+#[tactic(auto, unfolding(crate::specs::PrivatePlanning::compared_plan))]
 fn compared(
     alloc: Global,
     leaf: &Leaf,
@@ -175,12 +183,12 @@ fn compared(
             number,
         });
     }
-    if relation != Relation::Equal {
-        let start = joined_words(alloc, leaf)?;
+    if let Some(order) = relation.order() {
+        let start = joined_words_if_any(alloc, leaf)?;
         return Ok(TermPlan::Ordered {
             index,
             register: values.register(),
-            relation,
+            order,
             start,
         });
     }
@@ -203,7 +211,7 @@ fn joined_if_any(alloc: Global, patterns: &[Pattern]) -> Result<Option<Pattern>,
 }
 
 fn words_plan(values: &Values, index: u32, patterns: Vec<Pattern>) -> TermPlan
-    ensures { plans.term_plan_value result ≡ steps.words_plan values.now index patterns.items values.now.structure }
+    ensures { plans.term_plan_value result ≡ steps.list_plan values.now index patterns.items values.now.structure }
 {
     match values.structure {
         Structure::WordList => TermPlan::AllWords { index, patterns },

@@ -27,29 +27,43 @@ pub enum Relation {
     Greater,
 }
 
+/// How an entry stands to a term in an order (Bib-1, relation attributes 1, 2, 4 and 5).
+#[derive(Clone, Copy, Debug, PartialEq, Eq)]
+pub enum Order {
+    /// 1: the entry comes before the term.
+    Less,
+    /// 2: it comes before the term or is the term.
+    LessOrEqual,
+    /// 4: it is the term or comes after it.
+    GreaterOrEqual,
+    /// 5: it comes after the term.
+    Greater,
+}
+
 /// What a term asks for, with indexes by their number in the profile.
 #[derive(Debug, Drop)]
 pub enum TermPlan {
-    /// The record with this system number.
+    /// The record with this system number, 0 to 999,999,999.
     RecordNumber(u64),
     /// The records that have any entry in the register of the index.
     Always {
         index: u32,
         register: Register,
     },
-    /// The records with a number, in the register of numbers, that stands in the relation to this one.
+    /// The records with a number, in the register of numbers, that stands in the relation to this one, which is below
+    /// 10^18.
     Number {
         index: u32,
         relation: Relation,
         number: u64,
     },
-    /// The records with an entry that stands in the relation to the term's words, joined by one space, in the
-    /// order of their bytes. No record where `start` is empty.
+    /// The records with an entry that stands so to the term's words, joined by one space, in the order of their
+    /// bytes. No record where the term has no words, and so no `start`.
     Ordered {
         index: u32,
         register: Register,
-        relation: Relation,
-        start: String,
+        order: Order,
+        start: Option<String>,
     },
     /// The records with a whole phrase that matches the pattern. No record where there is none.
     Complete {
@@ -75,6 +89,48 @@ pub enum TermPlan {
     },
 }
 
+/// How the number of words from one word to another stands to a distance (ANSI/NISO Z39.50-2003, the relations of the
+/// proximity operator, 1 to 6).
+#[derive(Clone, Copy, Debug, PartialEq, Eq)]
+pub enum DistanceRelation {
+    /// 1: it is less.
+    Less,
+    /// 2: it is less or the same.
+    LessOrEqual,
+    /// 3: it is the same.
+    Equal,
+    /// 4: it is the same or greater.
+    GreaterOrEqual,
+    /// 5: it is greater.
+    Greater,
+    /// 6: it is another one.
+    NotEqual,
+}
+
+/// How two words of one unit stand to each other.
+#[derive(Clone, Copy, Debug, PartialEq, Eq)]
+pub struct Separation {
+    /// In words, 0 to 999,999,999; neighbours are at distance 1.
+    pub distance: u64,
+    /// Whether the left word has to stand before the right one.
+    pub ordered: bool,
+    /// How the number of words from the one to the other stands to the distance.
+    pub relation: DistanceRelation,
+}
+
+/// Two words of one unit of an index, each of which its pattern matches, that stand so to each other.
+#[derive(Debug, Drop)]
+pub struct NearPlan {
+    /// The number of the index in the profile, whose words are asked.
+    pub index: u32,
+    /// The pattern of the word that stands first in the query.
+    pub left: Pattern,
+    /// The pattern of the other word.
+    pub right: Pattern,
+    /// How the two words stand to each other; they are two, also where the patterns are one.
+    pub separation: Separation,
+}
+
 /// A query over a profile, ready to be evaluated.
 #[derive(Debug, Drop)]
 #[cycle(plan)]
@@ -83,6 +139,8 @@ pub enum Plan {
     Term(TermPlan),
     /// An operator over two plans.
     Pair(Box<PairPlan>),
+    /// The records with two words near each other.
+    Near(NearPlan),
 }
 
 /// An operator and the plans of its two operands.

@@ -1,6 +1,6 @@
 ghost use Rattle.std.specs.Prelude.{◌≡◌, None, IfOk, OnOk, IfErr};
 ghost use Rattle.zeb_query.specs.Queries.{query_value};
-ghost use Rattle.zeb_query.specs.Parsing.{IsFault};
+ghost use Rattle.zeb_query.specs.Faults.{IsFault};
 ghost use Rattle.zeb_query.specs.Reading.{SpellsQuery, query_fault};
 
 use crate::grammar::query;

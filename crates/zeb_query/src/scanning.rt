@@ -1,9 +1,9 @@
-ghost use Rattle.std.specs.Prelude.{◌≡◌, string_bytes};
+ghost use Rattle.std.specs.Prelude.{◌≡◌, IfOk, string_bytes};
 ghost use Rattle.zeb_query.specs.Queries.{query_value, head_value};
 ghost use Rattle.zeb_query.specs.Grammar.{heads, no_head};
 ghost use Rattle.zeb_query.specs.Faults.{Gives};
 ghost use Rattle.zeb_query.specs.Plans as plans;
-ghost use Rattle.zeb_query.specs.TermPlans as steps;
+ghost use Rattle.zeb_query.specs.PrivatePlanning as steps;
 
 use crate::holding::Holding;
 use crate::planning::{joined_words, number_in};
@@ -19,7 +19,8 @@ use zeb_text::key_of_number;
 /// a relation other than equal, a position other than any, a truncation, and a structure other than phrase, word and
 /// numeric string. The start is the term's words joined by one space, or the key of its number.
 pub fn plan_scan(alloc: Global, query: &Query, profile: &Profile) -> Result<ScanPlan, QueryFault>
-    ensures { Gives plans.scan_value result (plans.scan_of profile.now (query_value query.now)) }
+    ensures planned { Gives plans.scan_value result (plans.scan_of profile.now (query_value query.now)) }
+    ensures number { IfOk result (λ plan. plans.BeginsAtKey (plans.scan_value plan)) }
 {
     match &query.tree {
         Tree::Term(leaf) => scan_leaf(alloc, leaf, query, profile),
@@ -32,7 +33,7 @@ pub fn plan_scan(alloc: Global, query: &Query, profile: &Profile) -> Result<Scan
     }
 }
 
-#[tactic(auto, using(crate::proofs::PlanCheckLemmas::scan_steps))]
+#[tactic(auto, using(crate::proofs::PlanCheckLemmas::scan_steps), unfolding(crate::proofs::PlanSteps::term_scan))]
 fn scan_leaf(
     alloc: Global,
     leaf: &Leaf,
@@ -44,19 +45,6 @@ fn scan_leaf(
 {
     let holding = Holding::over(query).within(&leaf.head);
     let (values, _) = read_term(alloc, leaf, &holding, profile)?;
-    scan_term(alloc, leaf, values, profile)
-}
-
-#[tactic(auto, unfolding(crate::specs::TermPlans::term_scan))]
-fn scan_term(
-    alloc: Global,
-    leaf: &Leaf,
-    values: Values,
-    profile: &Profile,
-) -> Result<ScanPlan, QueryFault>
-    ensures { Gives plans.scan_value result
-        (steps.term_scan profile.now leaf.now.place (string_bytes leaf.now.text) values) }
-{
     if values.clashes_in_scan() {
         return Err(QueryFault::diagnostic(alloc, 123, leaf.place));
     }
@@ -76,7 +64,7 @@ fn scan_term(
 }
 
 /// The entry to begin with.
-#[tactic(auto, unfolding(crate::specs::TermPlans::scan_start))]
+#[tactic(auto, unfolding(crate::specs::PrivatePlanning::scan_start))]
 fn start_of(alloc: Global, leaf: &Leaf, values: &Values) -> Result<String, QueryFault>
     ensures { Gives (λ start. string_bytes start) result
         (steps.scan_start leaf.now.place (string_bytes leaf.now.text) values.now) }

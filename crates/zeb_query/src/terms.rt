@@ -1,8 +1,8 @@
 ghost use Rattle.std.specs.Prelude.{◌≡◌, ◌∷◌, [], Option, Some, None, string_bytes};
 ghost use Rattle.std.specs.Option.{option_map};
 ghost use Rattle.zeb_query.specs.Faults.{Gives};
-ghost use Rattle.zeb_query.specs.Holding.{holding_value};
-ghost use Rattle.zeb_query.specs.Terms.{kept_or, index_of, index_if, values_of, checked, type_checked, kind_checked, patterns_for, term_of};
+ghost use Rattle.zeb_query.specs.PrivateReading.{holding_value};
+ghost use Rattle.zeb_query.specs.PrivatePlanning.{kept_or, index_of, index_if, values_of, checked, type_checked, kind_checked, patterns_for, term_of};
 
 use crate::attributes::{
     Asked, Completeness, Position, Structure, completeness_of, position_of, relation_of,
@@ -35,7 +35,7 @@ pub(crate) struct Values {
 
 impl Values {
     ghost use Rattle.std.specs.Prelude.{◌≡◌};
-    ghost use Rattle.zeb_query.specs.Terms as terms;
+    ghost use Rattle.zeb_query.specs.PrivatePlanning as terms;
 
     /// Whether the words of the term are compared: it is no number, and the relation isn't "always matches".
     fn has_words(&self) -> bool
@@ -105,6 +105,12 @@ impl Values {
         self.structure == Structure::Numeric
     }
 
+    fn is_phrase(&self) -> bool
+        ensures { result ≡ terms.is_phrase self.now.structure }
+    {
+        self.structure == Structure::Phrase
+    }
+
     fn is_list(&self) -> bool
         ensures { result ≡ terms.is_list self.now.structure }
     {
@@ -138,6 +144,14 @@ impl Values {
         self.clashes() || !self.is_equal() || limited || listed
     }
 
+    /// Whether a word near another doesn't take the values together.
+    pub(crate) fn clashes_near(&self) -> bool
+        ensures { result ≡ terms.clashes_near self.now }
+    {
+        let limited = self.is_first() || self.is_complete();
+        self.clashes() || !self.is_equal() || limited || !self.is_phrase()
+    }
+
     /// The register that is searched.
     pub(crate) fn register(&self) -> Register
         ensures { result ≡ terms.register_of self.now }
@@ -163,7 +177,7 @@ impl Values {
 }
 
 /// The value, or the diagnostic about the attribute's text where that isn't kept.
-fn kept<T>(
+pub(crate) fn kept<T>(
     alloc: Global,
     number: u32,
     place: usize,
@@ -179,7 +193,7 @@ fn kept<T>(
 }
 
 /// The index of a use attribute: that of its number, or of its name where it is no number.
-#[tactic(auto, unfolding(crate::specs::Terms::index_of))]
+#[tactic(auto, unfolding(crate::specs::PrivatePlanning::index_of))]
 fn index_of(
     alloc: Global,
     place: usize,
@@ -215,7 +229,7 @@ fn index_if(
 }
 
 /// The values of the six attribute types, or the diagnostic of the first one that isn't kept.
-#[tactic(auto, unfolding(crate::specs::Terms::values_of))]
+#[tactic(auto, unfolding(crate::specs::PrivatePlanning::values_of))]
 fn values_of(
     alloc: Global,
     place: usize,
@@ -285,7 +299,7 @@ fn check_kind(alloc: Global, place: usize, kind: Option<u64>) -> Result<(), Quer
 }
 
 /// The faults of a term's type and of the sets and types of the attributes over it.
-#[tactic(auto, unfolding(crate::specs::Terms::checked))]
+#[tactic(auto, unfolding(crate::specs::PrivatePlanning::checked))]
 fn check_holding(alloc: Global, place: usize, holding: &Holding<'_>) -> Result<(), QueryFault>
     ensures { Gives (λ x. x) result (checked place (holding_value holding.now)) }
 {
@@ -297,7 +311,7 @@ fn check_holding(alloc: Global, place: usize, holding: &Holding<'_>) -> Result<(
 }
 
 /// The patterns of a term's words; none where the words aren't compared.
-#[tactic(auto, unfolding(crate::specs::Terms::patterns_for))]
+#[tactic(auto, unfolding(crate::specs::PrivatePlanning::patterns_for))]
 fn patterns_for(alloc: Global, leaf: &Leaf, values: &Values) -> Result<Vec<Pattern>, QueryFault>
     ensures { Gives (λ patterns. patterns.items) result
         (patterns_for leaf.now.place (string_bytes leaf.now.text) values.now) }
@@ -320,7 +334,7 @@ fn patterns_for(alloc: Global, leaf: &Leaf, values: &Values) -> Result<Vec<Patte
 /// The values of a term's attributes and the patterns of its words, or the first diagnostic of: the term's type,
 /// the sets and types of the attributes, their values, the number of words. There are no patterns where the words
 /// aren't compared.
-#[tactic(auto, unfolding(crate::specs::Terms::term_of))]
+#[tactic(auto, unfolding(crate::specs::PrivatePlanning::term_of))]
 pub(crate) fn read_term(
     alloc: Global,
     leaf: &Leaf,

@@ -1,7 +1,7 @@
 ghost use Rattle.std.specs.Prelude.{◌≡◌, ◌+◌, ◌++◌, ◌∷◌, [], ℕ, List, IfOk, OnOk, map, chars, string_bytes};
 ghost use Rattle.std.specs.Char.{len_utf8};
 ghost use Rattle.zeb_query.specs.Words.{words_at, is_blank, unquoted};
-ghost use Rattle.zeb_query.specs.Cutting.{word_of};
+ghost use Rattle.zeb_query.specs.PrivateReading.{word_of};
 
 use std::alloc::{AllocError, Global};
 
@@ -50,7 +50,7 @@ impl Cutter {
     ghost use Rattle.std.specs.Prelude.{◌≡◌, ◌+◌, ◌++◌, ◌∷◌, [], ℕ, List, IfOk, OnOk, map, string_bytes};
     ghost use Rattle.std.specs.Char.{len_utf8};
     ghost use Rattle.zeb_query.specs.Words.{unquoted};
-    ghost use Rattle.zeb_query.specs.Cutting.{words_with, word_of};
+    ghost use Rattle.zeb_query.specs.PrivateReading.{words_with, word_of};
 
     /// Takes one more character, which stands at the place.
     fn take(&mut self, alloc: Global, place: usize, c: char) -> Result<(), AllocError>

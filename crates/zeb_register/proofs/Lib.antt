@@ -19,6 +19,7 @@ pub mod PostingStatements
 pub mod TermStatements
 pub mod WipeStatements
 pub mod Found
+pub mod FormatLemmas
 pub mod RisingLists
 pub mod ContentLemmas
 pub mod ContentChanges

@@ -14,8 +14,7 @@ use Rattle.zeb_profile.specs.declared.Register.TheVariants.{Word, Phrase, Number
 use Rattle.zeb_register.specs.declared.registers.Place.{Place}
 use Rattle.zeb_register.specs.declared.registers.Posting.{Posting}
 use Rattle.zeb_register.specs.Sql.{HasRow, Loses}
-use Rattle.std.proofs.Common.{sym, subst, ◌∙◌}
-use Rattle.zeb_register.specs.Store.{IsStore, meta_tree, databases_tree, records_tree, TakesDatabase, IsRecordIn, IsPostingIn, postings_tree, blocks_tree, dict_tree, key_of, place_key, IsPlaceOf, KeepsLists, KeepsRegisters, LacksRegisters}
+use Rattle.zeb_register.specs.Store.{IsStore, meta_tree, databases_tree, records_tree, TakesDatabase, IsRecordIn, IsPostingIn, postings_tree, blocks_tree, dict_tree, key_of, place_key, IsPlaceOf, KeepsLists}
 
 abbrev pub Content : Type 0
 Content = ℤ → Key → List Posting
@@ -134,23 +133,3 @@ pub record TakesWhole (db : ℤ) (old new : State) : Type 0 where
   pub blocks : Loses (IsPostingIn db) blocks_tree old.now.trees new.now.trees
   pub dict : Loses (IsPostingIn db) dict_tree old.now.trees new.now.trees
   pub texts : new.now.trees meta_tree ≡ old.now.trees meta_tree
-
--- what the tables hold is told by the tables of the registers alone
-pub rows_stay : (old new : Trees) (content : Content) → KeepsRegisters old new → HoldsRows old content → HoldsRows new content
-rows_stay old new content kept holds = record {
-  rising = holds.rising;
-  each = λ row. (
-    λ h. (holds.each row).0 (h.0, subst (λ rows. Has rows (Int h.0 ∷ row)) kept.0 h.1),
-    λ h. let there = (holds.each row).1 h in (there.0, subst (λ rows. Has rows (Int there.0 ∷ row)) (sym kept.0) there.1),
-  );
-  alone = (kept.1 ∙ holds.alone.0, kept.2 ∙ holds.alone.1);
-}
-
--- tables without a row hold no posting
-pub rows_empty : (trees : Trees) → LacksRegisters trees → HoldsRows trees (λ db key. [])
-unfolding IsStrictlySortedBy
-rows_empty trees none = record {
-  rising = λ db key. tt;
-  each = λ row. (λ h. absurd (subst (λ rows. Has rows (Int h.0 ∷ row)) none.0 h.1), λ h. absurd h.3);
-  alone = (none.1, none.2);
-}

@@ -8,3 +8,4 @@ pub mod Catalog
 pub mod Kept
 pub mod Content
 pub mod Terms
+pub mod Formats

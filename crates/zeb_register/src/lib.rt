@@ -24,10 +24,9 @@ pub use faults::RegFault;
 pub use kept::{Elder, Record, ident_of, record_of_ident, record_put, record_take, records};
 pub use lists::rows_are_lists;
 pub use meta::{meta_of, meta_put};
-pub use plain::{Rows, registers_have_one_list_of_terms, rows_hold_one_content};
-pub use registers::{Layout, Place, Posting, TermCount, Totals, Work, contents_change};
+pub use plain::{Rows, registers_have_one_list_of_terms};
+pub use registers::{
+    Layout, Place, Posting, TermCount, Totals, Work, contents_change, registers_hold_one_content,
+};
 pub use tables::make_tables;
 pub use wiping::wipe;
-
-#[cfg(test)]
-mod tests;

@@ -33,21 +33,14 @@ use zeb_profile::Register;
 pub struct Rows;
 
 impl Layout for Rows {
-    ghost use Rattle.std.specs.Prelude.{codes};
-    ghost use Rattle.zeb_register.specs.Content.{HoldsRows, rows_stay, rows_empty};
+    ghost use Rattle.zeb_register.specs.Formats.{plain_rows};
     ghost use Rattle.zeb_register.specs.Terms.{no_rows};
 
-    ghost holds = { HoldsRows };
+    ghost format = { plain_rows };
 
     ghost row_work = { 0 };
 
     ghost block_rows = { no_rows };
-
-    ghost stays = { rows_stay };
-
-    ghost empty = { rows_empty };
-
-    ghost version = { codes "1" };
 
     fn version() -> &'static str {
         "1"
@@ -167,11 +160,6 @@ impl Layout for Rows {
         })
     }
 }
-
-/// What tables hold in this layout is one content at most.
-pub fn rows_hold_one_content()
-    ensures { (trees : Trees) (one two : Content) → HoldsRows trees one → HoldsRows trees two → (db : ℤ) (key : _) → one db key ≡ two db key }
-{}
 
 /// Each register of a content has at most one list of terms, and where tables hold the content it has one.
 pub fn registers_have_one_list_of_terms()

@@ -5,7 +5,10 @@ ghost use Rattle.sqlite.specs.Held.{state};
 ghost use Rattle.sqlite.specs.State.{HasCleanDisk, IsUnchanged, KeepsCommit, Survives};
 ghost use Rattle.sqlite_rules.specs.Lists.{Has};
 ghost use Rattle.zeb_register.specs.Calls.{ChangesNothing, GoesOn};
+ghost use Rattle.sqlite.specs.Tree.{Trees};
 ghost use Rattle.zeb_register.specs.Content.{Content, IsRising, IsChangedAt, IsWithout};
+ghost use Rattle.zeb_register.specs.Formats.{Format, holds_in, version_of};
+ghost use Rattle.zeb_register.specs.Store.{KeepsRegisters, LacksRegisters};
 
 use crate::{DatabaseId, RegFault};
 use sqlite::{Alter, Connection, Transaction};
@@ -58,13 +61,14 @@ pub trait Layout {
     ghost use Rattle.std.specs.Prelude.{List, ℕ};
     ghost use Rattle.std.specs.List.Sorted.{IsStrictlySortedBy};
     ghost use Rattle.sqlite.specs.Tree.{Trees};
-    ghost use Rattle.zeb_register.specs.Store.{IsStore, KeepsLists, KeepsRegisters, LacksRegisters};
+    ghost use Rattle.zeb_register.specs.Formats.{Format, version_of, holds_in};
+    ghost use Rattle.zeb_register.specs.Store.{IsStore, KeepsLists};
     ghost use Rattle.zeb_register.specs.Content.{Content, IsChangedAt, ArePlacesOf, place_cmp, IsWithout, TakesWhole};
     ghost use Rattle.zeb_register.specs.Terms.{AreTermsOf, AreTermsFrom, AreTermsBefore, AreTotals, HasTexts, Works, ReadsTerms};
     ghost use Rattle.zeb_register.specs.declared.registers.Posting.{Posting};
 
-    /// The tables of the registers hold this content and nothing else.
-    ghost holds: { Trees → Content → Type 0 };
+    /// In which format the tables keep the registers.
+    ghost format: { Format };
 
     /// What a row of `dict` or `blocks` that is read or written adds to its count: 1, or 0 in a layout that has no such rows.
     ghost row_work: { ℕ };
@@ -73,11 +77,8 @@ pub trait Layout {
     ghost block_rows: { List Posting → ℕ };
 
     /// The text that a store of this layout keeps under the name `version`.
-    ghost version: { List ℕ };
-
-    /// The text that a store of this layout keeps under the name `version`.
     fn version() -> &'static str
-        ensures { result.now ≡ version };
+        ensures { result.now ≡ version_of format };
 
     /// Puts the places `new` of a key in a record where `old` stood. Both lists rise.
     ///
@@ -96,14 +97,14 @@ pub trait Layout {
         ensures err { HasCleanDisk (state S.Store tx.new.conn.now) → IsTrue (state S.Store tx.old.conn.now).in_transaction → OnErr result (KeepsCommit (state S.Store tx.old.conn.now) (state S.Store tx.new.conn.now)) }
         ensures change { HasCleanDisk (state S.Store tx.new.conn.now) → IsTrue (state S.Store tx.old.conn.now).in_transaction → IsStore (state S.Store tx.old.conn.now)
             → OnOk result (IsStore (state S.Store tx.new.conn.now) × KeepsLists (state S.Store tx.old.conn.now).now.trees (state S.Store tx.new.conn.now).now.trees
-            × ((before after : Content) → holds (state S.Store tx.old.conn.now).now.trees before → IsChangedAt db.0 key.now sysno new.now before after → holds (state S.Store tx.new.conn.now).now.trees after)) }
+            × ((before after : Content) → holds_in format (state S.Store tx.old.conn.now).now.trees before → IsChangedAt db.0 key.now sysno new.now before after → holds_in format (state S.Store tx.new.conn.now).now.trees after)) }
         ensures found { HasCleanDisk (state S.Store tx.new.conn.now) → IsTrue (state S.Store tx.old.conn.now).in_transaction → IsStore (state S.Store tx.old.conn.now)
-            → OnOk result ((content : Content) → holds (state S.Store tx.old.conn.now).now.trees content → ArePlacesOf sysno old.now (content db.0 key.now)) }
+            → OnOk result ((content : Content) → holds_in format (state S.Store tx.old.conn.now).now.trees content → ArePlacesOf sysno old.now (content db.0 key.now)) }
         ensures damaged { HasCleanDisk (state S.Store tx.new.conn.now) → IsTrue (state S.Store tx.old.conn.now).in_transaction → IsStore (state S.Store tx.old.conn.now)
-            → result ≡ Err RegFault.Damaged → IsStrictlySortedBy place_cmp old.now → (content : Content) → holds (state S.Store tx.old.conn.now).now.trees content → ¬ ArePlacesOf sysno old.now (content db.0 key.now) }
+            → result ≡ Err RegFault.Damaged → IsStrictlySortedBy place_cmp old.now → (content : Content) → holds_in format (state S.Store tx.old.conn.now).now.trees content → ¬ ArePlacesOf sysno old.now (content db.0 key.now) }
         ensures text { OnOk result (IsUtf8 key.now.term) }
         ensures work { HasCleanDisk (state S.Store tx.new.conn.now) → IsTrue (state S.Store tx.old.conn.now).in_transaction → IsStore (state S.Store tx.old.conn.now)
-            → OnOk result ((content : Content) → holds (state S.Store tx.old.conn.now).now.trees content → Works row_work row_work row_work row_work work.old work.new) }
+            → OnOk result ((content : Content) → holds_in format (state S.Store tx.old.conn.now).now.trees content → Works row_work row_work row_work row_work work.old work.new) }
         ensures no_work { row_work ≡ 0 → work.new ≡ work.old }
         ensures crash { Survives (state S.Store tx.old.conn.now) (state S.Store tx.new.conn.now) (λ _. ⊥) };
 
@@ -114,7 +115,7 @@ pub trait Layout {
         ensures err { HasCleanDisk (state S.Store tx.new.conn.now) → IsTrue (state S.Store tx.old.conn.now).in_transaction → OnErr result (KeepsCommit (state S.Store tx.old.conn.now) (state S.Store tx.new.conn.now)) }
         ensures taken { HasCleanDisk (state S.Store tx.new.conn.now) → IsTrue (state S.Store tx.old.conn.now).in_transaction → IsStore (state S.Store tx.old.conn.now)
             → OnOk result (TakesWhole db.0 (state S.Store tx.old.conn.now) (state S.Store tx.new.conn.now)
-            × ((before after : Content) → holds (state S.Store tx.old.conn.now).now.trees before → IsWithout db.0 before after → holds (state S.Store tx.new.conn.now).now.trees after)) }
+            × ((before after : Content) → holds_in format (state S.Store tx.old.conn.now).now.trees before → IsWithout db.0 before after → holds_in format (state S.Store tx.new.conn.now).now.trees after)) }
         ensures honest { result ≢ Err RegFault.Damaged }
         ensures crash { Survives (state S.Store tx.old.conn.now) (state S.Store tx.new.conn.now) (λ _. ⊥) };
 
@@ -130,10 +131,10 @@ pub trait Layout {
         ensures ok { HasCleanDisk (state S.Store conn.new) → OnOk result (IsUnchanged (state S.Store conn.old) (state S.Store conn.new)) }
         ensures same { HasCleanDisk (state S.Store conn.new) → conn.old.in_transaction ≡ false → ChangesNothing (state S.Store conn.old) (state S.Store conn.new) }
         ensures value { HasCleanDisk (state S.Store conn.new) → IsStore (state S.Store conn.old)
-            → IfOk result (λ list. (content : Content) → holds (state S.Store conn.old).now.trees content → list.items ≡ content db.0 key.now) }
-        ensures honest { HasCleanDisk (state S.Store conn.new) → IsStore (state S.Store conn.old) → result ≡ Err RegFault.Damaged → (content : Content) → ¬ holds (state S.Store conn.old).now.trees content }
+            → IfOk result (λ list. (content : Content) → holds_in format (state S.Store conn.old).now.trees content → list.items ≡ content db.0 key.now) }
+        ensures honest { HasCleanDisk (state S.Store conn.new) → IsStore (state S.Store conn.old) → result ≡ Err RegFault.Damaged → (content : Content) → ¬ holds_in format (state S.Store conn.old).now.trees content }
         ensures work { HasCleanDisk (state S.Store conn.new) → IsStore (state S.Store conn.old)
-            → IfOk result (λ list. (content : Content) → holds (state S.Store conn.old).now.trees content → Works 0 0 (block_rows list.items) 0 work.old work.new) }
+            → IfOk result (λ list. (content : Content) → holds_in format (state S.Store conn.old).now.trees content → Works 0 0 (block_rows list.items) 0 work.old work.new) }
         ensures no_work { row_work ≡ 0 → work.new ≡ work.old }
         ensures crash { Survives (state S.Store conn.old) (state S.Store conn.new) (λ _. ⊥) };
 
@@ -150,10 +151,10 @@ pub trait Layout {
         ensures ok { HasCleanDisk (state S.Store conn.new) → OnOk result (IsUnchanged (state S.Store conn.old) (state S.Store conn.new)) }
         ensures same { HasCleanDisk (state S.Store conn.new) → conn.old.in_transaction ≡ false → ChangesNothing (state S.Store conn.old) (state S.Store conn.new) }
         ensures value { HasCleanDisk (state S.Store conn.new) → IsStore (state S.Store conn.old)
-            → IfOk result (λ list. (content : Content) → holds (state S.Store conn.old).now.trees content → AreTermsOf content db.0 index register list.items) }
-        ensures honest { HasCleanDisk (state S.Store conn.new) → IsStore (state S.Store conn.old) → result ≡ Err RegFault.Damaged → (content : Content) → HasTexts content → ¬ holds (state S.Store conn.old).now.trees content }
+            → IfOk result (λ list. (content : Content) → holds_in format (state S.Store conn.old).now.trees content → AreTermsOf content db.0 index register list.items) }
+        ensures honest { HasCleanDisk (state S.Store conn.new) → IsStore (state S.Store conn.old) → result ≡ Err RegFault.Damaged → (content : Content) → HasTexts content → ¬ holds_in format (state S.Store conn.old).now.trees content }
         ensures work { HasCleanDisk (state S.Store conn.new) → IsStore (state S.Store conn.old)
-            → IfOk result (λ list. (content : Content) → holds (state S.Store conn.old).now.trees content → Works (row_work * length list.items) 0 0 0 work.old work.new) }
+            → IfOk result (λ list. (content : Content) → holds_in format (state S.Store conn.old).now.trees content → Works (row_work * length list.items) 0 0 0 work.old work.new) }
         ensures no_work { row_work ≡ 0 → work.new ≡ work.old }
         ensures crash { Survives (state S.Store conn.old) (state S.Store conn.new) (λ _. ⊥) };
 
@@ -172,10 +173,10 @@ pub trait Layout {
         ensures ok { HasCleanDisk (state S.Store conn.new) → OnOk result (IsUnchanged (state S.Store conn.old) (state S.Store conn.new)) }
         ensures same { HasCleanDisk (state S.Store conn.new) → conn.old.in_transaction ≡ false → ChangesNothing (state S.Store conn.old) (state S.Store conn.new) }
         ensures value { HasCleanDisk (state S.Store conn.new) → IsStore (state S.Store conn.old)
-            → IfOk result (λ list. (content : Content) → holds (state S.Store conn.old).now.trees content → AreTermsFrom content db.0 index register start.now n list.items) }
-        ensures honest { HasCleanDisk (state S.Store conn.new) → IsStore (state S.Store conn.old) → result ≡ Err RegFault.Damaged → (content : Content) → HasTexts content → ¬ holds (state S.Store conn.old).now.trees content }
+            → IfOk result (λ list. (content : Content) → holds_in format (state S.Store conn.old).now.trees content → AreTermsFrom content db.0 index register start.now n list.items) }
+        ensures honest { HasCleanDisk (state S.Store conn.new) → IsStore (state S.Store conn.old) → result ≡ Err RegFault.Damaged → (content : Content) → HasTexts content → ¬ holds_in format (state S.Store conn.old).now.trees content }
         ensures work { HasCleanDisk (state S.Store conn.new) → IsStore (state S.Store conn.old)
-            → IfOk result (λ list. (content : Content) → holds (state S.Store conn.old).now.trees content → ReadsTerms (row_work * (n + 1)) work.old work.new) }
+            → IfOk result (λ list. (content : Content) → holds_in format (state S.Store conn.old).now.trees content → ReadsTerms (row_work * (n + 1)) work.old work.new) }
         ensures no_work { row_work ≡ 0 → work.new ≡ work.old }
         ensures crash { Survives (state S.Store conn.old) (state S.Store conn.new) (λ _. ⊥) };
 
@@ -194,10 +195,10 @@ pub trait Layout {
         ensures ok { HasCleanDisk (state S.Store conn.new) → OnOk result (IsUnchanged (state S.Store conn.old) (state S.Store conn.new)) }
         ensures same { HasCleanDisk (state S.Store conn.new) → conn.old.in_transaction ≡ false → ChangesNothing (state S.Store conn.old) (state S.Store conn.new) }
         ensures value { HasCleanDisk (state S.Store conn.new) → IsStore (state S.Store conn.old)
-            → IfOk result (λ list. (content : Content) → holds (state S.Store conn.old).now.trees content → AreTermsBefore content db.0 index register start.now n list.items) }
-        ensures honest { HasCleanDisk (state S.Store conn.new) → IsStore (state S.Store conn.old) → result ≡ Err RegFault.Damaged → (content : Content) → HasTexts content → ¬ holds (state S.Store conn.old).now.trees content }
+            → IfOk result (λ list. (content : Content) → holds_in format (state S.Store conn.old).now.trees content → AreTermsBefore content db.0 index register start.now n list.items) }
+        ensures honest { HasCleanDisk (state S.Store conn.new) → IsStore (state S.Store conn.old) → result ≡ Err RegFault.Damaged → (content : Content) → HasTexts content → ¬ holds_in format (state S.Store conn.old).now.trees content }
         ensures work { HasCleanDisk (state S.Store conn.new) → IsStore (state S.Store conn.old)
-            → IfOk result (λ list. (content : Content) → holds (state S.Store conn.old).now.trees content → ReadsTerms (row_work * n) work.old work.new) }
+            → IfOk result (λ list. (content : Content) → holds_in format (state S.Store conn.old).now.trees content → ReadsTerms (row_work * n) work.old work.new) }
         ensures no_work { row_work ≡ 0 → work.new ≡ work.old }
         ensures crash { Survives (state S.Store conn.old) (state S.Store conn.new) (λ _. ⊥) };
 
@@ -214,16 +215,10 @@ pub trait Layout {
         ensures ok { HasCleanDisk (state S.Store conn.new) → OnOk result (IsUnchanged (state S.Store conn.old) (state S.Store conn.new)) }
         ensures same { HasCleanDisk (state S.Store conn.new) → conn.old.in_transaction ≡ false → ChangesNothing (state S.Store conn.old) (state S.Store conn.new) }
         ensures value { HasCleanDisk (state S.Store conn.new) → IsStore (state S.Store conn.old)
-            → IfOk result (λ sums. (content : Content) → holds (state S.Store conn.old).now.trees content → AreTotals content db.0 index register sums) }
-        ensures honest { HasCleanDisk (state S.Store conn.new) → IsStore (state S.Store conn.old) → result ≡ Err RegFault.Damaged → (content : Content) → HasTexts content → ¬ holds (state S.Store conn.old).now.trees content }
+            → IfOk result (λ sums. (content : Content) → holds_in format (state S.Store conn.old).now.trees content → AreTotals content db.0 index register sums) }
+        ensures honest { HasCleanDisk (state S.Store conn.new) → IsStore (state S.Store conn.old) → result ≡ Err RegFault.Damaged → (content : Content) → HasTexts content → ¬ holds_in format (state S.Store conn.old).now.trees content }
         ensures no_work { row_work ≡ 0 → work.new ≡ work.old }
         ensures crash { Survives (state S.Store conn.old) (state S.Store conn.new) (λ _. ⊥) };
-
-    /// What the registers hold is told by their tables alone.
-    ghost stays: { (old new : Trees) (content : Content) → KeepsRegisters old new → holds old content → holds new content };
-
-    /// Tables without a row hold no posting.
-    ghost empty: { (trees : Trees) → LacksRegisters trees → holds trees (λ _ _. []) };
 }
 
 /// A content is told by its postings. It can be changed at one key of one record, and a database can be taken from it, each in one way.
@@ -233,4 +228,14 @@ pub fn contents_change()
         → ((new : Content) × IsChangedAt db key sysno places old new) × ((one two : Content) → IsChangedAt db key sysno places old one → IsChangedAt db key sysno places old two → one ≡ two) }
     ensures without { (db : ℤ) (old : Content) → IsRising old
         → ((new : Content) × IsWithout db old new) × ((one two : Content) → IsWithout db old one → IsWithout db old two → one ≡ two) }
+{}
+
+/// What tables hold in a format is one content at most, and each of its lists rises. It is told by the tables of the registers alone, and
+/// where these have no row it has no posting. No two formats have one version.
+pub fn registers_hold_one_content()
+    ensures one { (format : Format) (trees : Trees) (one two : Content) → holds_in format trees one → holds_in format trees two → one ≡ two }
+    ensures rising { (format : Format) (trees : Trees) (content : Content) → holds_in format trees content → IsRising content }
+    ensures stays { (format : Format) (old new : Trees) (content : Content) → KeepsRegisters old new → holds_in format old content → holds_in format new content }
+    ensures empty { (format : Format) (trees : Trees) → LacksRegisters trees → holds_in format trees (λ _ _. []) }
+    ensures version { (one two : Format) → version_of one ≡ version_of two → one ≡ two }
 {}

@@ -42,21 +42,21 @@ pub script_conditions : (directives profile : List Directive) (limits : Limits) 
 script_conditions directives profile limits same records numbers = record { version = refl; profile = same; records = records; numbers = numbers }
 
 -- a register that holds nothing yet answers the lines
-pub opened_batch : (holds : Trees → Content → Type 0) (c : Conditions) (directives : List Directive) (old new : State) (wrote writes : Option (List ℕ)) (n : ℕ) (batch : List ℕ) (failed : Bool) (Clean : Type 0) (r : Result ℕ AllocError)
-    → AreScriptConditions directives c → Holding holds c old nothing_yet → Clean
-    → IfOk r (λ status. failed ≡ false → Clean → Leads holds c old new wrote writes (λ before bytes last. AnswersBatch c n batch before bytes status last))
+pub opened_batch : (c : Conditions) (directives : List Directive) (old new : State) (wrote writes : Option (List ℕ)) (n : ℕ) (batch : List ℕ) (failed : Bool) (Clean : Type 0) (r : Result ℕ AllocError)
+    → AreScriptConditions directives c → Holding old nothing_yet → Clean
+    → IfOk r (λ status. failed ≡ false → Clean → Leads old new wrote writes (λ before bytes last. AnswersBatch c n batch before bytes status last))
     → IfOk r (λ status. failed ≡ false → AnswersOpened directives n batch wrote writes status)
-opened_batch holds c directives old new wrote writes n batch failed Clean (Err e) under keeps clean h = h
-opened_batch holds c directives old new wrote writes n batch failed Clean (Ok status) under keeps clean h = λ sound.
+opened_batch c directives old new wrote writes n batch failed Clean (Err e) under keeps clean h = h
+opened_batch c directives old new wrote writes n batch failed Clean (Ok status) under keeps clean h = λ sound.
     let w = h sound clean nothing_yet keeps in
     inl (w.2.0, (c, under, w.0, w.2.1), w.2.2)
 
-pub stopped_batch : (holds : Trees → Content → Type 0) (c : Conditions) (directives : List Directive) (old : State) (wrote writes : Option (List ℕ)) (n : ℕ) (batch : List ℕ) (failed : Bool) (Clean : Type 0) (r : Result ℕ AllocError)
-    → AreScriptConditions directives c → Holding holds c old nothing_yet → Clean
-    → OnErr r (failed ≡ false → Clean → Stops holds c old wrote writes (AnswersPart c n batch))
+pub stopped_batch : (c : Conditions) (directives : List Directive) (old : State) (wrote writes : Option (List ℕ)) (n : ℕ) (batch : List ℕ) (failed : Bool) (Clean : Type 0) (r : Result ℕ AllocError)
+    → AreScriptConditions directives c → Holding old nothing_yet → Clean
+    → OnErr r (failed ≡ false → Clean → Stops old wrote writes (AnswersPart c n batch))
     → OnErr r (failed ≡ false → AnswersStopped directives n batch wrote writes)
-stopped_batch holds c directives old wrote writes n batch failed Clean (Ok status) under keeps clean h = h
-stopped_batch holds c directives old wrote writes n batch failed Clean (Err e) under keeps clean h = λ sound.
+stopped_batch c directives old wrote writes n batch failed Clean (Ok status) under keeps clean h = h
+stopped_batch c directives old wrote writes n batch failed Clean (Err e) under keeps clean h = λ sound.
     let w = h sound clean nothing_yet keeps in
     inl (w.0, (c, under, w.1), w.2)
 

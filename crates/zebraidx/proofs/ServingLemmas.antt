@@ -14,7 +14,6 @@ use Rattle.zeb_engine.specs.Holdings.{Holdings}
 use Rattle.zeb_engine.specs.Image.{Keeps}
 use Rattle.zeb_engine.specs.Refusals.{refusal_text, status_of}
 use Rattle.zeb_engine.specs.Replies.{reply_text}
-use Rattle.zeb_engine.specs.Steps.{after}
 use Rattle.zeb_engine.specs.Works.{ServesCommand}
 use Rattle.zebraidx.specs.declared.lines.Line.TheVariants.{Remark, Command as Order}
 use Rattle.zebraidx.specs.Says.{Says}
@@ -24,82 +23,78 @@ use Rattle.zebraidx.specs.Serving.{Leads, Stops}
 use Rattle.zebraidx.proofs.AnswerLemmas.{Appends-nil, IsAnswered, answered_start, answered_line, answered_lines}
 
 -- a refusal that is written is the command's answer
-pub refused_command : (holds : Trees → Content → Type 0) (c : Conditions) (command : Command) (old new : State) (wrote writes : Option (List ℕ)) (refusal : Refusal) (failed : Bool) (Clean : Type 0) (r : Result ℕ AllocError)
-    → (Clean → ServesCommand holds c command old new (Err refusal))
+pub refused_command : (c : Conditions) (command : Command) (old new : State) (wrote writes : Option (List ℕ)) (refusal : Refusal) (failed : Bool) (Clean : Type 0) (r : Result ℕ AllocError)
+    → (Clean → ServesCommand c command old new (Err refusal))
     → IfOk r (λ status. failed ≡ false → Writes wrote writes (λ bytes. (bytes ≡ refusal_text refusal ++ 10 ∷ []) × (status ≡ status_of refusal)))
-    → IfOk r (λ status. failed ≡ false → Clean → Leads holds c old new wrote writes (λ before bytes later. IsAnswer c command before bytes status later))
-refused_command holds c command old new wrote writes refusal failed Clean (Err e) serves h = h
-refused_command holds c command old new wrote writes refusal failed Clean (Ok status) serves h = λ sound clean before keeps.
+    → IfOk r (λ status. failed ≡ false → Clean → Leads old new wrote writes (λ before bytes later. IsAnswer c command before bytes status later))
+refused_command c command old new wrote writes refusal failed Clean (Err e) serves h = h
+refused_command c command old new wrote writes refusal failed Clean (Ok status) serves h = λ sound clean before keeps.
     let w = h sound in
-    elim (serves clean before keeps) [
-      | inl step ↦ (after c command before, step.1, (w.0, (Err refusal, w.1.0, w.1.1, inl (step.0, refl)), w.2))
-      | inr fails ↦ (before, fails.1, (w.0, (Err refusal, w.1.0, w.1.1, inr (fails.0, refl)), w.2))
-    ]
+    let served = serves clean before keeps in
+    (served.0, served.2, (w.0, (Err refusal, w.1.0, w.1.1, (served.0, served.1, refl)), w.2))
 
 -- a reply that is written is the command's answer
-pub replied_command : (holds : Trees → Content → Type 0) (c : Conditions) (command : Command) (old new : State) (wrote writes : Option (List ℕ)) (reply : Reply) (bytes : List ℕ) (failed : Bool) (Clean : Type 0)
-    → (Clean → ServesCommand holds c command old new (Ok reply))
+pub replied_command : (c : Conditions) (command : Command) (old new : State) (wrote writes : Option (List ℕ)) (reply : Reply) (bytes : List ℕ) (failed : Bool) (Clean : Type 0)
+    → (Clean → ServesCommand c command old new (Ok reply))
     → bytes ≡ reply_text reply
     → (failed ≡ false → Appends wrote writes bytes)
-    → failed ≡ false → Clean → Leads holds c old new wrote writes (λ before bytes later. IsAnswer c command before bytes 0 later)
-replied_command holds c command old new wrote writes reply bytes failed Clean serves is grew sound clean before keeps =
-    elim (serves clean before keeps) [
-      | inl step ↦ (after c command before, step.1, (bytes, (Ok reply, is, refl, inl (step.0, refl)), grew sound))
-      | inr fails ↦ (before, fails.1, (bytes, (Ok reply, is, refl, inr (fails.0, refl)), grew sound))
-    ]
+    → failed ≡ false → Clean → Leads old new wrote writes (λ before bytes later. IsAnswer c command before bytes 0 later)
+replied_command c command old new wrote writes reply bytes failed Clean serves is grew sound clean before keeps =
+    let served = serves clean before keeps in
+    (served.0, served.2, (bytes, (Ok reply, is, refl, (served.0, served.1, refl)), grew sound))
 
 -- what is said of a line that names a command
-pub ordered_line : (holds : Trees → Content → Type 0) (c : Conditions) (command : Command) (number : ℕ) (text : List ℕ) (old new : State) (wrote writes : Option (List ℕ)) (failed : Bool) (Clean : Type 0) (r : Result ℕ AllocError)
+pub ordered_line : (c : Conditions) (command : Command) (number : ℕ) (text : List ℕ) (old new : State) (wrote writes : Option (List ℕ)) (failed : Bool) (Clean : Type 0) (r : Result ℕ AllocError)
     → Says text (Order command)
-    → IfOk r (λ status. failed ≡ false → Clean → Leads holds c old new wrote writes (λ before bytes later. IsAnswer c command before bytes status later))
-    → IfOk r (λ status. failed ≡ false → Clean → Leads holds c old new wrote writes (λ before bytes later. AnswersLine c number text before bytes status later))
-ordered_line holds c command number text old new wrote writes failed Clean (Err e) says h = h
-ordered_line holds c command number text old new wrote writes failed Clean (Ok status) says h = λ sound clean before keeps.
+    → IfOk r (λ status. failed ≡ false → Clean → Leads old new wrote writes (λ before bytes later. IsAnswer c command before bytes status later))
+    → IfOk r (λ status. failed ≡ false → Clean → Leads old new wrote writes (λ before bytes later. AnswersLine c number text before bytes status later))
+ordered_line c command number text old new wrote writes failed Clean (Err e) says h = h
+ordered_line c command number text old new wrote writes failed Clean (Ok status) says h = λ sound clean before keeps.
     let w = h sound clean before keeps in
     (w.0, w.1, (w.2.0, (Order command, says, w.2.1), w.2.2))
 
 -- a line that says nothing
-pub remark_line : (holds : Trees → Content → Type 0) (c : Conditions) (number : ℕ) (text : List ℕ) (old : State) (wrote : Option (List ℕ)) → Says text Remark
-    → Leads holds c old old wrote wrote (λ before bytes later. AnswersLine c number text before bytes 0 later)
-remark_line holds c number text old wrote says before keeps = (before, keeps, ([], (Remark, says, (refl, refl, refl)), Appends-nil wrote))
+pub remark_line : (c : Conditions) (number : ℕ) (text : List ℕ) (old : State) (wrote : Option (List ℕ)) → Says text Remark
+    → Leads old old wrote wrote (λ before bytes later. AnswersLine c number text before bytes 0 later)
+remark_line c number text old wrote says before keeps = (before, keeps, ([], (Remark, says, (refl, refl, refl)), Appends-nil wrote))
 
 -- from tables that keep what a register holds: the lines up to the rest are answered, and the tables keep what it holds then
-abbrev pub Reaches : (holds : Trees → Content → Type 0) → Conditions → State → State → Option (List ℕ) → Option (List ℕ) → ℕ → List ℕ → ℕ → List ℕ → ℕ → Type 0
-Reaches holds c old now wrote writes before text n rest greatest =
-    (first : Holdings) → Keeps holds c old first → (held : Holdings) × Keeps holds c now held × IsAnswered c wrote writes before text first n rest greatest held
+abbrev pub Reaches : Conditions → State → State → Option (List ℕ) → Option (List ℕ) → ℕ → List ℕ → ℕ → List ℕ → ℕ → Type 0
+Reaches c old now wrote writes before text n rest greatest =
+    (first : Holdings) → Keeps old first → (held : Holdings) × Keeps now held × IsAnswered c wrote writes before text first n rest greatest held
 
-pub reaches_start : (holds : Trees → Content → Type 0) (c : Conditions) (old : State) (wrote : Option (List ℕ)) (n : ℕ) (text : List ℕ) → Reaches holds c old old wrote wrote n text n text 0
-reaches_start holds c old wrote n text first keeps = (first, keeps, answered_start c wrote n text first)
+pub reaches_start : (c : Conditions) (old : State) (wrote : Option (List ℕ)) (n : ℕ) (text : List ℕ) → Reaches c old old wrote wrote n text n text 0
+reaches_start c old wrote n text first keeps = (first, keeps, answered_start c wrote n text first)
 
-pub reaches_line : (holds : Trees → Content → Type 0) (c : Conditions) (old now next : State) (wrote mid writes : Option (List ℕ)) (before : ℕ) (text : List ℕ) (n : ℕ) (rest line later : List ℕ) (greatest status top : ℕ) → 0 < length rest
+pub reaches_line : (c : Conditions) (old now next : State) (wrote mid writes : Option (List ℕ)) (before : ℕ) (text : List ℕ) (n : ℕ) (rest line later : List ℕ) (greatest status top : ℕ) → 0 < length rest
     → line ≡ first_line rest → later ≡ after_first_line rest → top ≡ max greatest status
-    → Reaches holds c old now wrote mid before text n rest greatest
-    → Leads holds c now next mid writes (λ held bytes then. AnswersLine c (n + 1) line held bytes status then)
-    → Reaches holds c old next wrote writes before text (n + 1) later top
-reaches_line holds c old now next wrote mid writes before text n rest line later greatest status top some is_line is_rest is_max far step first keeps =
+    → Reaches c old now wrote mid before text n rest greatest
+    → Leads now next mid writes (λ held bytes then. AnswersLine c (n + 1) line held bytes status then)
+    → Reaches c old next wrote writes before text (n + 1) later top
+reaches_line c old now next wrote mid writes before text n rest line later greatest status top some is_line is_rest is_max far step first keeps =
     let here = far first keeps in
     let there = step here.0 here.1 in
     (there.0, there.1, answered_line c wrote mid writes before text first n rest line later greatest status top here.0 there.0 some is_line is_rest is_max here.2 there.2)
 
-pub reaches_end : (holds : Trees → Content → Type 0) (c : Conditions) (old now : State) (wrote writes : Option (List ℕ)) (before : ℕ) (text : List ℕ) (n : ℕ) (rest : List ℕ) (greatest : ℕ) → rest ≡ []
-    → Reaches holds c old now wrote writes before text n rest greatest
-    → Leads holds c old now wrote writes (λ first bytes last. AnswersBatch c before text first bytes greatest last)
-reaches_end holds c old now wrote writes before text n rest greatest none far first keeps =
+pub reaches_end : (c : Conditions) (old now : State) (wrote writes : Option (List ℕ)) (before : ℕ) (text : List ℕ) (n : ℕ) (rest : List ℕ) (greatest : ℕ) → rest ≡ []
+    → Reaches c old now wrote writes before text n rest greatest
+    → Leads old now wrote writes (λ first bytes last. AnswersBatch c before text first bytes greatest last)
+reaches_end c old now wrote writes before text n rest greatest none far first keeps =
     let here = far first keeps in
     let w = answered_lines c wrote writes before text first n rest greatest here.0 here.2 in
     (here.0, here.1, (w.0, subst (λ left. AnswersLines c before text first w.0 greatest left here.0) none w.1, w.2))
 
-pub reaches_stop : (holds : Trees → Content → Type 0) (c : Conditions) (old now : State) (wrote writes : Option (List ℕ)) (before : ℕ) (text : List ℕ) (n : ℕ) (rest : List ℕ) (greatest : ℕ) → 0 < length rest
-    → Reaches holds c old now wrote writes before text n rest greatest
-    → Stops holds c old wrote writes (AnswersPart c before text)
-reaches_stop holds c old now wrote writes before text n rest greatest some far first keeps =
+pub reaches_stop : (c : Conditions) (old now : State) (wrote writes : Option (List ℕ)) (before : ℕ) (text : List ℕ) (n : ℕ) (rest : List ℕ) (greatest : ℕ) → 0 < length rest
+    → Reaches c old now wrote writes before text n rest greatest
+    → Stops old wrote writes (AnswersPart c before text)
+reaches_stop c old now wrote writes before text n rest greatest some far first keeps =
     let here = far first keeps in
     let w = answered_lines c wrote writes before text first n rest greatest here.0 here.2 in
     (w.0, (greatest, rest, here.0, some, w.1), w.2)
 
 -- where memory runs out at a line, nothing is written for it
-pub reaches_failure : {T E : Type 0} (holds : Trees → Content → Type 0) (c : Conditions) (old now : State) (wrote writes : Option (List ℕ)) (before : ℕ) (text : List ℕ) (n : ℕ) (rest : List ℕ) (greatest : ℕ) (r : Result T E) (failed : Bool) (Clean : Type 0) → 0 < length rest
-    → (failed ≡ false → Clean → Reaches holds c old now wrote writes before text n rest greatest)
-    → OnErr r (failed ≡ false → Clean → Stops holds c old wrote writes (AnswersPart c before text))
-reaches_failure holds c old now wrote writes before text n rest greatest (Ok x) failed Clean some far = tt
-reaches_failure holds c old now wrote writes before text n rest greatest (Err e) failed Clean some far = λ sound clean. reaches_stop holds c old now wrote writes before text n rest greatest some (far sound clean)
+pub reaches_failure : {T E : Type 0} (c : Conditions) (old now : State) (wrote writes : Option (List ℕ)) (before : ℕ) (text : List ℕ) (n : ℕ) (rest : List ℕ) (greatest : ℕ) (r : Result T E) (failed : Bool) (Clean : Type 0) → 0 < length rest
+    → (failed ≡ false → Clean → Reaches c old now wrote writes before text n rest greatest)
+    → OnErr r (failed ≡ false → Clean → Stops old wrote writes (AnswersPart c before text))
+reaches_failure c old now wrote writes before text n rest greatest (Ok x) failed Clean some far = tt
+reaches_failure c old now wrote writes before text n rest greatest (Err e) failed Clean some far = λ sound clean. reaches_stop c old now wrote writes before text n rest greatest some (far sound clean)

@@ -9,10 +9,10 @@ use Rattle.zeb_engine.specs.Image.{Keeps}
 use Rattle.zebraidx.specs.Answers.{Writes}
 
 -- From tables that keep what a register holds, they lead to tables that keep what it holds then; P says what is written.
-abbrev pub Leads : (holds : Trees → Content → Type 0) → Conditions → State → State → Option (List ℕ) → Option (List ℕ) → (Holdings → List ℕ → Holdings → Type 0) → Type 0
-Leads holds c old new wrote writes P =
-    (before : Holdings) → Keeps holds c old before → (later : Holdings) × Keeps holds c new later × Writes wrote writes (λ bytes. P before bytes later)
+abbrev pub Leads : State → State → Option (List ℕ) → Option (List ℕ) → (Holdings → List ℕ → Holdings → Type 0) → Type 0
+Leads old new wrote writes P =
+    (before : Holdings) → Keeps old before → (later : Holdings) × Keeps new later × Writes wrote writes (λ bytes. P before bytes later)
 
 -- The same, where nothing is said of the tables then.
-abbrev pub Stops : (holds : Trees → Content → Type 0) → Conditions → State → Option (List ℕ) → Option (List ℕ) → (Holdings → List ℕ → Type 0) → Type 0
-Stops holds c old wrote writes P = (before : Holdings) → Keeps holds c old before → Writes wrote writes (P before)
+abbrev pub Stops : State → Option (List ℕ) → Option (List ℕ) → (Holdings → List ℕ → Type 0) → Type 0
+Stops old wrote writes P = (before : Holdings) → Keeps old before → Writes wrote writes (P before)

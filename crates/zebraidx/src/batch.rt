@@ -1,6 +1,7 @@
 //! A batch: commands in one session, one on a line.
 
 ghost use Rattle.std.specs.Prelude.{◌≡◌, ◌≤◌, ◌++◌, ◌∷◌, [], false, IfOk, OnErr};
+ghost use Rattle.zeb_register.specs.Formats.{version_of};
 ghost use Rattle.sqlite.specs.Held.{state};
 ghost use Rattle.sqlite.specs.State.{HasCleanDisk};
 ghost use Rattle.zeb_engine.specs.Conditions.{conditions};
@@ -51,10 +52,10 @@ fn run_lines<S: Alter, L: Layout, W: Write>(
     output: &mut Sink<W>,
 ) -> Result<u8, AllocError>
     ensures sound { output.new.failed ≡ false → output.old.failed ≡ false }
-    ensures answer { IfOk result (λ status. output.new.failed ≡ false → HasCleanDisk (state S.Store session.new.connection) → Leads L.holds (conditions L.version session.old.profile session.old.limits) (state S.Store session.old.connection) (state S.Store session.new.connection) (W.contents output.old.writer) (W.contents output.new.writer)
-        (λ before bytes last. AnswersBatch (conditions L.version session.old.profile session.old.limits) batch.entry.lines_before batch.entry.text.now before bytes status last)) }
-    ensures stopped { OnErr result (output.new.failed ≡ false → HasCleanDisk (state S.Store session.new.connection) → Stops L.holds (conditions L.version session.old.profile session.old.limits) (state S.Store session.old.connection) (W.contents output.old.writer) (W.contents output.new.writer)
-        (AnswersPart (conditions L.version session.old.profile session.old.limits) batch.entry.lines_before batch.entry.text.now)) }
+    ensures answer { IfOk result (λ status. output.new.failed ≡ false → HasCleanDisk (state S.Store session.new.connection) → Leads (state S.Store session.old.connection) (state S.Store session.new.connection) (W.contents output.old.writer) (W.contents output.new.writer)
+        (λ before bytes last. AnswersBatch (conditions (version_of L.format) session.old.profile session.old.limits) batch.entry.lines_before batch.entry.text.now before bytes status last)) }
+    ensures stopped { OnErr result (output.new.failed ≡ false → HasCleanDisk (state S.Store session.new.connection) → Stops (state S.Store session.old.connection) (W.contents output.old.writer) (W.contents output.new.writer)
+        (AnswersPart (conditions (version_of L.format) session.old.profile session.old.limits) batch.entry.lines_before batch.entry.text.now)) }
     ensures range { IfOk result (λ status. status ≤ FAILED) }
 {
     let mut rest = batch.text;
@@ -77,8 +78,8 @@ fn run_line<S: Alter, L: Layout, W: Write>(
     output: &mut Sink<W>,
 ) -> Result<u8, AllocError>
     ensures sound { output.new.failed ≡ false → output.old.failed ≡ false }
-    ensures answer { IfOk result (λ status. output.new.failed ≡ false → HasCleanDisk (state S.Store session.new.connection) → Leads L.holds (conditions L.version session.old.profile session.old.limits) (state S.Store session.old.connection) (state S.Store session.new.connection) (W.contents output.old.writer) (W.contents output.new.writer)
-        (λ before bytes later. AnswersLine (conditions L.version session.old.profile session.old.limits) number line.now before bytes status later)) }
+    ensures answer { IfOk result (λ status. output.new.failed ≡ false → HasCleanDisk (state S.Store session.new.connection) → Leads (state S.Store session.old.connection) (state S.Store session.new.connection) (W.contents output.old.writer) (W.contents output.new.writer)
+        (λ before bytes later. AnswersLine (conditions (version_of L.format) session.old.profile session.old.limits) number line.now before bytes status later)) }
     ensures stopped { OnErr result (output.new ≡ output.old) }
     ensures clean { HasCleanDisk (state S.Store session.new.connection) → HasCleanDisk (state S.Store session.old.connection) }
     ensures under { (session.new.profile ≡ session.old.profile) × (session.new.limits ≡ session.old.limits) }
@@ -101,8 +102,8 @@ fn run_command<S: Alter, L: Layout, W: Write>(
     output: &mut Sink<W>,
 ) -> Result<u8, AllocError>
     ensures sound { output.new.failed ≡ false → output.old.failed ≡ false }
-    ensures answer { IfOk result (λ status. output.new.failed ≡ false → HasCleanDisk (state S.Store session.new.connection) → Leads L.holds (conditions L.version session.old.profile session.old.limits) (state S.Store session.old.connection) (state S.Store session.new.connection) (W.contents output.old.writer) (W.contents output.new.writer)
-        (λ before bytes later. IsAnswer (conditions L.version session.old.profile session.old.limits) command.now before bytes status later)) }
+    ensures answer { IfOk result (λ status. output.new.failed ≡ false → HasCleanDisk (state S.Store session.new.connection) → Leads (state S.Store session.old.connection) (state S.Store session.new.connection) (W.contents output.old.writer) (W.contents output.new.writer)
+        (λ before bytes later. IsAnswer (conditions (version_of L.format) session.old.profile session.old.limits) command.now before bytes status later)) }
     ensures stopped { OnErr result (output.new ≡ output.old) }
     ensures clean { HasCleanDisk (state S.Store session.new.connection) → HasCleanDisk (state S.Store session.old.connection) }
     ensures under { (session.new.profile ≡ session.old.profile) × (session.new.limits ≡ session.old.limits) }

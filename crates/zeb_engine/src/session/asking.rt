@@ -1,16 +1,16 @@
 //! What a session is asked, and answers without a change.
 
-ghost use Rattle.std.specs.Prelude.{◌≡◌, IfErr, OnOk, OnErr};
+ghost use Rattle.std.specs.Prelude.{◌≡◌};
 ghost use Rattle.sqlite.specs.Held.{state};
 ghost use Rattle.sqlite.specs.State.{HasCleanDisk, Survives};
 ghost use Rattle.zeb_register.specs.Calls.{ChangesNothing};
-ghost use Rattle.zeb_engine.specs.Adopting.{StaysOpen};
+ghost use Rattle.zeb_register.specs.Formats.{version_of};
 ghost use Rattle.zeb_engine.specs.Conditions.{conditions};
 ghost use Rattle.zeb_engine.specs.Found.{LooksUp};
 ghost use Rattle.zeb_engine.specs.NameOf.{name_bytes};
 ghost use Rattle.zeb_engine.specs.Reading.{NoReadFault};
 ghost use Rattle.zeb_engine.specs.Scanned.{Scans};
-ghost use Rattle.zeb_engine.specs.Transactions.{EnduresRefusal};
+ghost use Rattle.zeb_engine.specs.Transactions.{Commanded};
 ghost use Rattle.zeb_engine.specs.Steps.{waited};
 ghost use Rattle.zeb_engine.specs.Works.{Always, Finds, ScansFrom, Serves};
 
@@ -31,17 +31,20 @@ impl<S: Alter, L: Layout> Session<S, L> {
         database: &DbName,
         question: Question<'_>,
     ) -> Result<Reply, Refusal>
-        ensures open { HasCleanDisk (state S.Store self.new.connection) → OnOk result (StaysOpen (state S.Store self.old.connection) (state S.Store self.new.connection)) }
-        ensures reads { HasCleanDisk (state S.Store self.new.connection) → ChangesNothing (state S.Store self.old.connection) (state S.Store self.new.connection) }
-        ensures refused { HasCleanDisk (state S.Store self.new.connection) → OnErr result (ChangesNothing (state S.Store self.old.connection) (state S.Store self.new.connection)) }
-        ensures endures { HasCleanDisk (state S.Store self.new.connection) → IfErr result (EnduresRefusal (state S.Store self.old.connection) (state S.Store self.new.connection)) }
+        ensures call { Commanded (state S.Store self.old.connection) (state S.Store self.new.connection) result }
+        ensures reads { HasCleanDisk (state S.Store self.new.connection)
+            → ChangesNothing (state S.Store self.old.connection) (state S.Store self.new.connection) }
         ensures survives { Survives (state S.Store self.old.connection) (state S.Store self.new.connection) (λ _. ⊥) }
         ensures under { (self.new.profile ≡ self.old.profile) × (self.new.limits ≡ self.old.limits) }
         ensures serves { HasCleanDisk (state S.Store self.new.connection)
-            → Finds L.holds (conditions L.version self.old.profile self.old.limits) (name_bytes database.now) question.entry.query.now question.entry.first question.entry.count (state S.Store self.old.connection) (state S.Store self.new.connection) result }
+            → Finds (conditions (version_of L.format) self.old.profile self.old.limits)
+            (name_bytes database.now) question.entry.query.now question.entry.first question.entry.count
+            (state S.Store self.old.connection) (state S.Store self.new.connection) result }
         ensures unread { NoReadFault result }
         ensures alone { HasCleanDisk (state S.Store self.new.connection)
-            → LooksUp L.holds self.old.profile (name_bytes database.now) question.entry.query.now question.entry.first question.entry.count (state S.Store self.old.connection) result }
+            → LooksUp L.format self.old.profile
+            (name_bytes database.now) question.entry.query.now question.entry.first question.entry.count
+            (state S.Store self.old.connection) result }
     {
         check_ready::<S, L>(&mut self.connection, &self.profile)?;
         find::<S, L>(
@@ -56,17 +59,19 @@ impl<S: Alter, L: Layout> Session<S, L> {
 
     /// Terms around a start, on a register that is ready.
     pub(super) fn scan(&mut self, database: &DbName, around: Around<'_>) -> Result<Reply, Refusal>
-        ensures open { HasCleanDisk (state S.Store self.new.connection) → OnOk result (StaysOpen (state S.Store self.old.connection) (state S.Store self.new.connection)) }
-        ensures reads { HasCleanDisk (state S.Store self.new.connection) → ChangesNothing (state S.Store self.old.connection) (state S.Store self.new.connection) }
-        ensures refused { HasCleanDisk (state S.Store self.new.connection) → OnErr result (ChangesNothing (state S.Store self.old.connection) (state S.Store self.new.connection)) }
-        ensures endures { HasCleanDisk (state S.Store self.new.connection) → IfErr result (EnduresRefusal (state S.Store self.old.connection) (state S.Store self.new.connection)) }
+        ensures call { Commanded (state S.Store self.old.connection) (state S.Store self.new.connection) result }
+        ensures reads { HasCleanDisk (state S.Store self.new.connection)
+            → ChangesNothing (state S.Store self.old.connection) (state S.Store self.new.connection) }
         ensures survives { Survives (state S.Store self.old.connection) (state S.Store self.new.connection) (λ _. ⊥) }
         ensures under { (self.new.profile ≡ self.old.profile) × (self.new.limits ≡ self.old.limits) }
         ensures serves { HasCleanDisk (state S.Store self.new.connection)
-            → ScansFrom L.holds (conditions L.version self.old.profile self.old.limits) (name_bytes database.now) around.entry.query.now around.entry.number around.entry.position (state S.Store self.old.connection) (state S.Store self.new.connection) result }
+            → ScansFrom (conditions (version_of L.format) self.old.profile self.old.limits)
+            (name_bytes database.now) around.entry.query.now around.entry.number around.entry.position (state S.Store self.old.connection)
+            (state S.Store self.new.connection) result }
         ensures unread { NoReadFault result }
         ensures alone { HasCleanDisk (state S.Store self.new.connection)
-            → Scans L.holds self.old.profile (name_bytes database.now) around.entry.query.now around.entry.number around.entry.position (state S.Store self.old.connection) result }
+            → Scans L.format self.old.profile (name_bytes database.now) around.entry.query.now around.entry.number around.entry.position
+            (state S.Store self.old.connection) result }
     {
         check_ready::<S, L>(&mut self.connection, &self.profile)?;
         scan::<S, L>(
@@ -81,14 +86,14 @@ impl<S: Alter, L: Layout> Session<S, L> {
 
     /// A command that is not there yet is refused, on a register that is ready.
     pub(super) fn wait(&mut self) -> Result<Reply, Refusal>
-        ensures open { HasCleanDisk (state S.Store self.new.connection) → OnOk result (StaysOpen (state S.Store self.old.connection) (state S.Store self.new.connection)) }
-        ensures reads { HasCleanDisk (state S.Store self.new.connection) → ChangesNothing (state S.Store self.old.connection) (state S.Store self.new.connection) }
-        ensures refused { HasCleanDisk (state S.Store self.new.connection) → OnErr result (ChangesNothing (state S.Store self.old.connection) (state S.Store self.new.connection)) }
-        ensures endures { HasCleanDisk (state S.Store self.new.connection) → IfErr result (EnduresRefusal (state S.Store self.old.connection) (state S.Store self.new.connection)) }
+        ensures call { Commanded (state S.Store self.old.connection) (state S.Store self.new.connection) result }
+        ensures reads { HasCleanDisk (state S.Store self.new.connection)
+            → ChangesNothing (state S.Store self.old.connection) (state S.Store self.new.connection) }
         ensures survives { Survives (state S.Store self.old.connection) (state S.Store self.new.connection) (λ _. ⊥) }
         ensures under { (self.new.profile ≡ self.old.profile) × (self.new.limits ≡ self.old.limits) }
         ensures serves { HasCleanDisk (state S.Store self.new.connection)
-            → Serves L.holds (conditions L.version self.old.profile self.old.limits) Always (waited (conditions L.version self.old.profile self.old.limits)) (state S.Store self.old.connection) (state S.Store self.new.connection) result }
+            → Serves Always (waited (conditions (version_of L.format) self.old.profile self.old.limits))
+            (state S.Store self.old.connection) (state S.Store self.new.connection) result }
         ensures unread { NoReadFault result }
     {
         check_ready::<S, L>(&mut self.connection, &self.profile)?;

@@ -10,7 +10,7 @@ type Single = (u32, usize, &'static str, &'static str);
 /// Each diagnostic but 116, which another profile gives, and 5, whose term is long.
 const SINGLES: [Single; 13] = [
     (18, 0, "r", "@set r"),
-    (110, 0, "@prox", "@prox 0 1 0 2 k 2 a b"),
+    (110, 0, "@prox", "@prox 0 1 0 2 k 2 a @set r"),
     (229, 14, "numeric", "@term numeric x"),
     (121, 16, "exp-1", "@attr exp-1 1=4 x"),
     (113, 10, "7", "@attr 7=1 x"),
@@ -28,9 +28,10 @@ const SINGLES: [Single; 13] = [
 pub(super) const NEIGHBOURS: &[Row] = &[
     ("@set r", "18 at 0: r"),
     ("@prox 0 1 0 2 k 2 @set r x", "110 at 0: @prox"),
-    ("@and @set r @prox 0 1 0 2 k 2 a b", "18 at 5: r"),
-    ("@term numeric @prox 0 1 0 2 k 2 a b", "110 at 14: @prox"),
-    ("@prox 0 1 0 2 k 2 @term numeric a b", "110 at 0: @prox"),
+    ("@and @set r @prox 0 1 0 2 k 3 a b", "18 at 5: r"),
+    ("@term numeric @prox 0 1 0 2 k 3 a b", "110 at 14: 3"),
+    ("@prox 0 1 0 2 k 3 @term numeric a b", "110 at 0: 3"),
+    ("@prox 0 1 0 2 k 2 @term numeric a b", "229 at 32: numeric"),
     ("@term numeric @attr exp-1 1=4 x", "229 at 30: numeric"),
     ("@attr exp-1 1=4 @term numeric x", "229 at 30: numeric"),
     ("@attr exp-1 7=4 x", "121 at 16: exp-1"),
@@ -66,7 +67,9 @@ pub(super) const UNTIED_NEIGHBOURS: &[Row] = &[
 ];
 
 /// The same with a term of 65 words, of which this stands before it.
-const BEFORE_WORDS: [Row; 4] = [
+const BEFORE_WORDS: [Row; 6] = [
+    ("@prox 0 1 0 2 k 2 a ", "5 at 20"),
+    ("@prox 0 1 0 2 k 2 a @attr 6=2 ", "5 at 30"),
     ("@attr 6=4 ", "122 at 10: 4"),
     ("@attr 2=4 @attr 5=1 ", "5 at 20"),
     ("@attr 1=31 ", "5 at 11"),

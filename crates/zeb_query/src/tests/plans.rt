@@ -1,7 +1,7 @@
 //! What the plans of queries are, from worked examples.
 
 use super::{PROFILE, Row};
-use crate::{PairPlan, Plan, TermPlan, plan, read_pqf};
+use crate::{NearPlan, PairPlan, Plan, TermPlan, plan, read_pqf};
 use std::alloc::{AllocError, Global};
 use std::test::Fail;
 use zeb_profile::Profile;
@@ -40,9 +40,15 @@ fn term_line(alloc: Global, term: &TermPlan) -> Result<String, AllocError> {
         TermPlan::Ordered {
             index,
             register,
-            relation,
+            order,
             start,
-        } => format!(in alloc; "ordered {index} {register} {relation:?} {start}"),
+        } => {
+            let start = match start {
+                Some(start) => start.as_str(),
+                None => "no word",
+            };
+            format!(in alloc; "ordered {index} {register} {order:?} {start}")
+        }
         TermPlan::Complete { index, pattern } => words_line(
             alloc,
             "complete",
@@ -72,11 +78,26 @@ fn pair_line(alloc: Global, pair: &PairPlan) -> Result<String, AllocError> {
     format!(in alloc; "{operator:?}({left}, {right})")
 }
 
+fn near_line(alloc: Global, near: &NearPlan) -> Result<String, AllocError> {
+    let index = near.index;
+    let left = near.left.literal().unwrap_or("*");
+    let right = near.right.literal().unwrap_or("*");
+    let distance = near.separation.distance;
+    let order = if near.separation.ordered {
+        "ordered"
+    } else {
+        "any order"
+    };
+    let relation = near.separation.relation;
+    format!(in alloc; "near {index} {left} {right} {relation:?} {distance} {order}")
+}
+
 #[cycle(plan_text)]
 fn plan_text(alloc: Global, plan: &Plan) -> Result<String, AllocError> {
     match plan {
         Plan::Term(term) => term_line(alloc, term),
         Plan::Pair(pair) => pair_line(alloc, pair),
+        Plan::Near(near) => near_line(alloc, near),
     }
 }
 
@@ -115,7 +136,8 @@ const PLANS: &[Row] = &[
         "ordered 0 p GreaterOrEqual m d",
     ),
     ("@attr 1=4 @attr 2=5 Dick", "ordered 0 w Greater dick"),
-    ("@attr 2=1 \"\"", "ordered 2 w Less "),
+    ("@attr 2=1 \"\"", "ordered 2 w Less no word"),
+    ("@attr 2=5 \" ,; \"", "ordered 2 w Greater no word"),
     ("@attr 2=103 \"\"", "always 2 w"),
     ("@attr 1=4 @attr 2=103 @attr 6=2 x", "always 0 p"),
     ("@attr 1=31 @attr 2=103 @attr 4=109 x", "always 1 n"),
@@ -133,6 +155,42 @@ const PLANS: &[Row] = &[
     (
         "@attr 1=4 @and a @attr 1=title b",
         "And(phrase 0 a, phrase 0 b)",
+    ),
+    (
+        "@prox 0 1 0 1 k 2 moby dick",
+        "near 2 moby dick Less 1 any order",
+    ),
+    (
+        "@prox 0 1 1 2 k 2 dick moby",
+        "near 2 dick moby LessOrEqual 1 ordered",
+    ),
+    (
+        "@prox 0 000000000 0 3 known 2 moby moby",
+        "near 2 moby moby Equal 0 any order",
+    ),
+    (
+        "@prox 0 007 1 4 k 2 or whale",
+        "near 2 or whale GreaterOrEqual 7 ordered",
+    ),
+    (
+        "@prox 0 999999999 1 5 k 2 Or, /WHALE/",
+        "near 2 or whale Greater 999999999 ordered",
+    ),
+    (
+        "@prox 0 1 1 6 k 2 or whale",
+        "near 2 or whale NotEqual 1 ordered",
+    ),
+    (
+        "@attr 1=4 @prox 0 1 1 2 known 2 moby @attr 5=1 di",
+        "near 0 moby * LessOrEqual 1 ordered",
+    ),
+    (
+        "@prox 0 1 0 2 k 2 @attr 1=4 moby @attr 1=Title dick",
+        "near 0 moby dick LessOrEqual 1 any order",
+    ),
+    (
+        "@not @prox 0 1 0 2 k 2 a b c",
+        "Not(near 2 a b LessOrEqual 1 any order, phrase 2 c)",
     ),
 ];
 

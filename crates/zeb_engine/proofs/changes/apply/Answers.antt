@@ -7,6 +7,7 @@ use Rattle.zeb_engine.specs.declared.refusals.Refusal.{Refusal}
 use Rattle.zeb_engine.specs.declared.refusals.Refusal.TheVariants.{ReadFault}
 use Rattle.zeb_engine.specs.declared.replies.Reply.TheVariants as reply
 use Rattle.zeb_engine.specs.Changing.{BeginsWith, last_of}
+use Rattle.zeb_engine.specs.Conditions.{AreSessions}
 use Rattle.zeb_engine.specs.Folding.{at_first, Progress}
 use Rattle.zeb_engine.specs.NameOf.{name_bytes}
 use Rattle.zeb_engine.specs.Outcomes.{register_refusal}
@@ -17,9 +18,11 @@ use Rattle.zeb_engine.proofs.TransactionLemmas.{kept_then, goes_on}
 use Rattle.zeb_engine.proofs.UnderWay.{fault_fails}
 use Rattle.zeb_engine.proofs.WriteSteps.{Leads}
 use Rattle.zeb_engine.proofs.changes.apply.Goals as goal
+use Rattle.zeb_register.specs.Formats.{version_of}
+use Rattle.zeb_register.proofs.FormatLemmas.{registers_stay}
 
 pub returns-in_err-fold_files-clause-works : goal.returns-in_err-fold_files-clause-works
-returns-in_err-fold_files-clause-works g c = λ clean inside opened texts told fine version.
+returns-in_err-fold_files-clause-works g c = λ clean inside opened texts told fine.
     let old = state g.S.Store c.args.tx.now.conn.now in
     let mid = state g.S.Store c.database_put.new.tx.conn.now in
     let new = state g.S.Store c.fold_files.new.tx.conn.now in
@@ -27,8 +30,9 @@ returns-in_err-fold_files-clause-works g c = λ clean inside opened texts told f
     let kind = change.setting.kind in
     let name = name_bytes change.name.now in
     let id = c.in_ok-database.database.0 in
-    let conditions = conditions_of version change.setting in
-    let holds = g.L.Layout.holds in
+    let conditions = conditions_of (version_of g.L.Layout.format) change.setting in
+    let format = g.L.Layout.format in
+    let session : AreSessions format conditions = record { version_is = refl; sound = c.is_of_some_text.ensures } in
     let refusal = c.in_err-fold_files.field-0.0 in
     let outcome = turned conditions (changed_by_files conditions kind name (splits_of texts)) in
     let fits = BeginsWith kind name change.found conditions in
@@ -36,19 +40,19 @@ returns-in_err-fold_files-clause-works g c = λ clean inside opened texts told f
     let first : HasCleanDisk mid = omega (arith, c.fold_files.ensures.crash.clean) in
     let on = c.in_ok-database.ensures.ok first inside in
     let kept : KeepsCommit old new = kept_then old mid new (goes_on old mid on) (c.in_err-fold_files.ensures.stays clean on.mode) in
-    subst (Works holds conditions fits outcome old new) (sym result) (
+    subst (Works fits outcome old new) (sym result) (
       kept,
       λ before known sees.
           let at = sees opened in
           let put = subst₂ (λ n (l : ℕ). Changes databases_tree (PutsDatabase id n (pos l)) old mid) c.as_str-name.ensures c.last-last.ensures (c.in_ok-database.ensures.put first inside at.0) in
-          let b = begun holds g.met.L.Layout.stays conditions kind name before old mid at.1 id change.found (known opened) put in
-          let way = first_way holds g.met.L.Layout.stays conditions kind name before mid id (last_of change.found) b in
-          let met = c.in_err-fold_files.ensures.folded clean on.mode texts told fine version b.image.records_of (at_first b.start) (record { last = c.last-last.ensures ∙ b.last_is; taken = c.new.ensures.0; inserted = c.new.ensures.1; updated = c.new.ensures.2; deleted = c.new.ensures.3 }) way in
-          fold_refused holds g.met.L.Layout.stays conditions kind name before mid id (last_of change.found) b (splits_of texts) refusal (λ (q : Progress) (x : Unit {0}). IsFolded holds conditions.profile id b.image.records_of mid new c.fold_files.new.fold q) met,
+          let b = begun format (registers_stay g.L.Layout.format) conditions session kind name change.name.now.named before old mid at.1 id change.found (known opened) put in
+          let way = first_way format (registers_stay g.L.Layout.format) conditions session kind name change.name.now.named before mid id (last_of change.found) b in
+          let met = c.in_err-fold_files.ensures.folded clean on.mode texts told fine (version_of g.L.Layout.format) b.image.records_of (at_first b.start) (record { last = c.last-last.ensures ∙ b.last_is; taken = c.new.ensures.0; inserted = c.new.ensures.1; updated = c.new.ensures.2; deleted = c.new.ensures.3 }) way in
+          fold_refused format (registers_stay g.L.Layout.format) conditions session kind name change.name.now.named before mid id (last_of change.found) b (splits_of texts) refusal (λ (q : Progress) (x : Unit {0}). IsFolded format conditions.profile id b.image.records_of mid new c.fold_files.new.fold q) met,
     )
 
 pub returns-in_err-database_put-clause-works : goal.returns-in_err-database_put-clause-works
-returns-in_err-database_put-clause-works g c = λ clean inside opened texts told fine version.
+returns-in_err-database_put-clause-works g c = λ clean inside opened texts told fine.
     let old = state g.S.Store c.args.tx.now.conn.now in
     let mid = state g.S.Store c.database_put.new.tx.conn.now in
     let now = state g.S.Store c.fold_files.new.tx.conn.now in
@@ -57,8 +61,9 @@ returns-in_err-database_put-clause-works g c = λ clean inside opened texts told
     let kind = change.setting.kind in
     let name = name_bytes change.name.now in
     let id = c.in_ok-database.database.0 in
-    let conditions = conditions_of version change.setting in
-    let holds = g.L.Layout.holds in
+    let conditions = conditions_of (version_of g.L.Layout.format) change.setting in
+    let format = g.L.Layout.format in
+    let session : AreSessions format conditions = record { version_is = refl; sound = c.is_of_some_text.ensures } in
     let broken = c.in_err-database_put.field-0.0 in
     let outcome = turned conditions (changed_by_files conditions kind name (splits_of texts)) in
     let fits = BeginsWith kind name change.found conditions in
@@ -68,20 +73,20 @@ returns-in_err-database_put-clause-works g c = λ clean inside opened texts told
     let on = c.in_ok-database.ensures.ok first inside in
     let further = c.in_ok-fold_files.ensures.stays second on.mode in
     let kept : KeepsCommit old new = kept_then old mid new (goes_on old mid on) (kept_then mid now new further (c.in_err-database_put.ensures.err clean further.mode)) in
-    subst (Works holds conditions fits outcome old new) (sym result) (
+    subst (Works fits outcome old new) (sym result) (
       kept,
       λ before known sees.
           let at = sees opened in
           let put = subst₂ (λ n (l : ℕ). Changes databases_tree (PutsDatabase id n (pos l)) old mid) c.as_str-name.ensures c.last-last.ensures (c.in_ok-database.ensures.put first inside at.0) in
-          let b = begun holds g.met.L.Layout.stays conditions kind name before old mid at.1 id change.found (known opened) put in
-          let way = first_way holds g.met.L.Layout.stays conditions kind name before mid id (last_of change.found) b in
-          let met = c.in_ok-fold_files.ensures.folded second on.mode texts told fine version b.image.records_of (at_first b.start) (record { last = c.last-last.ensures ∙ b.last_is; taken = c.new.ensures.0; inserted = c.new.ensures.1; updated = c.new.ensures.2; deleted = c.new.ensures.3 }) way in
-          let done = fold_done holds g.met.L.Layout.stays conditions kind name before mid id (last_of change.found) b (splits_of texts) (λ (q : Progress) (x : Unit {0}). IsFolded holds conditions.profile id b.image.records_of mid now c.fold_files.new.fold q) tt met in
+          let b = begun format (registers_stay g.L.Layout.format) conditions session kind name change.name.now.named before old mid at.1 id change.found (known opened) put in
+          let way = first_way format (registers_stay g.L.Layout.format) conditions session kind name change.name.now.named before mid id (last_of change.found) b in
+          let met = c.in_ok-fold_files.ensures.folded second on.mode texts told fine (version_of g.L.Layout.format) b.image.records_of (at_first b.start) (record { last = c.last-last.ensures ∙ b.last_is; taken = c.new.ensures.0; inserted = c.new.ensures.1; updated = c.new.ensures.2; deleted = c.new.ensures.3 }) way in
+          let done = fold_done format (registers_stay g.L.Layout.format) conditions session kind name change.name.now.named before mid id (last_of change.found) b (splits_of texts) (λ (q : Progress) (x : Unit {0}). IsFolded format conditions.profile id b.image.records_of mid now c.fold_files.new.fold q) tt met in
           inl (fault_fails broken (λ is. c.in_err-database_put.ensures.honest clean further.mode done.2.under_way.0 (ap Err is))),
     )
 
 pub returns-clause-works : goal.returns-clause-works
-returns-clause-works g c = λ clean inside opened texts told fine version.
+returns-clause-works g c = λ clean inside opened texts told fine.
     let old = state g.S.Store c.args.tx.now.conn.now in
     let mid = state g.S.Store c.database_put.new.tx.conn.now in
     let now = state g.S.Store c.fold_files.new.tx.conn.now in
@@ -90,8 +95,9 @@ returns-clause-works g c = λ clean inside opened texts told fine version.
     let kind = change.setting.kind in
     let name = name_bytes change.name.now in
     let id = c.in_ok-database.database.0 in
-    let conditions = conditions_of version change.setting in
-    let holds = g.L.Layout.holds in
+    let conditions = conditions_of (version_of g.L.Layout.format) change.setting in
+    let format = g.L.Layout.format in
+    let session : AreSessions format conditions = record { version_is = refl; sound = c.is_of_some_text.ensures } in
     let fold = c.fold_files.new.fold in
     let second : HasCleanDisk now = omega (arith, c.database_put-2.ensures.crash.clean) in
     let first : HasCleanDisk mid = omega (arith, c.fold_files.ensures.crash.clean) in
@@ -108,13 +114,13 @@ returns-clause-works g c = λ clean inside opened texts told fine version.
       },
       λ before known store image.
           let put = subst₂ (λ n (l : ℕ). Changes databases_tree (PutsDatabase id n (pos l)) old mid) c.as_str-name.ensures c.last-last.ensures (c.in_ok-database.ensures.put first inside store) in
-          let b = begun holds g.met.L.Layout.stays conditions kind name before old mid image id change.found known put in
-          let way = first_way holds g.met.L.Layout.stays conditions kind name before mid id (last_of change.found) b in
-          let met = c.in_ok-fold_files.ensures.folded second on.mode texts told fine version b.image.records_of (at_first b.start) (record { last = c.last-last.ensures ∙ b.last_is; taken = c.new.ensures.0; inserted = c.new.ensures.1; updated = c.new.ensures.2; deleted = c.new.ensures.3 }) way in
-          let done = fold_done holds g.met.L.Layout.stays conditions kind name before mid id (last_of change.found) b (splits_of texts) (λ (q : Progress) (x : Unit {0}). IsFolded holds conditions.profile id b.image.records_of mid now fold q) tt met in
+          let b = begun format (registers_stay g.L.Layout.format) conditions session kind name change.name.now.named before old mid image id change.found known put in
+          let way = first_way format (registers_stay g.L.Layout.format) conditions session kind name change.name.now.named before mid id (last_of change.found) b in
+          let met = c.in_ok-fold_files.ensures.folded second on.mode texts told fine (version_of g.L.Layout.format) b.image.records_of (at_first b.start) (record { last = c.last-last.ensures ∙ b.last_is; taken = c.new.ensures.0; inserted = c.new.ensures.1; updated = c.new.ensures.2; deleted = c.new.ensures.3 }) way in
+          let done = fold_done format (registers_stay g.L.Layout.format) conditions session kind name change.name.now.named before mid id (last_of change.found) b (splits_of texts) (λ (q : Progress) (x : Unit {0}). IsFolded format conditions.profile id b.image.records_of mid now fold q) tt met in
           let ends = subst (λ n. Changes databases_tree (PutsDatabase c.in_ok-database_put.field-0.0 n (pos fold.progress.last)) now new) c.as_str-name.ensures (c.in_ok-database_put.ensures.put clean further.mode done.2.under_way.0) in
-          subst (λ r. Leads holds conditions new r (turned conditions (changed_by_files conditions kind name (splits_of texts)) before)) (sym said)
-          (change_leads holds g.met.L.Layout.stays conditions kind name before mid id (last_of change.found) b (splits_of texts) done.0 done.1 now new fold done.2 c.in_ok-database_put.field-0.0 ends),
+          subst (λ r. Leads new r (turned conditions (changed_by_files conditions kind name (splits_of texts)) before)) (sym said)
+          (change_leads format (registers_stay g.L.Layout.format) conditions session kind name change.name.now.named before mid id (last_of change.found) b (splits_of texts) done.0 done.1 now new fold done.2 c.in_ok-database_put.field-0.0 ends),
     )
 
 pub returns-in_err-fold_files-clause-failed : goal.returns-in_err-fold_files-clause-failed

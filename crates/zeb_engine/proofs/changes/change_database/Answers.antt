@@ -13,41 +13,42 @@ use Rattle.zeb_engine.proofs.ChangeBegins.{start_met, start_refused}
 use Rattle.zeb_engine.proofs.Crashing.{survives_after}
 use Rattle.zeb_engine.proofs.Readers.{no_file_failed}
 use Rattle.zeb_engine.proofs.Serving.{keeps_still, early_serves}
+use Rattle.zeb_register.specs.Formats.{version_of}
 use Rattle.zeb_engine.proofs.changes.change_database.Goals as goal
 
 pub returns-in_err-found-clause-serves : goal.returns-in_err-found-clause-serves
-returns-in_err-found-clause-serves g c = λ clean opened texts told fine version.
+returns-in_err-found-clause-serves g c = λ clean opened texts told fine.
     let old = state g.S.Store c.args.connection.now in
     let new = state g.S.Store c.found_for.new.connection in
     let setting = c.args.setting in
-    let k = conditions_of version setting in
+    let k = conditions_of (version_of g.L.Layout.format) setting in
     let name = name_bytes c.args.name.now in
     let outcome = turned k (changed_by_files k setting.kind name (splits_of texts)) in
     let refusal = c.in_err-found.field-0.0 in
     let result : c.from_residual.result ≡ Err refusal = search rules in
-    subst (Serves g.L.Layout.holds k (IsReady k) outcome old new) (sym result)
-    (early_serves g.L.Layout.holds k outcome (IsReady k) old new refusal (c.found_for.ensures.same clean) (λ before fits keeps.
+    subst (Serves (IsReady k) outcome old new) (sym result)
+    (early_serves outcome (IsReady k) old new refusal (c.found_for.ensures.same clean) (λ before fits keeps.
     let ready = fits opened in
     start_refused {X = Option Database} (λ (base : Base) found. BeginsWith setting.kind name found k old.now.trees before × IsTrue new.is_open) k before name ready.0 ready.1 setting.kind (splits_of texts) refusal
     (c.in_err-found.ensures.begins clean opened k before ready.0 ready.1 keeps)))
 
 pub returns-in_err-buffer-clause-serves : goal.returns-in_err-buffer-clause-serves
-returns-in_err-buffer-clause-serves g c = λ clean opened texts told fine version.
+returns-in_err-buffer-clause-serves g c = λ clean opened texts told fine.
     let old = state g.S.Store c.args.connection.now in
     let new = state g.S.Store c.found_for.new.connection in
     let setting = c.args.setting in
-    let k = conditions_of version setting in
+    let k = conditions_of (version_of g.L.Layout.format) setting in
     let outcome = turned k (changed_by_files k setting.kind (name_bytes c.args.name.now) (splits_of texts)) in
     let result : c.from_residual-in_err-buffer.result ≡ Err Memory = search rules in
-    subst (Serves g.L.Layout.holds k (IsReady k) outcome old new) (sym result)
-    (early_serves g.L.Layout.holds k outcome (IsReady k) old new Memory (c.found_for.ensures.same clean) (λ before fits keeps. inl (inr refl)))
+    subst (Serves (IsReady k) outcome old new) (sym result)
+    (early_serves outcome (IsReady k) old new Memory (c.found_for.ensures.same clean) (λ before fits keeps. inl (inr refl)))
 
 pub returns-clause-serves : goal.returns-clause-serves
-returns-clause-serves g c = λ clean opened texts told fine version before fits keeps.
+returns-clause-serves g c = λ clean opened texts told fine before fits keeps.
     let old = state g.S.Store c.args.connection.now in
     let mid = state g.S.Store c.found_for.new.connection in
     let setting = c.args.setting in
-    let k = conditions_of version setting in
+    let k = conditions_of (version_of g.L.Layout.format) setting in
     let name = name_bytes c.args.name.now in
     let found = c.in_ok-found.found in
     let first : HasCleanDisk mid = omega (arith, c.transact.ensures.survives.clean) in
@@ -56,7 +57,7 @@ returns-clause-serves g c = λ clean opened texts told fine version before fits 
     (c.in_ok-found.ensures.begins first opened k before ready.0 ready.1 keeps) in
     let nothing = c.found_for.ensures.same first in
     let begins = subst (λ (d : Contents). BeginsWith setting.kind name found k d.trees before) (sym (nothing known.1.1).1) known.1.0 in
-    c.transact.ensures.serves clean known.1.1 texts told fine version before (λ _. begins) (keeps_still g.L.Layout.holds k before old mid nothing keeps)
+    c.transact.ensures.serves clean known.1.1 texts told fine before (λ _. begins) (keeps_still before old mid nothing keeps)
 
 pub returns-in_err-found-clause-failed : goal.returns-in_err-found-clause-failed
 returns-in_err-found-clause-failed g c = λ none file at. absurd (no_file_failed g.R.Source.has_failed c.args.readers.now none file at)
@@ -72,12 +73,12 @@ returns-clause-survives g c =
     let setting = c.args.setting in
     let name = name_bytes c.args.name.now in
     let found = c.in_ok-found.found in
-    survives_after old mid new _ _ c.found_for.ensures.crash c.transact.ensures.survives (λ clean db made opened texts told fine version before fits keeps.
-    let k = conditions_of version setting in
+    survives_after old mid new _ _ c.found_for.ensures.crash c.transact.ensures.survives (λ clean db made opened texts told fine before fits keeps.
+    let k = conditions_of (version_of g.L.Layout.format) setting in
     let first : HasCleanDisk mid = omega (arith, c.transact.ensures.survives.clean) in
     let ready = fits opened in
     let known = start_met {A = Base} {X = Option Database} (λ base found. BeginsWith setting.kind name found k old.now.trees before × IsTrue mid.is_open) (start_of setting.kind name (base_named name ready.0)) found
     (c.in_ok-found.ensures.begins first opened k before ready.0 ready.1 keeps) in
     let nothing = c.found_for.ensures.same first in
     let begins = subst (λ (d : Contents). BeginsWith setting.kind name found k d.trees before) (sym (nothing known.1.1).1) known.1.0 in
-    made known.1.1 texts told fine version before (λ _. begins) (keeps_still g.L.Layout.holds k before old mid nothing keeps))
+    made known.1.1 texts told fine before (λ _. begins) (keeps_still before old mid nothing keeps))

@@ -17,7 +17,7 @@ loop-nth-init g c = record {
   database = refl;
   counted = refl;
   under = λ clean mode text told version records_of p stands under_way.
-      at_first g.L.Layout.holds (conditions_of version c.args.setting.now) c.args.setting.now.kind c.args.file c.args.fold.now.progress.database.0 records_of text
+      at_first g.L.Layout.format (conditions_of version c.args.setting.now) c.args.setting.now.kind c.args.file c.args.fold.now.progress.database.0 records_of text
       (g.R.Source.remaining c.args.reader.now) (state g.S.Store c.args.tx.now.conn.now) c.args.fold.now p told stands under_way;
 }
 
@@ -27,11 +27,11 @@ returns-in_err-read_record-clause-folded g c = λ clean mode text told sound ver
     let read = c.in_err-read_record.ensures.told under.left under.remains sound in
     let said = file_folded (conditions_of version c.args.setting.now) c.args.setting.now.kind c.args.file (split_of text) p in
     let is : said ≡ Err (why_of c.in_err-read_record.field-0.0) =
-    faulty g.L.Layout.holds (conditions_of version c.args.setting.now) c.args.setting.now.kind c.args.file c.loop-nth.nth c.args.fold.now.progress.database.0 records_of said
+    faulty g.L.Layout.format (conditions_of version c.args.setting.now) c.args.setting.now.kind c.args.file c.loop-nth.nth c.args.fold.now.progress.database.0 records_of said
     (g.R.Source.remaining c.loop-nth.reader) (state g.S.Store c.args.tx.now.conn.now) (state g.S.Store c.loop-nth.tx.conn.now) c.loop-nth.fold under c.in_err-read_record.field-0.0 c.read_record.new.buffer
     (g.R.Source.remaining c.read_record.new.reader) read in
     let result : c.from_residual.result ≡ Err c.in_err-read_record.field-0.0 = search rules in
-    subst (λ r. Meets {A = Progress} {X = Unit {0}} (Good g.L.Layout.holds (conditions_of version c.args.setting.now) c.args.fold.now.progress.database.0 records_of (state g.S.Store c.args.tx.now.conn.now) (state g.S.Store c.loop-nth.tx.conn.now) c.loop-nth.fold) said r)
+    subst (λ r. Meets {A = Progress} {X = Unit {0}} (Good g.L.Layout.format (conditions_of version c.args.setting.now) c.args.fold.now.progress.database.0 records_of (state g.S.Store c.args.tx.now.conn.now) (state g.S.Store c.loop-nth.tx.conn.now) c.loop-nth.fold) said r)
     (sym result) (inr is)
 
 pub returns-then-not-branch-clause-folded : goal.returns-then-not-branch-clause-folded
@@ -40,7 +40,7 @@ returns-then-not-branch-clause-folded g c = λ clean mode text told sound versio
     let none : c.in_ok-read_record.field-0 ≡ false = search rules in
     let read = subst (λ b. ReadsNext c.args.file c.loop-nth.nth (next_of under.left) (Ok b) c.read_record.new.buffer (g.R.Source.remaining c.read_record.new.reader)) none (c.in_ok-read_record.ensures.told under.left under.remains sound) in
     let said = file_folded (conditions_of version c.args.setting.now) c.args.setting.now.kind c.args.file (split_of text) p in
-    ended g.L.Layout.holds (conditions_of version c.args.setting.now) c.args.setting.now.kind c.args.file c.loop-nth.nth c.args.fold.now.progress.database.0 records_of said
+    ended g.L.Layout.format (conditions_of version c.args.setting.now) c.args.setting.now.kind c.args.file c.loop-nth.nth c.args.fold.now.progress.database.0 records_of said
     (g.R.Source.remaining c.loop-nth.reader) (state g.S.Store c.args.tx.now.conn.now) (state g.S.Store c.loop-nth.tx.conn.now) c.loop-nth.fold under c.read_record.new.buffer (g.R.Source.remaining c.read_record.new.reader) read
 
 pub returns-in_err-take_record-clause-folded : goal.returns-in_err-take_record-clause-folded
@@ -56,14 +56,14 @@ returns-in_err-take_record-clause-folded g c = λ clean mode text told sound ver
     let some : c.in_ok-read_record.field-0 ≡ true = search rules in
     let read = subst (λ b. ReadsNext c.args.file c.loop-nth.nth (next_of under.left) (Ok b) c.read_record.new.buffer (g.R.Source.remaining c.read_record.new.reader)) some (c.in_ok-read_record.ensures.told under.left under.remains sound) in
     let same_id : c.loop-nth.fold.progress.database.0 ≡ id = ap (λ d. d.0) c.loop-nth.invariant.database in
-    let way = subst (λ i. IsUnderWay g.L.Layout.holds setting.profile.now i records_of now under.progress.base) (sym same_id) under.is_folded.under_way in
+    let way = subst (λ i. IsUnderWay g.L.Layout.format setting.profile.now i records_of now under.progress.base) (sym same_id) under.is_folded.under_way in
     let took = c.in_err-take_record.ensures.folded clean (c.loop-nth.invariant.stays was mode).mode version records_of under.progress under.is_folded.stands way in
     let said = file_folded conditions setting.kind c.args.file (split_of text) p in
     let result : c.from_residual-in_err-take_record.result ≡ Err c.in_err-take_record.field-0.0 = search rules in
-    subst (λ r. Meets {A = Progress} {X = Unit {0}} (Good g.L.Layout.holds conditions id records_of old next c.take_record.new.fold) said r) (sym result)
+    subst (λ r. Meets {A = Progress} {X = Unit {0}} (Good g.L.Layout.format conditions id records_of old next c.take_record.new.fold) said r) (sym result)
     (elim took [
       | inl failed ↦ inl failed
-      | inr why ↦ inr (record_refused g.L.Layout.holds conditions setting.kind c.args.file c.loop-nth.nth id records_of said (g.R.Source.remaining c.loop-nth.reader) old now c.loop-nth.fold under
+      | inr why ↦ inr (record_refused g.L.Layout.format conditions setting.kind c.args.file c.loop-nth.nth id records_of said (g.R.Source.remaining c.loop-nth.reader) old now c.loop-nth.fold under
           c.read_record.new.buffer (g.R.Source.remaining c.read_record.new.reader) read _
           (subst (λ bytes. folded conditions setting.kind c.args.file c.loop-nth.nth bytes under.progress ≡ Err (why_of c.in_err-take_record.field-0.0)) c.bytes.ensures why))
     ])
@@ -89,11 +89,11 @@ loop-nth-preserved g c =
           let fine : g.R.Source.has_failed c.read_record.new.reader ≡ false = sound (g.R.Source.has_failed c.read_record.new.reader) (λ failed. let no = c.in_ok-read_record.ensures.failed failed in absurd (cc)) in
           let read = subst (λ b. ReadsNext c.args.file c.loop-nth.nth (next_of under.left) (Ok b) c.read_record.new.buffer (g.R.Source.remaining c.read_record.new.reader)) some (c.in_ok-read_record.ensures.told under.left under.remains fine) in
           let same_id : c.loop-nth.fold.progress.database.0 ≡ id = ap (λ d. d.0) c.loop-nth.invariant.database in
-          let way = subst (λ i. IsUnderWay g.L.Layout.holds setting.profile.now i records_of now under.progress.base) (sym same_id) under.is_folded.under_way in
+          let way = subst (λ i. IsUnderWay g.L.Layout.format setting.profile.now i records_of now under.progress.base) (sym same_id) under.is_folded.under_way in
           let took = c.in_ok-take_record.ensures.folded clean (c.loop-nth.invariant.stays was mode).mode version records_of under.progress under.is_folded.stands way in
           let said = file_folded conditions setting.kind c.args.file (split_of text) p in
-          record_taken g.L.Layout.holds conditions setting.kind c.args.file c.loop-nth.nth id records_of said (g.R.Source.remaining c.loop-nth.reader) old now c.loop-nth.fold under
+          record_taken g.L.Layout.format conditions setting.kind c.args.file c.loop-nth.nth id records_of said (g.R.Source.remaining c.loop-nth.reader) old now c.loop-nth.fold under
           c.read_record.new.buffer (g.R.Source.remaining c.read_record.new.reader) read next c.take_record.new.fold
-          (subst₂ (λ i bytes. Meets {A = Progress} {X = Unit {0}} (λ q _. IsFolded g.L.Layout.holds setting.profile.now i records_of now next c.take_record.new.fold q) (folded conditions setting.kind c.args.file c.loop-nth.nth bytes under.progress) (Ok tt))
+          (subst₂ (λ i bytes. Meets {A = Progress} {X = Unit {0}} (λ q _. IsFolded g.L.Layout.format setting.profile.now i records_of now next c.take_record.new.fold q) (folded conditions setting.kind c.args.file c.loop-nth.nth bytes under.progress) (Ok tt))
           same_id c.bytes.ensures took);
     }

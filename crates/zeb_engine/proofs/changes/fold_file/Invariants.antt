@@ -21,7 +21,7 @@ invariant-loop-nth g l =
       database : l.fold.progress.database ≡ l.fn.fold.progress.database;
       counted : l.fold.tally.records + 1 ≡ l.fn.fold.tally.records + l.nth;
       under : HasCleanDisk now → IsTrue old.in_transaction → (text : List ℕ) → g.R.Source.remaining l.fn.reader ≡ Some text
-          → (version : List ℕ) (records_of : ℤ → List Kept) (p : Progress) → StandsFor l.fn.fold p → IsUnderWay g.L.Layout.holds l.setting.profile.now id records_of old p.base
-          → Under g.L.Layout.holds (conditions_of version l.setting) l.setting.kind l.file l.nth id records_of (file_folded (conditions_of version l.setting) l.setting.kind l.file (split_of text) p)
+          → (version : List ℕ) (records_of : ℤ → List Kept) (p : Progress) → StandsFor l.fn.fold p → IsUnderWay g.L.Layout.format l.setting.profile.now id records_of old p.base
+          → Under g.L.Layout.format (conditions_of version l.setting) l.setting.kind l.file l.nth id records_of (file_folded (conditions_of version l.setting) l.setting.kind l.file (split_of text) p)
           (g.R.Source.remaining l.reader) old now l.fold;
     }

@@ -21,7 +21,7 @@ loop-index-init g c = record {
   unread = λ j d behind. refl;
   fine = λ j none d. absurd (omega (arith, none));
   over = λ clean mode texts told version records_of p stands under_way.
-      before_files g.L.Layout.holds (conditions_of version c.args.setting.now) c.args.setting.now.kind texts c.args.fold.now.progress.database.0 records_of (state g.S.Store c.args.tx.now.conn.now) c.args.fold.now p stands under_way;
+      before_files g.L.Layout.format (conditions_of version c.args.setting.now) c.args.setting.now.kind texts c.args.fold.now.progress.database.0 records_of (state g.S.Store c.args.tx.now.conn.now) c.args.fold.now p stands under_way;
 }
 
 pub returns-clause-folded : goal.returns-clause-folded
@@ -31,7 +31,7 @@ returns-clause-folded g c = λ clean mode texts told fine version records_of p s
     let over = c.loop-index.invariant.over clean mode texts told version records_of p stands under_way in
     let many = as_many g.R.Source.remaining c.args.readers.now texts told in
     let none : length texts ≤ c.loop-index.index = omega (arith, c.loop-index-test.false, c.loop-index.auto.readers, many) in
-    all_files g.L.Layout.holds conditions c.args.setting.now.kind c.loop-index.index texts id records_of (files_folded conditions c.args.setting.now.kind 1 (splits_of texts) p)
+    all_files g.L.Layout.format conditions c.args.setting.now.kind c.loop-index.index texts id records_of (files_folded conditions c.args.setting.now.kind 1 (splits_of texts) p)
     (state g.S.Store c.args.tx.now.conn.now) (state g.S.Store c.loop-index.tx.conn.now) c.loop-index.fold over none
 
 pub returns-in_err-fold_file-clause-folded : goal.returns-in_err-fold_file-clause-folded
@@ -53,14 +53,14 @@ returns-in_err-fold_file-clause-folded g c = λ clean mode texts told fine versi
     let sound_one : g.R.Source.has_failed c.fold_file.new.reader ≡ false =
     ap g.R.Source.has_failed (sym taken) ∙ fine_at g.R.Source.has_failed (slice_set readers index c.fold_file.new.reader) index c.fold_file.new.reader fine within in
     let same_id : c.loop-index.fold.progress.database.0 ≡ id = ap (λ d. d.0) c.loop-index.invariant.database in
-    let way = subst (λ i. IsUnderWay g.L.Layout.holds setting.profile.now i records_of now over.progress.base) (sym same_id) over.is_folded.under_way in
+    let way = subst (λ i. IsUnderWay g.L.Layout.format setting.profile.now i records_of now over.progress.base) (sym same_id) over.is_folded.under_way in
     let took = c.in_err-fold_file.ensures.folded clean (c.loop-index.invariant.stays was mode).mode text.0 (ap g.R.Source.remaining (sym c.index-readers-index.is) ∙ text.1) sound_one version records_of over.progress over.is_folded.stands way in
     let said = files_folded conditions setting.kind 1 (splits_of texts) p in
     let result : c.from_residual.result ≡ Err c.in_err-fold_file.field-0.0 = search rules in
-    subst (λ r. Meets {A = Progress} {X = Unit {0}} (Good g.L.Layout.holds conditions id records_of old next c.fold_file.new.fold) said r) (sym result)
+    subst (λ r. Meets {A = Progress} {X = Unit {0}} (Good g.L.Layout.format conditions id records_of old next c.fold_file.new.fold) said r) (sym result)
     (elim took [
       | inl failed ↦ inl failed
-      | inr why ↦ inr (file_refused g.L.Layout.holds conditions setting.kind index texts id records_of said old now c.loop-index.fold over text.0 text.2 (why_of c.in_err-fold_file.field-0.0) why)
+      | inr why ↦ inr (file_refused g.L.Layout.format conditions setting.kind index texts id records_of said old now c.loop-index.fold over text.0 text.2 (why_of c.in_err-fold_file.field-0.0) why)
     ])
 
 pub loop-index-preserved : goal.loop-index-preserved
@@ -91,11 +91,11 @@ loop-index-preserved g c =
           let text = text_at g.R.Source.remaining c.args.readers.now texts index c.index-readers-index.result told (omega (arith, c.loop-index-test.true, c.loop-index.auto.readers)) here in
           let fine : g.R.Source.has_failed c.fold_file.new.reader ≡ false = sound (g.R.Source.has_failed c.fold_file.new.reader) (λ failed. let no = c.in_ok-fold_file.ensures.failed failed in absurd (cc)) in
           let same_id : c.loop-index.fold.progress.database.0 ≡ id = ap (λ d. d.0) c.loop-index.invariant.database in
-          let way = subst (λ i. IsUnderWay g.L.Layout.holds setting.profile.now i records_of now over.progress.base) (sym same_id) over.is_folded.under_way in
+          let way = subst (λ i. IsUnderWay g.L.Layout.format setting.profile.now i records_of now over.progress.base) (sym same_id) over.is_folded.under_way in
           let took = c.in_ok-fold_file.ensures.folded clean (c.loop-index.invariant.stays was mode).mode text.0 (ap g.R.Source.remaining (sym c.index-readers-index.is) ∙ text.1) fine version records_of over.progress over.is_folded.stands way in
           let said = files_folded conditions setting.kind 1 (splits_of texts) p in
-          file_taken g.L.Layout.holds conditions setting.kind index texts id records_of said old now c.loop-index.fold over text.0 text.2 next c.fold_file.new.fold
-          (subst (λ i. Meets {A = Progress} {X = Unit {0}} (λ q _. IsFolded g.L.Layout.holds setting.profile.now i records_of now next c.fold_file.new.fold q) (file_folded conditions setting.kind (index + 1) (split_of text.0) over.progress) (Ok tt))
+          file_taken g.L.Layout.format conditions setting.kind index texts id records_of said old now c.loop-index.fold over text.0 text.2 next c.fold_file.new.fold
+          (subst (λ i. Meets {A = Progress} {X = Unit {0}} (λ q _. IsFolded g.L.Layout.format setting.profile.now i records_of now next c.fold_file.new.fold q) (file_folded conditions setting.kind (index + 1) (split_of text.0) over.progress) (Ok tt))
           same_id took);
     }
 

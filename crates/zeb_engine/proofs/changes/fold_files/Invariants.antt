@@ -22,6 +22,6 @@ invariant-loop-index g l =
       unread : (j : ℕ) (d : g.row.R.Denot) → l.index ≤ j → get_or l.readers j d ≡ get_or l.fn.readers j d;
       fine : (j : ℕ) → j < l.index → (d : g.row.R.Denot) → g.R.Source.has_failed (get_or l.readers j d) ≡ false;
       over : HasCleanDisk now → IsTrue old.in_transaction → (texts : List (List ℕ)) → map g.R.Source.remaining l.fn.readers ≡ map Some texts
-          → (version : List ℕ) (records_of : ℤ → List Kept) (p : Progress) → StandsFor l.fn.fold p → IsUnderWay g.L.Layout.holds l.setting.profile.now id records_of old p.base
-          → Over g.L.Layout.holds (conditions_of version l.setting) l.setting.kind l.index texts id records_of (files_folded (conditions_of version l.setting) l.setting.kind 1 (splits_of texts) p) old now l.fold;
+          → (version : List ℕ) (records_of : ℤ → List Kept) (p : Progress) → StandsFor l.fn.fold p → IsUnderWay g.L.Layout.format l.setting.profile.now id records_of old p.base
+          → Over g.L.Layout.format (conditions_of version l.setting) l.setting.kind l.index texts id records_of (files_folded (conditions_of version l.setting) l.setting.kind 1 (splits_of texts) p) old now l.fold;
     }

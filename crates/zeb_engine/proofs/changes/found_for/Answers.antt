@@ -10,7 +10,8 @@ use Rattle.zeb_engine.specs.NameOf.{name_bytes}
 use Rattle.zeb_engine.specs.Outcomes.{register_refusal}
 use Rattle.zeb_engine.specs.Steps.{start_of}
 use Rattle.zeb_engine.proofs.ChangeBegins.{update_begins}
-use Rattle.zeb_engine.proofs.Listed.{counted, fault_meets, image_ready}
+use Rattle.zeb_engine.proofs.Listed.{counted, fault_meets}
+use Rattle.zeb_engine.proofs.ReadyImages.{image_some}
 use Rattle.zeb_engine.proofs.changes.found_for.Goals as goal
 
 pub returns-in_err-database_of-in-Update-clause-begins : goal.returns-in_err-database_of-in-Update-clause-begins
@@ -21,10 +22,10 @@ returns-in_err-database_of-in-Update-clause-begins g c = λ clean opened under b
     let fault = c.in_err-database_of-in-Update.field-0.0 in
     let told : c.from_residual.result ≡ Err (register_refusal fault) = search rules in
     let at = keeps opened in
-    let all = (image_ready g.L.Layout.holds under old.now.trees before bases is at.0.1).2 refl refl in
+    let all = image_some under old.now.trees before bases is at.0.1 in
     rw told (fault_meets {X = Option Database} (λ (base : Base) found. BeginsWith kind name found under old.now.trees before × IsTrue (state g.S.Store c.database_of.new.conn).is_open) (start_of kind name (base_named name bases)) fault (λ is_damaged.
     let damaged : ◌≡◌ {A = Result (Option Database) RegFault} (Err fault) (Err register.Damaged) = ap Err is_damaged in
-    c.in_err-database_of-in-Update.ensures.honest clean at.0.0 damaged (counted old.now.trees bases all.2.id_of all.2.listed c.as_str.result.now)))
+    c.in_err-database_of-in-Update.ensures.honest clean at.0.0 damaged (counted old.now.trees bases all.1.image.id_of all.1.image.listed c.as_str.result.now)))
 
 pub returns-in_ok-database_of-in-Update-clause-begins : goal.returns-in_ok-database_of-in-Update-clause-begins
 returns-in_ok-database_of-in-Update-clause-begins g c = λ clean opened under before bases is keeps.
@@ -34,4 +35,4 @@ returns-in_ok-database_of-in-Update-clause-begins g c = λ clean opened under be
     let at = keeps opened in
     let still : IsTrue (state g.S.Store c.database_of.new.conn).is_open = (c.in_ok-database_of-in-Update.ensures.ok clean).0.is_open in
     let known = subst (λ n. IsDatabaseOf old.now.trees n found) c.as_str.ensures (c.in_ok-database_of-in-Update.ensures.value clean at.0.0) in
-    rw c.in-Update.is (update_begins g.L.Layout.holds under old before bases is at.0.1 name (IsTrue (state g.S.Store c.database_of.new.conn).is_open) still found known)
+    rw c.in-Update.is (update_begins g.L.Layout.format under old before bases is at.0.1 name (IsTrue (state g.S.Store c.database_of.new.conn).is_open) still found known)

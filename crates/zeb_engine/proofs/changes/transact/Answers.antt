@@ -13,13 +13,14 @@ use Rattle.zeb_engine.specs.Steps.{changed_by_files, splits_of, turned}
 use Rattle.zeb_engine.specs.Works.{Serves, conditions_of}
 use Rattle.zeb_engine.proofs.Crashing.{commit_stands, commit_survives}
 use Rattle.zeb_engine.proofs.Serving.{refusal_serves, reply_serves}
+use Rattle.zeb_register.specs.Formats.{version_of}
 use Rattle.zeb_engine.proofs.changes.transact.Goals as goal
 
 pub returns-in_err-reply-clause-serves : goal.returns-in_err-reply-clause-serves
-returns-in_err-reply-clause-serves g c = λ clean opened texts told fine version.
+returns-in_err-reply-clause-serves g c = λ clean opened texts told fine.
     let begun = c.transaction-tx.ensures.begun in
     let change = c.args.change.now in
-    let k = conditions_of version change.setting in
+    let k = conditions_of (version_of g.L.Layout.format) change.setting in
     let name = name_bytes change.name.now in
     let outcome = turned k (changed_by_files k change.setting.kind name (splits_of texts)) in
     let fits = BeginsWith change.setting.kind name change.found k in
@@ -30,15 +31,15 @@ returns-in_err-reply-clause-serves g c = λ clean opened texts told fine version
     let same : end ≡ c.connection-1.given.0 = search rules in
     let result : c.from_residual.result ≡ Err c.in_err-reply.field-0.0 = search rules in
     let open_inside : IsTrue (state g.S.Store inside).is_open = subst (λ (held : Held _). IsTrue (state g.S.Store held).is_open) (sym begun) opened in
-    let works = c.in_err-reply.ensures.works (omega (arith, c.drop-tx.ensures.survives.clean)) (rw begun refl) open_inside texts told fine version in
-    subst₂ (λ h r. Serves g.L.Layout.holds k fits outcome (state g.S.Store old) (state g.S.Store h) r) same (sym result)
-    (refusal_serves g.L.Layout.holds k outcome g.S.Store fits old inside (state g.S.Store c.apply.new.tx.conn.now) (state g.S.Store end) c.in_err-reply.field-0.0 begun works (c.drop-tx.ensures.undone late))
+    let works = c.in_err-reply.ensures.works (omega (arith, c.drop-tx.ensures.survives.clean)) (rw begun refl) open_inside texts told fine in
+    subst₂ (λ h r. Serves fits outcome (state g.S.Store old) (state g.S.Store h) r) same (sym result)
+    (refusal_serves outcome g.S.Store fits old inside (state g.S.Store c.apply.new.tx.conn.now) (state g.S.Store end) c.in_err-reply.field-0.0 begun works (c.drop-tx.ensures.undone late))
 
 pub returns-clause-serves : goal.returns-clause-serves
-returns-clause-serves g c = λ clean opened texts told fine version.
+returns-clause-serves g c = λ clean opened texts told fine.
     let begun = c.transaction-tx.ensures.begun in
     let change = c.args.change.now in
-    let k = conditions_of version change.setting in
+    let k = conditions_of (version_of g.L.Layout.format) change.setting in
     let name = name_bytes change.name.now in
     let outcome = turned k (changed_by_files k change.setting.kind name (splits_of texts)) in
     let fits = BeginsWith change.setting.kind name change.found k in
@@ -48,9 +49,9 @@ returns-clause-serves g c = λ clean opened texts told fine version.
     let late : HasCleanDisk (state g.S.Store end) = search rules in
     let same : end ≡ c.connection-2-1.given.0 = search rules in
     let open_inside : IsTrue (state g.S.Store inside).is_open = subst (λ (held : Held _). IsTrue (state g.S.Store held).is_open) (sym begun) opened in
-    let works = c.in_ok-reply.ensures.works (omega (arith, c.commit.ensures.survives.clean)) (rw begun refl) open_inside texts told fine version in
-    subst (λ h. Serves g.L.Layout.holds k fits outcome (state g.S.Store old) (state g.S.Store h) (Ok c.in_ok-reply.reply)) same
-    (reply_serves g.L.Layout.holds k outcome g.S.Store fits old inside (state g.S.Store c.apply.new.tx.conn.now) (state g.S.Store end) c.in_ok-reply.reply begun works (c.in_ok-commit.ensures.ok late).1)
+    let works = c.in_ok-reply.ensures.works (omega (arith, c.commit.ensures.survives.clean)) (rw begun refl) open_inside texts told fine in
+    subst (λ h. Serves fits outcome (state g.S.Store old) (state g.S.Store h) (Ok c.in_ok-reply.reply)) same
+    (reply_serves outcome g.S.Store fits old inside (state g.S.Store c.apply.new.tx.conn.now) (state g.S.Store end) c.in_ok-reply.reply begun works (c.in_ok-commit.ensures.ok late).1)
 
 pub returns-in_err-reply-clause-failed : goal.returns-in_err-reply-clause-failed
 returns-in_err-reply-clause-failed g c = λ none file at.
@@ -77,12 +78,12 @@ returns-in_err-commit-clause-survives g c =
     let end = c.commit.new.self.0 in
     let same : end ≡ c.connection-2-1.given.0 = search rules in
     subst (λ h. Survives (state g.S.Store old) (state g.S.Store h) (λ db. IsTrue (state g.S.Store old).is_open → (texts : List (List ℕ)) → map g.R.Source.remaining c.args.readers.now ≡ map Some texts
-    → NoneFailed g.R.Source.has_failed c.apply.new.readers → (version : List ℕ) → Commits g.L.Layout.holds (conditions_of version change.setting) (fits (conditions_of version change.setting)) (outcome (conditions_of version change.setting) texts) (state g.S.Store old) db)) same
-    (commit_survives g.S.Store old inside mid (state g.S.Store end) _ begun c.apply.ensures.crash c.commit.ensures.survives (λ clean db is opened texts told fine version.
-    let k = conditions_of version change.setting in
+    → NoneFailed g.R.Source.has_failed c.apply.new.readers → Commits (fits (conditions_of (version_of g.L.Layout.format) change.setting)) (outcome (conditions_of (version_of g.L.Layout.format) change.setting) texts) (state g.S.Store old) db)) same
+    (commit_survives g.S.Store old inside mid (state g.S.Store end) _ begun c.apply.ensures.crash c.commit.ensures.survives (λ clean db is opened texts told fine.
+    let k = conditions_of (version_of g.L.Layout.format) change.setting in
     let open_inside : IsTrue (state g.S.Store inside).is_open = subst (λ (held : Held _). IsTrue (state g.S.Store held).is_open) (sym begun) opened in
-    let works = c.in_ok-reply.ensures.works (omega (arith, c.commit.ensures.survives.clean)) (rw begun refl) open_inside texts told fine version in
-    commit_stands g.L.Layout.holds k (outcome k texts) g.S.Store (fits k) old inside mid c.in_ok-reply.reply begun works db is))
+    let works = c.in_ok-reply.ensures.works (omega (arith, c.commit.ensures.survives.clean)) (rw begun refl) open_inside texts told fine in
+    commit_stands g.L.Layout.format k (outcome k texts) g.S.Store (fits k) old inside mid c.in_ok-reply.reply begun works db is))
 
 pub returns-clause-survives : goal.returns-clause-survives
 returns-clause-survives g c =
@@ -97,9 +98,9 @@ returns-clause-survives g c =
     let end = c.commit.new.self.0 in
     let same : end ≡ c.connection-2-1.given.0 = search rules in
     subst (λ h. Survives (state g.S.Store old) (state g.S.Store h) (λ db. IsTrue (state g.S.Store old).is_open → (texts : List (List ℕ)) → map g.R.Source.remaining c.args.readers.now ≡ map Some texts
-    → NoneFailed g.R.Source.has_failed c.apply.new.readers → (version : List ℕ) → Commits g.L.Layout.holds (conditions_of version change.setting) (fits (conditions_of version change.setting)) (outcome (conditions_of version change.setting) texts) (state g.S.Store old) db)) same
-    (commit_survives g.S.Store old inside mid (state g.S.Store end) _ begun c.apply.ensures.crash c.commit.ensures.survives (λ clean db is opened texts told fine version.
-    let k = conditions_of version change.setting in
+    → NoneFailed g.R.Source.has_failed c.apply.new.readers → Commits (fits (conditions_of (version_of g.L.Layout.format) change.setting)) (outcome (conditions_of (version_of g.L.Layout.format) change.setting) texts) (state g.S.Store old) db)) same
+    (commit_survives g.S.Store old inside mid (state g.S.Store end) _ begun c.apply.ensures.crash c.commit.ensures.survives (λ clean db is opened texts told fine.
+    let k = conditions_of (version_of g.L.Layout.format) change.setting in
     let open_inside : IsTrue (state g.S.Store inside).is_open = subst (λ (held : Held _). IsTrue (state g.S.Store held).is_open) (sym begun) opened in
-    let works = c.in_ok-reply.ensures.works (omega (arith, c.commit.ensures.survives.clean)) (rw begun refl) open_inside texts told fine version in
-    commit_stands g.L.Layout.holds k (outcome k texts) g.S.Store (fits k) old inside mid c.in_ok-reply.reply begun works db is))
+    let works = c.in_ok-reply.ensures.works (omega (arith, c.commit.ensures.survives.clean)) (rw begun refl) open_inside texts told fine in
+    commit_stands g.L.Layout.format k (outcome k texts) g.S.Store (fits k) old inside mid c.in_ok-reply.reply begun works db is))

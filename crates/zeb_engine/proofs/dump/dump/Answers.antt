@@ -25,37 +25,38 @@ use Rattle.zeb_engine.proofs.Listed.{fault_fails}
 use Rattle.zeb_engine.proofs.Serving.{keeps_still}
 use Rattle.zeb_engine.proofs.Showing.{still_shows}
 use Rattle.zeb_engine.proofs.dump.dump.Goals as goal
+use Rattle.zeb_register.specs.Formats.{version_of}
 
 pub returns-in_err-check_ready-clause-serves : goal.returns-in_err-check_ready-clause-serves
 returns-in_err-check_ready-clause-serves g c clean limits =
-    let k = conditions g.L.Layout.version c.args.profile.now limits in
+    let k = conditions (version_of g.L.Layout.format) c.args.profile.now limits in
     let name = name_bytes c.args.name.now in
     let s0 = state g.S.Store c.args.connection.now in
     let s1 = state g.S.Store c.check_ready.new.connection in
     let refusal = c.in_err-check_ready.field-0.0 in
     let told : c.from_residual.result ≡ Err refusal = search rules in
-    subst (Serves g.L.Layout.holds k Always (dumped_by k name) s0 s1) (sym told)
-    (unready_dumps g.L.Layout.holds k name s0 s1 (c.check_ready.ensures.same clean) refusal (λ before keeps. c.in_err-check_ready.ensures.ready clean limits before keeps))
+    subst (Serves Always (dumped_by k name) s0 s1) (sym told)
+    (unready_dumps g.L.Layout.format k name s0 s1 (c.check_ready.ensures.same clean) refusal (λ before keeps. c.in_err-check_ready.ensures.ready clean limits before keeps))
 
 pub returns-in_err-database-clause-serves : goal.returns-in_err-database-clause-serves
 returns-in_err-database-clause-serves g c clean limits before fits keeps =
-    let k = conditions g.L.Layout.version c.args.profile.now limits in
+    let k = conditions (version_of g.L.Layout.format) c.args.profile.now limits in
     let name = name_bytes c.args.name.now in
     let s0 = state g.S.Store c.args.connection.now in
     let s1 = state g.S.Store c.check_ready.new.connection in
     let s2 = state g.S.Store c.existing_database.new.connection in
     let clean1 : HasCleanDisk s1 = omega (arith, c.existing_database.ensures.crash.clean) in
     let met = ready_met {X = Unit {0}} (λ (bases : List Base) x. IsTrue s0.is_open × IsTrue s1.is_open) (ready k before) tt (c.in_ok-check_ready.ensures.ready clean1 limits before keeps) in
-    let keeps1 = keeps_still g.L.Layout.holds k before s0 s1 (c.check_ready.ensures.same clean1) keeps in
+    let keeps1 = keeps_still before s0 s1 (c.check_ready.ensures.same clean1) keeps in
     let refusal = c.in_err-database.field-0.0 in
     let told : c.from_residual-in_err-database.result ≡ Err refusal = search rules in
-    subst (Dumps g.L.Layout.holds k name s0 s2 (nothing_then s0 s1 s2 (c.check_ready.ensures.same clean1) (c.existing_database.ensures.same clean)) before met.0 met.1 keeps) (sym told)
-    (dump_unknown g.L.Layout.holds k name s0 s2 (nothing_then s0 s1 s2 (c.check_ready.ensures.same clean1) (c.existing_database.ensures.same clean)) before met.0 met.1 keeps
+    subst (Dumps g.L.Layout.format k name s0 s2 (nothing_then s0 s1 s2 (c.check_ready.ensures.same clean1) (c.existing_database.ensures.same clean)) before met.0 met.1 keeps) (sym told)
+    (dump_unknown g.L.Layout.format k name s0 s2 (nothing_then s0 s1 s2 (c.check_ready.ensures.same clean1) (c.existing_database.ensures.same clean)) before met.0 met.1 keeps
     {X = Database} (λ base d. HasDatabase s1.now.trees d.id.0 base.name (pos base.last) × (d.last ≡ base.last) × IsTrue s2.is_open) refusal (c.in_err-database.ensures.exists clean met.2.1 k before met.0 met.1 keeps1))
 
 pub returns-in_err-kept-clause-serves : goal.returns-in_err-kept-clause-serves
 returns-in_err-kept-clause-serves g c clean limits before fits keeps =
-    let k = conditions g.L.Layout.version c.args.profile.now limits in
+    let k = conditions (version_of g.L.Layout.format) c.args.profile.now limits in
     let name = name_bytes c.args.name.now in
     let s0 = state g.S.Store c.args.connection.now in
     let s1 = state g.S.Store c.check_ready.new.connection in
@@ -64,21 +65,21 @@ returns-in_err-kept-clause-serves g c clean limits before fits keeps =
     let clean2 : HasCleanDisk s2 = omega (arith, c.records.ensures.crash.clean) in
     let clean1 : HasCleanDisk s1 = omega (arith, clean2, c.existing_database.ensures.crash.clean) in
     let met = ready_met {X = Unit {0}} (λ (bases : List Base) x. IsTrue s0.is_open × IsTrue s1.is_open) (ready k before) tt (c.in_ok-check_ready.ensures.ready clean1 limits before keeps) in
-    let keeps1 = keeps_still g.L.Layout.holds k before s0 s1 (c.check_ready.ensures.same clean1) keeps in
+    let keeps1 = keeps_still before s0 s1 (c.check_ready.ensures.same clean1) keeps in
     let database = c.in_ok-database.database in
     let seen = (keeps1 met.2.1).0 in
-    let base = looked_up g.L.Layout.holds k s1 before met.0 name database (IsTrue s2.is_open) met.1 seen.1 (c.in_ok-database.ensures.exists clean2 met.2.1 k before met.0 met.1 keeps1) in
+    let base = looked_up g.L.Layout.format k (record { version_is = refl; sound = c.is_of_some_text.ensures }) s1 before met.0 name database (IsTrue s2.is_open) met.1 seen.1 (c.in_ok-database.ensures.exists clean2 met.2.1 k before met.0 met.1 keeps1) in
     let there = still_shows s1 s2 s1.now.trees (c.existing_database.ensures.same clean2) (λ _. (seen.0, refl)) base.3 in
-    let readable = all_readable g.L.Layout.holds c.args.profile.now s1.now.trees database.id.0 base.0 base.2 in
+    let readable = all_readable g.L.Layout.format c.args.profile.now s1.now.trees database.id.0 base.0 base.2 in
     let nothing = nothing_then s0 s2 s3 (nothing_then s0 s1 s2 (c.check_ready.ensures.same clean1) (c.existing_database.ensures.same clean2)) (c.records.ensures.same clean c.existing_database.ensures.idle) in
     let fault = c.in_err-kept.field-0.0 in
     let told : c.from_residual-in_err-kept.result ≡ Err (register_refusal fault) = search rules in
-    subst (Dumps g.L.Layout.holds k name s0 s3 nothing before met.0 met.1 keeps) (sym told) (dump_fails g.L.Layout.holds k name s0 s3 nothing before met.0 met.1 keeps (Err (register_refusal fault))
+    subst (Dumps g.L.Layout.format k name s0 s3 nothing before met.0 met.1 keeps) (sym told) (dump_fails g.L.Layout.format k name s0 s3 nothing before met.0 met.1 keeps (Err (register_refusal fault))
     (fault_fails fault (λ is_damaged. c.in_err-kept.ensures.honest clean there.0 (ap Err is_damaged) (subst (λ (t : Trees). AreReadable t database.id.0) (sym there.1) readable))))
 
 pub returns-clause-serves : goal.returns-clause-serves
 returns-clause-serves g c clean limits before fits keeps =
-    let k = conditions g.L.Layout.version c.args.profile.now limits in
+    let k = conditions (version_of g.L.Layout.format) c.args.profile.now limits in
     let name = name_bytes c.args.name.now in
     let s0 = state g.S.Store c.args.connection.now in
     let s1 = state g.S.Store c.check_ready.new.connection in
@@ -87,15 +88,15 @@ returns-clause-serves g c clean limits before fits keeps =
     let clean2 : HasCleanDisk s2 = omega (arith, c.records.ensures.crash.clean) in
     let clean1 : HasCleanDisk s1 = omega (arith, clean2, c.existing_database.ensures.crash.clean) in
     let met = ready_met {X = Unit {0}} (λ (bases : List Base) x. IsTrue s0.is_open × IsTrue s1.is_open) (ready k before) tt (c.in_ok-check_ready.ensures.ready clean1 limits before keeps) in
-    let keeps1 = keeps_still g.L.Layout.holds k before s0 s1 (c.check_ready.ensures.same clean1) keeps in
+    let keeps1 = keeps_still before s0 s1 (c.check_ready.ensures.same clean1) keeps in
     let database = c.in_ok-database.database in
     let seen = (keeps1 met.2.1).0 in
-    let base = looked_up g.L.Layout.holds k s1 before met.0 name database (IsTrue s2.is_open) met.1 seen.1 (c.in_ok-database.ensures.exists clean2 met.2.1 k before met.0 met.1 keeps1) in
+    let base = looked_up g.L.Layout.format k (record { version_is = refl; sound = c.is_of_some_text.ensures }) s1 before met.0 name database (IsTrue s2.is_open) met.1 seen.1 (c.in_ok-database.ensures.exists clean2 met.2.1 k before met.0 met.1 keeps1) in
     let there = still_shows s1 s2 s1.now.trees (c.existing_database.ensures.same clean2) (λ _. (seen.0, refl)) base.3 in
     let kept = c.in_ok-kept.kept.items in
     let are = subst (λ (t : Trees). IsListOf (IsRest records_tree (Int database.id.0 ∷ []) t) (map record_shown kept)) there.1 (c.in_ok-kept.ensures.value clean there.0) in
-    let same = bytes_same g.L.Layout.holds c.args.profile.now s1.now.trees database.id.0 base.0 base.2 kept are in
+    let same = bytes_same g.L.Layout.format c.args.profile.now s1.now.trees database.id.0 base.0 base.2 kept are in
     let nothing = nothing_then s0 s2 s3 (nothing_then s0 s1 s2 (c.check_ready.ensures.same clean1) (c.existing_database.ensures.same clean2)) (c.records.ensures.same clean c.existing_database.ensures.idle) in
     let bytes = c.in_ok-joined.field-0 in
     let told : bytes.items ≡ flat_map (λ (r : Record). r.bytes.items) kept = c.in_ok-joined.ensures ∙ ap (flat_map (λ (r : Record). r.bytes.items)) c.deref.ensures.value in
-    dump_told g.L.Layout.holds k name s0 s3 nothing before met.0 met.1 keeps (Ok (Dumped bytes)) (ap (dumped_in name) base.1 ∙ ap dumped (sym (told ∙ same)))
+    dump_told g.L.Layout.format k name s0 s3 nothing before met.0 met.1 keeps (Ok (Dumped bytes)) (ap (dumped_in name) base.1 ∙ ap dumped (sym (told ∙ same)))

@@ -15,106 +15,107 @@ use Rattle.zeb_engine.specs.Works.{Meets}
 use Rattle.zeb_engine.proofs.Listed.{fault_meets}
 use Rattle.zeb_engine.proofs.Ready.{version_in, profile_in, image_still, same_inside, told_version, told_profile, version_readable, profile_readable, texts_differ, texts_agree, ready_none, ready_old, ready_changed, ready_good}
 use Rattle.zeb_engine.proofs.readiness.check_ready.Goals as goal
+use Rattle.zeb_register.specs.Formats.{version_of}
 
 pub returns-in_err-version-clause-ready : goal.returns-in_err-version-clause-ready
 returns-in_err-version-clause-ready g c clean limits before keeps =
-    let k = conditions g.L.Layout.version c.args.profile.now limits in
+    let k = conditions (version_of g.L.Layout.format) c.args.profile.now limits in
     let old = state g.S.Store c.args.connection.now in
     let fault = c.in_err-version.field-0.0 in
     let told : c.from_residual.result ≡ Err (register_refusal fault) = search rules in
     rw told (fault_meets {X = Unit {0}} (λ bases x. IsTrue old.is_open × IsTrue (state g.S.Store c.meta_of.new.conn).is_open) (ready k before) fault (λ is.
     let damaged : ◌≡◌ {A = Result (Option (String Global)) RegFault} (Err fault) (Err register.Damaged) = ap Err is in
     let at = keeps (c.in_err-version.ensures.opened clean damaged) in
-    c.in_err-version.ensures.honest clean at.0.0 damaged (version_readable g.L.Layout.holds k old.now.trees before at.0.1)))
+    c.in_err-version.ensures.honest clean at.0.0 damaged (version_readable g.L.Layout.format k old.now.trees before at.0.1)))
 
 pub returns-in_default-clause-ready : goal.returns-in_default-clause-ready
 returns-in_default-clause-ready g c clean limits before keeps =
-    let k = conditions g.L.Layout.version c.args.profile.now limits in
+    let k = conditions (version_of g.L.Layout.format) c.args.profile.now limits in
     let old = state g.S.Store c.args.connection.now in
     let was = c.in_ok-version.ensures.ok clean in
     let at = keeps was.0.was_open in
-    inr (ready_none k before (told_version g.L.Layout.holds k old.now.trees before c.in_ok-version.field-0 at.0.1 (c.in_ok-version.ensures.value clean at.0.0) ∙ ap (option_map string_bytes) c.in_default.is))
+    inr (ready_none k before (told_version g.L.Layout.format k old.now.trees before c.in_ok-version.field-0 at.0.1 (c.in_ok-version.ensures.value clean at.0.0) ∙ ap (option_map string_bytes) c.in_default.is))
 
 pub returns-then-ne-clause-ready : goal.returns-then-ne-clause-ready
 returns-then-ne-clause-ready g c clean limits before keeps =
-    let k = conditions g.L.Layout.version c.args.profile.now limits in
+    let k = conditions (version_of g.L.Layout.format) c.args.profile.now limits in
     let old = state g.S.Store c.args.connection.now in
     let was = c.in_ok-version.ensures.ok clean in
     let at = keeps was.0.was_open in
     let found = c.in-Some.version in
     let told : version_in before ≡ Some (string_bytes found) =
-    told_version g.L.Layout.holds k old.now.trees before c.in_ok-version.field-0 at.0.1 (c.in_ok-version.ensures.value clean at.0.0) ∙ ap (option_map string_bytes) c.in-Some.is in
+    told_version g.L.Layout.format k old.now.trees before c.in_ok-version.field-0 at.0.1 (c.in_ok-version.ensures.value clean at.0.0) ∙ ap (option_map string_bytes) c.in-Some.is in
     let tested : c.ne.result ≡ not (bytes_eq c.as_str.result.now c.version.result.now) = search rules in
-    inr (ready_old k before (string_bytes found) told (texts_differ c.ne.result c.as_str.result.now c.version.result.now (string_bytes found) g.L.Layout.version tested c.if-ne.true (search rules) c.version.ensures))
+    inr (ready_old k before (string_bytes found) told (texts_differ c.ne.result c.as_str.result.now c.version.result.now (string_bytes found) (version_of g.L.Layout.format) tested c.if-ne.true (search rules) c.version.ensures))
 
 pub returns-in_err-text-clause-ready : goal.returns-in_err-text-clause-ready
 returns-in_err-text-clause-ready g c clean limits before keeps =
-    let k = conditions g.L.Layout.version c.args.profile.now limits in
+    let k = conditions (version_of g.L.Layout.format) c.args.profile.now limits in
     let old = state g.S.Store c.args.connection.now in
     let mid = state g.S.Store c.meta_of.new.conn in
     let first : HasCleanDisk mid = omega (arith, c.meta_of-2.ensures.crash.clean) in
     let was = c.in_ok-version.ensures.ok first in
-    let at = image_still g.L.Layout.holds k before old mid was.0.now_is (keeps was.0.was_open).0 in
+    let at = image_still before old mid was.0.now_is (keeps was.0.was_open).0 in
     let fault = c.in_err-text.field-0.0 in
     let told : c.from_residual-in_err-text.result ≡ Err (register_refusal fault) = search rules in
     rw told (fault_meets {X = Unit {0}} (λ bases x. IsTrue old.is_open × IsTrue (state g.S.Store c.meta_of-2.new.conn).is_open) (ready k before) fault (λ is.
     let damaged : ◌≡◌ {A = Result (Option (String Global)) RegFault} (Err fault) (Err register.Damaged) = ap Err is in
-    c.in_err-text.ensures.honest clean at.0 damaged (profile_readable g.L.Layout.holds k mid.now.trees before at.1)))
+    c.in_err-text.ensures.honest clean at.0 damaged (profile_readable g.L.Layout.format k mid.now.trees before at.1)))
 
 pub returns-in_default-2-clause-ready : goal.returns-in_default-2-clause-ready
 returns-in_default-2-clause-ready g c clean limits before keeps =
-    let k = conditions g.L.Layout.version c.args.profile.now limits in
+    let k = conditions (version_of g.L.Layout.format) c.args.profile.now limits in
     let old = state g.S.Store c.args.connection.now in
     let mid = state g.S.Store c.meta_of.new.conn in
     let first : HasCleanDisk mid = omega (arith, c.meta_of-2.ensures.crash.clean) in
     let was = c.in_ok-version.ensures.ok first in
     let seen = (keeps was.0.was_open).0 in
-    let at = image_still g.L.Layout.holds k before old mid was.0.now_is seen in
+    let at = image_still before old mid was.0.now_is seen in
     let found = c.in-Some.version in
     let told : version_in before ≡ Some (string_bytes found) =
-    told_version g.L.Layout.holds k old.now.trees before c.in_ok-version.field-0 seen.1 (c.in_ok-version.ensures.value first seen.0) ∙ ap (option_map string_bytes) c.in-Some.is in
+    told_version g.L.Layout.format k old.now.trees before c.in_ok-version.field-0 seen.1 (c.in_ok-version.ensures.value first seen.0) ∙ ap (option_map string_bytes) c.in-Some.is in
     let tested : c.ne.result ≡ not (bytes_eq c.as_str.result.now c.version.result.now) = search rules in
-    let same = texts_agree c.ne.result c.as_str.result.now c.version.result.now (string_bytes found) g.L.Layout.version tested c.if-ne.false (search rules) c.version.ensures in
-    let none : profile_in before ≡ None = told_profile g.L.Layout.holds k mid.now.trees before c.in_ok-text.field-0 at.1 (c.in_ok-text.ensures.value clean at.0) ∙ ap (option_map string_bytes) c.in_default-2.is in
+    let same = texts_agree c.ne.result c.as_str.result.now c.version.result.now (string_bytes found) (version_of g.L.Layout.format) tested c.if-ne.false (search rules) c.version.ensures in
+    let none : profile_in before ≡ None = told_profile g.L.Layout.format k mid.now.trees before c.in_ok-text.field-0 at.1 (c.in_ok-text.ensures.value clean at.0) ∙ ap (option_map string_bytes) c.in_default-2.is in
     inr (ready_changed k before (told ∙ ap Some same) (λ is. let e : None ≡ Some (canonical_text c.args.profile.now) = sym none ∙ is in cc))
 
 pub returns-then-ne-2-clause-ready : goal.returns-then-ne-2-clause-ready
 returns-then-ne-2-clause-ready g c clean limits before keeps =
-    let k = conditions g.L.Layout.version c.args.profile.now limits in
+    let k = conditions (version_of g.L.Layout.format) c.args.profile.now limits in
     let old = state g.S.Store c.args.connection.now in
     let mid = state g.S.Store c.meta_of.new.conn in
     let first : HasCleanDisk mid = omega (arith, c.meta_of-2.ensures.crash.clean) in
     let was = c.in_ok-version.ensures.ok first in
     let seen = (keeps was.0.was_open).0 in
-    let at = image_still g.L.Layout.holds k before old mid was.0.now_is seen in
+    let at = image_still before old mid was.0.now_is seen in
     let found = c.in-Some.version in
     let text = c.in-Some-2.text in
     let told : version_in before ≡ Some (string_bytes found) =
-    told_version g.L.Layout.holds k old.now.trees before c.in_ok-version.field-0 seen.1 (c.in_ok-version.ensures.value first seen.0) ∙ ap (option_map string_bytes) c.in-Some.is in
+    told_version g.L.Layout.format k old.now.trees before c.in_ok-version.field-0 seen.1 (c.in_ok-version.ensures.value first seen.0) ∙ ap (option_map string_bytes) c.in-Some.is in
     let tested : c.ne.result ≡ not (bytes_eq c.as_str.result.now c.version.result.now) = search rules in
-    let same = texts_agree c.ne.result c.as_str.result.now c.version.result.now (string_bytes found) g.L.Layout.version tested c.if-ne.false (search rules) c.version.ensures in
-    let has : profile_in before ≡ Some (string_bytes text) = told_profile g.L.Layout.holds k mid.now.trees before c.in_ok-text.field-0 at.1 (c.in_ok-text.ensures.value clean at.0) ∙ ap (option_map string_bytes) c.in-Some-2.is in
+    let same = texts_agree c.ne.result c.as_str.result.now c.version.result.now (string_bytes found) (version_of g.L.Layout.format) tested c.if-ne.false (search rules) c.version.ensures in
+    let has : profile_in before ≡ Some (string_bytes text) = told_profile g.L.Layout.format k mid.now.trees before c.in_ok-text.field-0 at.1 (c.in_ok-text.ensures.value clean at.0) ∙ ap (option_map string_bytes) c.in-Some-2.is in
     let tested2 : c.ne-2.result ≡ not (bytes_eq c.as_str-2.result.now c.text.result.now) = search rules in
     let other = texts_differ c.ne-2.result c.as_str-2.result.now c.text.result.now (string_bytes text) (canonical_text c.args.profile.now) tested2 c.if-ne-2.true (search rules) c.text.ensures in
     inr (ready_changed k before (told ∙ ap Some same) (λ is. other (same_inside (string_bytes text) (canonical_text c.args.profile.now) (sym has ∙ is))))
 
 pub returns-clause-ready : goal.returns-clause-ready
 returns-clause-ready g c clean limits before keeps =
-    let k = conditions g.L.Layout.version c.args.profile.now limits in
+    let k = conditions (version_of g.L.Layout.format) c.args.profile.now limits in
     let old = state g.S.Store c.args.connection.now in
     let mid = state g.S.Store c.meta_of.new.conn in
     let new = state g.S.Store c.meta_of-2.new.conn in
     let first : HasCleanDisk mid = omega (arith, c.meta_of-2.ensures.crash.clean) in
     let was = c.in_ok-version.ensures.ok first in
     let seen = (keeps was.0.was_open).0 in
-    let at = image_still g.L.Layout.holds k before old mid was.0.now_is seen in
+    let at = image_still before old mid was.0.now_is seen in
     let found = c.in-Some.version in
     let text = c.in-Some-2.text in
     let told : version_in before ≡ Some (string_bytes found) =
-    told_version g.L.Layout.holds k old.now.trees before c.in_ok-version.field-0 seen.1 (c.in_ok-version.ensures.value first seen.0) ∙ ap (option_map string_bytes) c.in-Some.is in
+    told_version g.L.Layout.format k old.now.trees before c.in_ok-version.field-0 seen.1 (c.in_ok-version.ensures.value first seen.0) ∙ ap (option_map string_bytes) c.in-Some.is in
     let tested : c.ne.result ≡ not (bytes_eq c.as_str.result.now c.version.result.now) = search rules in
-    let same = texts_agree c.ne.result c.as_str.result.now c.version.result.now (string_bytes found) g.L.Layout.version tested c.if-ne.false (search rules) c.version.ensures in
-    let has : profile_in before ≡ Some (string_bytes text) = told_profile g.L.Layout.holds k mid.now.trees before c.in_ok-text.field-0 at.1 (c.in_ok-text.ensures.value clean at.0) ∙ ap (option_map string_bytes) c.in-Some-2.is in
+    let same = texts_agree c.ne.result c.as_str.result.now c.version.result.now (string_bytes found) (version_of g.L.Layout.format) tested c.if-ne.false (search rules) c.version.ensures in
+    let has : profile_in before ≡ Some (string_bytes text) = told_profile g.L.Layout.format k mid.now.trees before c.in_ok-text.field-0 at.1 (c.in_ok-text.ensures.value clean at.0) ∙ ap (option_map string_bytes) c.in-Some-2.is in
     let tested2 : c.ne-2.result ≡ not (bytes_eq c.as_str-2.result.now c.text.result.now) = search rules in
     let as_said = texts_agree c.ne-2.result c.as_str-2.result.now c.text.result.now (string_bytes text) (canonical_text c.args.profile.now) tested2 c.if-ne-2.false (search rules) c.text.ensures in
     let good = ready_good k before (told ∙ ap Some same) (has ∙ ap Some as_said) in

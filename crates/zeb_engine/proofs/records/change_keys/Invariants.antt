@@ -6,6 +6,7 @@ use Rattle.zeb_register.specs.Store.{IsStore, KeepsLists}
 use Rattle.zeb_engine.specs.Transactions.{Continues}
 use Rattle.zeb_engine.proofs.Moved.{moved}
 use Rattle.zeb_engine.proofs.records.change_keys.Given as goal
+use Rattle.zeb_register.specs.Formats.{holds_in}
 
 abbrev pub invariant-loop-changed : goal.invariant-loop-changed
 invariant-loop-changed g l =
@@ -18,6 +19,6 @@ invariant-loop-changed g l =
       place : (l.progress.database ≡ l.fn.progress.database) × (l.progress.last ≡ l.fn.progress.last);
       store : HasCleanDisk now → IsTrue old.in_transaction → IsStore old → IsStore now × KeepsLists old.now.trees now.now.trees;
       held : HasCleanDisk now → IsTrue old.in_transaction → IsStore old
-          → (before : Content) → IsRising before → g.L.Layout.holds old.now.trees before → g.L.Layout.holds now.now.trees (moved l.fn.progress.database.0 l.fn.sysno (take l.changed-index l.changed-items) before);
+          → (before : Content) → IsRising before → holds_in g.L.Layout.format old.now.trees before → holds_in g.L.Layout.format now.now.trees (moved l.fn.progress.database.0 l.fn.sysno (take l.changed-index l.changed-items) before);
       idle : l.changed-items ≡ [] → (now.now ≡ old.now) × KeepsCounts old now × (l.progress ≡ l.fn.progress);
     }

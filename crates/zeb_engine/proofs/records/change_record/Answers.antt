@@ -38,7 +38,7 @@ returns-in_err-elder-clause-taken g c clean mode version records_of base last un
     let told : c.from_residual-in_err-elder.result ≡ Err (register_refusal failed) = search rules in
     let sound : failed ≢ fault.Damaged = λ damaged.
     c.in_err-elder.ensures.honest clean mode under.0 (ap Err damaged) (are_numbered c.args.progress.now.database.0 records_of old.now.trees base under.1.kept c.as_str.result.now) in
-    passed_on {A = Changed} (IsTaken g.L.Layout.holds setting.profile.now c.args.progress.now.database.0 records_of old mid c.args.progress.now.last)
+    passed_on {A = Changed} (IsTaken g.L.Layout.format setting.profile.now c.args.progress.now.database.0 records_of old mid c.args.progress.now.last)
     (changed_record (conditions_of version setting) setting.kind c.args.incoming.file c.args.incoming.nth c.args.incoming.bytes.now base)
     c.from_residual-in_err-elder.result (register_refusal failed) told (fault_fails failed sound)
 
@@ -69,10 +69,10 @@ returns-in-Update-default-clause-taken g c clean mode version records_of base la
             c.in_ok-occurrences-in-Update-default.ensures.members;
       };
     } in
-    let met = c.keep.ensures.taken clean reads.mode version is records_of base last (same_way g.L.Layout.holds profile id records_of old mid base reads.now_is under) there in
+    let met = c.keep.ensures.taken clean reads.mode version is records_of base last (same_way g.L.Layout.format profile id records_of old mid base reads.now_is under) there in
     let said = ap (λ (k : Kind). changed_record (conditions_of version setting) k c.args.incoming.file c.args.incoming.nth bytes base) c.in-Update-default.is-0
     ∙ named_record (conditions_of version setting) Update c.args.incoming.file c.args.incoming.nth bytes base ident c.in_ok-record.ensures.whole.sound named in
-    turned_so g.L.Layout.holds profile id records_of old mid new c.keep.new.progress.last (updated (conditions_of version setting) ident bytes base (kept_as ident base))
+    turned_so g.L.Layout.format profile id records_of old mid new c.keep.new.progress.last (updated (conditions_of version setting) ident bytes base (kept_as ident base))
     (changed_record (conditions_of version setting) setting.kind c.args.incoming.file c.args.incoming.nth bytes base) c.keep.result reads.now_is said met
 
 pub returns-in-Delete-Some-clause-taken : goal.returns-in-Delete-Some-clause-taken
@@ -91,10 +91,10 @@ returns-in-Delete-Some-clause-taken g c clean mode version records_of base last 
     let found = elder_is id records_of old.now.trees base under.1.kept ident (one_ident profile base under.2) c.in_ok-elder.elder (c.in_ok-elder.ensures.value clean_mid mode under.0) in
     let there = subst (λ (e : Option Elder). IsElderAs ident base e) c.in-Delete-Some.is-1 found in
     let named = c.in_ok-record.ensures.named ∙ ap Ok (sym c.as_str.ensures.value) in
-    let met = c.withdraw.ensures.taken clean reads.mode ident absent records_of base last (same_way g.L.Layout.holds profile id records_of old mid base reads.now_is under) there in
+    let met = c.withdraw.ensures.taken clean reads.mode ident absent records_of base last (same_way g.L.Layout.format profile id records_of old mid base reads.now_is under) there in
     let said = ap (λ (k : Kind). changed_record (conditions_of version setting) k c.args.incoming.file c.args.incoming.nth bytes base) c.in-Delete-Some.is-0
     ∙ named_record (conditions_of version setting) Delete c.args.incoming.file c.args.incoming.nth bytes base ident c.in_ok-record.ensures.whole.sound named in
-    turned_so g.L.Layout.holds profile id records_of old mid new c.withdraw.new.progress.last (deleted absent ident base (kept_as ident base))
+    turned_so g.L.Layout.format profile id records_of old mid new c.withdraw.new.progress.last (deleted absent ident base (kept_as ident base))
     (changed_record (conditions_of version setting) setting.kind c.args.incoming.file c.args.incoming.nth bytes base) c.withdraw.result reads.now_is said met
 
 pub returns-in-Adelete-Some-clause-taken : goal.returns-in-Adelete-Some-clause-taken
@@ -113,10 +113,10 @@ returns-in-Adelete-Some-clause-taken g c clean mode version records_of base last
     let found = elder_is id records_of old.now.trees base under.1.kept ident (one_ident profile base under.2) c.in_ok-elder.elder (c.in_ok-elder.ensures.value clean_mid mode under.0) in
     let there = subst (λ (e : Option Elder). IsElderAs ident base e) c.in-Adelete-Some.is-1 found in
     let named = c.in_ok-record.ensures.named ∙ ap Ok (sym c.as_str.ensures.value) in
-    let met = c.withdraw-in-Adelete-Some.ensures.taken clean reads.mode ident absent records_of base last (same_way g.L.Layout.holds profile id records_of old mid base reads.now_is under) there in
+    let met = c.withdraw-in-Adelete-Some.ensures.taken clean reads.mode ident absent records_of base last (same_way g.L.Layout.format profile id records_of old mid base reads.now_is under) there in
     let said = ap (λ (k : Kind). changed_record (conditions_of version setting) k c.args.incoming.file c.args.incoming.nth bytes base) c.in-Adelete-Some.is-0
     ∙ named_record (conditions_of version setting) Adelete c.args.incoming.file c.args.incoming.nth bytes base ident c.in_ok-record.ensures.whole.sound named in
-    turned_so g.L.Layout.holds profile id records_of old mid new c.withdraw-in-Adelete-Some.new.progress.last (deleted absent ident base (kept_as ident base))
+    turned_so g.L.Layout.format profile id records_of old mid new c.withdraw-in-Adelete-Some.new.progress.last (deleted absent ident base (kept_as ident base))
     (changed_record (conditions_of version setting) setting.kind c.args.incoming.file c.args.incoming.nth bytes base) c.withdraw-in-Adelete-Some.result reads.now_is said met
 
 pub returns-in-Delete-None-clause-taken : goal.returns-in-Delete-None-clause-taken
@@ -151,8 +151,8 @@ returns-clause-taken g c clean mode version records_of base last under =
     let said = ap (λ (k : Kind). changed_record (conditions_of version setting) k c.args.incoming.file c.args.incoming.nth bytes base) c.in-Adelete-None.is-0
     ∙ named_record (conditions_of version setting) Adelete c.args.incoming.file c.args.incoming.nth bytes base ident c.in_ok-record.ensures.whole.sound named
     ∙ ap (deleted absent ident base) none in
-    subst (λ (x : Result Changed Why). Meets (IsTaken g.L.Layout.holds profile id records_of old mid c.args.progress.now.last) x (Ok PassedOver)) (sym said)
-    (passed_over g.L.Layout.holds profile id records_of old mid c.args.progress.now.last base PassedOver reads.now_is last under)
+    subst (λ (x : Result Changed Why). Meets (IsTaken g.L.Layout.format profile id records_of old mid c.args.progress.now.last) x (Ok PassedOver)) (sym said)
+    (passed_over g.L.Layout.format profile id records_of old mid c.args.progress.now.last base PassedOver reads.now_is last under)
 
 pub returns-in-Update-default-clause-idle : goal.returns-in-Update-default-clause-idle
 returns-in-Update-default-clause-idle g c clean mode update records_of base under kept contained alike =

@@ -9,6 +9,7 @@ use Rattle.zeb_engine.specs.Works.{IsTaken, conditions_of}
 use Rattle.zeb_engine.proofs.TransactionLemmas.{continues_then, goes_on}
 use Rattle.zeb_engine.proofs.TurnLemmas.{passed_on, none_rise, inserted_at, inserted}
 use Rattle.zeb_engine.proofs.records.insert.Goals as goal
+use Rattle.zeb_register.proofs.FormatLemmas.{registers_stay}
 
 pub returns-clause-stays : goal.returns-clause-stays
 returns-clause-stays g c clean mode =
@@ -29,7 +30,7 @@ returns-clause-taken g c clean mode version is records_of base last under none =
     let rows = put.rows under.0 in
     let are = subst (IsNewer profile ident bytes) (sym c.deref.ensures.value) is in
     let moved = c.in_ok-change_keys.ensures.moved clean put.on.mode rows.layout none_rise are.found.rising in
-    inserted g.L.Layout.holds g.met.L.Layout.stays profile c.args.progress.now.database.0 records_of old mid base under ident bytes c.deref.result.now are
+    inserted g.L.Layout.format (registers_stay g.L.Layout.format) profile c.args.progress.now.database.0 records_of old mid base under ident bytes c.deref.result.now are
     c.args.progress.now.last last none rows (conditions_of version c.args.setting.now) new c.change_keys.new.progress.last c.change_keys.ensures.place.1
     c.if-progress-setting.false (search rules) moved
 
@@ -46,11 +47,11 @@ returns-in_err-change_keys-clause-taken g c clean mode version is records_of bas
     let rows = put.rows under.0 in
     let are = subst (IsNewer profile ident bytes) (sym c.deref.ensures.value) is in
     let told : c.from_residual-in_err-change_keys.result ≡ Err c.in_err-change_keys.field-0.0 = search rules in
-    let at = inserted_at g.L.Layout.holds g.met.L.Layout.stays profile c.args.progress.now.database.0 records_of old mid base under ident bytes c.deref.result.now are
+    let at = inserted_at g.L.Layout.format (registers_stay g.L.Layout.format) profile c.args.progress.now.database.0 records_of old mid base under ident bytes c.deref.result.now are
     c.args.progress.now.last last none rows in
     let failed : IsFailure (refused (why_of c.in_err-change_keys.field-0.0)) = elim c.in_err-change_keys.ensures.fails [
       | inl damaged ↦ absurd (c.in_err-change_keys.ensures.honest clean put.on.mode rows.layout none_rise are.found.rising (ap Err damaged) at.content at.held at.rising at.found)
       | inr failed ↦ failed
     ] in
-    passed_on {A = Changed} (IsTaken g.L.Layout.holds profile c.args.progress.now.database.0 records_of old new c.change_keys.new.progress.last)
+    passed_on {A = Changed} (IsTaken g.L.Layout.format profile c.args.progress.now.database.0 records_of old new c.change_keys.new.progress.last)
     (updated (conditions_of version c.args.setting.now) ident bytes base (kept_as ident base)) c.from_residual-in_err-change_keys.result c.in_err-change_keys.field-0.0 told failed

@@ -11,13 +11,14 @@ use Rattle.zeb_engine.proofs.TurnLemmas.{passed_on, elder_whole, replaced_at, re
 use Rattle.zeb_engine.proofs.Idle.{one_analysis}
 use Rattle.zeb_engine.proofs.UnderWay.{registers_still}
 use Rattle.zeb_engine.proofs.records.replace.Goals as goal
+use Rattle.zeb_register.proofs.FormatLemmas.{registers_stay}
 
 -- the elder's bytes are those of a kept record, so memory ran out
 pub returns-in_err-old-clause-taken : goal.returns-in_err-old-clause-taken
 returns-in_err-old-clause-taken g c clean mode version is records_of base last under there =
     let told : c.from_residual.result ≡ Err c.in_err-old.field-0.0 = search rules in
     let memory = c.in_err-old.ensures.fails (elder_whole c.args.setting.now.profile.now _ base c.args.elder.now under.2 there) in
-    passed_on {A = Changed} (IsTaken g.L.Layout.holds c.args.setting.now.profile.now c.args.progress.now.database.0 records_of (state g.S.Store c.args.tx.now.conn.now) (state g.S.Store c.args.tx.now.conn.now) c.args.progress.now.last)
+    passed_on {A = Changed} (IsTaken g.L.Layout.format c.args.setting.now.profile.now c.args.progress.now.database.0 records_of (state g.S.Store c.args.tx.now.conn.now) (state g.S.Store c.args.tx.now.conn.now) c.args.progress.now.last)
     (updated (conditions_of version c.args.setting.now) c.args.newer.now.ident.now c.args.newer.now.bytes.now base (kept_as c.args.newer.now.ident.now base)) c.from_residual.result c.in_err-old.field-0.0 told (inr (ap (λ (r : Refusal). refused (why_of r)) memory))
 
 pub returns-clause-taken : goal.returns-clause-taken
@@ -34,7 +35,7 @@ returns-clause-taken g c clean mode version is records_of base last under there 
     let was = subst (AreOccurrencesOf profile c.args.elder.now.bytes.items) (sym c.deref.ensures.value) c.in_ok-old.ensures.found in
     let are = subst (IsNewer profile ident bytes) (sym c.deref-2.ensures.value) is in
     let moved = c.in_ok-change_keys.ensures.moved clean put.on.mode rows.layout was.rising are.found.rising in
-    replaced g.L.Layout.holds g.met.L.Layout.stays profile c.args.progress.now.database.0 records_of old mid base under ident bytes c.deref-2.result.now are
+    replaced g.L.Layout.format (registers_stay g.L.Layout.format) profile c.args.progress.now.database.0 records_of old mid base under ident bytes c.deref-2.result.now are
     c.args.elder.now there c.deref.result.now was rows (conditions_of version c.args.setting.now) new c.change_keys.new.progress.last (c.change_keys.ensures.place.1 ∙ last) moved
 
 pub returns-in_err-change_keys-clause-taken : goal.returns-in_err-change_keys-clause-taken
@@ -51,13 +52,13 @@ returns-in_err-change_keys-clause-taken g c clean mode version is records_of bas
     let was = subst (AreOccurrencesOf profile c.args.elder.now.bytes.items) (sym c.deref.ensures.value) c.in_ok-old.ensures.found in
     let are = subst (IsNewer profile ident bytes) (sym c.deref-2.ensures.value) is in
     let told : c.from_residual-in_err-change_keys.result ≡ Err c.in_err-change_keys.field-0.0 = search rules in
-    let at = replaced_at g.L.Layout.holds g.met.L.Layout.stays profile c.args.progress.now.database.0 records_of old mid base under ident bytes c.deref-2.result.now are
+    let at = replaced_at g.L.Layout.format (registers_stay g.L.Layout.format) profile c.args.progress.now.database.0 records_of old mid base under ident bytes c.deref-2.result.now are
     c.args.elder.now there c.deref.result.now was rows in
     let failed : IsFailure (refused (why_of c.in_err-change_keys.field-0.0)) = elim c.in_err-change_keys.ensures.fails [
       | inl damaged ↦ absurd (c.in_err-change_keys.ensures.honest clean put.on.mode rows.layout was.rising are.found.rising (ap Err damaged) at.content at.held at.rising at.found)
       | inr failed ↦ failed
     ] in
-    passed_on {A = Changed} (IsTaken g.L.Layout.holds profile c.args.progress.now.database.0 records_of old new c.change_keys.new.progress.last)
+    passed_on {A = Changed} (IsTaken g.L.Layout.format profile c.args.progress.now.database.0 records_of old new c.change_keys.new.progress.last)
     (updated (conditions_of version c.args.setting.now) ident bytes base (kept_as ident base)) c.from_residual-in_err-change_keys.result c.in_err-change_keys.field-0.0 told failed
 
 -- the same bytes have the same occurrences, and so no list is written

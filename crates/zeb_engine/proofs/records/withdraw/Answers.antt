@@ -9,13 +9,14 @@ use Rattle.zeb_engine.specs.Works.{IsTaken}
 use Rattle.zeb_engine.specs.Records.{AreOccurrencesOf}
 use Rattle.zeb_engine.proofs.TurnLemmas.{passed_on, elder_whole, none_rise, withdrawn_at, withdrawn}
 use Rattle.zeb_engine.proofs.records.withdraw.Goals as goal
+use Rattle.zeb_register.proofs.FormatLemmas.{registers_stay}
 
 -- the elder's bytes are those of a kept record, so memory ran out
 pub returns-in_err-old-clause-taken : goal.returns-in_err-old-clause-taken
 returns-in_err-old-clause-taken g c clean mode ident absent records_of base last under there =
     let told : c.from_residual.result ≡ Err c.in_err-old.field-0.0 = search rules in
     let memory = c.in_err-old.ensures.fails (elder_whole c.args.setting.now.profile.now _ base c.args.elder.now under.2 there) in
-    passed_on {A = Changed} (IsTaken g.L.Layout.holds c.args.setting.now.profile.now c.args.progress.now.database.0 records_of (state g.S.Store c.args.tx.now.conn.now) (state g.S.Store c.args.tx.now.conn.now) c.args.progress.now.last)
+    passed_on {A = Changed} (IsTaken g.L.Layout.format c.args.setting.now.profile.now c.args.progress.now.database.0 records_of (state g.S.Store c.args.tx.now.conn.now) (state g.S.Store c.args.tx.now.conn.now) c.args.progress.now.last)
     (deleted absent ident base (kept_as ident base)) c.from_residual.result c.in_err-old.field-0.0 told (inr (ap (λ (r : Refusal). refused (why_of r)) memory))
 
 pub returns-clause-taken : goal.returns-clause-taken
@@ -29,7 +30,7 @@ returns-clause-taken g c clean mode ident absent records_of base last under ther
     let rows = take.rows under.0 in
     let was = subst (AreOccurrencesOf profile c.args.elder.now.bytes.items) (sym c.deref.ensures.value) c.in_ok-old.ensures.found in
     let moved = c.in_ok-change_keys.ensures.moved clean take.on.mode rows.layout was.rising none_rise in
-    withdrawn g.L.Layout.holds g.met.L.Layout.stays profile c.args.progress.now.database.0 records_of old mid base under ident
+    withdrawn g.L.Layout.format (registers_stay g.L.Layout.format) profile c.args.progress.now.database.0 records_of old mid base under ident
     c.args.elder.now there c.deref.result.now was rows absent new c.change_keys.new.progress.last (c.change_keys.ensures.place.1 ∙ last) moved
 
 pub returns-in_err-change_keys-clause-taken : goal.returns-in_err-change_keys-clause-taken
@@ -43,10 +44,10 @@ returns-in_err-change_keys-clause-taken g c clean mode ident absent records_of b
     let rows = take.rows under.0 in
     let was = subst (AreOccurrencesOf profile c.args.elder.now.bytes.items) (sym c.deref.ensures.value) c.in_ok-old.ensures.found in
     let told : c.from_residual-in_err-change_keys.result ≡ Err c.in_err-change_keys.field-0.0 = search rules in
-    let at = withdrawn_at g.L.Layout.holds g.met.L.Layout.stays profile c.args.progress.now.database.0 records_of old mid base under ident c.args.elder.now there c.deref.result.now was rows in
+    let at = withdrawn_at g.L.Layout.format (registers_stay g.L.Layout.format) profile c.args.progress.now.database.0 records_of old mid base under ident c.args.elder.now there c.deref.result.now was rows in
     let failed : IsFailure (refused (why_of c.in_err-change_keys.field-0.0)) = elim c.in_err-change_keys.ensures.fails [
       | inl damaged ↦ absurd (c.in_err-change_keys.ensures.honest clean take.on.mode rows.layout was.rising none_rise (ap Err damaged) at.content at.held at.rising at.found)
       | inr failed ↦ failed
     ] in
-    passed_on {A = Changed} (IsTaken g.L.Layout.holds profile c.args.progress.now.database.0 records_of old new c.change_keys.new.progress.last)
+    passed_on {A = Changed} (IsTaken g.L.Layout.format profile c.args.progress.now.database.0 records_of old new c.change_keys.new.progress.last)
     (deleted absent ident base (kept_as ident base)) c.from_residual-in_err-change_keys.result c.in_err-change_keys.field-0.0 told failed

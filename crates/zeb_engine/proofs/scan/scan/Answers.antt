@@ -16,10 +16,11 @@ use Rattle.zeb_engine.proofs.Finds.{looked_up}
 use Rattle.zeb_engine.proofs.Scans.{Ends, existing_ends, plan_ends, scanned_ends, entry_of, around_mapped}
 use Rattle.zeb_engine.proofs.Showing.{still_shows}
 use Rattle.zeb_engine.proofs.scan.scan.Goals as goal
+use Rattle.zeb_register.specs.Formats.{holds_in, version_of}
 
 pub returns-in_err-database-clause-scanned : goal.returns-in_err-database-clause-scanned
 returns-in_err-database-clause-scanned g c clean opened limits before bases is keeps =
-    let k = conditions g.L.Layout.version c.args.profile.now limits in
+    let k = conditions (version_of g.L.Layout.format) c.args.profile.now limits in
     let name = name_bytes c.args.name.now in
     let query = c.args.around.query.now in
     let says = IsScanned c.args.profile.now query c.args.around.number c.args.around.position in
@@ -32,7 +33,7 @@ returns-in_err-database-clause-scanned g c clean opened limits before bases is k
 
 pub returns-in_err-plan-clause-scanned : goal.returns-in_err-plan-clause-scanned
 returns-in_err-plan-clause-scanned g c clean opened limits before bases is keeps =
-    let k = conditions g.L.Layout.version c.args.profile.now limits in
+    let k = conditions (version_of g.L.Layout.format) c.args.profile.now limits in
     let name = name_bytes c.args.name.now in
     let query = c.args.around.query.now in
     let says = IsScanned c.args.profile.now query c.args.around.number c.args.around.position in
@@ -41,15 +42,15 @@ returns-in_err-plan-clause-scanned g c clean opened limits before bases is keeps
     let clean1 : HasCleanDisk s1 = clean in
     let database = c.in_ok-database.database in
     let seen = (keeps opened).0 in
-    let base = looked_up g.L.Layout.holds k s0 before bases name database (IsTrue s1.is_open) is seen.1 (c.in_ok-database.ensures.exists clean1 opened k before bases is keeps) in
+    let base = looked_up g.L.Layout.format k (record { version_is = refl; sound = c.is_of_some_text.ensures }) s0 before bases name database (IsTrue s1.is_open) is seen.1 (c.in_ok-database.ensures.exists clean1 opened k before bases is keeps) in
     let fault = c.in_err-plan.field-0.0 in
     let told : c.from_residual-in_err-plan.result ≡ Err (query_refusal fault) = search rules in
     subst (λ (r : Result Reply Refusal). Ends says name query bases (answer_of r)) (sym told)
-    (plan_ends c.args.profile.now name query c.args.around.number c.args.around.position bases c.in_ok-query.ensures.sound base.0 base.1 (query_value c.in_ok-query.query) c.in_ok-query.ensures.spelled fault c.in_err-plan.ensures)
+    (plan_ends c.args.profile.now name query c.args.around.number c.args.around.position bases c.in_ok-query.ensures.sound base.0 base.1 (query_value c.in_ok-query.query) c.in_ok-query.ensures.spelled fault c.in_err-plan.ensures.planned)
 
 pub returns-in_err-entries-clause-scanned : goal.returns-in_err-entries-clause-scanned
 returns-in_err-entries-clause-scanned g c clean opened limits before bases is keeps =
-    let k = conditions g.L.Layout.version c.args.profile.now limits in
+    let k = conditions (version_of g.L.Layout.format) c.args.profile.now limits in
     let name = name_bytes c.args.name.now in
     let query = c.args.around.query.now in
     let says = IsScanned c.args.profile.now query c.args.around.number c.args.around.position in
@@ -58,17 +59,17 @@ returns-in_err-entries-clause-scanned g c clean opened limits before bases is ke
     let clean1 : HasCleanDisk s1 = omega (arith, c.terms_around.ensures.crash.clean) in
     let database = c.in_ok-database.database in
     let seen = (keeps opened).0 in
-    let base = looked_up g.L.Layout.holds k s0 before bases name database (IsTrue s1.is_open) is seen.1 (c.in_ok-database.ensures.exists clean1 opened k before bases is keeps) in
+    let base = looked_up g.L.Layout.format k (record { version_is = refl; sound = c.is_of_some_text.ensures }) s0 before bases name database (IsTrue s1.is_open) is seen.1 (c.in_ok-database.ensures.exists clean1 opened k before bases is keeps) in
     let there = still_shows s0 s1 s0.now.trees (c.existing_database.ensures.same clean1) (λ _. (seen.0, refl)) base.3 in
     let held = base.2 in
-    let has = subst (λ db. g.L.Layout.holds db held.content) (sym there.1) held.held in
+    let has = subst (λ db. holds_in g.L.Layout.format db held.content) (sym there.1) held.held in
     let refusal = c.in_err-entries.field-0.0 in
     let told : c.from_residual-in_err-entries.result ≡ Err refusal = search rules in
     subst (λ (r : Result Reply Refusal). Ends says name query bases (answer_of r)) (sym told) (inr (c.in_err-entries.ensures.failed clean there.0 held.content held.texts has))
 
 pub returns-clause-scanned : goal.returns-clause-scanned
 returns-clause-scanned g c clean opened limits before bases is keeps =
-    let k = conditions g.L.Layout.version c.args.profile.now limits in
+    let k = conditions (version_of g.L.Layout.format) c.args.profile.now limits in
     let name = name_bytes c.args.name.now in
     let query = c.args.around.query.now in
     let s0 = state g.S.Store c.args.connection.now in
@@ -76,16 +77,16 @@ returns-clause-scanned g c clean opened limits before bases is keeps =
     let clean1 : HasCleanDisk s1 = omega (arith, c.terms_around.ensures.crash.clean) in
     let database = c.in_ok-database.database in
     let seen = (keeps opened).0 in
-    let base = looked_up g.L.Layout.holds k s0 before bases name database (IsTrue s1.is_open) is seen.1 (c.in_ok-database.ensures.exists clean1 opened k before bases is keeps) in
+    let base = looked_up g.L.Layout.format k (record { version_is = refl; sound = c.is_of_some_text.ensures }) s0 before bases name database (IsTrue s1.is_open) is seen.1 (c.in_ok-database.ensures.exists clean1 opened k before bases is keeps) in
     let there = still_shows s0 s1 s0.now.trees (c.existing_database.ensures.same clean1) (λ _. (seen.0, refl)) base.3 in
     let held = base.2 in
-    let has = subst (λ db. g.L.Layout.holds db held.content) (sym there.1) held.held in
+    let has = subst (λ db. holds_in g.L.Layout.format db held.content) (sym there.1) held.held in
     let plan = scan_value c.in_ok-plan.plan in
     scanned_ends c.args.profile.now name query c.args.around.number c.args.around.position bases c.in_ok-query.ensures.sound base.0 base.1 (query_value c.in_ok-query.query) c.in_ok-query.ensures.spelled
-    g.L.Layout.holds s0.now.trees database.id.0 held plan c.in_ok-plan.ensures c.in_ok-entries.entries.items (c.in_ok-entries.ensures.around clean there.0 held.content has)
+    g.L.Layout.format s0.now.trees database.id.0 held plan c.in_ok-plan.ensures.planned c.in_ok-entries.entries.items (c.in_ok-entries.ensures.around clean there.0 held.content has)
 
 pub returns-clause-alone : goal.returns-clause-alone
-returns-clause-alone g c clean store content holds =
+returns-clause-alone g c clean store content format =
     let s0 = state g.S.Store c.args.connection.now in
     let s1 = state g.S.Store c.existing_database.new.connection in
     let clean1 : HasCleanDisk s1 = omega (arith, c.terms_around.ensures.crash.clean) in
@@ -93,7 +94,7 @@ returns-clause-alone g c clean store content holds =
     let number = c.args.around.number in
     let position = c.args.around.position in
     let there = still_shows s0 s1 s0.now.trees (c.existing_database.ensures.same clean1) (λ _. (store, refl)) (c.in_ok-entries.ensures.«open» clean).0 in
-    let has = subst (λ db. g.L.Layout.holds db content) (sym there.1) holds in
+    let has = subst (λ db. holds_in g.L.Layout.format db content) (sym there.1) format in
     let plan = scan_value c.in_ok-plan.plan in
     let around = c.in_ok-entries.ensures.around clean there.0 content has in
     record {
@@ -103,7 +104,7 @@ returns-clause-alone g c clean store content holds =
       query = query_value c.in_ok-query.query;
       spelled = c.in_ok-query.ensures.spelled;
       plan = plan;
-      planned = c.in_ok-plan.ensures;
+      planned = c.in_ok-plan.ensures.planned;
       all = around.all;
       are = around.are;
       answered = ap (scanned plan.register) (ap (map entry_of) around.is ∙ around_mapped number position plan.start around.all);

@@ -13,6 +13,7 @@ use Rattle.zeb_engine.proofs.Listed.{fault_fails}
 use Rattle.zeb_engine.proofs.Showing.{still_shows}
 use Rattle.zeb_engine.proofs.Stats.{paired_more}
 use Rattle.zeb_engine.proofs.stat.holdings_of.Goals as goal
+use Rattle.zeb_register.specs.Formats.{holds_in}
 
 pub loop-target-preserved : goal.loop-target-preserved
 loop-target-preserved g c =
@@ -29,7 +30,7 @@ loop-target-preserved g c =
       held = λ clean trees shows was content has.
           let first : HasCleanDisk now = omega (arith, c.totals.ensures.crash.clean) in
           let at = still_shows old now trees (c.loop-target.invariant.same first) shows (c.in_ok-totals.ensures.ok clean).0.was_open in
-          let value = c.in_ok-totals.ensures.value clean at.0 content (subst (λ (t : Trees). g.L.Layout.holds t content) (sym at.1) has) in
+          let value = c.in_ok-totals.ensures.value clean at.0 content (subst (λ (t : Trees). holds_in g.L.Layout.format t content) (sym at.1) has) in
           let target : Target = get_or c.args.targets.now index (0, Word) in
           let holding = c.in_ok-holding_of.field-0 in
           let is : IsHolding c.args.profile.now content c.args.database.0 target holding = record {
@@ -55,4 +56,4 @@ returns-in_err-totals-clause-failed g c clean trees shows was content texts has 
     let at = still_shows old now trees (c.loop-target.invariant.same first) shows (c.loop-target.invariant.open_still first was) in
     let fault = c.in_err-totals.field-0.0 in
     let told : c.from_residual-in_err-totals.result ≡ Err (register_refusal fault) = search rules in
-    rw told (fault_fails fault (λ is. c.in_err-totals.ensures.honest clean at.0 (ap Err is) content texts (subst (λ (t : Trees). g.L.Layout.holds t content) (sym at.1) has)))
+    rw told (fault_fails fault (λ is. c.in_err-totals.ensures.honest clean at.0 (ap Err is) content texts (subst (λ (t : Trees). holds_in g.L.Layout.format t content) (sym at.1) has)))

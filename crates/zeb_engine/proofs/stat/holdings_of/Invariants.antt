@@ -8,6 +8,7 @@ use Rattle.zeb_engine.specs.Counted.{IsHolding}
 use Rattle.zeb_engine.specs.Counting.{Paired}
 use Rattle.zeb_engine.specs.Found.{ShowsStore}
 use Rattle.zeb_engine.proofs.stat.holdings_of.Given as goal
+use Rattle.zeb_register.specs.Formats.{holds_in}
 
 abbrev pub invariant-loop-target : goal.invariant-loop-target
 invariant-loop-target g l =
@@ -20,6 +21,6 @@ invariant-loop-target g l =
       crash : Survives old now (λ _. ⊥);
       open_still : HasCleanDisk now → IsTrue old.is_open → IsTrue now.is_open;
       same : HasCleanDisk now → ChangesNothing old now;
-      held : HasCleanDisk now → (trees : Trees) → ShowsStore old trees → IsTrue old.is_open → (content : Content) → g.L.Layout.holds trees content
+      held : HasCleanDisk now → (trees : Trees) → ShowsStore old trees → IsTrue old.is_open → (content : Content) → holds_in g.L.Layout.format trees content
           → Paired (IsHolding l.fn.profile content l.fn.database.0) (take l.target-index l.targets) l.holdings.items;
     }

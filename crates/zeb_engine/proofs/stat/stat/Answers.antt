@@ -25,39 +25,40 @@ use Rattle.zeb_engine.proofs.Serving.{keeps_still}
 use Rattle.zeb_engine.proofs.Showing.{still_shows}
 use Rattle.zeb_engine.proofs.Stats.{Counts, count_fails, count_known, count_unknown, extents_are, last_named, unready_counts}
 use Rattle.zeb_engine.proofs.stat.stat.Goals as goal
+use Rattle.zeb_register.specs.Formats.{version_of}
 
 pub returns-in_err-check_ready-clause-serves : goal.returns-in_err-check_ready-clause-serves
 returns-in_err-check_ready-clause-serves g c clean limits before keeps =
-    let k = conditions g.L.Layout.version c.args.profile.now limits in
+    let k = conditions (version_of g.L.Layout.format) c.args.profile.now limits in
     let name = name_bytes c.args.name.now in
     let s0 = state g.S.Store c.args.connection.now in
     let s1 = state g.S.Store c.check_ready.new.connection in
     let refusal = c.in_err-check_ready.field-0.0 in
     let told : c.from_residual.result ≡ Err refusal = search rules in
     let nothing = c.check_ready.ensures.same clean in
-    subst (Counts g.L.Layout.holds k name s0 s1 nothing before) (sym told)
-    (unready_counts g.L.Layout.holds k name s0 s1 nothing refusal (λ before keeps. c.in_err-check_ready.ensures.ready clean limits before keeps) before keeps)
+    subst (Counts g.L.Layout.format k name s0 s1 nothing before) (sym told)
+    (unready_counts g.L.Layout.format k name s0 s1 nothing refusal (λ before keeps. c.in_err-check_ready.ensures.ready clean limits before keeps) before keeps)
 
 pub returns-in_err-database-clause-serves : goal.returns-in_err-database-clause-serves
 returns-in_err-database-clause-serves g c clean limits before keeps =
-    let k = conditions g.L.Layout.version c.args.profile.now limits in
+    let k = conditions (version_of g.L.Layout.format) c.args.profile.now limits in
     let name = name_bytes c.args.name.now in
     let s0 = state g.S.Store c.args.connection.now in
     let s1 = state g.S.Store c.check_ready.new.connection in
     let s2 = state g.S.Store c.existing_database.new.connection in
     let clean1 : HasCleanDisk s1 = omega (arith, c.existing_database.ensures.crash.clean) in
     let met = ready_met {X = Unit {0}} (λ (bases : List Base) x. IsTrue s0.is_open × IsTrue s1.is_open) (ready k before) tt (c.in_ok-check_ready.ensures.ready clean1 limits before keeps) in
-    let keeps1 = keeps_still g.L.Layout.holds k before s0 s1 (c.check_ready.ensures.same clean1) keeps in
+    let keeps1 = keeps_still before s0 s1 (c.check_ready.ensures.same clean1) keeps in
     let refusal = c.in_err-database.field-0.0 in
     let told : c.from_residual-in_err-database.result ≡ Err refusal = search rules in
     let nothing = nothing_then s0 s1 s2 (c.check_ready.ensures.same clean1) (c.existing_database.ensures.same clean) in
-    subst (Counts g.L.Layout.holds k name s0 s2 nothing before) (sym told)
-    (count_unknown g.L.Layout.holds k name s0 s2 nothing before met.0 met.1 keeps
+    subst (Counts g.L.Layout.format k name s0 s2 nothing before) (sym told)
+    (count_unknown g.L.Layout.format k name s0 s2 nothing before met.0 met.1 keeps
     {X = Database} (λ base d. HasDatabase s1.now.trees d.id.0 base.name (pos base.last) × (d.last ≡ base.last) × IsTrue s2.is_open) refusal (c.in_err-database.ensures.exists clean met.2.1 k before met.0 met.1 keeps1))
 
 pub returns-in_err-kept-clause-serves : goal.returns-in_err-kept-clause-serves
 returns-in_err-kept-clause-serves g c clean limits before keeps =
-    let k = conditions g.L.Layout.version c.args.profile.now limits in
+    let k = conditions (version_of g.L.Layout.format) c.args.profile.now limits in
     let name = name_bytes c.args.name.now in
     let s0 = state g.S.Store c.args.connection.now in
     let s1 = state g.S.Store c.check_ready.new.connection in
@@ -66,21 +67,21 @@ returns-in_err-kept-clause-serves g c clean limits before keeps =
     let clean2 : HasCleanDisk s2 = omega (arith, c.records.ensures.crash.clean) in
     let clean1 : HasCleanDisk s1 = omega (arith, clean2, c.existing_database.ensures.crash.clean) in
     let met = ready_met {X = Unit {0}} (λ (bases : List Base) x. IsTrue s0.is_open × IsTrue s1.is_open) (ready k before) tt (c.in_ok-check_ready.ensures.ready clean1 limits before keeps) in
-    let keeps1 = keeps_still g.L.Layout.holds k before s0 s1 (c.check_ready.ensures.same clean1) keeps in
+    let keeps1 = keeps_still before s0 s1 (c.check_ready.ensures.same clean1) keeps in
     let database = c.in_ok-database.database in
     let seen = (keeps1 met.2.1).0 in
-    let base = looked_up g.L.Layout.holds k s1 before met.0 name database (IsTrue s2.is_open) met.1 seen.1 (c.in_ok-database.ensures.exists clean2 met.2.1 k before met.0 met.1 keeps1) in
+    let base = looked_up g.L.Layout.format k (record { version_is = refl; sound = c.is_of_some_text.ensures }) s1 before met.0 name database (IsTrue s2.is_open) met.1 seen.1 (c.in_ok-database.ensures.exists clean2 met.2.1 k before met.0 met.1 keeps1) in
     let there = still_shows s1 s2 s1.now.trees (c.existing_database.ensures.same clean2) (λ _. (seen.0, refl)) base.3 in
-    let readable = all_readable g.L.Layout.holds c.args.profile.now s1.now.trees database.id.0 base.0 base.2 in
+    let readable = all_readable g.L.Layout.format c.args.profile.now s1.now.trees database.id.0 base.0 base.2 in
     let nothing = nothing_then s0 s2 s3 (nothing_then s0 s1 s2 (c.check_ready.ensures.same clean1) (c.existing_database.ensures.same clean2)) (c.records.ensures.same clean c.existing_database.ensures.idle) in
     let fault = c.in_err-kept.field-0.0 in
     let told : c.from_residual-in_err-kept.result ≡ Err (register_refusal fault) = search rules in
-    subst (Counts g.L.Layout.holds k name s0 s3 nothing before) (sym told) (count_fails g.L.Layout.holds k name s0 s3 nothing before met.0 met.1 keeps (Err (register_refusal fault))
+    subst (Counts g.L.Layout.format k name s0 s3 nothing before) (sym told) (count_fails g.L.Layout.format k name s0 s3 nothing before met.0 met.1 keeps (Err (register_refusal fault))
     (fault_fails fault (λ is_damaged. c.in_err-kept.ensures.honest clean there.0 (ap Err is_damaged) (subst (λ (t : Trees). AreReadable t database.id.0) (sym there.1) readable))))
 
 pub returns-in_err-holdings-clause-serves : goal.returns-in_err-holdings-clause-serves
 returns-in_err-holdings-clause-serves g c clean limits before keeps =
-    let k = conditions g.L.Layout.version c.args.profile.now limits in
+    let k = conditions (version_of g.L.Layout.format) c.args.profile.now limits in
     let name = name_bytes c.args.name.now in
     let s0 = state g.S.Store c.args.connection.now in
     let s1 = state g.S.Store c.check_ready.new.connection in
@@ -91,10 +92,10 @@ returns-in_err-holdings-clause-serves g c clean limits before keeps =
     let clean2 : HasCleanDisk s2 = omega (arith, clean3, c.records.ensures.crash.clean) in
     let clean1 : HasCleanDisk s1 = omega (arith, clean2, c.existing_database.ensures.crash.clean) in
     let met = ready_met {X = Unit {0}} (λ (bases : List Base) x. IsTrue s0.is_open × IsTrue s1.is_open) (ready k before) tt (c.in_ok-check_ready.ensures.ready clean1 limits before keeps) in
-    let keeps1 = keeps_still g.L.Layout.holds k before s0 s1 (c.check_ready.ensures.same clean1) keeps in
+    let keeps1 = keeps_still before s0 s1 (c.check_ready.ensures.same clean1) keeps in
     let database = c.in_ok-database.database in
     let seen = (keeps1 met.2.1).0 in
-    let base = looked_up g.L.Layout.holds k s1 before met.0 name database (IsTrue s2.is_open) met.1 seen.1 (c.in_ok-database.ensures.exists clean2 met.2.1 k before met.0 met.1 keeps1) in
+    let base = looked_up g.L.Layout.format k (record { version_is = refl; sound = c.is_of_some_text.ensures }) s1 before met.0 name database (IsTrue s2.is_open) met.1 seen.1 (c.in_ok-database.ensures.exists clean2 met.2.1 k before met.0 met.1 keeps1) in
     let held = base.2 in
     let records_same = c.records.ensures.same clean3 c.existing_database.ensures.idle in
     let at2 = still_shows s1 s2 s1.now.trees (c.existing_database.ensures.same clean2) (λ _. (seen.0, refl)) in
@@ -103,12 +104,12 @@ returns-in_err-holdings-clause-serves g c clean limits before keeps =
     let opened = (c.in_ok-kept.ensures.ok clean3).0.is_open in
     let refusal = c.in_err-holdings.field-0.0 in
     let told : c.from_residual-in_err-holdings.result ≡ Err refusal = search rules in
-    subst (Counts g.L.Layout.holds k name s0 s4 nothing before) (sym told) (count_fails g.L.Layout.holds k name s0 s4 nothing before met.0 met.1 keeps (Err refusal)
+    subst (Counts g.L.Layout.format k name s0 s4 nothing before) (sym told) (count_fails g.L.Layout.format k name s0 s4 nothing before met.0 met.1 keeps (Err refusal)
     (c.in_err-holdings.ensures.failed clean s1.now.trees at3 opened held.content held.texts held.held))
 
 pub returns-clause-serves : goal.returns-clause-serves
 returns-clause-serves g c clean limits before keeps =
-    let k = conditions g.L.Layout.version c.args.profile.now limits in
+    let k = conditions (version_of g.L.Layout.format) c.args.profile.now limits in
     let name = name_bytes c.args.name.now in
     let s0 = state g.S.Store c.args.connection.now in
     let s1 = state g.S.Store c.check_ready.new.connection in
@@ -119,11 +120,11 @@ returns-clause-serves g c clean limits before keeps =
     let clean2 : HasCleanDisk s2 = omega (arith, clean3, c.records.ensures.crash.clean) in
     let clean1 : HasCleanDisk s1 = omega (arith, clean2, c.existing_database.ensures.crash.clean) in
     let met = ready_met {X = Unit {0}} (λ (bases : List Base) x. IsTrue s0.is_open × IsTrue s1.is_open) (ready k before) tt (c.in_ok-check_ready.ensures.ready clean1 limits before keeps) in
-    let keeps1 = keeps_still g.L.Layout.holds k before s0 s1 (c.check_ready.ensures.same clean1) keeps in
+    let keeps1 = keeps_still before s0 s1 (c.check_ready.ensures.same clean1) keeps in
     let database = c.in_ok-database.database in
     let seen = (keeps1 met.2.1).0 in
     let said = c.in_ok-database.ensures.exists clean2 met.2.1 k before met.0 met.1 keeps1 in
-    let base = looked_up g.L.Layout.holds k s1 before met.0 name database (IsTrue s2.is_open) met.1 seen.1 said in
+    let base = looked_up g.L.Layout.format k (record { version_is = refl; sound = c.is_of_some_text.ensures }) s1 before met.0 name database (IsTrue s2.is_open) met.1 seen.1 said in
     let held = base.2 in
     let records_same = c.records.ensures.same clean3 c.existing_database.ensures.idle in
     let at2 = still_shows s1 s2 s1.now.trees (c.existing_database.ensures.same clean2) (λ _. (seen.0, refl)) in
@@ -133,14 +134,14 @@ returns-clause-serves g c clean limits before keeps =
     let kept = c.in_ok-kept.kept.items in
     let there = at2 base.3 in
     let are = subst (λ (t : Trees). IsListOf (IsRest records_tree (Int database.id.0 ∷ []) t) (map record_shown kept)) there.1 (c.in_ok-kept.ensures.value clean3 there.0) in
-    let many = as_many g.L.Layout.holds c.args.profile.now s1.now.trees database.id.0 base.0 held kept are in
+    let many = as_many g.L.Layout.format c.args.profile.now s1.now.trees database.id.0 base.0 held kept are in
     let last = last_named name met.0 database s1.now.trees (IsTrue s2.is_open) said base.0 base.1 in
     let holdings = c.in_ok-holdings.holdings in
     let targets = c.deref.ensures.value ∙ c.in_ok-targets.ensures in
     let paired = subst (λ (l : List Target). Paired (IsHolding c.args.profile.now held.content database.id.0) l holdings.items) targets (c.in_ok-holdings.ensures.held clean s1.now.trees at3 opened held.content held.held) in
     let counted_are : c.len.result ≡ length kept = search rules in
-    count_known g.L.Layout.holds k name s0 s4 nothing before met.0 met.1 keeps base.0 base.1 (Ok (Counted c.len.result database.last holdings)) (
+    count_known g.L.Layout.format k name s0 s4 nothing before met.0 met.1 keeps base.0 base.1 (Ok (Counted c.len.result database.last holdings)) (
       map extent_of holdings.items,
-      extents_are g.L.Layout.holds c.args.profile.now s1.now.trees database.id.0 base.0 held _ holdings.items paired,
+      extents_are g.L.Layout.format c.args.profile.now s1.now.trees database.id.0 base.0 held _ holdings.items paired,
       ap₂ (λ (m n : ℕ). counted m n (map extent_of holdings.items)) (counted_are ∙ many) last,
     )

@@ -7,10 +7,11 @@ use Rattle.zeb_engine.specs.Steps.{holding}
 use Rattle.zeb_engine.specs.Writing.{AreOf}
 use Rattle.zeb_engine.proofs.WriteSteps.{init_works, begun_so, nothing_so}
 use Rattle.zeb_engine.proofs.writes.apply.Goals as goal
+use Rattle.zeb_register.specs.Formats.{version_of}
 
 pub returns-in-Init-clause-works : goal.returns-in-Init-clause-works
 returns-in-Init-clause-works g c clean inside k reached =
-    rw c.in-Init.is (init_works g.L.Layout.holds k g.L.Layout.version c.in-Init.profile.now c.in-Init.pattern.now (state g.S.Store c.args.tx.now.conn.now) (state g.S.Store c.init.new.tx.conn.now) c.init.result
+    rw c.in-Init.is (init_works g.L.Layout.format k (version_of g.L.Layout.format) c.in-Init.profile.now c.in-Init.pattern.now (state g.S.Store c.args.tx.now.conn.now) (state g.S.Store c.init.new.tx.conn.now) c.init.result
     (c.init.ensures.stays clean inside) (c.init.ensures.ok clean inside) (c.init.ensures.begun clean inside) c.init.ensures.failed)
 
 pub returns-in-Create-clause-works : goal.returns-in-Create-clause-works
@@ -25,7 +26,7 @@ pub returns-in-Init-clause-begun : goal.returns-in-Init-clause-begun
 returns-in-Init-clause-begun g c clean inside =
     let old = state g.S.Store c.args.tx.now.conn.now in
     let new = state g.S.Store c.init.new.tx.conn.now in
-    rw c.in-Init.is (begun_so c.init.result (IsStore old) (IsStore new × ((k : Conditions) → AreOf g.L.Layout.version c.in-Init.profile.now c.in-Init.pattern.now k → IsImage g.L.Layout.holds k new.now.trees (holding k [])))
+    rw c.in-Init.is (begun_so c.init.result (IsStore old) (IsStore new × ((k : Conditions) → AreOf (version_of g.L.Layout.format) c.in-Init.profile.now c.in-Init.pattern.now k → IsImage new.now.trees (holding k [])))
     (c.init.ensures.begun clean inside))
 
 pub returns-in-Create-clause-begun : goal.returns-in-Create-clause-begun

@@ -15,5 +15,5 @@ returns-clause-works g c clean inside opened k =
       c.in_ok-database_put.ensures.ok clean inside,
       λ before free store image.
           let put = subst (λ n. Changes databases_tree (PutsDatabase id n (pos 0)) old new) c.as_str.ensures (c.in_ok-database_put.ensures.put clean inside store) in
-          create_leads g.L.Layout.holds k old new name before image g.met.L.Layout.stays id free put,
+          create_leads k old new name before image id c.args.name.now.named free put,
     )

@@ -11,9 +11,10 @@ use Rattle.zeb_engine.specs.Outcomes.{register_refusal}
 use Rattle.zeb_engine.specs.Steps.{turned, created}
 use Rattle.zeb_engine.specs.Works.{IsReady, Serves}
 use Rattle.zeb_engine.proofs.Crashing.{survives_after}
-use Rattle.zeb_engine.proofs.Listed.{fault_fails, image_ready, counted, row_named, none_named, row_found}
+use Rattle.zeb_engine.proofs.Listed.{fault_fails, counted, row_named, none_named, row_found}
 use Rattle.zeb_engine.proofs.Serving.{keeps_still, early_serves}
 use Rattle.zeb_engine.proofs.Turns.{step_exists}
+use Rattle.zeb_engine.proofs.ReadyImages.{image_some}
 use Rattle.zeb_engine.proofs.writes.create_database.Goals as goal
 
 pub returns-in_err-found-clause-serves : goal.returns-in_err-found-clause-serves
@@ -23,28 +24,28 @@ returns-in_err-found-clause-serves g c clean k =
     let turn = created (name_bytes c.args.name.now) in
     let fault = c.in_err-found.field-0.0 in
     let told : c.from_residual.result ≡ Err (register_refusal fault) = search rules in
-    subst (Serves g.L.Layout.holds k (IsReady k) (turned k turn) old new) (sym told)
-    (early_serves g.L.Layout.holds k (turned k turn) (IsReady k) old new (register_refusal fault) (c.database_of.ensures.same clean c.requires.idle) (λ before fits keeps.
+    subst (Serves (IsReady k) (turned k turn) old new) (sym told)
+    (early_serves (turned k turn) (IsReady k) old new (register_refusal fault) (c.database_of.ensures.same clean c.requires.idle) (λ before fits keeps.
     inl (fault_fails fault (λ is.
     let damaged : ◌≡◌ {A = Result (Option Database) RegFault} (Err fault) (Err register.Damaged) = ap Err is in
     let opened = c.in_err-found.ensures.opened clean damaged in
     let at = keeps opened in
     let ready = fits opened in
-    let all = (image_ready g.L.Layout.holds k old.now.trees before ready.0 ready.1 at.0.1).2 refl refl in
-    c.in_err-found.ensures.honest clean at.0.0 damaged (counted old.now.trees ready.0 all.2.id_of all.2.listed c.as_str.result.now)))))
+    let all = image_some k old.now.trees before ready.0 ready.1 at.0.1 in
+    c.in_err-found.ensures.honest clean at.0.0 damaged (counted old.now.trees ready.0 all.1.image.id_of all.1.image.listed c.as_str.result.now)))))
 
 pub returns-in-Some-clause-serves : goal.returns-in-Some-clause-serves
 returns-in-Some-clause-serves g c clean k =
     let old = state g.S.Store c.args.connection.now in
     let new = state g.S.Store c.database_of.new.conn in
     let name = name_bytes c.args.name.now in
-    early_serves g.L.Layout.holds k (turned k (created name)) (IsReady k) old new Exists (c.database_of.ensures.same clean c.requires.idle) (λ before fits keeps.
+    early_serves (turned k (created name)) (IsReady k) old new Exists (c.database_of.ensures.same clean c.requires.idle) (λ before fits keeps.
     let opened = (c.in_ok-found.ensures.ok clean).0.was_open in
     let at = keeps opened in
     let ready = fits opened in
-    let all = (image_ready g.L.Layout.holds k old.now.trees before ready.0 ready.1 at.0.1).2 refl refl in
+    let all = image_some k old.now.trees before ready.0 ready.1 at.0.1 in
     let row = row_found old.now.trees c.as_str.result.now name c.as_str.ensures c.in_ok-found.found _ c.in-Some.is (c.in_ok-found.ensures.value clean at.0.0) in
-    let base = row_named old.now.trees ready.0 all.2.id_of all.2.listed k.profile all.1 row.0 name row.1 row.2 in
+    let base = row_named old.now.trees ready.0 all.1.image.id_of all.1.image.listed all.0 all.1.are row.0 name row.1 row.2 in
     inr (step_exists k before name ready.0 ready.1 base.0 base.1))
 
 pub returns-in-None-clause-serves : goal.returns-in-None-clause-serves
@@ -56,11 +57,11 @@ returns-in-None-clause-serves g c clean k before fits keeps =
     let still = c.in_ok-found.ensures.ok first in
     let at = keeps still.0.was_open in
     let ready = fits still.0.was_open in
-    let all = (image_ready g.L.Layout.holds k old.now.trees before ready.0 ready.1 at.0.1).2 refl refl in
+    let all = image_some k old.now.trees before ready.0 ready.1 at.0.1 in
     let value = c.in_ok-found.ensures.value first at.0.0 in
     let there : IsDatabaseOf old.now.trees name None = subst (λ n. IsDatabaseOf old.now.trees n None) c.as_str.ensures (subst (IsDatabaseOf old.now.trees c.as_str.result.now) c.in-None.is value) in
-    let none = none_named old.now.trees ready.0 all.2.id_of all.2.listed name there in
-    c.transact.ensures.serves clean k still.0.is_open before (λ _. (ready.0, ready.1, none)) (keeps_still g.L.Layout.holds k before old mid (c.database_of.ensures.same first c.requires.idle) keeps)
+    let none = none_named old.now.trees ready.0 all.1.image.id_of all.1.image.listed name there in
+    c.transact.ensures.serves clean k still.0.is_open before (λ _. (ready.0, ready.1, none)) (keeps_still before old mid (c.database_of.ensures.same first c.requires.idle) keeps)
 
 pub returns-in-None-clause-survives : goal.returns-in-None-clause-survives
 returns-in-None-clause-survives g c =
@@ -73,8 +74,8 @@ returns-in-None-clause-survives g c =
     let still = c.in_ok-found.ensures.ok first in
     let at = keeps still.0.was_open in
     let ready = fits still.0.was_open in
-    let all = (image_ready g.L.Layout.holds k old.now.trees before ready.0 ready.1 at.0.1).2 refl refl in
+    let all = image_some k old.now.trees before ready.0 ready.1 at.0.1 in
     let value = c.in_ok-found.ensures.value first at.0.0 in
     let there : IsDatabaseOf old.now.trees name None = subst (λ n. IsDatabaseOf old.now.trees n None) c.as_str.ensures (subst (IsDatabaseOf old.now.trees c.as_str.result.now) c.in-None.is value) in
-    let none = none_named old.now.trees ready.0 all.2.id_of all.2.listed name there in
-    made k still.0.is_open before (λ _. (ready.0, ready.1, none)) (keeps_still g.L.Layout.holds k before old mid (c.database_of.ensures.same first c.requires.idle) keeps))
+    let none = none_named old.now.trees ready.0 all.1.image.id_of all.1.image.listed name there in
+    made k still.0.is_open before (λ _. (ready.0, ready.1, none)) (keeps_still before old mid (c.database_of.ensures.same first c.requires.idle) keeps))

@@ -15,14 +15,14 @@ use Rattle.zeb_engine.proofs.Turns.{step_missing, existing_known}
 use Rattle.zeb_engine.proofs.writes.drop_database.Goals as goal
 
 pub returns-in_err-database-clause-serves : goal.returns-in_err-database-clause-serves
-returns-in_err-database-clause-serves g c clean k =
+returns-in_err-database-clause-serves g c clean k home =
     let old = state g.S.Store c.args.connection.now in
     let new = state g.S.Store c.existing_database.new.connection in
     let name = name_bytes c.args.name.now in
     let refusal = c.in_err-database.field-0.0 in
     let told : c.from_residual.result ≡ Err refusal = search rules in
-    subst (Serves g.L.Layout.holds k (IsReady k) (turned k (dropped name)) old new) (sym told)
-    (early_serves g.L.Layout.holds k (turned k (dropped name)) (IsReady k) old new refusal (c.existing_database.ensures.same clean) (λ before fits keeps. elim (c.in_err-database.ensures.opened clean) [
+    subst (Serves (IsReady k) (turned k (dropped name)) old new) (sym told)
+    (early_serves (turned k (dropped name)) (IsReady k) old new refusal (c.existing_database.ensures.same clean) (λ before fits keeps. elim (c.in_err-database.ensures.opened clean) [
       | inl failed ↦ inl failed
       | inr opened ↦
           let ready = fits opened in elim (c.in_err-database.ensures.exists clean opened k before ready.0 ready.1 keeps) [
@@ -32,7 +32,7 @@ returns-in_err-database-clause-serves g c clean k =
     ]))
 
 pub returns-clause-serves : goal.returns-clause-serves
-returns-clause-serves g c clean k before fits keeps =
+returns-clause-serves g c clean k home before fits keeps =
     let old = state g.S.Store c.args.connection.now in
     let mid = state g.S.Store c.existing_database.new.connection in
     let name = name_bytes c.args.name.now in
@@ -43,7 +43,7 @@ returns-clause-serves g c clean k before fits keeps =
     let known = existing_known {X = Database} (λ (base : Base) (found : Database). HasDatabase old.now.trees found.id.0 base.name (pos base.last) × (found.last ≡ base.last) × IsTrue mid.is_open) name ready.0 c.in_ok-database.database met in
     let nothing = c.existing_database.ensures.same first in
     let row = subst (λ (d : Contents). HasDatabase d.trees c.in_ok-database.database.id.0 known.0.name (pos known.0.last)) (sym (nothing known.2.2).1) known.2.0 in
-    c.transact.ensures.serves clean k known.2.2 before (λ _. (ready.0, known.0, ready.1, known.1, row)) (keeps_still g.L.Layout.holds k before old mid nothing keeps)
+    c.transact.ensures.serves clean k known.2.2 before (λ _. (home, (ready.0, known.0, ready.1, known.1, row))) (keeps_still before old mid nothing keeps)
 
 pub returns-clause-survives : goal.returns-clause-survives
 returns-clause-survives g c =
@@ -51,7 +51,7 @@ returns-clause-survives g c =
     let mid = state g.S.Store c.existing_database.new.connection in
     let new = state g.S.Store c.transact.new.connection in
     let name = name_bytes c.args.name.now in
-    survives_after old mid new _ _ c.existing_database.ensures.crash c.transact.ensures.survives (λ clean db made k before fits keeps.
+    survives_after old mid new _ _ c.existing_database.ensures.crash c.transact.ensures.survives (λ clean db made k home before fits keeps.
     let first : HasCleanDisk mid = omega (arith, c.transact.ensures.survives.clean) in
     let opened = c.in_ok-database.ensures.found first in
     let ready = fits opened in
@@ -59,4 +59,4 @@ returns-clause-survives g c =
     let known = existing_known {X = Database} (λ (base : Base) (found : Database). HasDatabase old.now.trees found.id.0 base.name (pos base.last) × (found.last ≡ base.last) × IsTrue mid.is_open) name ready.0 c.in_ok-database.database met in
     let nothing = c.existing_database.ensures.same first in
     let row = subst (λ (d : Contents). HasDatabase d.trees c.in_ok-database.database.id.0 known.0.name (pos known.0.last)) (sym (nothing known.2.2).1) known.2.0 in
-    made k known.2.2 before (λ _. (ready.0, known.0, ready.1, known.1, row)) (keeps_still g.L.Layout.holds k before old mid nothing keeps))
+    made k known.2.2 before (λ _. (home, (ready.0, known.0, ready.1, known.1, row))) (keeps_still before old mid nothing keeps))

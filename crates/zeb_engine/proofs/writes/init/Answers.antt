@@ -1,10 +1,11 @@
-use Rattle.std.proofs.Common.{arith, subst}
+use Rattle.std.proofs.Common.{arith, refl, subst}
 use Rattle.sqlite.specs.Held.{state}
 use Rattle.sqlite.specs.State.{HasCleanDisk}
 use Rattle.zeb_profile.specs.Canonical.{canonical_text}
 use Rattle.zeb_engine.specs.Writing.{PutsTexts}
 use Rattle.zeb_engine.proofs.Beginning.{begun_image}
 use Rattle.zeb_engine.proofs.writes.init.Goals as goal
+use Rattle.zeb_register.specs.Formats.{version_of}
 
 pub returns-clause-begun : goal.returns-clause-begun
 returns-clause-begun g c clean inside store =
@@ -17,4 +18,4 @@ returns-clause-begun g c clean inside store =
     let empty = wiped.1 store in
     let put = c.in_ok-put_texts.ensures.put clean wiped.0.mode empty.0 empty.2.0 in
     let said = subst (λ v. PutsTexts v (canonical_text profile) pattern mid new) c.version.ensures (subst (λ t. PutsTexts c.version.result.now t pattern mid new) c.text.ensures put) in
-    (said.store, λ k of. begun_image g.L.Layout.holds g.met.L.Layout.empty g.L.Layout.version profile pattern mid new empty said k of)
+    (said.store, λ k of. begun_image g.L.Layout.format (version_of g.L.Layout.format) refl profile pattern mid new empty said k of)

@@ -12,27 +12,28 @@ use Rattle.zeb_engine.specs.Writing.{AreOf}
 use Rattle.zeb_engine.proofs.Crashing.{survives_as}
 use Rattle.zeb_engine.proofs.Serving.{on_ok}
 use Rattle.zeb_engine.proofs.writes.init_register.Goals as goal
+use Rattle.zeb_register.specs.Formats.{version_of}
 
 pub returns-clause-serves : goal.returns-clause-serves
 returns-clause-serves g c clean limits before fits keeps =
-    let k = conditions g.L.Layout.version c.args.profile.now limits in
+    let k = conditions (version_of g.L.Layout.format) c.args.profile.now limits in
     let spelled : string_bytes c.in_ok-pattern.pattern ≡ pattern_text c.identifier_rule.result.now = search rules in
     let lent : c.as_str.result.now ≡ string_bytes c.in_ok-pattern.pattern = search rules in
     let pattern : option_map pattern_text (identifier_pattern c.args.profile.now) ≡ Some c.as_str.result.now = ap (option_map pattern_text) c.identifier_rule.ensures ∙ ap Some (sym (lent ∙ spelled)) in
-    c.transact.ensures.serves clean k tt before (λ _. record { version_is = refl; profile_is = refl; pattern_is = pattern }) keeps
+    c.transact.ensures.serves clean k tt before (λ _. record { version_is = refl; profile_is = refl; pattern_is = pattern; sound = c.is_of_some_text.ensures }) keeps
 
 pub returns-clause-begun : goal.returns-clause-begun
 returns-clause-begun g c clean =
     let old = state g.S.Store c.args.connection.now in
     let new = state g.S.Store c.transact.new.connection in
-    let version = g.L.Layout.version in
+    let version = (version_of g.L.Layout.format) in
     let profile = c.args.profile.now in
     let spelled : string_bytes c.in_ok-pattern.pattern ≡ pattern_text c.identifier_rule.result.now = search rules in
     let lent : c.as_str.result.now ≡ string_bytes c.in_ok-pattern.pattern = search rules in
     let pattern : option_map pattern_text (identifier_pattern profile) ≡ Some c.as_str.result.now = ap (option_map pattern_text) c.identifier_rule.ensures ∙ ap Some (sym (lent ∙ spelled)) in
-    on_ok c.transact.result (IsStore old → IsStore new × ((k : Conditions) → AreOf version profile c.as_str.result.now k → IsImage g.L.Layout.holds k new.now.trees (holding k [])))
-    (IsStore old → (limits : Limits) → IsStore new × IsImage g.L.Layout.holds (conditions version profile limits) new.now.trees (holding (conditions version profile limits) []))
-    (λ did store limits. let left = did store in (left.0, left.1 (conditions version profile limits) (record { version_is = refl; profile_is = refl; pattern_is = pattern })))
+    on_ok c.transact.result (IsStore old → IsStore new × ((k : Conditions) → AreOf version profile c.as_str.result.now k → IsImage new.now.trees (holding k [])))
+    (IsStore old → (limits : Limits) → IsStore new × IsImage new.now.trees (holding (conditions version profile limits) []))
+    (λ did store limits. let left = did store in (left.0, left.1 (conditions version profile limits) (record { version_is = refl; profile_is = refl; pattern_is = pattern; sound = c.is_of_some_text.ensures })))
     (c.transact.ensures.begun clean)
 
 pub returns-clause-survives : goal.returns-clause-survives
@@ -42,5 +43,5 @@ returns-clause-survives g c =
     let lent : c.as_str.result.now ≡ string_bytes c.in_ok-pattern.pattern = search rules in
     let pattern : option_map pattern_text (identifier_pattern profile) ≡ Some c.as_str.result.now = ap (option_map pattern_text) c.identifier_rule.ensures ∙ ap Some (sym (lent ∙ spelled)) in
     survives_as (state g.S.Store c.args.connection.now) (state g.S.Store c.transact.new.connection) _ _
-    (λ clean db made limits before fits keeps. made (conditions g.L.Layout.version profile limits) tt before (λ _. record { version_is = refl; profile_is = refl; pattern_is = pattern }) keeps)
+    (λ clean db made limits before fits keeps. made (conditions (version_of g.L.Layout.format) profile limits) tt before (λ _. record { version_is = refl; profile_is = refl; pattern_is = pattern; sound = c.is_of_some_text.ensures }) keeps)
     c.transact.ensures.survives

@@ -10,5 +10,5 @@ returns-clause-works g c clean inside k =
       c.in_ok-database_take.ensures.ok clean inside,
       λ before known store image.
           let taken = c.in_ok-database_take.ensures.taken clean inside store in
-          drop_leads g.L.Layout.holds k old new (name_bytes c.args.name.now) before image c.args.id.0 known taken.0 taken.1,
+          drop_leads k old new (name_bytes c.args.name.now) before image g.L.Layout.format c.args.id.0 known.0 known.1 taken.0 taken.1,
     )

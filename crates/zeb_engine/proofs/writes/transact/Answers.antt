@@ -8,6 +8,7 @@ use Rattle.zeb_engine.specs.Writing.{Begins, Fits, IsReached, written}
 use Rattle.zeb_engine.proofs.Crashing.{write_survives}
 use Rattle.zeb_engine.proofs.Serving.{begins_over, refusal_serves, reply_serves, reached_inside}
 use Rattle.zeb_engine.proofs.writes.transact.Goals as goal
+use Rattle.zeb_register.specs.Formats.{version_of}
 
 pub returns-in_err-reply-clause-serves : goal.returns-in_err-reply-clause-serves
 returns-in_err-reply-clause-serves g c clean k reached =
@@ -19,8 +20,8 @@ returns-in_err-reply-clause-serves g c clean k reached =
     let told : c.from_residual.result ≡ Err c.in_err-reply.field-0.0 = search rules in
     let at = reached_inside g.S.Store write c.args.connection.now c.transaction-tx.result.conn.now begun reached in
     let works = c.in_err-reply.ensures.works (omega (arith, c.drop-tx.ensures.survives.clean)) (rw begun refl) k at in
-    subst₂ (λ h r. Serves g.L.Layout.holds k (Fits g.L.Layout.version k write) (written k write) (state g.S.Store c.args.connection.now) (state g.S.Store h) r) same (sym told)
-    (refusal_serves g.L.Layout.holds k (written k write) g.S.Store (Fits g.L.Layout.version k write) c.args.connection.now c.transaction-tx.result.conn.now (state g.S.Store c.apply.new.tx.conn.now)
+    subst₂ (λ h r. Serves (Fits (version_of g.L.Layout.format) k write) (written k write) (state g.S.Store c.args.connection.now) (state g.S.Store h) r) same (sym told)
+    (refusal_serves (written k write) g.S.Store (Fits (version_of g.L.Layout.format) k write) c.args.connection.now c.transaction-tx.result.conn.now (state g.S.Store c.apply.new.tx.conn.now)
     (state g.S.Store end) c.in_err-reply.field-0.0 begun works (c.drop-tx.ensures.undone late))
 
 pub returns-clause-serves : goal.returns-clause-serves
@@ -32,8 +33,8 @@ returns-clause-serves g c clean k reached =
     let same : end ≡ c.connection-2-1.given.0 = search rules in
     let at = reached_inside g.S.Store write c.args.connection.now c.transaction-tx.result.conn.now begun reached in
     let works = c.in_ok-reply.ensures.works (omega (arith, c.commit.ensures.survives.clean)) (rw begun refl) k at in
-    subst (λ h. Serves g.L.Layout.holds k (Fits g.L.Layout.version k write) (written k write) (state g.S.Store c.args.connection.now) (state g.S.Store h) (Ok c.in_ok-reply.reply)) same
-    (reply_serves g.L.Layout.holds k (written k write) g.S.Store (Fits g.L.Layout.version k write) c.args.connection.now c.transaction-tx.result.conn.now (state g.S.Store c.apply.new.tx.conn.now)
+    subst (λ h. Serves (Fits (version_of g.L.Layout.format) k write) (written k write) (state g.S.Store c.args.connection.now) (state g.S.Store h) (Ok c.in_ok-reply.reply)) same
+    (reply_serves (written k write) g.S.Store (Fits (version_of g.L.Layout.format) k write) c.args.connection.now c.transaction-tx.result.conn.now (state g.S.Store c.apply.new.tx.conn.now)
     (state g.S.Store end) c.in_ok-reply.reply begun works (c.in_ok-commit.ensures.ok late).1)
 
 pub returns-clause-begun : goal.returns-clause-begun
@@ -44,8 +45,8 @@ returns-clause-begun g c clean =
     let late : HasCleanDisk (state g.S.Store end) = search rules in
     let same : end ≡ c.connection-2-1.given.0 = search rules in
     let did = c.in_ok-reply.ensures.begun (omega (arith, c.commit.ensures.survives.clean)) (rw begun refl) in
-    subst (λ h. Begins g.L.Layout.holds g.L.Layout.version write (state g.S.Store c.args.connection.now) (state g.S.Store h)) same
-    (begins_over g.L.Layout.holds g.L.Layout.version g.S.Store write c.args.connection.now c.transaction-tx.result.conn.now (state g.S.Store c.apply.new.tx.conn.now) (state g.S.Store end) begun
+    subst (λ h. Begins (version_of g.L.Layout.format) write (state g.S.Store c.args.connection.now) (state g.S.Store h)) same
+    (begins_over g.L.Layout.format (version_of g.L.Layout.format) g.S.Store write c.args.connection.now c.transaction-tx.result.conn.now (state g.S.Store c.apply.new.tx.conn.now) (state g.S.Store end) begun
     (c.in_ok-commit.ensures.ok late).1 did)
 
 pub returns-in_err-commit-clause-survives : goal.returns-in_err-commit-clause-survives
@@ -54,8 +55,8 @@ returns-in_err-commit-clause-survives g c =
     let old = c.args.connection.now in
     let end = c.commit.new.self.0 in
     let same : end ≡ c.connection-2-1.given.0 = search rules in
-    subst (λ h. Survives (state g.S.Store old) (state g.S.Store h) (λ db. (k : Conditions) → IsReached write (state g.S.Store old) → Commits g.L.Layout.holds k (Fits g.L.Layout.version k write) (written k write) (state g.S.Store old) db)) same
-    (write_survives g.L.Layout.holds g.L.Layout.version g.S.Store write old c.transaction-tx.result.conn.now (state g.S.Store c.apply.new.tx.conn.now) (state g.S.Store end) c.in_ok-reply.reply c.transaction-tx.ensures.begun
+    subst (λ h. Survives (state g.S.Store old) (state g.S.Store h) (λ db. (k : Conditions) → IsReached write (state g.S.Store old) → Commits (Fits (version_of g.L.Layout.format) k write) (written k write) (state g.S.Store old) db)) same
+    (write_survives g.L.Layout.format (version_of g.L.Layout.format) g.S.Store write old c.transaction-tx.result.conn.now (state g.S.Store c.apply.new.tx.conn.now) (state g.S.Store end) c.in_ok-reply.reply c.transaction-tx.ensures.begun
     c.apply.ensures.crash c.commit.ensures.survives c.in_ok-reply.ensures.works)
 
 pub returns-clause-survives : goal.returns-clause-survives
@@ -64,6 +65,6 @@ returns-clause-survives g c =
     let old = c.args.connection.now in
     let end = c.commit.new.self.0 in
     let same : end ≡ c.connection-2-1.given.0 = search rules in
-    subst (λ h. Survives (state g.S.Store old) (state g.S.Store h) (λ db. (k : Conditions) → IsReached write (state g.S.Store old) → Commits g.L.Layout.holds k (Fits g.L.Layout.version k write) (written k write) (state g.S.Store old) db)) same
-    (write_survives g.L.Layout.holds g.L.Layout.version g.S.Store write old c.transaction-tx.result.conn.now (state g.S.Store c.apply.new.tx.conn.now) (state g.S.Store end) c.in_ok-reply.reply c.transaction-tx.ensures.begun
+    subst (λ h. Survives (state g.S.Store old) (state g.S.Store h) (λ db. (k : Conditions) → IsReached write (state g.S.Store old) → Commits (Fits (version_of g.L.Layout.format) k write) (written k write) (state g.S.Store old) db)) same
+    (write_survives g.L.Layout.format (version_of g.L.Layout.format) g.S.Store write old c.transaction-tx.result.conn.now (state g.S.Store c.apply.new.tx.conn.now) (state g.S.Store end) c.in_ok-reply.reply c.transaction-tx.ensures.begun
     c.apply.ensures.crash c.commit.ensures.survives c.in_ok-reply.ensures.works)

@@ -1,8 +1,7 @@
 use Rattle.std.proofs.Common.{◌≡◌, ◌+◌, ◌∷◌, [], ◌++◌, map, ◌∙◌, refl, ap, subst, sym, arith}
 use Rattle.std.specs.Prelude.{string_bytes}
 use Rattle.std.proofs.lemmas.List.{map-append}
-use Rattle.zeb_query.specs.Cutting.{word_of}
-use Rattle.zeb_query.specs.Parsing.{SpellsParameters}
+use Rattle.zeb_query.specs.PrivateReading.{word_of, SpellsParameters}
 use Rattle.zeb_query.proofs.GrammarLemmas.{words_then-more, spells_more_parameters}
 use Rattle.zeb_query.proofs.grammar.parameters_of.Goals as goal
 

@@ -1,5 +1,5 @@
 use Rattle.std.proofs.Common.{sym, subst, ◌∙◌}
-use Rattle.zeb_query.specs.WordLists.{AreWords}
+use Rattle.zeb_query.specs.Words.{AreWords}
 use Rattle.zeb_query.proofs.WordStretches.{words_read_are, words_are_read}
 use Rattle.zeb_query.proofs.laws.a_text_has_one_list_of_words.Goals as goal
 

@@ -5,7 +5,7 @@ use Rattle.std.proofs.lemmas.Iterator.{YieldsList-from_chars}
 use Rattle.std.proofs.lemmas.Iterator.Consumers.{YieldsList-turn, YieldsList-end}
 use Rattle.std.proofs.lemmas.List.{length_push, at_drop_all}
 use Rattle.std.proofs.lemmas.Result.{IfOk-weaker}
-use Rattle.zeb_query.specs.Cutting.{words_with}
+use Rattle.zeb_query.specs.PrivateReading.{words_with}
 use Rattle.zeb_query.proofs.CuttingLemmas.{words_with-more}
 use Rattle.zeb_query.proofs.words.words_of.Goals as goal
 

@@ -1,7 +1,7 @@
 use Rattle.std.proofs.Common.{◌≡◌, ◌+◌, length, drop}
 use Rattle.std.specs.Str.{chars}
 use Rattle.zeb_query.specs.Words.{words_at}
-use Rattle.zeb_query.specs.Cutting.{words_with}
+use Rattle.zeb_query.specs.PrivateReading.{words_with}
 use Rattle.zeb_query.proofs.words.words_of.Given as goal
 
 abbrev pub invariant-loop-c : goal.invariant-loop-c

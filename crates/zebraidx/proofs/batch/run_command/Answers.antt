@@ -4,7 +4,7 @@ use Rattle.zebraidx.proofs.batch.run_command.Goals as goal
 
 pub returns-in_ok-render-in-Ok-clause-answer : goal.returns-in_ok-render-in-Ok-clause-answer
 returns-in_ok-render-in-Ok-clause-answer g c =
-    replied_command _ _ _ _ _ _ _ c.in-Ok.reply c.as_slice.result.now _ _ c.in-Ok.ensures.serves (c.as_slice.ensures.value ∙ c.in_ok-render-in-Ok.ensures) c.write.ensures.bytes
+    replied_command _ _ _ _ _ _ c.in-Ok.reply c.as_slice.result.now _ _ c.in-Ok.ensures.serves (c.as_slice.ensures.value ∙ c.in_ok-render-in-Ok.ensures) c.write.ensures.bytes
 
 pub returns-in-Err-clause-answer : goal.returns-in-Err-clause-answer
-returns-in-Err-clause-answer g c = refused_command _ _ _ _ _ _ _ c.in-Err.refusal _ _ c.refuse.result c.in-Err.ensures.serves c.refuse.ensures.answer
+returns-in-Err-clause-answer g c = refused_command _ _ _ _ _ _ c.in-Err.refusal _ _ c.refuse.result c.in-Err.ensures.serves c.refuse.ensures.answer

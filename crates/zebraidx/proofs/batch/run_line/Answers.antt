@@ -5,17 +5,18 @@ use Rattle.zeb_engine.specs.Conditions.{conditions}
 use Rattle.zebraidx.specs.Says.{Says}
 use Rattle.zebraidx.proofs.ServingLemmas.{ordered_line, remark_line}
 use Rattle.zebraidx.proofs.batch.run_line.Goals as goal
+use Rattle.zeb_register.specs.Formats.{version_of}
 
 pub returns-in-Remark-clause-answer : goal.returns-in-Remark-clause-answer
 returns-in-Remark-clause-answer g c =
-    let k = conditions g.L.Layout.version c.args.session.now.profile c.args.session.now.limits in
+    let k = conditions (version_of g.L.Layout.format) c.args.session.now.profile c.args.session.now.limits in
     let old = state g.S.Store c.args.session.now.connection in
-    λ _ _. remark_line g.L.Layout.holds k c.args.number c.args.line.now old (g.W.Write.contents c.args.output.now.writer) (subst (Says c.args.line.now) c.in-Remark.is c.in_ok-read.ensures)
+    λ _ _. remark_line k c.args.number c.args.line.now old (g.W.Write.contents c.args.output.now.writer) (subst (Says c.args.line.now) c.in-Remark.is c.in_ok-read.ensures)
 
 pub returns-in-Command-clause-answer : goal.returns-in-Command-clause-answer
 returns-in-Command-clause-answer g c =
-    let k = conditions g.L.Layout.version c.args.session.now.profile c.args.session.now.limits in
+    let k = conditions (version_of g.L.Layout.format) c.args.session.now.profile c.args.session.now.limits in
     let old = state g.S.Store c.args.session.now.connection in
     let new = state g.S.Store c.run_command.new.session.connection in
-    ordered_line g.L.Layout.holds k c.in-Command.command c.args.number c.args.line.now old new (g.W.Write.contents c.args.output.now.writer) (g.W.Write.contents c.run_command.new.output.writer)
+    ordered_line k c.in-Command.command c.args.number c.args.line.now old new (g.W.Write.contents c.args.output.now.writer) (g.W.Write.contents c.run_command.new.output.writer)
     c.run_command.new.output.failed (HasCleanDisk new) c.run_command.result (subst (Says c.args.line.now) c.in-Command.is c.in_ok-read.ensures) c.run_command.ensures.answer

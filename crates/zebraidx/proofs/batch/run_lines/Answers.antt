@@ -8,6 +8,7 @@ use Rattle.zebraidx.specs.Serving.{Leads}
 use Rattle.zebraidx.proofs.ServingLemmas.{reaches_line, reaches_end, reaches_failure}
 use Rattle.zebraidx.proofs.ScriptLemmas.{after_first_line-IsUtf8, not_empty, is_empty, length-after_first_line}
 use Rattle.zebraidx.proofs.batch.run_lines.Goals as goal
+use Rattle.zeb_register.specs.Formats.{version_of}
 
 pub loop-rest-preserved : goal.loop-rest-preserved
 loop-rest-preserved g c =
@@ -26,23 +27,23 @@ loop-rest-preserved g c =
       under = (c.run_line.ensures.under.0 ∙ same.0, c.run_line.ensures.under.1 ∙ same.1);
       answers = λ sound clean.
           let was = c.loop-rest.invariant.answers (c.run_line.ensures.sound sound) (c.run_line.ensures.clean clean) in
-          let step = subst₂ (λ p l. Leads g.L.Layout.holds (conditions g.L.Layout.version p l) now next (g.W.Write.contents c.loop-rest.output.writer) (g.W.Write.contents c.run_line.new.output.writer)
-          (λ held bytes then. AnswersLine (conditions g.L.Layout.version p l) (number + 1) line held bytes c.in_ok-run_line.field-0 then)) same.0 same.1 (c.in_ok-run_line.ensures.answer sound clean) in
-          reaches_line _ _ _ now next _ _ _ _ _ number rest line c.cut_line.result.1.now c.loop-rest.greatest c.in_ok-run_line.field-0 c.max-greatest.result some
+          let step = subst₂ (λ p l. Leads now next (g.W.Write.contents c.loop-rest.output.writer) (g.W.Write.contents c.run_line.new.output.writer)
+          (λ held bytes then. AnswersLine (conditions (version_of g.L.Layout.format) p l) (number + 1) line held bytes c.in_ok-run_line.field-0 then)) same.0 same.1 (c.in_ok-run_line.ensures.answer sound clean) in
+          reaches_line _ _ now next _ _ _ _ _ number rest line c.cut_line.result.1.now c.loop-rest.greatest c.in_ok-run_line.field-0 c.max-greatest.result some
           c.cut_line.ensures.line c.cut_line.ensures.rest c.max-greatest.ensures was step;
     }
 
 pub returns-clause-answer : goal.returns-clause-answer
 returns-clause-answer g c = λ sound clean.
-    reaches_end _ _ _ _ _ _ _ _ c.loop-rest.number c.loop-rest.rest.now _ (is_empty c.loop-rest.rest.now c.loop-rest-test.ensures) (c.loop-rest.invariant.answers sound clean)
+    reaches_end _ _ _ _ _ _ _ c.loop-rest.number c.loop-rest.rest.now _ (is_empty c.loop-rest.rest.now c.loop-rest-test.ensures) (c.loop-rest.invariant.answers sound clean)
 
 pub returns-in_err-run_line-clause-stopped : goal.returns-in_err-run_line-clause-stopped
 returns-in_err-run_line-clause-stopped g c =
     let rest = c.loop-rest.rest.now in
-    let k = conditions g.L.Layout.version c.args.session.now.profile c.args.session.now.limits in
+    let k = conditions (version_of g.L.Layout.format) c.args.session.now.profile c.args.session.now.limits in
     let old = state g.S.Store c.args.session.now.connection in
     let now = state g.S.Store c.loop-rest.session.connection in
     let clean = HasCleanDisk (state g.S.Store c.run_line.new.session.connection) in
     rw c.in_err-run_line.ensures.stopped
-    (reaches_failure g.L.Layout.holds k old now (g.W.Write.contents c.args.output.now.writer) (g.W.Write.contents c.loop-rest.output.writer) c.args.batch.lines_before c.args.batch.text.now c.loop-rest.number rest c.loop-rest.greatest
+    (reaches_failure k old now (g.W.Write.contents c.args.output.now.writer) (g.W.Write.contents c.loop-rest.output.writer) c.args.batch.lines_before c.args.batch.text.now c.loop-rest.number rest c.loop-rest.greatest
     c.from_residual.result c.loop-rest.output.failed clean (not_empty rest c.loop-rest-test.ensures) (λ sound clean. c.loop-rest.invariant.answers sound (c.run_line.ensures.clean clean)))

@@ -6,6 +6,7 @@ use Rattle.zebraidx.proofs.ServingLemmas.{Reaches}
 use denote.Text.{Utf8}
 use denote.Shadow.{shadow}
 use Rattle.zebraidx.proofs.batch.run_lines.Given as goal
+use Rattle.zeb_register.specs.Formats.{version_of}
 
 -- Each line takes a byte at least, so their numbers fit. What was written answers the lines so far.
 abbrev pub invariant-loop-rest : goal.invariant-loop-rest
@@ -18,7 +19,7 @@ invariant-loop-rest g l =
       sound : l.output.failed ≡ false → l.initial.output.failed ≡ false;
       under : (l.session.profile ≡ before.profile) × (l.session.limits ≡ before.limits);
       answers : l.output.failed ≡ false → HasCleanDisk (state g.S.Store l.session.connection)
-          → Reaches g.L.Layout.holds (conditions g.L.Layout.version before.profile before.limits) (state g.S.Store before.connection) (state g.S.Store l.session.connection)
+          → Reaches (conditions (version_of g.L.Layout.format) before.profile before.limits) (state g.S.Store before.connection) (state g.S.Store l.session.connection)
           (g.W.Write.contents l.initial.output.writer) (g.W.Write.contents l.output.writer) l.batch.lines_before l.batch.text.now l.number l.rest l.greatest;
     }
 

@@ -1,9 +1,13 @@
-use Rattle.std.proofs.Common.{◌≡◌, rules, ◌∙◌, not, sym, ap, IsTrue}
+use Rattle.std.proofs.Common.{◌≡◌, rules, ◌∙◌, not, inl, inr, sym, subst, ap, IsTrue}
 use Rattle.sqlite.specs.Effect.{Database}
 use Rattle.sqlite.specs.Held.{state}
 use Rattle.zeb_register.specs.Calls.{ChangesNothing}
 use Rattle.zeb_register.specs.Tables.{store_schema}
-use Rattle.zeb_engine.proofs.Crashing.{adopted_commits, opened_keeps, opened_store, survives_as}
+use Rattle.zeb_register.specs.Store.{IsStore}
+use Rattle.zeb_engine.specs.Adopting.{HoldsNothing, StaysOpen}
+use Rattle.zeb_engine.specs.Holdings.{Holdings}
+use Rattle.zeb_engine.specs.Image.{IsImage}
+use Rattle.zeb_engine.proofs.Crashing.{adopted_commits, adopted_keeps, opened_bears, survives_as}
 use Rattle.zeb_engine.proofs.Serving.{keeps_still}
 use Rattle.zeb_engine.proofs.session.Session.adopt.Goals as goal
 
@@ -17,18 +21,37 @@ returns-clause-durable g c clean is_open db leaves =
 pub returns-in-Err-clause-survives_refused : goal.returns-in-Err-clause-survives_refused
 returns-in-Err-clause-survives_refused g c =
     let old = state g.S.Store c.args.connection in
-    survives_as old (state g.S.Store c.make_absent_tables.new.connection) _ _ (λ clean db made. adopted_commits g.L.Layout.holds old db made) c.make_absent_tables.ensures.survives
+    survives_as old (state g.S.Store c.make_absent_tables.new.connection) _ _ (λ clean db made. adopted_commits old db made) c.make_absent_tables.ensures.survives
 
 pub returns-clause-survives : goal.returns-clause-survives
 returns-clause-survives g c =
     let old = state g.S.Store c.args.connection in
-    survives_as old (state g.S.Store c.make_absent_tables.new.connection) _ _ (λ clean db made. adopted_commits g.L.Layout.holds old db made) c.make_absent_tables.ensures.survives
+    survives_as old (state g.S.Store c.make_absent_tables.new.connection) _ _ (λ clean db made. adopted_commits old db made) c.make_absent_tables.ensures.survives
 
-pub returns-clause-reopened : goal.returns-clause-reopened
-returns-clause-reopened g c clean live opens k before stands =
+pub returns-clause-keeps : goal.returns-clause-keeps
+returns-clause-keeps g c clean before (inl keeps) is_open =
     let old = state g.S.Store c.args.connection in
     let new = state g.S.Store c.make_absent_tables.new.connection in
-    let is : old.now.schema ≡ store_schema = (opened_store old live opens stands.0).is in
+    let opened : StaysOpen old new = search rules in
+    let is : old.now.schema ≡ store_schema = (keeps opened.0).0.0.is in
     let told = c.in_default.ensures.there clean is in
     let nothing : ChangesNothing old new = search rules in
-    keeps_still g.L.Layout.holds k before old new nothing (opened_keeps g.L.Layout.holds k old before live opens stands)
+    keeps_still before old new nothing keeps is_open
+returns-clause-keeps g c clean before (inr none) is_open =
+    let new = state g.S.Store c.make_absent_tables.new.connection in
+    let told = c.in_default.ensures.made clean none.0 in
+    let empty : HoldsNothing new = search rules in
+    subst (λ (held : Holdings). (IsStore new × IsImage new.now.trees held) × (new.committed ≡ new.now)) (sym none.1) ((empty.store, (empty.lists, empty.registers)), empty.settled)
+
+pub returns-clause-reopened : goal.returns-clause-reopened
+returns-clause-reopened g c clean live opens before stands =
+    let old = state g.S.Store c.args.connection in
+    returns-clause-keeps g c clean before (opened_bears old before live opens stands)
+
+pub returns-clause-crash : goal.returns-clause-crash
+returns-clause-crash g c clean =
+    adopted_keeps (state g.S.Store c.args.connection) (state g.S.Store c.make_absent_tables.new.connection) clean (returns-clause-survives g c)
+
+pub returns-in-Err-clause-crash_refused : goal.returns-in-Err-clause-crash_refused
+returns-in-Err-clause-crash_refused g c clean =
+    adopted_keeps (state g.S.Store c.args.connection) (state g.S.Store c.make_absent_tables.new.connection) clean (returns-in-Err-clause-survives_refused g c)

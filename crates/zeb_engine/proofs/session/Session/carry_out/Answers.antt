@@ -1,4 +1,4 @@
-use Rattle.std.proofs.Common.{◌≡◌, ◌∙◌, [], ap, map, refl, rules, string_bytes, subst, sym}
+use Rattle.std.proofs.Common.{◌≡◌, ◌∙◌, [], ap, inl, map, refl, rules, string_bytes, subst, sym}
 use Rattle.sqlite.specs.Held.{state}
 use Rattle.sqlite.specs.State.{Survives}
 use Rattle.zeb_register.specs.Store.{IsStore}
@@ -6,44 +6,45 @@ use Rattle.zeb_engine.specs.declared.commands.Command.{Command}
 use Rattle.zeb_engine.specs.declared.commands.Limits.{Limits}
 use Rattle.zeb_engine.specs.declared.commands.Command.TheVariants.{Init, Create, Drop, Change, Find, Scan, Dump}
 use Rattle.zeb_engine.specs.Conditions.{conditions}
-use Rattle.zeb_engine.specs.Crashes.{Commits}
+use Rattle.zeb_engine.specs.Crashes.{Commits, CommitsBy}
 use Rattle.zeb_engine.specs.Image.{IsImage}
 use Rattle.zeb_engine.specs.NameOf.{name_bytes}
-use Rattle.zeb_engine.specs.Steps.{OnlyAsks, turned, changed_by_files, created, dropped, dumped_by, holding, initialised, ready, splits_of, CountedFrom}
-use Rattle.zeb_engine.specs.Works.{Always, Asks, Serves}
-use Rattle.zeb_engine.proofs.Commanding.{command_serves, find_serves, looks_same, wait_serves}
-use Rattle.zeb_engine.proofs.Crashing.{command_commits, survives_as}
+use Rattle.zeb_engine.specs.Steps.{OnlyAsks, turned, TakesFiles, created, dropped, dumped_by, holding, waited, Step, initialised, ready, CountedFrom}
+use Rattle.zeb_engine.specs.Works.{Always, Asks, Serves, ServesBy}
+use Rattle.zeb_engine.proofs.Commanding.{asks_serve, ends_serve, find_serves, looks_same}
+use Rattle.zeb_engine.proofs.Crashing.{ends_commit, none_commits, survives_as}
 use Rattle.zeb_engine.proofs.ScanCommand.{scan_serves, scans_same}
 use Rattle.zeb_engine.proofs.Serving.{on_ok}
 use Rattle.zeb_engine.proofs.session.Session.carry_out.Goals as goal
+use Rattle.zeb_register.specs.Formats.{version_of}
 
 pub returns-in-Init-clause-serves : goal.returns-in-Init-clause-serves
 returns-in-Init-clause-serves g c clean =
     let limits = c.args.self.now.limits in
-    let k = conditions g.L.Layout.version c.args.self.now.profile limits in
-    rw c.in-Init.is (command_serves g.L.Layout.holds k (state g.S.Store c.args.self.now.connection) (state g.S.Store c.init_register.new.connection) c.init_register.result Init (initialised k) (λ before answer is. is) (λ before. refl) (λ before fits keeps. c.init_register.ensures.serves clean limits before (λ _. tt) keeps))
+    let k = conditions (version_of g.L.Layout.format) c.args.self.now.profile limits in
+    rw c.in-Init.is (ends_serve (initialised k) (state g.S.Store c.args.self.now.connection) (state g.S.Store c.init_register.new.connection) c.init_register.result (λ before fits keeps. c.init_register.ensures.serves clean limits before (λ _. tt) keeps))
 
 pub returns-in-Create-clause-serves : goal.returns-in-Create-clause-serves
 returns-in-Create-clause-serves g c clean =
-    let k = conditions g.L.Layout.version c.args.self.now.profile c.args.self.now.limits in
+    let k = conditions (version_of g.L.Layout.format) c.args.self.now.profile c.args.self.now.limits in
     let old = state g.S.Store c.args.self.now.connection in
     let new = state g.S.Store c.create.new.self.connection in
     let same : c.in-Create.name-1-own.given.0.0 ≡ c.in-Create.name = search rules in
-    let serves = subst (λ n. Serves g.L.Layout.holds k Always (turned k (created (name_bytes n))) old new c.create.result) same (c.create.ensures.serves clean) in
-    rw c.in-Create.is (command_serves g.L.Layout.holds k old new c.create.result (Create c.in-Create.name) (turned k (created (name_bytes c.in-Create.name))) (λ before answer is. is) (λ before. refl) serves)
+    let serves = subst (λ n. Serves Always (turned k (created (name_bytes n))) old new c.create.result) same (c.create.ensures.serves clean) in
+    rw c.in-Create.is (ends_serve (turned k (created (name_bytes c.in-Create.name))) old new c.create.result serves)
 
 pub returns-in-Drop-clause-serves : goal.returns-in-Drop-clause-serves
 returns-in-Drop-clause-serves g c clean =
-    let k = conditions g.L.Layout.version c.args.self.now.profile c.args.self.now.limits in
+    let k = conditions (version_of g.L.Layout.format) c.args.self.now.profile c.args.self.now.limits in
     let old = state g.S.Store c.args.self.now.connection in
     let new = state g.S.Store c.take.new.self.connection in
     let same : c.in-Drop.name-in-Drop-1-own.given.0.0 ≡ c.in-Drop.name = search rules in
-    let serves = subst (λ n. Serves g.L.Layout.holds k Always (turned k (dropped (name_bytes n))) old new c.take.result) same (c.take.ensures.serves clean) in
-    rw c.in-Drop.is (command_serves g.L.Layout.holds k old new c.take.result (Drop c.in-Drop.name) (turned k (dropped (name_bytes c.in-Drop.name))) (λ before answer is. is) (λ before. refl) serves)
+    let serves = subst (λ n. Serves Always (turned k (dropped (name_bytes n))) old new c.take.result) same (c.take.ensures.serves clean) in
+    rw c.in-Drop.is (ends_serve (turned k (dropped (name_bytes c.in-Drop.name))) old new c.take.result serves)
 
 pub returns-in-Change-clause-serves : goal.returns-in-Change-clause-serves
 returns-in-Change-clause-serves g c clean =
-    let k = conditions g.L.Layout.version c.args.self.now.profile c.args.self.now.limits in
+    let k = conditions (version_of g.L.Layout.format) c.args.self.now.profile c.args.self.now.limits in
     let old = state g.S.Store c.args.self.now.connection in
     let new = state g.S.Store c.change.new.self.connection in
     let kind = c.in-Change.kind-1-own.given.0.0 in
@@ -51,15 +52,14 @@ returns-in-Change-clause-serves g c clean =
     let same_kind : kind ≡ c.in-Change.kind = search rules in
     let same_name : named ≡ c.in-Change.database = search rules in
     let same_files : c.deref.result.now ≡ c.in-Change.files.items = search rules in
-    let of_kind = subst (λ x. Serves g.L.Layout.holds k Always (turned k (changed_by_files k x (name_bytes named) (splits_of (map (λ file. file.items) c.deref.result.now)))) old new c.change.result) same_kind (c.change.ensures.serves clean) in
-    let of_name = subst (λ n. Serves g.L.Layout.holds k Always (turned k (changed_by_files k c.in-Change.kind (name_bytes n) (splits_of (map (λ file. file.items) c.deref.result.now)))) old new c.change.result) same_name of_kind in
-    let serves = subst (λ files. Serves g.L.Layout.holds k Always (turned k (changed_by_files k c.in-Change.kind (name_bytes c.in-Change.database) (splits_of (map (λ file. file.items) files)))) old new c.change.result) same_files of_name in
-    rw c.in-Change.is (command_serves g.L.Layout.holds k old new c.change.result (Change c.in-Change.kind c.in-Change.database c.in-Change.files)
-    (turned k (changed_by_files k c.in-Change.kind (name_bytes c.in-Change.database) (splits_of (map (λ file. file.items) c.in-Change.files.items)))) (λ before answer is. is) (λ before. refl) serves)
+    let of_kind = subst (λ x. ServesBy (TakesFiles k x (name_bytes named) (map (λ file. file.items) c.deref.result.now)) old new c.change.result) same_kind (c.change.ensures.serves clean) in
+    let of_name = subst (λ n. ServesBy (TakesFiles k c.in-Change.kind (name_bytes n) (map (λ file. file.items) c.deref.result.now)) old new c.change.result) same_name of_kind in
+    let serves = subst (λ files. ServesBy (TakesFiles k c.in-Change.kind (name_bytes c.in-Change.database) (map (λ file. file.items) files)) old new c.change.result) same_files of_name in
+    rw c.in-Change.is serves
 
 pub returns-in-Find-clause-serves : goal.returns-in-Find-clause-serves
 returns-in-Find-clause-serves g c clean =
-    let k = conditions g.L.Layout.version c.args.self.now.profile c.args.self.now.limits in
+    let k = conditions (version_of g.L.Layout.format) c.args.self.now.profile c.args.self.now.limits in
     let old = state g.S.Store c.args.self.now.connection in
     let new = state g.S.Store c.find.new.self.connection in
     let of = c.in-Find.database-in-Find-1-own.given.0.0 in
@@ -69,35 +69,35 @@ returns-in-Find-clause-serves g c clean =
     let same_query : c.in-Find.query-1-own.given.0.1.0 ≡ c.in-Find.query = search rules in
     let same_first : from ≡ c.in-Find.first = search rules in
     let same_count : many ≡ c.in-Find.count = search rules in
-    rw c.in-Find.is (find_serves g.L.Layout.holds k old new c.find.result c.in-Find.database c.in-Find.query c.in-Find.first c.in-Find.count (name_bytes of) c.as_str.result.now from many
+    rw c.in-Find.is (find_serves k old new c.find.result c.in-Find.database c.in-Find.query c.in-Find.first c.in-Find.count (name_bytes of) c.as_str.result.now from many
     (ap name_bytes same_name) (c.as_str.ensures.value ∙ ap string_bytes same_query) same_first same_count (c.find.ensures.serves clean))
 
 pub returns-in-Check-clause-serves : goal.returns-in-Check-clause-serves
 returns-in-Check-clause-serves g c clean =
-    let k = conditions g.L.Layout.version c.args.self.now.profile c.args.self.now.limits in
-    wait_serves g.L.Layout.holds k (state g.S.Store c.args.self.now.connection) (state g.S.Store c.wait.new.self.connection) c.wait.result c.args.command.now (rw c.in-Check.is tt) (c.wait.ensures.serves clean)
+    let k = conditions (version_of g.L.Layout.format) c.args.self.now.profile c.args.self.now.limits in
+    rw c.in-Check.is (ends_serve (waited k) (state g.S.Store c.args.self.now.connection) (state g.S.Store c.wait.new.self.connection) c.wait.result (c.wait.ensures.serves clean))
 
 pub returns-in-Stat-clause-serves : goal.returns-in-Stat-clause-serves
 returns-in-Stat-clause-serves g c clean =
     let limits = c.args.self.now.limits in
-    let k = conditions g.L.Layout.version c.args.self.now.profile limits in
+    let k = conditions (version_of g.L.Layout.format) c.args.self.now.profile limits in
     let old = state g.S.Store c.args.self.now.connection in
     let new = state g.S.Store c.stat.new.connection in
-    let asks : Asks g.L.Layout.holds k (λ before answer. CountedFrom k (name_bytes c.in-Stat.name) (ready k before) answer) old new c.stat.result = c.stat.ensures.serves clean limits in
-    rw c.in-Stat.is asks
+    let asks : Asks (λ before answer. CountedFrom k (name_bytes c.in-Stat.name) (ready k before) answer) old new c.stat.result = c.stat.ensures.serves clean limits in
+    rw c.in-Stat.is (asks_serve (λ before. CountedFrom k (name_bytes c.in-Stat.name) (ready k before)) old new c.stat.result asks)
 
 pub returns-in-Dump-clause-serves : goal.returns-in-Dump-clause-serves
 returns-in-Dump-clause-serves g c clean =
     let limits = c.args.self.now.limits in
-    let k = conditions g.L.Layout.version c.args.self.now.profile limits in
+    let k = conditions (version_of g.L.Layout.format) c.args.self.now.profile limits in
     let old = state g.S.Store c.args.self.now.connection in
     let new = state g.S.Store c.dump.new.connection in
-    let serves : Serves g.L.Layout.holds k Always (dumped_by k (name_bytes c.in-Dump.name)) old new c.dump.result = c.dump.ensures.serves clean limits in
-    rw c.in-Dump.is (command_serves g.L.Layout.holds k old new c.dump.result (Dump c.in-Dump.name) (dumped_by k (name_bytes c.in-Dump.name)) (λ before answer is. is) (λ before. refl) serves)
+    let serves : Serves Always (dumped_by k (name_bytes c.in-Dump.name)) old new c.dump.result = c.dump.ensures.serves clean limits in
+    rw c.in-Dump.is (ends_serve (dumped_by k (name_bytes c.in-Dump.name)) old new c.dump.result serves)
 
 pub returns-in-Scan-clause-serves : goal.returns-in-Scan-clause-serves
 returns-in-Scan-clause-serves g c clean =
-    let k = conditions g.L.Layout.version c.args.self.now.profile c.args.self.now.limits in
+    let k = conditions (version_of g.L.Layout.format) c.args.self.now.profile c.args.self.now.limits in
     let old = state g.S.Store c.args.self.now.connection in
     let new = state g.S.Store c.scan.new.self.connection in
     let of = c.in-Scan.database-in-Scan-1-own.given.0.0 in
@@ -107,7 +107,7 @@ returns-in-Scan-clause-serves g c clean =
     let same_query : c.in-Scan.query-in-Scan-1-own.given.0.1.0 ≡ c.in-Scan.query = search rules in
     let same_number : many ≡ c.in-Scan.number = search rules in
     let same_position : at ≡ c.in-Scan.position = search rules in
-    rw c.in-Scan.is (scan_serves g.L.Layout.holds k old new c.scan.result c.in-Scan.database c.in-Scan.query c.in-Scan.number c.in-Scan.position (name_bytes of) c.as_str-in-Scan.result.now many at
+    rw c.in-Scan.is (scan_serves k old new c.scan.result c.in-Scan.database c.in-Scan.query c.in-Scan.number c.in-Scan.position (name_bytes of) c.as_str-in-Scan.result.now many at
     (ap name_bytes same_name) (c.as_str-in-Scan.ensures.value ∙ ap string_bytes same_query) same_number same_position (c.scan.ensures.serves clean))
 
 pub returns-in-Scan-clause-scans : goal.returns-in-Scan-clause-scans
@@ -125,16 +125,16 @@ returns-in-Scan-clause-scans g c clean name query number position is =
     let is_query : c.in-Scan.query ≡ query = cc in
     let is_number : c.in-Scan.number ≡ number = cc in
     let is_position : c.in-Scan.position ≡ position = cc in
-    scans_same g.L.Layout.holds c.args.self.now.profile old c.scan.result (name_bytes of) (name_bytes name) c.as_str-in-Scan.result.now (string_bytes query) many number at position
+    scans_same g.L.Layout.format c.args.self.now.profile old c.scan.result (name_bytes of) (name_bytes name) c.as_str-in-Scan.result.now (string_bytes query) many number at position
     (ap name_bytes (same_name ∙ is_name)) (c.as_str-in-Scan.ensures.value ∙ ap string_bytes (same_query ∙ is_query)) (same_number ∙ is_number) (same_position ∙ is_position) (c.scan.ensures.alone clean)
 
 pub returns-in-Init-clause-begun : goal.returns-in-Init-clause-begun
 returns-in-Init-clause-begun g c clean is =
-    let of = conditions g.L.Layout.version c.args.self.now.profile in
+    let of = conditions (version_of g.L.Layout.format) c.args.self.now.profile in
     let k = of c.args.self.now.limits in
     let old = state g.S.Store c.args.self.now.connection in
     let new = state g.S.Store c.init_register.new.connection in
-    on_ok c.init_register.result (IsStore old → (limits : Limits) → IsStore new × IsImage g.L.Layout.holds (of limits) new.now.trees (holding (of limits) [])) (IsStore old → IsStore new × IsImage g.L.Layout.holds k new.now.trees (holding k []))
+    on_ok c.init_register.result (IsStore old → (limits : Limits) → IsStore new × IsImage new.now.trees (holding (of limits) [])) (IsStore old → IsStore new × IsImage new.now.trees (holding k []))
     (λ did store. did store c.args.self.now.limits) (c.init_register.ensures.begun clean)
 
 pub returns-in-Find-clause-alone : goal.returns-in-Find-clause-alone
@@ -152,38 +152,38 @@ returns-in-Find-clause-alone g c clean name query first count is =
     let is_query : c.in-Find.query ≡ query = cc in
     let is_first : c.in-Find.first ≡ first = cc in
     let is_count : c.in-Find.count ≡ count = cc in
-    looks_same g.L.Layout.holds c.args.self.now.profile old c.find.result (name_bytes of) (name_bytes name) c.as_str.result.now (string_bytes query) from first many count
+    looks_same g.L.Layout.format c.args.self.now.profile old c.find.result (name_bytes of) (name_bytes name) c.as_str.result.now (string_bytes query) from first many count
     (ap name_bytes (same_name ∙ is_name)) (c.as_str.ensures.value ∙ ap string_bytes (same_query ∙ is_query)) (same_first ∙ is_first) (same_count ∙ is_count) (c.find.ensures.alone clean)
 
 pub returns-in-Init-clause-survives : goal.returns-in-Init-clause-survives
 returns-in-Init-clause-survives g c =
     let limits = c.args.self.now.limits in
-    let k = conditions g.L.Layout.version c.args.self.now.profile c.args.self.now.limits in
+    let k = conditions (version_of g.L.Layout.format) c.args.self.now.profile c.args.self.now.limits in
     let old = state g.S.Store c.args.self.now.connection in
     let new = state g.S.Store c.init_register.new.connection in
-    rw c.in-Init.is (command_commits g.L.Layout.holds k old new Init (initialised k) (λ before. refl) (survives_as old new _ _ (λ clean db made. made limits) c.init_register.ensures.survives))
+    rw c.in-Init.is (ends_commit (initialised k) old new (survives_as old new _ _ (λ clean db made. made limits) c.init_register.ensures.survives))
 
 pub returns-in-Create-clause-survives : goal.returns-in-Create-clause-survives
 returns-in-Create-clause-survives g c =
-    let k = conditions g.L.Layout.version c.args.self.now.profile c.args.self.now.limits in
+    let k = conditions (version_of g.L.Layout.format) c.args.self.now.profile c.args.self.now.limits in
     let old = state g.S.Store c.args.self.now.connection in
     let new = state g.S.Store c.create.new.self.connection in
     let same : c.in-Create.name-1-own.given.0.0 ≡ c.in-Create.name = search rules in
-    let survives = subst (λ n. Survives old new (Commits g.L.Layout.holds k Always (turned k (created (name_bytes n))) old)) same c.create.ensures.survives in
-    rw c.in-Create.is (command_commits g.L.Layout.holds k old new (Create c.in-Create.name) (turned k (created (name_bytes c.in-Create.name))) (λ before. refl) survives)
+    let survives = subst (λ n. Survives old new (Commits Always (turned k (created (name_bytes n))) old)) same c.create.ensures.survives in
+    rw c.in-Create.is (ends_commit (turned k (created (name_bytes c.in-Create.name))) old new survives)
 
 pub returns-in-Drop-clause-survives : goal.returns-in-Drop-clause-survives
 returns-in-Drop-clause-survives g c =
-    let k = conditions g.L.Layout.version c.args.self.now.profile c.args.self.now.limits in
+    let k = conditions (version_of g.L.Layout.format) c.args.self.now.profile c.args.self.now.limits in
     let old = state g.S.Store c.args.self.now.connection in
     let new = state g.S.Store c.take.new.self.connection in
     let same : c.in-Drop.name-in-Drop-1-own.given.0.0 ≡ c.in-Drop.name = search rules in
-    let survives = subst (λ n. Survives old new (Commits g.L.Layout.holds k Always (turned k (dropped (name_bytes n))) old)) same c.take.ensures.survives in
-    rw c.in-Drop.is (command_commits g.L.Layout.holds k old new (Drop c.in-Drop.name) (turned k (dropped (name_bytes c.in-Drop.name))) (λ before. refl) survives)
+    let survives = subst (λ n. Survives old new (Commits Always (turned k (dropped (name_bytes n))) old)) same c.take.ensures.survives in
+    rw c.in-Drop.is (ends_commit (turned k (dropped (name_bytes c.in-Drop.name))) old new survives)
 
 pub returns-in-Change-clause-survives : goal.returns-in-Change-clause-survives
 returns-in-Change-clause-survives g c =
-    let k = conditions g.L.Layout.version c.args.self.now.profile c.args.self.now.limits in
+    let k = conditions (version_of g.L.Layout.format) c.args.self.now.profile c.args.self.now.limits in
     let old = state g.S.Store c.args.self.now.connection in
     let new = state g.S.Store c.change.new.self.connection in
     let kind = c.in-Change.kind-1-own.given.0.0 in
@@ -191,11 +191,10 @@ returns-in-Change-clause-survives g c =
     let same_kind : kind ≡ c.in-Change.kind = search rules in
     let same_name : named ≡ c.in-Change.database = search rules in
     let same_files : c.deref.result.now ≡ c.in-Change.files.items = search rules in
-    let of_kind = subst (λ x. Survives old new (Commits g.L.Layout.holds k Always (turned k (changed_by_files k x (name_bytes named) (splits_of (map (λ file. file.items) c.deref.result.now)))) old)) same_kind c.change.ensures.survives in
-    let of_name = subst (λ n. Survives old new (Commits g.L.Layout.holds k Always (turned k (changed_by_files k c.in-Change.kind (name_bytes n) (splits_of (map (λ file. file.items) c.deref.result.now)))) old)) same_name of_kind in
-    let survives = subst (λ files. Survives old new (Commits g.L.Layout.holds k Always (turned k (changed_by_files k c.in-Change.kind (name_bytes c.in-Change.database) (splits_of (map (λ file. file.items) files)))) old)) same_files of_name in
-    rw c.in-Change.is (command_commits g.L.Layout.holds k old new (Change c.in-Change.kind c.in-Change.database c.in-Change.files)
-    (turned k (changed_by_files k c.in-Change.kind (name_bytes c.in-Change.database) (splits_of (map (λ file. file.items) c.in-Change.files.items)))) (λ before. refl) survives)
+    let of_kind = subst (λ x. Survives old new (CommitsBy (TakesFiles k x (name_bytes named) (map (λ file. file.items) c.deref.result.now)) old)) same_kind c.change.ensures.survives in
+    let of_name = subst (λ n. Survives old new (CommitsBy (TakesFiles k c.in-Change.kind (name_bytes n) (map (λ file. file.items) c.deref.result.now)) old)) same_name of_kind in
+    let survives = subst (λ files. Survives old new (CommitsBy (TakesFiles k c.in-Change.kind (name_bytes c.in-Change.database) (map (λ file. file.items) files)) old)) same_files of_name in
+    rw c.in-Change.is survives
 
 pub returns-in-Init-clause-reads : goal.returns-in-Init-clause-reads
 returns-in-Init-clause-reads g c clean asks = absurd (subst OnlyAsks c.in-Init.is asks)
@@ -208,3 +207,36 @@ returns-in-Drop-clause-reads g c clean asks = absurd (subst OnlyAsks c.in-Drop.i
 
 pub returns-in-Change-clause-reads : goal.returns-in-Change-clause-reads
 returns-in-Change-clause-reads g c clean asks = absurd (subst OnlyAsks c.in-Change.is asks)
+
+pub returns-in-Find-clause-survives : goal.returns-in-Find-clause-survives
+returns-in-Find-clause-survives g c =
+    let k = conditions (version_of g.L.Layout.format) c.args.self.now.profile c.args.self.now.limits in
+    none_commits (Step k c.args.command.now) (state g.S.Store c.args.self.now.connection) (state g.S.Store c.find.new.self.connection) c.find.ensures.survives
+
+pub returns-in-Check-clause-survives : goal.returns-in-Check-clause-survives
+returns-in-Check-clause-survives g c =
+    let k = conditions (version_of g.L.Layout.format) c.args.self.now.profile c.args.self.now.limits in
+    none_commits (Step k c.args.command.now) (state g.S.Store c.args.self.now.connection) (state g.S.Store c.wait.new.self.connection) c.wait.ensures.survives
+
+pub returns-in-Stat-clause-survives : goal.returns-in-Stat-clause-survives
+returns-in-Stat-clause-survives g c =
+    let k = conditions (version_of g.L.Layout.format) c.args.self.now.profile c.args.self.now.limits in
+    none_commits (Step k c.args.command.now) (state g.S.Store c.args.self.now.connection) (state g.S.Store c.stat.new.connection) c.stat.ensures.crash
+
+pub returns-in-Dump-clause-survives : goal.returns-in-Dump-clause-survives
+returns-in-Dump-clause-survives g c =
+    let k = conditions (version_of g.L.Layout.format) c.args.self.now.profile c.args.self.now.limits in
+    none_commits (Step k c.args.command.now) (state g.S.Store c.args.self.now.connection) (state g.S.Store c.dump.new.connection) c.dump.ensures.crash
+
+pub returns-in-Scan-clause-survives : goal.returns-in-Scan-clause-survives
+returns-in-Scan-clause-survives g c =
+    let k = conditions (version_of g.L.Layout.format) c.args.self.now.profile c.args.self.now.limits in
+    none_commits (Step k c.args.command.now) (state g.S.Store c.args.self.now.connection) (state g.S.Store c.scan.new.self.connection) c.scan.ensures.survives
+
+pub returns-in-Analyse-clause-serves : goal.returns-in-Analyse-clause-serves
+returns-in-Analyse-clause-serves g c clean = rw c.in-Analyse.is (λ before keeps. (before, inl (refl, refl), keeps))
+
+pub returns-in-Analyse-clause-survives : goal.returns-in-Analyse-clause-survives
+returns-in-Analyse-clause-survives g c =
+    let k = conditions (version_of g.L.Layout.format) c.args.self.now.profile c.args.self.now.limits in
+    none_commits (Step k c.args.command.now) (state g.S.Store c.args.self.now.connection) (state g.S.Store c.args.self.now.connection) (search rules)

@@ -23,4 +23,4 @@ returns-clause-survives g c =
     let lent : c.deref_mut.result.now ≡ c.loop-file.readers.items = search rules in
     let same : c.deref_mut.result.now ≡ texts = lent ∙ c.loop-file.invariant.texts ∙ ap (map (λ file. file.items)) whole in
     survives_as (state g.S.Store c.args.self.now.connection) (state g.S.Store c.change_from.new.self.connection) _ _
-    (λ clean db made before fits keeps. made texts (ap (map Some) same) (none_fails c.change_from.new.readers) before fits keeps) c.change_from.ensures.survives
+    (λ clean db made. made texts (ap (map Some) same) (none_fails c.change_from.new.readers)) c.change_from.ensures.survives

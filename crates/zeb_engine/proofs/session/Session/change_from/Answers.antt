@@ -1,51 +1,57 @@
-use Rattle.std.proofs.Common.{◌≡◌, Err, IsErrAnd, IsTrue, List, inr, rules, arith, sym, subst}
+use Rattle.std.proofs.Common.{◌≡◌, Err, IsErrAnd, IsTrue, List, inr, refl, rules, arith, sym, subst}
 use Rattle.sqlite.specs.Held.{state}
 use Rattle.sqlite.specs.State.{HasCleanDisk}
 use Rattle.zeb_engine.specs.Conditions.{conditions}
 use Rattle.zeb_engine.specs.Holdings.{Base}
 use Rattle.zeb_engine.specs.NameOf.{name_bytes}
 use Rattle.zeb_engine.specs.Reading.{NamesFailed}
-use Rattle.zeb_engine.specs.Steps.{changed_by_files, ready, splits_of, turned}
-use Rattle.zeb_engine.specs.Works.{Always, Serves}
-use Rattle.zeb_engine.proofs.Commanding.{ready_met, unready_serves}
+use Rattle.zeb_engine.specs.Steps.{TakesFiles, changed_by_files, ready, splits_of, turned}
+use Rattle.zeb_engine.specs.Works.{ServesBy}
+use Rattle.zeb_engine.proofs.Commanding.{ends_serve, ready_met, unready_serves}
 use Rattle.zeb_engine.proofs.Crashing.{survives_after}
 use Rattle.zeb_engine.proofs.Readers.{no_file_failed, named_or_none}
 use Rattle.zeb_engine.proofs.Serving.{keeps_still}
 use Rattle.zeb_engine.proofs.session.Session.change_from.Goals as goal
+use Rattle.zeb_register.specs.Formats.{version_of}
 
 pub returns-in_err-check_ready-clause-serves : goal.returns-in_err-check_ready-clause-serves
 returns-in_err-check_ready-clause-serves g c = λ clean texts told fine.
     let limits = c.args.self.now.limits in
-    let k = conditions g.L.Layout.version c.args.self.now.profile limits in
+    let k = conditions (version_of g.L.Layout.format) c.args.self.now.profile limits in
     let turn = changed_by_files k c.args.kind (name_bytes c.args.database.now) (splits_of texts) in
     let old = state g.S.Store c.args.self.now.connection in
     let new = state g.S.Store c.check_ready.new.connection in
     let refusal = c.in_err-check_ready.field-0.0 in
     let result : c.from_residual-in_err-check_ready.result ≡ Err refusal = search rules in
-    subst (Serves g.L.Layout.holds k Always (turned k turn) old new) (sym result)
-    (unready_serves g.L.Layout.holds k old new refusal (c.check_ready.ensures.same clean) (λ before keeps. c.in_err-check_ready.ensures.ready clean limits before keeps) turn)
+    subst (ServesBy (TakesFiles k c.args.kind (name_bytes c.args.database.now) texts) old new) (sym result) (ends_serve (turned k turn) old new (Err refusal)
+    (unready_serves g.L.Layout.format k old new refusal (c.check_ready.ensures.same clean) (λ before keeps. c.in_err-check_ready.ensures.ready clean limits before keeps) turn))
 
 pub returns-clause-serves : goal.returns-clause-serves
-returns-clause-serves g c = λ clean texts told fine before fits keeps.
+returns-clause-serves g c = λ clean texts told fine.
     let limits = c.args.self.now.limits in
-    let k = conditions g.L.Layout.version c.args.self.now.profile limits in
+    let k = conditions (version_of g.L.Layout.format) c.args.self.now.profile limits in
     let old = state g.S.Store c.args.self.now.connection in
     let mid = state g.S.Store c.check_ready.new.connection in
+    let new = state g.S.Store c.change_database.new.connection in
+    let outcome = turned k (changed_by_files k c.args.kind (name_bytes c.args.database.now) (splits_of texts)) in
     let first : HasCleanDisk mid = omega (arith, c.change_database.ensures.survives.clean) in
+    ends_serve outcome old new c.change_database.result (λ before fits keeps.
     let met = ready_met {X = Unit {0}} (λ (bases : List Base) x. IsTrue old.is_open × IsTrue mid.is_open) (ready k before) tt (c.in_ok-check_ready.ensures.ready first limits before keeps) in
-    c.change_database.ensures.serves clean met.2.1 texts told fine g.L.Layout.version before (λ _. (met.0, met.1)) (keeps_still g.L.Layout.holds k before old mid (c.check_ready.ensures.same first) keeps)
+    c.change_database.ensures.serves clean met.2.1 texts told fine before (λ _. (met.0, met.1)) (keeps_still before old mid (c.check_ready.ensures.same first) keeps))
 
 pub returns-clause-survives : goal.returns-clause-survives
 returns-clause-survives g c =
     let limits = c.args.self.now.limits in
-    let k = conditions g.L.Layout.version c.args.self.now.profile limits in
+    let k = conditions (version_of g.L.Layout.format) c.args.self.now.profile limits in
     let old = state g.S.Store c.args.self.now.connection in
     let mid = state g.S.Store c.check_ready.new.connection in
     let new = state g.S.Store c.change_database.new.connection in
-    survives_after old mid new _ _ c.check_ready.ensures.crash c.change_database.ensures.survives (λ clean db made texts told fine before fits keeps.
+    survives_after old mid new _ _ c.check_ready.ensures.crash c.change_database.ensures.survives (λ clean db made texts told fine before keeps.
+    let outcome = turned k (changed_by_files k c.args.kind (name_bytes c.args.database.now) (splits_of texts)) in
     let first : HasCleanDisk mid = omega (arith, c.change_database.ensures.survives.clean) in
     let met = ready_met {X = Unit {0}} (λ (bases : List Base) x. IsTrue old.is_open × IsTrue mid.is_open) (ready k before) tt (c.in_ok-check_ready.ensures.ready first limits before keeps) in
-    made met.2.1 texts told fine g.L.Layout.version before (λ _. (met.0, met.1)) (keeps_still g.L.Layout.holds k before old mid (c.check_ready.ensures.same first) keeps))
+    let done = made met.2.1 texts told fine before (λ _. (met.0, met.1)) (keeps_still before old mid (c.check_ready.ensures.same first) keeps) in
+    ((outcome before).0, (outcome before).1, (refl, refl), done.0, done.1))
 
 pub returns-in_err-check_readers-clause-serves : goal.returns-in_err-check_readers-clause-serves
 returns-in_err-check_readers-clause-serves g c = λ clean texts told fine.

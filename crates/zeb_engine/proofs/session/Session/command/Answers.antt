@@ -1,40 +1,39 @@
-use Rattle.std.proofs.Common.{◌∙◌, [], inl, inr, rules, sym, ap, IsTrue}
+use Rattle.std.proofs.Common.{◌∙◌, [], rules, sym, ap, IsTrue}
 use Rattle.sqlite.specs.Effect.{Database}
 use Rattle.sqlite.specs.Held.{state}
 use Rattle.zeb_register.specs.Store.{IsStore}
 use Rattle.zeb_engine.specs.Conditions.{conditions}
 use Rattle.zeb_engine.specs.Image.{IsImage, Keeps}
-use Rattle.zeb_engine.specs.Steps.{after, holding, outcome}
-use Rattle.zeb_engine.proofs.Crashing.{committed_stands, endures, survives_as}
+use Rattle.zeb_engine.specs.Steps.{Step, holding}
+use Rattle.zeb_engine.proofs.Crashing.{endures}
 use Rattle.zeb_engine.proofs.Honest.{command_honest}
 use Rattle.zeb_engine.proofs.Serving.{on_ok}
 use Rattle.zeb_engine.proofs.session.Session.command.Goals as goal
+use Rattle.zeb_register.specs.Formats.{version_of}
 
 pub returns-clause-begun : goal.returns-clause-begun
 returns-clause-begun g c clean is =
-    let k = conditions g.L.Layout.version c.args.self.now.profile c.args.self.now.limits in
+    let k = conditions (version_of g.L.Layout.format) c.args.self.now.profile c.args.self.now.limits in
     let old = state g.S.Store c.args.self.now.connection in
     let new = state g.S.Store c.carry_out-answer.new.self.connection in
     let idle : IsTrue c.is_autocommit-settled.result = search rules in
-    on_ok c.carry_out-answer.result (IsStore old → IsStore new × IsImage g.L.Layout.holds k new.now.trees (holding k [])) (IsStore old → Keeps g.L.Layout.holds k new (holding k []))
+    on_ok c.carry_out-answer.result (IsStore old → IsStore new × IsImage new.now.trees (holding k [])) (IsStore old → Keeps new (holding k []))
     (λ did store is_open. (did store, sym (c.is_autocommit-settled.ensures.settled idle is_open))) (c.carry_out-answer.ensures.begun clean is)
 
 pub returns-clause-crash : goal.returns-clause-crash
 returns-clause-crash g c clean =
-    let k = conditions g.L.Layout.version c.args.self.now.profile c.args.self.now.limits in
+    let k = conditions (version_of g.L.Layout.format) c.args.self.now.profile c.args.self.now.limits in
     let old = state g.S.Store c.args.self.now.connection in
     let end = c.carry_out-answer.new.self.connection in
     let idle : IsTrue c.is_autocommit-settled.result = search rules in
     let did = c.carry_out-answer.ensures in
-    endures g.L.Layout.holds k (after k c.args.command.now) old (state g.S.Store end) c.carry_out-answer.result clean
+    endures (Step k c.args.command.now) old (state g.S.Store end) c.carry_out-answer.result clean
     (λ is_open db left. g.met.S.Store.settled end.store db is_open left ∙ ap (λ (d : Database). d.trees) (sym (c.is_autocommit-settled.ensures.settled idle is_open)))
-    (did.open clean) (did.endures clean)
-    (survives_as old (state g.S.Store end) _ _ (λ late db made before keeps. committed_stands g.L.Layout.holds k db before (outcome k c.args.command.now before) (made before keeps)) did.survives)
-    (λ before keeps. elim (did.serves clean before keeps) [ inl step ↦ inl step.1 | inr failed ↦ inr failed.0 ])
+    (did.call.accepted clean) (did.call.endures clean) did.survives (did.serves clean)
 
 pub returns-clause-honest : goal.returns-clause-honest
 returns-clause-honest g c clean is before keeps =
-    let k = conditions g.L.Layout.version c.args.self.now.profile c.args.self.now.limits in
+    let k = conditions (version_of g.L.Layout.format) c.args.self.now.profile c.args.self.now.limits in
     let old = state g.S.Store c.args.self.now.connection in
     let new = state g.S.Store c.carry_out-answer.new.self.connection in
-    command_honest g.L.Layout.holds k old new c.carry_out-answer.result is before keeps c.args.command.now (c.carry_out-answer.ensures.serves clean)
+    command_honest k old new c.carry_out-answer.result is before keeps c.args.command.now (c.carry_out-answer.ensures.serves clean)

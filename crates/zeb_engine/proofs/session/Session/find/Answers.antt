@@ -12,11 +12,12 @@ use Rattle.zeb_engine.specs.Works.{Finds}
 use Rattle.zeb_engine.proofs.Commanding.{looks_after, ready_met, ready_finds, unready_finds}
 use Rattle.zeb_engine.proofs.Serving.{keeps_still}
 use Rattle.zeb_engine.proofs.session.Session.find.Goals as goal
+use Rattle.zeb_register.specs.Formats.{version_of}
 
 pub returns-in_err-check_ready-clause-serves : goal.returns-in_err-check_ready-clause-serves
 returns-in_err-check_ready-clause-serves g c clean =
     let limits = c.args.self.now.limits in
-    let k = conditions g.L.Layout.version c.args.self.now.profile limits in
+    let k = conditions (version_of g.L.Layout.format) c.args.self.now.profile limits in
     let name = name_bytes c.args.database.now in
     let query = c.args.question.query.now in
     let first = c.args.question.first in
@@ -25,13 +26,13 @@ returns-in_err-check_ready-clause-serves g c clean =
     let new = state g.S.Store c.check_ready.new.connection in
     let refusal = c.in_err-check_ready.field-0.0 in
     let told : c.from_residual.result ≡ Err refusal = search rules in
-    subst (Finds g.L.Layout.holds k name query first count old new) (sym told)
-    (unready_finds g.L.Layout.holds k old new refusal (c.check_ready.ensures.same clean) (λ before keeps. c.in_err-check_ready.ensures.ready clean limits before keeps) name query first count)
+    subst (Finds k name query first count old new) (sym told)
+    (unready_finds g.L.Layout.format k old new refusal (c.check_ready.ensures.same clean) (λ before keeps. c.in_err-check_ready.ensures.ready clean limits before keeps) name query first count)
 
 pub returns-clause-serves : goal.returns-clause-serves
 returns-clause-serves g c clean before keeps =
     let limits = c.args.self.now.limits in
-    let k = conditions g.L.Layout.version c.args.self.now.profile limits in
+    let k = conditions (version_of g.L.Layout.format) c.args.self.now.profile limits in
     let name = name_bytes c.args.database.now in
     let query = c.args.question.query.now in
     let old = state g.S.Store c.args.self.now.connection in
@@ -39,9 +40,9 @@ returns-clause-serves g c clean before keeps =
     let new = state g.S.Store c.find.new.connection in
     let clean1 : HasCleanDisk mid = omega (arith, c.find.ensures.crash.clean) in
     let met = ready_met {X = Unit {0}} (λ (bases : List Base) x. IsTrue old.is_open × IsTrue mid.is_open) (ready k before) tt (c.in_ok-check_ready.ensures.ready clean1 limits before keeps) in
-    let still = keeps_still g.L.Layout.holds k before old mid (c.check_ready.ensures.same clean1) keeps in
-    ready_finds k before met.0 name query c.args.question.first c.args.question.count (answer_of c.find.result) (Keeps g.L.Layout.holds k new before) met.1
-    (keeps_still g.L.Layout.holds k before mid new (c.find.ensures.same clean) still) (c.find.ensures.found clean met.2.1 limits before met.0 met.1 still)
+    let still = keeps_still before old mid (c.check_ready.ensures.same clean1) keeps in
+    ready_finds k before met.0 name query c.args.question.first c.args.question.count (answer_of c.find.result) (Keeps new before) met.1
+    (keeps_still before mid new (c.find.ensures.same clean) still) (c.find.ensures.found clean met.2.1 limits before met.0 met.1 still)
 
 pub returns-clause-alone : goal.returns-clause-alone
 returns-clause-alone g c clean =
@@ -49,7 +50,7 @@ returns-clause-alone g c clean =
     let mid = state g.S.Store c.check_ready.new.connection in
     let new = state g.S.Store c.find.new.connection in
     let clean1 : HasCleanDisk mid = omega (arith, c.find.ensures.crash.clean) in
-    looks_after g.L.Layout.holds c.args.self.now.profile old mid new (name_bytes c.args.database.now) c.args.question.query.now c.args.question.first c.args.question.count c.find.result
+    looks_after g.L.Layout.format c.args.self.now.profile old mid new (name_bytes c.args.database.now) c.args.question.query.now c.args.question.first c.args.question.count c.find.result
     (c.check_ready.ensures.same clean1) (c.find.ensures.open clean) (c.find.ensures.alone clean)
 
 pub returns-clause-reads : goal.returns-clause-reads

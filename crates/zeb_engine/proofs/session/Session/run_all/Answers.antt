@@ -14,6 +14,7 @@ use Rattle.zeb_engine.proofs.Crashing.{commits_more}
 use Rattle.zeb_engine.proofs.RunCrashes.{crash_more}
 use Rattle.zeb_engine.proofs.RunLemmas.{open_before, open_more, refused_more, runs_more}
 use Rattle.zeb_engine.proofs.session.Session.run_all.Goals as goal
+use Rattle.zeb_register.specs.Formats.{version_of}
 
 pub loop-command-preserved : goal.loop-command-preserved
 loop-command-preserved g c =
@@ -21,8 +22,7 @@ loop-command-preserved g c =
     let all = c.args.commands.now in
     let item = c.command-item.result in
     let answers = map answer_of c.loop-command.answers.items in
-    let holds = g.L.Layout.holds in
-    let of = conditions g.L.Layout.version in
+    let of = conditions (version_of g.L.Layout.format) in
     let k = of c.args.self.now.profile c.args.self.now.limits in
     let old = state g.S.Store c.args.self.now.connection in
     let now = state g.S.Store c.loop-command.self.connection in
@@ -33,45 +33,45 @@ loop-command-preserved g c =
       count = search rules;
       room = search rules;
       under = (c.command.ensures.under.0 ∙ same.0, c.command.ensures.under.1 ∙ same.1);
-      survives = survives_then old now next (CommitsSome holds k all old) (CommitsCommand holds (of c.loop-command.self.profile c.loop-command.self.limits) item now) (CommitsSome holds k all old) (λ _ db made. made)
-          (λ clean db made. commits_more holds k old now all index answers item (c.loop-command.invariant.run (omega (arith, c.command.ensures.survives.clean))) last db
-          (subst₂ (λ p l. CommitsCommand holds (of p l) item now db) same.0 same.1 made))
+      survives = survives_then old now next (CommitsSome k all old) (CommitsCommand (of c.loop-command.self.profile c.loop-command.self.limits) item now) (CommitsSome k all old) (λ _ db made. made)
+          (λ clean db made. commits_more k old now all index answers item (c.loop-command.invariant.run (omega (arith, c.command.ensures.survives.clean))) last db
+          (subst₂ (λ p l. CommitsCommand (of p l) item now db) same.0 same.1 made))
           c.loop-command.invariant.survives c.command.ensures.survives;
       refused = λ clean all.
           let was = c.loop-command.invariant.refused (omega (arith, c.command.ensures.survives.clean)) in
-          refused_more old now next c.loop-command.answers.items c.command.result was (c.command.ensures.refused clean) (subst (AllByRecursion IsErr) c.push_reserved.ensures.items all);
+          refused_more old now next c.loop-command.answers.items c.command.result was (c.command.ensures.call.refused clean) (subst (AllByRecursion IsErr) c.push_reserved.ensures.items all);
       was_open = λ clean.
-          open_before old now next c.command.result (c.loop-command.invariant.was_open (omega (arith, c.command.ensures.survives.clean))) (c.command.ensures.«open» clean) (c.command.ensures.refused clean);
+          open_before old now next c.command.result (c.loop-command.invariant.was_open (omega (arith, c.command.ensures.survives.clean))) (c.command.ensures.call.accepted clean) (c.command.ensures.call.refused clean);
       «open» = λ clean.
           let early : HasCleanDisk now = omega (arith, c.command.ensures.survives.clean) in
           subst (λ results. FindOpen results old next) (sym c.push_reserved.ensures.items)
-          (open_more old now next c.loop-command.answers.items c.command.result (c.loop-command.invariant.was_open early) (c.loop-command.invariant.«open» early) (c.command.ensures.«open» clean));
+          (open_more old now next c.loop-command.answers.items c.command.result (c.loop-command.invariant.was_open early) (c.loop-command.invariant.«open» early) (c.command.ensures.call.accepted clean));
       crash = λ clean.
           let early : HasCleanDisk now = omega (arith, c.command.ensures.survives.clean) in
           let was = c.loop-command.invariant.run early in
-          let served = subst₂ (λ p l. ServesCommand holds (conditions g.L.Layout.version p l) item now next c.command.result) same.0 same.1 (c.command.ensures.serves clean) in
-          let survives = subst₂ (λ p l. Survives now next (CommitsCommand holds (conditions g.L.Layout.version p l) item now)) same.0 same.1 c.command.ensures.survives in
-          let more = runs_more holds k old now next (take index all) answers item c.command.result was served in
-          subst₂ (λ commands told. EnduresRun holds k commands told old next) (sym last) (sym (ap (map answer_of) c.push_reserved.ensures.items ∙ map-append answer_of _ _))
-          (crash_more holds k old now next (take index all) answers item c.command.result was more served clean (c.command.ensures.durable clean) (c.command.ensures.«open» clean) (c.command.ensures.endures clean) survives
+          let served = subst₂ (λ p l. ServesCommand (conditions (version_of g.L.Layout.format) p l) item now next c.command.result) same.0 same.1 (c.command.ensures.serves clean) in
+          let survives = subst₂ (λ p l. Survives now next (CommitsCommand (conditions (version_of g.L.Layout.format) p l) item now)) same.0 same.1 c.command.ensures.survives in
+          let more = runs_more k old now next (take index all) answers item c.command.result was served in
+          subst₂ (λ commands told. EnduresRun k commands told old next) (sym last) (sym (ap (map answer_of) c.push_reserved.ensures.items ∙ map-append answer_of _ _))
+          (crash_more k old now next (take index all) answers item c.command.result was more served clean (c.command.ensures.durable clean) (c.command.ensures.call.accepted clean) (c.command.ensures.call.endures clean) survives
           (c.loop-command.invariant.crash early));
       run = λ clean.
           let was = c.loop-command.invariant.run (omega (arith, c.command.ensures.survives.clean)) in
-          let served = subst₂ (λ p l. ServesCommand holds (conditions g.L.Layout.version p l) item now next c.command.result) same.0 same.1 (c.command.ensures.serves clean) in
-          let more = runs_more holds k old now next (take index all) answers item c.command.result was served in
-          subst₂ (λ commands told. Runs holds k commands told old next) (sym last) (sym (ap (map answer_of) c.push_reserved.ensures.items ∙ map-append answer_of _ _)) more;
+          let served = subst₂ (λ p l. ServesCommand (conditions (version_of g.L.Layout.format) p l) item now next c.command.result) same.0 same.1 (c.command.ensures.serves clean) in
+          let more = runs_more k old now next (take index all) answers item c.command.result was served in
+          subst₂ (λ commands told. Runs k commands told old next) (sym last) (sym (ap (map answer_of) c.push_reserved.ensures.items ∙ map-append answer_of _ _)) more;
     }
 
 pub returns-clause-run : goal.returns-clause-run
 returns-clause-run g c clean =
-    let k = conditions g.L.Layout.version c.args.self.now.profile c.args.self.now.limits in
+    let k = conditions (version_of g.L.Layout.format) c.args.self.now.profile c.args.self.now.limits in
     let whole : take c.loop-command.command-index c.args.commands.now ≡ c.args.commands.now = take_whole c.args.commands.now c.loop-command.command-index (omega arith) in
-    subst (λ commands. Runs g.L.Layout.holds k commands (map answer_of c.loop-command.answers.items) (state g.S.Store c.args.self.now.connection) (state g.S.Store c.loop-command.self.connection)) whole
+    subst (λ commands. Runs k commands (map answer_of c.loop-command.answers.items) (state g.S.Store c.args.self.now.connection) (state g.S.Store c.loop-command.self.connection)) whole
     (c.loop-command.invariant.run clean)
 
 pub returns-clause-crash : goal.returns-clause-crash
 returns-clause-crash g c clean =
-    let k = conditions g.L.Layout.version c.args.self.now.profile c.args.self.now.limits in
+    let k = conditions (version_of g.L.Layout.format) c.args.self.now.profile c.args.self.now.limits in
     let whole : take c.loop-command.command-index c.args.commands.now ≡ c.args.commands.now = take_whole c.args.commands.now c.loop-command.command-index (omega arith) in
-    subst (λ commands. EnduresRun g.L.Layout.holds k commands (map answer_of c.loop-command.answers.items) (state g.S.Store c.args.self.now.connection) (state g.S.Store c.loop-command.self.connection)) whole
+    subst (λ commands. EnduresRun k commands (map answer_of c.loop-command.answers.items) (state g.S.Store c.args.self.now.connection) (state g.S.Store c.loop-command.self.connection)) whole
     (c.loop-command.invariant.crash clean)

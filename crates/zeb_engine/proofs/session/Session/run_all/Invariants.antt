@@ -9,6 +9,7 @@ use Rattle.zeb_engine.specs.Conditions.{conditions}
 use Rattle.zeb_engine.specs.Crashes.{CommitsSome, EnduresRun}
 use Rattle.zeb_engine.specs.Works.{FindOpen, Runs}
 use Rattle.zeb_engine.proofs.session.Session.run_all.Given as goal
+use Rattle.zeb_register.specs.Formats.{version_of}
 
 abbrev pub invariant-loop-command : goal.invariant-loop-command
 invariant-loop-command g l =
@@ -18,12 +19,12 @@ invariant-loop-command g l =
       count : length l.answers.items ≡ l.command-index;
       room : length l.commands ≤ vec_capacity l.answers;
       under : (l.self.profile ≡ l.fn.self.profile) × (l.self.limits ≡ l.fn.self.limits);
-      survives : Survives old now (CommitsSome g.L.Layout.holds (conditions g.L.Layout.version l.fn.self.profile l.fn.self.limits) l.commands old);
+      survives : Survives old now (CommitsSome (conditions (version_of g.L.Layout.format) l.fn.self.profile l.fn.self.limits) l.commands old);
       refused : HasCleanDisk now → AllByRecursion IsErr l.answers.items → ChangesNothing old now;
       was_open : HasCleanDisk now → IsTrue now.is_open → IsTrue old.is_open;
       «open» : HasCleanDisk now → FindOpen l.answers.items old now;
       crash : HasCleanDisk now
-          → EnduresRun g.L.Layout.holds (conditions g.L.Layout.version l.fn.self.profile l.fn.self.limits) (take l.command-index l.commands) (map answer_of l.answers.items) old now;
+          → EnduresRun (conditions (version_of g.L.Layout.format) l.fn.self.profile l.fn.self.limits) (take l.command-index l.commands) (map answer_of l.answers.items) old now;
       run : HasCleanDisk now
-          → Runs g.L.Layout.holds (conditions g.L.Layout.version l.fn.self.profile l.fn.self.limits) (take l.command-index l.commands) (map answer_of l.answers.items) old now;
+          → Runs (conditions (version_of g.L.Layout.format) l.fn.self.profile l.fn.self.limits) (take l.command-index l.commands) (map answer_of l.answers.items) old now;
     }

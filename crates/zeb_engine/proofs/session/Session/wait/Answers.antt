@@ -5,14 +5,15 @@ use Rattle.zeb_engine.specs.Steps.{waited}
 use Rattle.zeb_engine.specs.Works.{Always, Serves}
 use Rattle.zeb_engine.proofs.Commanding.{unready_waits}
 use Rattle.zeb_engine.proofs.session.Session.wait.Goals as goal
+use Rattle.zeb_register.specs.Formats.{version_of}
 
 pub returns-in_err-check_ready-clause-serves : goal.returns-in_err-check_ready-clause-serves
 returns-in_err-check_ready-clause-serves g c clean =
     let limits = c.args.self.now.limits in
-    let k = conditions g.L.Layout.version c.args.self.now.profile limits in
+    let k = conditions (version_of g.L.Layout.format) c.args.self.now.profile limits in
     let old = state g.S.Store c.args.self.now.connection in
     let new = state g.S.Store c.check_ready.new.connection in
     let refusal = c.in_err-check_ready.field-0.0 in
     let told : c.from_residual.result ≡ Err refusal = search rules in
-    subst (Serves g.L.Layout.holds k Always (waited k) old new) (sym told)
-    (unready_waits g.L.Layout.holds k old new refusal (c.check_ready.ensures.same clean) (λ before keeps. c.in_err-check_ready.ensures.ready clean limits before keeps))
+    subst (Serves Always (waited k) old new) (sym told)
+    (unready_waits g.L.Layout.format k old new refusal (c.check_ready.ensures.same clean) (λ before keeps. c.in_err-check_ready.ensures.ready clean limits before keeps))

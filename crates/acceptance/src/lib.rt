@@ -1,0 +1,14 @@
+//! Tests over the public names of several crates, and no product code: calls on the register's tables and commands over a
+//! register, as rows of steps and the answers that they have to get.
+#![tactic(auto)]
+
+#[cfg(test)]
+mod commands;
+#[cfg(test)]
+mod disks;
+#[cfg(test)]
+mod samples;
+#[cfg(test)]
+mod tables;
+#[cfg(test)]
+mod texts;

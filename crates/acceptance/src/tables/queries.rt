@@ -1,0 +1,69 @@
+//! Statements of the tests' own.
+
+use sqlite::types::ValueRef;
+use sqlite::{Alter, Connection, Error, Row};
+use std::fmt::Write;
+use std::str;
+use zeb_register::RegFault;
+
+/// The postings, with the database's name for its number.
+pub const POSTINGS: &str =
+    "SELECT name, idx, reg, term, sysno, seq, pos FROM postings JOIN databases ON id = db ORDER BY name, idx, reg, term, sysno, seq, pos";
+
+/// A value of a row, a text as it is and bytes in hexadecimal.
+fn show_value(value: ValueRef<'_>, text: &mut String) -> Result<(), RegFault> {
+    match value {
+        ValueRef::Null => text.push_str("null")?,
+        ValueRef::Int(number) => write!(text, "{number}")?,
+        ValueRef::Real(_) => text.push_str("real")?,
+        ValueRef::Text(bytes) => {
+            let shown = str::from_utf8(bytes).map_err(|_| RegFault::Damaged)?;
+            text.push_str(shown)?;
+        }
+        ValueRef::Blob(bytes) => {
+            for byte in bytes {
+                write!(text, "{byte:02x}")?;
+            }
+        }
+    }
+    Ok(())
+}
+
+/// A row, its values with a bar between.
+fn show_row(row: &Row, text: &mut String) -> Result<(), RegFault> {
+    for place in 0..row.column_count() {
+        if place > 0 {
+            text.push_str("|")?;
+        }
+        show_value(row.get_ref(place)?, text)?;
+    }
+    text.push_str("\n")?;
+    Ok(())
+}
+
+fn query<S: Alter>(conn: &mut Connection<S>, sql: &str) -> Result<Vec<Row>, Error> {
+    conn.query_all(sql, &[])
+}
+
+/// The rows that a query finds, each on a line.
+pub fn rows<S: Alter>(
+    conn: &mut Connection<S>,
+    sql: &str,
+    text: &mut String,
+) -> Result<(), RegFault> {
+    for row in query(conn, sql)? {
+        show_row(&row, text)?;
+    }
+    Ok(())
+}
+
+/// How many rows a statement changes.
+pub fn execute<S: Alter>(
+    conn: &mut Connection<S>,
+    sql: &str,
+    text: &mut String,
+) -> Result<(), RegFault> {
+    let count = conn.execute(sql, &[])?;
+    write!(text, "{count}")?;
+    Ok(())
+}

@@ -1,0 +1,179 @@
+//! Calls that read, and their answers as texts: each item of a list ends in a comma.
+
+use super::calls::{Under, key};
+use sqlite::{Alter, Connection};
+use std::alloc::Global;
+use std::fmt::Write;
+use zeb_extract::Key;
+use zeb_profile::Register;
+use zeb_register::{
+    DatabaseId, Layout, RegFault, Rows, TermCount, Work, database_of, ident_of, meta_of, records,
+};
+
+/// A register of an index.
+pub type In = (u32, Register);
+
+/// A call that reads, with what it is given.
+pub enum Read<'a> {
+    Text(&'a str),
+    /// The last number of the database of this name.
+    Last(&'a str),
+    Ident(u64),
+    /// Each record's number and identifier, and how many bytes it has.
+    Records,
+    /// Whether the record at this place of the list has these bytes.
+    Bytes(usize, &'a [u8]),
+    /// Each posting as `1:2.3`, the number of the record, of the unit and of the word in it.
+    List(Under<'a>),
+    /// Each term, and the number of its records.
+    Terms(In),
+    From(In, &'a str, u64),
+    Before(In, &'a str, u64),
+    /// The number of terms and the number of postings.
+    Totals(In),
+}
+
+fn show(found: Option<String>, text: &mut String) -> Result<(), RegFault> {
+    match found {
+        Some(found) => text.push_str(&found)?,
+        None => text.push_str("none")?,
+    }
+    Ok(())
+}
+
+fn last<S: Alter>(conn: &mut Connection<S>, name: &str, text: &mut String) -> Result<(), RegFault> {
+    match database_of(conn, name)? {
+        Some(database) => write!(text, "{}", database.last)?,
+        None => text.push_str("none")?,
+    }
+    Ok(())
+}
+
+/// The database of this name, for the calls that follow.
+pub fn used<S: Alter>(
+    conn: &mut Connection<S>,
+    name: &str,
+) -> Result<Option<DatabaseId>, RegFault> {
+    Ok(database_of(conn, name)?.map(|database| database.id))
+}
+
+fn all_records<S: Alter>(
+    alloc: Global,
+    conn: &mut Connection<S>,
+    db: DatabaseId,
+    text: &mut String,
+) -> Result<(), RegFault> {
+    for record in records(alloc, conn, db)? {
+        let (ident, length) = (record.ident.as_str(), record.bytes.len());
+        write!(text, "{} {ident} {length},", record.sysno)?;
+    }
+    Ok(())
+}
+
+fn has_bytes<S: Alter>(
+    alloc: Global,
+    conn: &mut Connection<S>,
+    db: DatabaseId,
+    place: usize,
+    bytes: &[u8],
+    text: &mut String,
+) -> Result<(), RegFault> {
+    let all = records(alloc, conn, db)?;
+    let same = match all.get(place) {
+        Some(record) => record.bytes.as_slice() == bytes,
+        None => false,
+    };
+    write!(text, "{same}")?;
+    Ok(())
+}
+
+fn list<S: Alter>(
+    alloc: Global,
+    conn: &mut Connection<S>,
+    db: DatabaseId,
+    key: &Key,
+    text: &mut String,
+) -> Result<(), RegFault> {
+    for posting in Rows::key_list(alloc, conn, &mut Work::default(), db, key)? {
+        write!(text, "{}:{}.{},", posting.sysno, posting.seq, posting.pos)?;
+    }
+    Ok(())
+}
+
+fn counts(all: Vec<TermCount>, text: &mut String) -> Result<(), RegFault> {
+    for count in &all {
+        write!(text, "{} {},", count.term.as_str(), count.records)?;
+    }
+    Ok(())
+}
+
+fn terms_of<S: Alter>(
+    alloc: Global,
+    conn: &mut Connection<S>,
+    db: DatabaseId,
+    (index, register): In,
+) -> Result<Vec<TermCount>, RegFault> {
+    Rows::terms_of(alloc, conn, &mut Work::default(), db, index, register)
+}
+
+fn terms_from<S: Alter>(
+    alloc: Global,
+    conn: &mut Connection<S>,
+    db: DatabaseId,
+    (index, register): In,
+    start: &str,
+    n: u64,
+) -> Result<Vec<TermCount>, RegFault> {
+    let work = &mut Work::default();
+    Rows::terms_from(alloc, conn, work, db, index, register, start, n)
+}
+
+fn terms_before<S: Alter>(
+    alloc: Global,
+    conn: &mut Connection<S>,
+    db: DatabaseId,
+    (index, register): In,
+    start: &str,
+    n: u64,
+) -> Result<Vec<TermCount>, RegFault> {
+    let work = &mut Work::default();
+    Rows::terms_before(alloc, conn, work, db, index, register, start, n)
+}
+
+fn totals<S: Alter>(
+    alloc: Global,
+    conn: &mut Connection<S>,
+    db: DatabaseId,
+    (index, register): In,
+    text: &mut String,
+) -> Result<(), RegFault> {
+    let totals = Rows::totals(alloc, conn, &mut Work::default(), db, index, register)?;
+    write!(text, "{} {}", totals.terms, totals.occurrences)?;
+    Ok(())
+}
+
+/// Makes a call, and adds its answer to the text.
+pub fn tell<S: Alter>(
+    alloc: Global,
+    conn: &mut Connection<S>,
+    db: DatabaseId,
+    call: &Read<'_>,
+    text: &mut String,
+) -> Result<(), RegFault> {
+    match call {
+        Read::Text(name) => show(meta_of(conn, name)?, text),
+        Read::Last(name) => last(conn, name, text),
+        Read::Ident(sysno) => show(ident_of(conn, db, *sysno)?, text),
+        Read::Records => all_records(alloc, conn, db, text),
+        Read::Bytes(place, bytes) => has_bytes(alloc, conn, db, *place, bytes, text),
+        Read::List(under) => list(alloc, conn, db, &key(alloc, under)?, text),
+        Read::Terms(register) => counts(terms_of(alloc, conn, db, *register)?, text),
+        Read::From(register, start, n) => {
+            counts(terms_from(alloc, conn, db, *register, start, *n)?, text)
+        }
+        Read::Before(register, start, n) => {
+            counts(terms_before(alloc, conn, db, *register, start, *n)?, text)
+        }
+        Read::Totals(register) => totals(alloc, conn, db, *register, text),
+    }
+}

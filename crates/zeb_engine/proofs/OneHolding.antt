@@ -1,0 +1,80 @@
+-- Tables are the image of one holding at most.
+use Rattle.std.proofs.Common.{◌≡◌, ◌∙◌, ℕ, ℤ, pos, List, [], ◌∷◌, codes, inl, inr, refl, sym, ap, subst}
+use Rattle.std.specs.List.{Contains}
+use Rattle.std.specs.Ordering.{nat_cmp}
+use Rattle.std.specs.Cmp.Lexicographic.{slice_cmp}
+use Rattle.std.proofs.lemmas.Cmp.{nat_cmp_total, nat_list_cmp_total, on_total}
+use Rattle.sqlite.specs.declared.types.Value.TheVariants.{Int}
+use Rattle.sqlite.specs.Tree.{Trees}
+use Rattle.sqlite_rules.specs.Lists.{Has}
+use Rattle.sqlite_rules.proofs.ListLemmas.{has_contained, contains_had}
+use Rattle.zeb_profile.specs.declared.directives.Directive.{Directive}
+use Rattle.zeb_register.specs.Formats.{Format}
+use Rattle.zeb_register.specs.Sql.{HasRow}
+use Rattle.zeb_register.specs.Store.{HasDatabase, HasRecord, entry, meta_tree}
+use Rattle.zeb_register.proofs.RisingLists.{same_list}
+use Rattle.zeb_engine.specs.Holdings.{Base, Holdings, Kept, nothing_yet, under}
+use Rattle.zeb_engine.specs.Image.{AreBases, IsBase, IsImage, IsImageOf, IsImageUnder}
+use Rattle.zeb_engine.proofs.OneText.{under_other}
+use Rattle.zeb_engine.proofs.Ready.{none_there, profile_is, version_is}
+
+same_record : (one other : Kept) → one.sysno ≡ other.sysno → one.ident ≡ other.ident → one.bytes ≡ other.bytes → one ≡ other
+same_record one other number name text = λ i. record { sysno = number i; ident = name i; bytes = text i }
+
+same_base : (one other : Base) → one.name ≡ other.name → one.last ≡ other.last → one.records ≡ other.records → one ≡ other
+same_base one other name last records = λ i. record { name = name i; last = last i; records = records i }
+
+number_inside : (m n : ℕ) → pos m ≡ pos n → m ≡ n
+number_inside m n same = cc
+
+module _ (profile : List Directive) (trees : Trees) where
+  -- a record of the one database is one of the other
+  kept_in : (f g : Format) (xs ys : List Base) (one : IsImageOf f profile trees xs) (other : IsImageOf g profile trees ys) (a b : Base) → Contains xs a → Contains ys b
+      → one.id_of a.name ≡ other.id_of b.name → (k : Kept) → Contains a.records k → Contains b.records k
+  kept_in f g xs ys one other a b in_one in_other same k here =
+      let id = one.id_of a.name in
+      let there : Contains (one.records_of id) k = subst (λ (l : List Kept). Contains l k) (sym (one.of_base a in_one)) here in
+      let row : HasRecord trees id (pos k.sysno) k.ident k.bytes = (one.stored.kept id (pos k.sysno) k.ident k.bytes).1 (k, there, refl, refl, refl) in
+      let found = (other.stored.kept id (pos k.sysno) k.ident k.bytes).0 row in
+      let is : k ≡ found.0 = same_record k found.0 (number_inside k.sysno found.0.sysno found.2) found.3 found.4 in
+      let its : other.records_of id ≡ b.records = ap other.records_of same ∙ other.of_base b in_other in
+      subst (Contains b.records) (sym is) (subst (λ (l : List Kept). Contains l found.0) its found.1)
+
+  -- a database of the one is one of the other
+  base_in : (f g : Format) (xs ys : List Base) → AreBases profile xs → AreBases profile ys → (one : IsImageOf f profile trees xs) (other : IsImageOf g profile trees ys)
+      → (a : Base) → Contains xs a → Contains ys a
+  base_in f g xs ys are_one are_other one other a in_one =
+      let id = one.id_of a.name in
+      let row : HasDatabase trees id a.name (pos a.last) = (one.listed id a.name (pos a.last)).1 (a, in_one, refl, refl, refl) in
+      let found = (other.listed id a.name (pos a.last)).0 row in
+      let b = found.0 in
+      let left : IsBase profile a = are_one.each a in_one in
+      let right : IsBase profile b = are_other.each b found.1 in
+      let records : a.records ≡ b.records =
+      same_list (on_total (λ (k : Kept). k.sysno) nat_cmp_total) a.records b.records left.rising right.rising
+      (λ k h. has_contained b.records k (kept_in f g xs ys one other a b in_one found.1 found.2 k (contains_had a.records k h)))
+      (λ k h. has_contained a.records k (kept_in g f ys xs other one b a found.1 in_one (sym found.2) k (contains_had b.records k h))) in
+      subst (Contains ys) (sym (same_base a b found.3 (number_inside a.last b.last found.4) records)) found.1
+
+  same_bases : (f g : Format) (xs ys : List Base) → AreBases profile xs → AreBases profile ys → IsImageOf f profile trees xs → IsImageOf g profile trees ys → xs ≡ ys
+  same_bases f g xs ys are_one are_other one other =
+      same_list (on_total (λ (b : Base). b.name) nat_list_cmp_total) xs ys are_one.rising are_other.rising
+      (λ b h. has_contained ys b (base_in f g xs ys are_one are_other one other b (contains_had xs b h)))
+      (λ b h. has_contained xs b (base_in g f ys xs are_other are_one other one b (contains_had ys b h)))
+
+-- tables whose texts have a row hold something
+no_text : (trees : Trees) (profile : List Directive) (version text : List ℕ) (bases : List Base) → trees meta_tree ≡ [] → IsImageUnder profile trees version text bases → ⊥
+no_text trees profile version text bases none at = none_there trees (codes "version") version none ((at.texts.each (codes "version") version).1 (inl (refl, refl)))
+
+pub one_holding : (trees : Trees) (one other : Holdings) → IsImage trees one → IsImage trees other → one ≡ other
+one_holding trees nothing_yet nothing_yet left right = refl
+one_holding trees nothing_yet (under version text bases) left right = absurd (no_text trees right.0 version text bases left.0.0 right.1)
+one_holding trees (under version text bases) nothing_yet left right = absurd (no_text trees left.0 version text bases right.0.0 left.1)
+one_holding trees (under version text bases) (under other said others) left right =
+    let at = left.1 in
+    let to = right.1 in
+    let same_version : other ≡ version = version_is trees version text at.pattern at.texts other ((to.texts.each (codes "version") other).1 (inl (refl, refl))) in
+    let same_text : said ≡ text = profile_is trees version text at.pattern at.texts said ((to.texts.each (codes "profile") said).1 (inr (inl (refl, refl)))) in
+    let so = under_other right.0 left.0 at.sound trees other said others (same_text ∙ at.text_is) to in
+    let same : bases ≡ others = same_bases left.0 trees at.format so.format bases others at.are so.are at.image so.image in
+    λ i. under (sym same_version i) (sym same_text i) (same i)

@@ -1,0 +1,56 @@
+-- Queries' texts and what they spell, word by word.
+use Rattle.std.proofs.Common.{◌≡◌, ℕ, true, false, List, [], ◌∷◌, ◌++◌, Some, None, length, map, codes, refl, subst}
+use Rattle.std.specs.Prelude.{Result, chars}
+use Rattle.std.specs.List.{list_all}
+use Rattle.zeb_query.specs.declared.words.Spelling.TheVariants.{Plain}
+use Rattle.zeb_query.specs.declared.keywords.Keyword.TheVariants.{Operator}
+use Rattle.zeb_query.specs.declared.queries.Connective.{Connective}
+use Rattle.zeb_query.specs.Words.{Word, AreWords, words_at}
+use Rattle.zeb_query.specs.Queries.{TreeValue, TermValue, NamedValue, PairValue, QueryValue}
+use Rattle.zeb_query.specs.Grammar.{IsStructure, is_term, is_named, is_attribute, is_attribute_of_set, is_typed, is_pair, IsQuery, keyword_spelled, kind_and_value, has_equals, is_good, text_of, parameter_count, under, with_attribute, with_type, no_head}
+use Rattle.zeb_query.specs.Reading.{SpellsQuery}
+use Rattle.zeb_query.specs.Plans.{PlanValue, ScanValue, plan_of, scan_of}
+use Rattle.zeb_query.specs.Faults.{Refusal}
+use Rattle.zeb_query.specs.Sample.{sample_profile, PlansAs, ScansAs}
+use Rattle.zeb_query.proofs.WordStretches.{words_are_read}
+
+abbrev pub plain : ℕ → List ℕ → Word
+plain place text = record { place = place; spelling = Plain; text = text }
+
+pub term_at : (place : ℕ) (text : List ℕ) → keyword_spelled text ≡ None → IsStructure (plain place text ∷ []) (TermValue place no_head text)
+term_at place text key = is_term (plain place text) refl key
+
+pub named_at : (place at : ℕ) (name : List ℕ) → IsStructure (plain place (codes "@set") ∷ plain at name ∷ []) (NamedValue place no_head name)
+named_at place at name = is_named (plain place (codes "@set")) (plain at name) refl refl
+
+pub under_at : {words : List Word} {tree : TreeValue} (place at : ℕ) (spec : List ℕ) (read : ℕ × List ℕ) → kind_and_value spec ≡ Some read → IsStructure words tree
+    → IsStructure (plain place (codes "@attr") ∷ plain at spec ∷ words) (under (with_attribute None read) tree)
+under_at {words} {tree} place at spec read is s = is_attribute (plain place (codes "@attr")) (plain at spec) words tree read refl refl is s
+
+pub set_at : {words : List Word} {tree : TreeValue} (place set_place at : ℕ) (set spec : List ℕ) (read : ℕ × List ℕ) → has_equals set ≡ false → kind_and_value spec ≡ Some read
+    → IsStructure words tree
+    → IsStructure (plain place (codes "@attr") ∷ plain set_place set ∷ plain at spec ∷ words) (under (with_attribute (Some set) read) tree)
+set_at {words} {tree} place set_place at set spec read without is s =
+    is_attribute_of_set (plain place (codes "@attr")) (plain set_place set) (plain at spec) words tree read refl refl without refl is s
+
+pub typed_at : {words : List Word} {tree : TreeValue} (place at : ℕ) (type : List ℕ) → IsStructure words tree
+    → IsStructure (plain place (codes "@term") ∷ plain at type ∷ words) (under (with_type type) tree)
+typed_at {words} {tree} place at type s = is_typed (plain place (codes "@term")) (plain at type) words tree refl refl s
+
+pub pair_at : {left right : List Word} {x y : TreeValue} (place : ℕ) (name : List ℕ) (connective : Connective) (parameters : List Word)
+    → keyword_spelled name ≡ Some (Operator connective) → length parameters ≡ parameter_count connective → list_all is_good parameters ≡ true
+    → IsStructure left x → IsStructure right y
+    → IsStructure (plain place name ∷ (parameters ++ (left ++ right))) (PairValue place no_head connective (map text_of parameters) x y)
+pair_at {left} {right} {x} {y} place name connective parameters key count good s t = is_pair (plain place name) connective parameters left right x y key count good s t
+
+-- a text that spells a query
+spells : (text : List ℕ) (words : List Word) (query : QueryValue) → IsQuery words query → words_at 0 (chars text) ≡ words → SpellsQuery text query
+spells text words query is read = record { words = words; are_words = subst (AreWords (chars text)) read (words_are_read (chars text)); spelled = is }
+
+pub planned : {text : List ℕ} {words : List Word} {query : QueryValue} {result : Result PlanValue Refusal} → IsQuery words query
+    → words_at 0 (chars text) ≡ words → plan_of sample_profile query ≡ result → PlansAs text result
+planned {text} {words} {query} {result} is read plans = record { query = query; spelled = spells text words query is read; planned = plans }
+
+pub scanned : {text : List ℕ} {words : List Word} {query : QueryValue} {result : Result ScanValue Refusal} → IsQuery words query
+    → words_at 0 (chars text) ≡ words → scan_of sample_profile query ≡ result → ScansAs text result
+scanned {text} {words} {query} {result} is read plans = record { query = query; spelled = spells text words query is read; planned = plans }

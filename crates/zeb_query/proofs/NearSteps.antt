@@ -1,0 +1,39 @@
+-- How `@prox` and its operands are read, step by step.
+use Rattle.std.specs.Prelude.{ℕ, List, [], ◌∷◌, Option, Some, None, if◌then◌else◌, ◌||◌, Bool, Result, Ok, codes}
+use Rattle.std.specs.Str.{bytes_eq}
+use Rattle.zeb_profile.specs.Indexes.{has_pair}
+use Rattle.zeb_profile.specs.declared.Profile.{Profile}
+use Rattle.zeb_text.specs.Symbols.{Symbol}
+use Rattle.zeb_query.specs.declared.terms.Values.{Values}
+use Rattle.zeb_query.specs.declared.plans.Separation.{Separation}
+use Rattle.zeb_query.specs.Grammar.{number_of}
+use Rattle.zeb_query.specs.TermChecks.{one_of}
+use Rattle.zeb_query.specs.Faults.{Refusal, ◌>>=◌, refused}
+use Rattle.zeb_query.specs.Proximity.{kept_text, orderings, distance_relations}
+use Rattle.zeb_query.specs.PrivatePlanning.{clashes_near, register_of, kept_or}
+
+-- the parameters of `@prox`, one after the other
+abbrev pub parameter_kept : ℕ → List ℕ → Bool → Result (Unit {0}) Refusal
+parameter_kept place text is_kept = if is_kept then Ok tt else refused 110 place text
+
+unfoldable pub separation_read : ℕ → List (List ℕ) → Result Separation Refusal
+separation_read place (exclusion ∷ distance ∷ ordered ∷ relation ∷ which_code ∷ unit_code ∷ []) = do
+  _ ← parameter_kept place exclusion (bytes_eq exclusion (codes "0"))
+  least ← kept_or 110 place (Some distance) (number_of 9 distance)
+  before ← kept_or 110 place (Some ordered) (kept_text orderings ordered)
+  compared ← kept_or 110 place (Some relation) (kept_text distance_relations relation)
+  _ ← parameter_kept place which_code (bytes_eq which_code (codes "k") || bytes_eq which_code (codes "known"))
+  _ ← parameter_kept place unit_code (bytes_eq unit_code (codes "2"))
+  Ok (record { distance = least; ordered = before; relation = compared })
+separation_read place other = refused 110 place (codes "@prox")
+
+-- the index and the one pattern of a term near another
+abbrev pub found_near : Profile → ℕ → Values → Option ℕ → Option (List Symbol) → Result (ℕ × List Symbol) Refusal
+found_near profile place v (Some index) (Some pattern) =
+    if has_pair profile (index, register_of v) then Ok (index, pattern) else refused 123 place []
+found_near profile place v (Some index) None = refused 123 place []
+found_near profile place v None pattern = refused 123 place []
+
+unfoldable pub term_near : Profile → ℕ → Values × List (List Symbol) → Result (ℕ × List Symbol) Refusal
+term_near profile place read =
+    if clashes_near read.0 then refused 123 place [] else found_near profile place read.0 read.0.index (one_of read.1)

@@ -1,0 +1,36 @@
+-- The plan of a term that was read, and where a scan begins at it, step by step.
+use Rattle.std.specs.Prelude.{ℕ, List, [], Option, Some, None, if◌then◌else◌, Result, Ok}
+use Rattle.zeb_profile.specs.Indexes.{has_pair}
+use Rattle.zeb_profile.specs.declared.Profile.{Profile}
+use Rattle.zeb_text.specs.Symbols.{Symbol}
+use Rattle.zeb_query.specs.declared.attributes.Asked.{Asked}
+use Rattle.zeb_query.specs.declared.attributes.Asked.TheVariants.{Compared, Always}
+use Rattle.zeb_query.specs.declared.terms.Values.{Values}
+use Rattle.zeb_query.specs.Faults.{Refusal, ◌>>=◌, refused}
+use Rattle.zeb_query.specs.Plans.{TermPlanValue, RecordNumberOf, AlwaysOf, ScanValue}
+use Rattle.zeb_query.specs.PrivatePlanning.{clashes, clashes_in_scan, register_of, number_in, compared_plan, scan_start}
+
+abbrev pub related_plan : ℕ → List ℕ → Values → ℕ → List (List Symbol) → Asked → Result TermPlanValue Refusal
+related_plan place text v index patterns Always = Ok (AlwaysOf index (register_of v))
+related_plan place text v index patterns (Compared relation) = compared_plan place text v index patterns relation
+
+abbrev pub indexed_plan : Profile → ℕ → List ℕ → Values → List (List Symbol) → Option ℕ → Result TermPlanValue Refusal
+indexed_plan profile place text v patterns None = number_in 9 place text >>= λ number. Ok (RecordNumberOf number)
+indexed_plan profile place text v patterns (Some index) =
+    if has_pair profile (index, register_of v) then related_plan place text v index patterns v.relation else refused 123 place []
+
+-- the plan of a term that was read
+unfoldable pub term_plan : Profile → ℕ → List ℕ → Values × List (List Symbol) → Result TermPlanValue Refusal
+term_plan profile place text read =
+    if clashes read.0 then refused 123 place [] else indexed_plan profile place text read.0 read.1 read.0.index
+
+abbrev pub indexed_scan : Profile → ℕ → List ℕ → Values → Option ℕ → Result ScanValue Refusal
+indexed_scan profile place text v None = refused 123 place []
+indexed_scan profile place text v (Some index) =
+    if has_pair profile (index, register_of v)
+    then (scan_start place text v >>= λ start. Ok (record { index = index; register = register_of v; start = start }))
+    else refused 123 place []
+
+unfoldable pub term_scan : Profile → ℕ → List ℕ → Values → Result ScanValue Refusal
+term_scan profile place text v =
+    if clashes_in_scan v then refused 123 place [] else indexed_scan profile place text v v.index

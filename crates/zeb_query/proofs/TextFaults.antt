@@ -1,0 +1,86 @@
+-- What a text is: the query that it spells, or its fault.
+use Rattle.std.proofs.Common.{◌≡◌, ℕ, ◌<◌, ◌≤◌, Bool, true, false, cond, List, Option, Some, None, inl, inr, length, refl, ap, sym, subst, ◌∙◌, arith}
+use Rattle.std.specs.Prelude.{nat_lt, chars}
+use Rattle.std.proofs.lemmas.Bool.Decides.{nat_tests}
+use Rattle.zeb_query.specs.Words.{Word, AreWords, words_at}
+use Rattle.zeb_query.specs.Queries.{QueryValue}
+use Rattle.zeb_query.specs.Grammar.{IsQuery}
+use Rattle.zeb_query.specs.Reading.{IsUnspelled, Start, fault, SpellsQuery, IsReadable, IsFaulty, is_long, is_unspelled, is_crowded, query_fault}
+use Rattle.zeb_query.proofs.WordStretches.{words_read_are, words_are_read}
+use Rattle.zeb_query.proofs.GrammarOnce.{same_query}
+use Rattle.zeb_query.proofs.GrammarLaws.{over_query}
+use Rattle.zeb_query.proofs.GrammarFaults.{pairs_same, fault_is, no_fault_is, fault_where_strange, fault_where_unfinished, fault_where_crowded}
+
+-- what is spelled by the words that are read
+pub read_query : (text : List ℕ) (query : QueryValue) → SpellsQuery text query → IsQuery (words_at 0 (chars text)) query
+read_query text query s = subst (λ words. IsQuery words query) (words_read_are (chars text) s.words s.are_words) s.spelled
+
+pub one_query : (text : List ℕ) (x y : QueryValue) → SpellsQuery text x → SpellsQuery text y → x ≡ y
+one_query text x y s t = same_query (words_at 0 (chars text)) x y (read_query text x s) (read_query text y t)
+
+-- ---- the length
+
+abbrev fault_within : List ℕ → Bool → Option (ℕ × ℕ)
+fault_within text long = cond long (Some (11, 0)) (fault (length text) 100 Start (words_at 0 (chars text)))
+
+is_over : (n : ℕ) → 65535 < n → nat_lt 65535 n ≡ true
+is_over n h = grind (arith, nat_tests)
+
+is_within : (n : ℕ) → n ≤ 65535 → nat_lt 65535 n ≡ false
+is_within n h = grind (arith, nat_tests)
+
+over : (n : ℕ) → nat_lt 65535 n ≡ true → 65535 < n
+over n h = grind (arith, nat_tests)
+
+within : (n : ℕ) → nat_lt 65535 n ≡ false → n ≤ 65535
+within n h = grind (arith, nat_tests)
+
+-- ---- faults
+
+pub stands : (text : List ℕ) (number place : ℕ) → query_fault text ≡ Some (number, place) → IsFaulty text number place
+stands text number place e = at (nat_lt 65535 (length text)) refl e
+  where
+    words : List Word
+    words = words_at 0 (chars text)
+
+    at : (long : Bool) → nat_lt 65535 (length text) ≡ long → fault_within text long ≡ Some (number, place) → IsFaulty text number place
+    at true is e =
+        let p : (11 ≡ number) × (0 ≡ place) = pairs_same e in
+        subst (λ m. IsFaulty text m place) p.0 (subst (λ q. IsFaulty text 11 q) p.1 (is_long (over _ is)))
+    at false is e = elim (fault_is (length text) 100 words number place e) [
+      | inl p ↦ subst (λ m. IsFaulty text m place) (sym p.0) (is_crowded words place (within _ is) (words_are_read (chars text)) p.1)
+      | inr p ↦ subst (λ m. IsFaulty text m place) (sym p.0) (is_unspelled words place (within _ is) (words_are_read (chars text)) p.1)
+    ]
+
+where_unspelled : (end room : ℕ) (words : List Word) (place : ℕ) → IsUnspelled end room words place → fault end room Start words ≡ Some (108, place)
+where_unspelled end room words place (inl s) = fault_where_strange end room words place s
+where_unspelled end room words place (inr s) = fault_where_unfinished end room words place s
+
+-- the fault of the words is that of the text
+of_words : (text : List ℕ) (words : List Word) (f : Option (ℕ × ℕ)) → length text ≤ 65535 → AreWords (chars text) words → fault (length text) 100 Start words ≡ f → query_fault text ≡ f
+of_words text words f short are e =
+    ap (fault_within text) (is_within (length text) short) ∙ ap (λ ws. fault (length text) 100 Start ws) (sym (words_read_are (chars text) words are)) ∙ e
+
+pub found : (text : List ℕ) (number place : ℕ) → IsFaulty text number place → query_fault text ≡ Some (number, place)
+found text number place (is_long long) = ap (fault_within text) (is_over (length text) long)
+found text number place (is_unspelled words at short are s) = of_words text words (Some (108, at)) short are (where_unspelled (length text) 100 words at s)
+found text number place (is_crowded words at short are s) = of_words text words (Some (6, at)) short are (fault_where_crowded (length text) 100 words at s)
+
+-- ---- no fault
+
+pub readable : (text : List ℕ) → query_fault text ≡ None → IsReadable text
+readable text e = at (nat_lt 65535 (length text)) refl e
+  where
+    at : (long : Bool) → nat_lt 65535 (length text) ≡ long → fault_within text long ≡ None → IsReadable text
+    at true is e = absurd cc
+    at false is e =
+        let q = no_fault_is (length text) 100 (words_at 0 (chars text)) e in
+        record {
+          short = within _ is;
+          query = q.0;
+          spelled = record { words = words_at 0 (chars text); are_words = words_are_read (chars text); spelled = q.1.0 };
+          room = q.1.1;
+        }
+
+pub faultless : (text : List ℕ) → IsReadable text → query_fault text ≡ None
+faultless text r = of_words text r.spelled.words None r.short r.spelled.are_words (over_query r.spelled.spelled (length text) 100 r.room)

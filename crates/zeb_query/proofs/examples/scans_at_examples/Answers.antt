@@ -1,0 +1,33 @@
+use Rattle.std.proofs.Common.{refl, [], codes}
+use Rattle.std.specs.Str.{chars, is_utf8}
+use Rattle.std.specs.Fmt.{digits}
+use lib.Utf8.{encode}
+use Rattle.ucd_category.proofs.Computing.{ucd_category}
+use Rattle.caseless.proofs.Computing.{caseless}
+use Rattle.zeb_text.specs.Folding.{folded}
+use Rattle.zeb_text.specs.Words.{is_word_character, runs_of}
+use Rattle.zeb_text.specs.Truncation.{truncated}
+use Rattle.zeb_text.specs.Numbers.{number_key}
+use Rattle.zeb_query.specs.declared.queries.Connective.TheVariants.{Or}
+use Rattle.zeb_query.specs.Grammar.{kind_and_value, is_structure}
+use Rattle.zeb_query.specs.Holding.{holding_of}
+use Rattle.zeb_query.specs.Proximity.{word_near}
+use Rattle.zeb_query.specs.Plans.{leaf_plan, leaf_scan, plan_asked, scan_asked}
+use Rattle.zeb_query.proofs.ExampleLemmas.{scanned, term_at, under_at, pair_at}
+use Rattle.zeb_query.proofs.examples.scans_at_examples.Goals as goal
+
+pub returns-clause-word : goal.returns-clause-word
+unfolding chars is_utf8 encode kind_and_value leaf_plan leaf_scan plan_asked scan_asked word_near holding_of caseless ucd_category folded is_word_character runs_of truncated number_key digits
+returns-clause-word c = scanned (is_structure _ _ (under_at 0 6 (codes "1=4") (1, codes "4") refl (term_at 10 (codes "Dick") refl))) refl refl
+
+pub returns-clause-number : goal.returns-clause-number
+unfolding chars is_utf8 encode kind_and_value leaf_plan leaf_scan plan_asked scan_asked word_near holding_of caseless ucd_category folded is_word_character runs_of truncated number_key digits
+returns-clause-number c = scanned (is_structure _ _ (under_at 0 6 (codes "1=31") (1, codes "31") refl (under_at 11 17 (codes "4=109") (4, codes "109") refl (term_at 23 (codes "1851") refl)))) refl refl
+
+pub returns-clause-relation : goal.returns-clause-relation
+unfolding chars is_utf8 encode kind_and_value leaf_plan leaf_scan plan_asked scan_asked word_near holding_of caseless ucd_category folded is_word_character runs_of truncated number_key digits
+returns-clause-relation c = scanned (is_structure _ _ (under_at 0 6 (codes "2=103") (2, codes "103") refl (term_at 12 (codes "a") refl))) refl refl
+
+pub returns-clause-operator : goal.returns-clause-operator
+unfolding chars is_utf8 encode kind_and_value leaf_plan leaf_scan plan_asked scan_asked word_near holding_of caseless ucd_category folded is_word_character runs_of truncated number_key digits
+returns-clause-operator c = scanned (is_structure _ _ (pair_at 0 (codes "@or") Or [] refl refl refl (term_at 4 (codes "a") refl) (term_at 6 (codes "b") refl))) refl refl

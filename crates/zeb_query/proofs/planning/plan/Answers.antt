@@ -1,0 +1,12 @@
+use Rattle.zeb_query.specs.Queries.{query_value}
+use Rattle.zeb_query.specs.Grammar.{no_head}
+use Rattle.zeb_query.specs.Plans.{plan_value, plan_of, HasSmallNumbers}
+use Rattle.zeb_query.proofs.CheckLemmas.{given_ok}
+use Rattle.zeb_query.proofs.PlanNumbers.{plan_numbers}
+use Rattle.zeb_query.proofs.planning.plan.Goals as goal
+
+pub returns-clause-numbers : goal.returns-clause-numbers
+returns-clause-numbers c =
+    let query = query_value c.args.query.now in
+    given_ok plan_value HasSmallNumbers c.plan_tree.result (plan_of c.args.profile.now query)
+    (c.plan_tree.ensures query.attribute_set no_head c.over.ensures) (plan_numbers c.args.profile.now query)

@@ -1,0 +1,24 @@
+use Rattle.std.proofs.Common.{ap, ◌∙◌, map}
+use Rattle.std.specs.Prelude.{string_bytes}
+use Rattle.zeb_query.specs.declared.queries.Tree.{Term}
+use Rattle.zeb_query.specs.Queries.{tree_value, head_value}
+use Rattle.zeb_query.specs.Grammar.{heads}
+use Rattle.zeb_query.specs.Holding.{holding_of}
+use Rattle.zeb_query.specs.Proximity.{operand_of}
+use Rattle.zeb_query.specs.Plans.{near_plan}
+use Rattle.zeb_query.proofs.NearLemmas.{near_read}
+use Rattle.zeb_query.proofs.proximity.plan_near.Goals as goal
+
+pub returns : goal.returns
+returns c = λ set outer held.
+    let profile = c.args.profile.now in
+    let parameters = map (λ s. string_bytes s) c.args.parameters.now in
+    let left = c.in-Term-Term.left in
+    let right = c.in-Term-Term.right in
+    ap (λ t. near_plan profile c.args.place parameters (operand_of set outer (tree_value t)) (operand_of set outer (tree_value c.args.right.now))) c.in-Term-Term.is-0
+    ∙ ap (λ t. near_plan profile c.args.place parameters (operand_of set outer (tree_value (Term left))) (operand_of set outer (tree_value t))) c.in-Term-Term.is-1
+    ∙ near_read profile c.args.place parameters
+    (record { place = left.place; held = holding_of set (heads outer (head_value left.head)); text = string_bytes left.text })
+    (record { place = right.place; held = holding_of set (heads outer (head_value right.head)); text = string_bytes right.text })
+    c.in_ok-separation.separation c.in_ok-index.index c.in_ok-other.other c.in_ok-index.left c.in_ok-other.right
+    c.in_ok-separation.ensures (c.in_ok-index.ensures set outer held) (c.in_ok-other.ensures set outer held) c.if-index-other.false

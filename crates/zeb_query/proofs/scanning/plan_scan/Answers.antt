@@ -1,0 +1,16 @@
+use Rattle.std.specs.Prelude.{string_bytes}
+use Rattle.zeb_query.specs.Queries.{query_value, head_value}
+use Rattle.zeb_query.specs.Grammar.{heads, no_head}
+use Rattle.zeb_query.specs.Plans.{scan_value, leaf_scan, BeginsAtKey}
+use Rattle.zeb_query.proofs.CheckLemmas.{given_ok}
+use Rattle.zeb_query.proofs.PlanNumbers.{leaf_begins}
+use Rattle.zeb_query.proofs.scanning.plan_scan.Goals as goal
+
+pub returns-in-Term-clause-number : goal.returns-in-Term-clause-number
+returns-in-Term-clause-number c =
+    let profile = c.args.profile.now in
+    let set = (query_value c.args.query.now).attribute_set in
+    let head = heads no_head (head_value c.in-Term.leaf.head) in
+    let text = string_bytes c.in-Term.leaf.text in
+    given_ok scan_value BeginsAtKey c.scan_leaf.result (leaf_scan profile set head c.in-Term.leaf.place text) c.scan_leaf.ensures
+    (leaf_begins profile set head c.in-Term.leaf.place text)

@@ -1,0 +1,168 @@
+-- What the private functions that read a text give, in the words of the grammar. No public clause reaches this file: it stands in
+-- specs/ since the contracts of private functions can cite nothing else.
+use Rattle.std.specs.Prelude.{ℕ, List, ◌++◌, map, string_bytes, ◌≡◌, [], ◌∷◌, true, Option, Some, None, length, ◌==◌, if◌then◌else◌}
+use Rattle.std.specs.List.{list_all}
+use Rattle.std.specs.Borrow.{Bor}
+use Rattle.std.specs.Option.{option_map}
+use Rattle.zeb_query.specs.declared.words.Word.{Word as WordOfText}
+use Rattle.zeb_query.specs.declared.words.Mode.{Mode}
+use Rattle.zeb_query.specs.declared.words.Mode.TheVariants.{Between, Plain, Quoted, Escaped}
+use Rattle.zeb_query.specs.declared.words.Cutter.{Cutter}
+use Rattle.zeb_query.specs.declared.grammar.Rest.{Rest}
+use Rattle.zeb_query.specs.declared.queries.Connective.{Connective}
+use Rattle.zeb_query.specs.declared.keywords.Keyword.{Keyword}
+use Rattle.zeb_query.specs.declared.keywords.Keyword.TheVariants.{Attribute, Operator}
+use Rattle.zeb_query.specs.declared.holding.Holding.{Holding}
+use Rattle.zeb_query.specs.Words.{Word, words_at, in_word, in_quotes, escaped, plain_word, quoted_word, with_front}
+use Rattle.zeb_query.specs.Grammar.{keyword_of, IsStructure, IsQuery, under, is_good, text_of, kind_and_value, parameter_count}
+use Rattle.zeb_query.specs.Queries.{AttributeValue, HeadValue, TreeValue}
+use Rattle.zeb_query.specs.Reading.{Due, fault}
+use Rattle.zeb_query.specs.Holding.{HoldingValue, is_bib1, is_other_kind, or_else}
+
+-- ---- words
+
+-- a word without where it lies in memory
+abbrev pub word_of : WordOfText → Word
+word_of word = record { place = word.place; spelling = word.spelling; text = string_bytes word.text }
+
+-- the words from the one that is being read on, where it began at `start`, has `text` so far, and `cs` is left from `at`
+abbrev pub words_left : Mode → ℕ → List ℕ → ℕ → List ℕ → List Word
+words_left Between start text at cs = words_at at cs
+words_left Plain start text at cs = plain_word start (with_front text (in_word at cs))
+words_left Quoted start text at cs = quoted_word start (with_front text (in_quotes at cs))
+words_left Escaped start text at cs = quoted_word start (with_front text (escaped at cs))
+
+-- all words, where the characters `cs` are left from `at`
+abbrev pub words_with : Cutter → ℕ → List ℕ → List Word
+words_with cutter at cs = map word_of cutter.words.items ++ words_left cutter.mode cutter.start (string_bytes cutter.text) at cs
+
+-- ---- the parts of a query
+
+-- the words that are left
+abbrev pub left : Rest → List Word
+left rest = map word_of rest.words.now
+
+-- their fault, where this is due
+abbrev pub fault_of : Rest → Due → Option (ℕ × ℕ)
+fault_of rest due = fault rest.end rest.room due (left rest)
+
+-- the place of the first word, or the end
+abbrev pub first_place : ℕ → List Word → ℕ
+first_place end [] = end
+first_place end (word ∷ words) = word.place
+
+-- the keyword that the first word is
+abbrev pub first_keyword : List Word → Option Keyword
+first_keyword [] = None
+first_keyword (word ∷ words) = keyword_of word
+
+-- one word is read from a rest, and what follows is left
+pub record ReadsWord (rest after : Rest) (word : Word) : Type 0 where
+  pub is : left rest ≡ word ∷ left after
+  pub end : after.end ≡ rest.end
+  pub room : after.room ≡ rest.room
+
+abbrev pub IsAfterFirst : List Word → List Word → Type 0
+IsAfterFirst [] after = ⊥
+IsAfterFirst (word ∷ words) after = after ≡ words
+
+-- the first word is read from a rest, and what follows is left
+pub record ReadsFirst (rest after : Rest) : Type 0 where
+  pub is : IsAfterFirst (left rest) (left after)
+  pub end : after.end ≡ rest.end
+  pub room : after.room ≡ rest.room
+
+-- a number and a text, without where the text lies in memory
+abbrev pub pair_value : Option (ℕ × Bor (List ℕ)) → Option (ℕ × List ℕ)
+pair_value None = None
+pair_value (Some pair) = Some (pair.0, pair.1.now)
+
+-- the first word is the SPEC of the attribute
+pub record SpellsSpec (rest after : Rest) (set : Option (List ℕ)) (attribute : AttributeValue) : Type 0 where
+  pub word : Word
+  pub is : left rest ≡ word ∷ left after
+  pub good : is_good word ≡ true
+  pub set_is : attribute.set ≡ set
+  pub read : kind_and_value word.text ≡ Some (attribute.kind, attribute.value)
+
+-- the words between are the attribute set, if one is named, and a structure is due after them
+pub record SpellsSet (rest after : Rest) (set : Option (List ℕ)) : Type 0 where
+  pub words : List Word
+  pub is : left rest ≡ words ++ left after
+  pub spells : (more : List Word) (tree : TreeValue) → IsStructure more tree → IsQuery (words ++ more) (record { attribute_set = set; tree = tree })
+
+-- what follows @attr, up to the rest, spells the attribute
+pub record SpellsAttribute (rest after : Rest) (attribute : AttributeValue) : Type 0 where
+  pub words : List Word
+  pub is : left rest ≡ words ++ left after
+  pub spells : (attr : Word) (more : List Word) (tree : TreeValue)
+      → keyword_of attr ≡ Some Attribute → IsStructure more tree
+      → IsStructure (attr ∷ (words ++ more)) (under (record { attributes = attribute ∷ []; term_type = None }) tree)
+
+-- the words between spell the head of a structure
+pub record SpellsHead (rest after : Rest) (head : HeadValue) : Type 0 where
+  pub words : List Word
+  pub is : left rest ≡ words ++ left after
+  pub spells : (more : List Word) (tree : TreeValue) → IsStructure more tree → IsStructure (words ++ more) (under head tree)
+
+-- the words between are parameters
+pub record SpellsParameters (rest after : Rest) (count : ℕ) (texts : List (List ℕ)) : Type 0 where
+  pub words : List Word
+  pub is : left rest ≡ words ++ left after
+  pub count_is : length words ≡ count
+  pub good : list_all is_good words ≡ true
+  pub texts_are : map text_of words ≡ texts
+
+-- the words between are the operator, which stands at the front, and its parameters
+pub record SpellsOperator (rest after : Rest) (connective : Connective) (texts : List (List ℕ)) : Type 0 where
+  pub operator : Word
+  pub words : List Word
+  pub is : left rest ≡ operator ∷ (words ++ left after)
+  pub keyword : keyword_of operator ≡ Some (Operator connective)
+  pub count_is : length words ≡ parameter_count connective
+  pub good : list_all is_good words ≡ true
+  pub texts_are : map text_of words ≡ texts
+
+-- the words between spell the structure
+pub record Spells (rest after : Rest) (tree : TreeValue) : Type 0 where
+  pub words : List Word
+  pub is : left rest ≡ words ++ left after
+  pub spells : IsStructure words tree
+
+-- ---- the attributes that hold, one after another
+
+-- what a program keeps of it, without where the texts lie in memory
+abbrev pub holding_value : Holding → HoldingValue
+holding_value holding = record {
+  other_set = option_map (λ text. text.now) holding.other_set;
+  other_kind = holding.other_kind;
+  term_type = option_map (λ text. text.now) holding.term_type;
+  use_attribute = option_map (λ text. text.now) holding.use_attribute;
+  relation = option_map (λ text. text.now) holding.relation;
+  position = option_map (λ text. text.now) holding.position;
+  structure = option_map (λ text. text.now) holding.structure;
+  truncation = option_map (λ text. text.now) holding.truncation;
+  completeness = option_map (λ text. text.now) holding.completeness;
+}
+
+-- one more attribute inside of all others
+abbrev pub first_set : Option (List ℕ) → List ℕ → Option (List ℕ)
+first_set (Some set) other = Some set
+first_set None other = if is_bib1 other then None else Some other
+
+abbrev pub first_set_of : Option (List ℕ) → Option (List ℕ) → Option (List ℕ)
+first_set_of found None = found
+first_set_of found (Some set) = first_set found set
+
+abbrev pub held_with : HoldingValue → AttributeValue → HoldingValue
+held_with holding a = record {
+  other_set = first_set_of holding.other_set a.set;
+  other_kind = or_else holding.other_kind (if is_other_kind a.kind then Some a.kind else None);
+  term_type = holding.term_type;
+  use_attribute = if a.kind == 1 then Some a.value else holding.use_attribute;
+  relation = if a.kind == 2 then Some a.value else holding.relation;
+  position = if a.kind == 3 then Some a.value else holding.position;
+  structure = if a.kind == 4 then Some a.value else holding.structure;
+  truncation = if a.kind == 5 then Some a.value else holding.truncation;
+  completeness = if a.kind == 6 then Some a.value else holding.completeness;
+}

@@ -1,0 +1,51 @@
+-- What holds of registers in every format.
+use Rattle.std.proofs.Common.{◌≡◌, ◌∙◌, ℕ, ℤ, List, [], ◌∷◌, sym, subst, refl}
+use Rattle.std.specs.List.Sorted.{IsStrictlySortedBy}
+use Rattle.sqlite.specs.declared.types.Value.TheVariants.{Int}
+use Rattle.sqlite.specs.Order.{Row}
+use Rattle.sqlite.specs.Tree.{Trees}
+use Rattle.sqlite_rules.specs.Lists.{Has}
+use Rattle.zeb_register.specs.Content.{Content, HoldsRows, IsRising}
+use Rattle.zeb_register.specs.Formats.{Format, plain_rows, version_of, holds_in}
+use Rattle.zeb_register.specs.Store.{KeepsRegisters, LacksRegisters}
+use Rattle.zeb_register.proofs.ContentLemmas.{one_content}
+
+-- what the tables hold is told by the tables of the registers alone
+rows_stay : (old new : Trees) (content : Content) → KeepsRegisters old new → HoldsRows old content → HoldsRows new content
+rows_stay old new content kept holds = record {
+  rising = holds.rising;
+  each = λ row. (
+    λ h. (holds.each row).0 (h.0, subst (λ rows. Has rows (Int h.0 ∷ row)) kept.0 h.1),
+    λ h. let there = (holds.each row).1 h in (there.0, subst (λ rows. Has rows (Int there.0 ∷ row)) (sym kept.0) there.1),
+  );
+  alone = (kept.1 ∙ holds.alone.0, kept.2 ∙ holds.alone.1);
+}
+
+-- tables without a row hold no posting
+rows_empty : (trees : Trees) → LacksRegisters trees → HoldsRows trees (λ db key. [])
+unfolding IsStrictlySortedBy
+rows_empty trees none = record {
+  rising = λ db key. tt;
+  each = λ row. (λ h. absurd (subst (λ rows. Has rows (Int h.0 ∷ row)) none.0 h.1), λ h. absurd h.3);
+  alone = (none.1, none.2);
+}
+
+-- what the tables hold is told by the tables of the registers alone
+pub registers_stay : (format : Format) (old new : Trees) (content : Content) → KeepsRegisters old new → holds_in format old content → holds_in format new content
+registers_stay plain_rows = rows_stay
+
+-- tables without a row hold no posting
+pub registers_empty : (format : Format) (trees : Trees) → LacksRegisters trees → holds_in format trees (λ db key. [])
+registers_empty plain_rows = rows_empty
+
+-- what tables hold is one content at most
+pub registers_hold_one : (format : Format) (trees : Trees) (one two : Content) → holds_in format trees one → holds_in format trees two → one ≡ two
+registers_hold_one plain_rows trees one two left right = λ i db key. one_content trees one two db key left right i
+
+-- each of its lists rises
+pub registers_rise : (format : Format) (trees : Trees) (content : Content) → holds_in format trees content → IsRising content
+registers_rise plain_rows trees content holds = holds.rising
+
+-- no two formats have one version
+pub one_format : (one two : Format) → version_of one ≡ version_of two → one ≡ two
+one_format plain_rows plain_rows same = refl

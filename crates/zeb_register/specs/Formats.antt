@@ -1,0 +1,17 @@
+-- The formats in which tables keep the registers of a store. A store tells its format by the text that it keeps under the name
+-- `version` (this project's own).
+use Rattle.std.specs.Prelude.{ℕ, List, codes}
+use Rattle.sqlite.specs.Tree.{Trees}
+use Rattle.zeb_register.specs.Content.{Content, HoldsRows}
+
+pub data Format : Type 0 where
+  -- a row of `postings` for each posting
+  plain_rows : Format
+
+-- the text under the name `version`
+abbrev pub version_of : Format → List ℕ
+version_of plain_rows = codes "1"
+
+-- the tables of the registers hold this content, and nothing else
+abbrev pub holds_in : Format → Trees → Content → Type 0
+holds_in plain_rows = HoldsRows
