@@ -10,7 +10,7 @@ use Rattle.sqlite_rules.proofs.ListLemmas.{has_contained}
 use Rattle.zeb_profile.specs.declared.directives.Directive.{Directive}
 use Rattle.zeb_profile.specs.Indexes.{identifier_pattern}
 use Rattle.zeb_profile.specs.Canonical.{canonical_text, pattern_text}
-use Rattle.zeb_register.specs.Content.{Content, posting_cmp}
+use Rattle.zeb_register.specs.Content.{posting_cmp}
 use Rattle.zeb_register.specs.Sql.{HasRow, Replaces}
 use Rattle.zeb_register.specs.Store.{IsEmptyStore, Changes, LacksRegisters, meta_tree, entry, IsEntryOf, record_row}
 use Rattle.zeb_profile.specs.Laws.{IsProfile}
@@ -19,7 +19,7 @@ use Rattle.zeb_engine.proofs.ReadyImages.{ready_image}
 use Rattle.zeb_engine.specs.Conditions.{Conditions, AreSessions}
 use Rattle.zeb_engine.specs.Image.{HasTexts, AreBases, IsImage, IsImageOf}
 use Rattle.zeb_engine.specs.Steps.{holding}
-use Rattle.zeb_engine.specs.Writing.{AreOf, PutsTexts}
+use Rattle.zeb_engine.specs.PrivateWriting.{AreOf, PutsTexts}
 use Rattle.zeb_register.specs.Formats.{Format, holds_in, version_of}
 
 -- the rows of the texts are told by their table alone

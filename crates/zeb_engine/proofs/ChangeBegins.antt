@@ -1,23 +1,21 @@
 -- What the tables know of a name, and the database that a change begins with.
 use Rattle.std.proofs.Common.{◌≡◌, ◌⊎◌, ◌∙◌, ℕ, pos, List, Option, Some, None, Result, Ok, Err, refl, sym, subst, inl, inr}
-use Rattle.sqlite.specs.Tree.{Trees}
 use Rattle.sqlite.specs.State.{State}
 use Rattle.zeb_marc.specs.Splits.{Split}
 use Rattle.zeb_register.specs.declared.catalog.Database.{Database}
 use Rattle.zeb_register.specs.Catalog.{IsDatabaseOf}
-use Rattle.zeb_register.specs.Content.{Content}
 use Rattle.zeb_register.specs.Store.{HasDatabase}
 use Rattle.zeb_engine.specs.declared.commands.Kind.{Kind}
 use Rattle.zeb_engine.specs.declared.commands.Kind.TheVariants.{Update}
 use Rattle.zeb_engine.specs.declared.refusals.Refusal.{Refusal}
 use Rattle.zeb_engine.specs.Answers.{Why, why_of, refused, IsFailure}
-use Rattle.zeb_engine.specs.Changing.{BeginsWith}
+use Rattle.zeb_engine.specs.PrivateChanging.{BeginsWith}
 use Rattle.zeb_engine.specs.Conditions.{Conditions}
 use Rattle.zeb_engine.specs.Holdings.{Holdings, Base, base_named}
 use Rattle.zeb_engine.specs.Image.{IsImage}
 use Rattle.zeb_engine.specs.Steps.{changed_by_files, ready, start_of, turned}
 use Rattle.zeb_engine.specs.Works.{Meets}
-use Rattle.zeb_engine.proofs.Listed.{none_named, row_named}
+use Rattle.zeb_engine.proofs.ListedDatabases.{none_named, row_named}
 use Rattle.zeb_engine.proofs.Turns.{step_unbegun}
 use Rattle.zeb_engine.proofs.ReadyImages.{image_some}
 use Rattle.zeb_register.specs.Formats.{Format}

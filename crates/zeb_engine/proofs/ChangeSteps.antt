@@ -17,7 +17,7 @@ use Rattle.zeb_engine.specs.declared.commands.Kind.{Kind}
 use Rattle.zeb_engine.specs.declared.refusals.Refusal.{Refusal}
 use Rattle.zeb_engine.specs.declared.replies.Reply.TheVariants as reply
 use Rattle.zeb_engine.specs.Answers.{Why, changed, refused, reply_answer, why_of, IsFailure}
-use Rattle.zeb_engine.specs.Changing.{BeginsWith, last_of}
+use Rattle.zeb_engine.specs.PrivateChanging.{BeginsWith, last_of}
 use Rattle.zeb_engine.specs.Conditions.{Conditions, AreSessions}
 use Rattle.zeb_engine.specs.Names.{IsDatabaseName}
 use Rattle.zeb_engine.specs.Folding.{Progress, at_first, files_folded}
@@ -25,12 +25,13 @@ use Rattle.zeb_engine.specs.Holdings.{Holdings, Base, new_base, base_named, with
 use Rattle.zeb_engine.specs.Image.{AreBases, HasTexts, IsImage, IsImageOf}
 use Rattle.zeb_engine.specs.Steps.{changed_by_files, ready, start_of, turned}
 use Rattle.zeb_engine.specs.Works.{IsFolded, IsUnderWay, Meets}
+use Rattle.zeb_engine.proofs.Held.{image_numbered}
 use Rattle.zeb_engine.proofs.Bases.{named_found}
 use Rattle.zeb_engine.proofs.Beginning.{texts_still}
 use Rattle.zeb_engine.proofs.Creating.{with_new_base, created_image, new_base_in}
 use Rattle.zeb_engine.proofs.FoldNames.{files_named}
 use Rattle.zeb_engine.proofs.ReadyImages.{image_ready, ready_image}
-use Rattle.zeb_engine.proofs.Rebased.{base_twice, bases_with, image_with, next_in, stored_at_first}
+use Rattle.zeb_engine.proofs.DatabaseInPlace.{base_twice, bases_with, image_with, next_in, stored_at_first}
 use Rattle.zeb_engine.proofs.Turns.{step_changed, step_unchanged}
 use Rattle.zeb_engine.proofs.WriteSteps.{Leads}
 use Rattle.zeb_register.specs.Formats.{Format, holds_in}
@@ -130,7 +131,12 @@ module _ (format : Format) (stays : (a b : Trees) (content : Content) → KeepsR
 
   module _ (mid : State) (id : ℤ) (last : ℕ) (b : IsBegun format c kind name before id last mid) where
     pub first_way : IsUnderWay format c.profile id b.image.records_of mid b.start
-    first_way = (b.store, stored_at_first format c.profile (with_base b.start b.bases) b.start b.there mid.now.trees b.image id b.its_id, b.are.each b.start b.there)
+    first_way = (
+      b.store,
+      stored_at_first format c.profile (with_base b.start b.bases) b.start b.there mid.now.trees b.image id b.its_id,
+      b.are.each b.start b.there,
+      image_numbered format c.profile mid.now.trees (with_base b.start b.bases) b.are b.image,
+    )
 
     module _ (splits : List Split) where
       -- the fold was refused

@@ -1,32 +1,24 @@
 -- What a session's commands come to after a look at whether the register is ready.
-use Rattle.std.proofs.Common.{◌≡◌, ◌⊎◌, ℕ, List, Result, Ok, Err, OnOk, String, string_bytes, inl, inr, refl, sym, ap, subst, subst₂}
+use Rattle.std.proofs.Common.{◌≡◌, ◌⊎◌, ℕ, List, Result, Ok, Err, String, string_bytes, inl, inr, refl, sym, ap, subst₂}
 use Rattle.std.specs.declared.alloc.Global.{Global}
-use Rattle.sqlite.specs.Tree.{Trees}
-use Rattle.sqlite.specs.Effect.{Database}
 use Rattle.sqlite.specs.State.{State}
 use Rattle.zeb_profile.specs.declared.directives.Directive.{Directive}
-use Rattle.zeb_query.specs.Reading.{query_fault}
 use Rattle.zeb_register.specs.Calls.{ChangesNothing}
-use Rattle.zeb_register.specs.Content.{Content}
-use Rattle.zeb_register.proofs.Calls.{store_same}
-use Rattle.zeb_engine.specs.declared.commands.Command.{Command}
-use Rattle.zeb_engine.specs.declared.commands.Command.TheVariants.{Init, Check, Create, Drop, Stat, Dump, Change, Find, Scan, Analyse}
+use Rattle.zeb_engine.specs.declared.commands.Command.TheVariants.{Find, Scan}
 use Rattle.zeb_engine.specs.declared.names.DbName.{DbName}
 use Rattle.zeb_engine.specs.NameOf.{name_bytes}
-use Rattle.zeb_engine.specs.declared.refusals.Refusal.TheVariants.{Unsupported}
 use Rattle.zeb_engine.specs.declared.replies.Reply.{Reply}
 use Rattle.zeb_engine.specs.declared.refusals.Refusal.{Refusal}
-use Rattle.zeb_engine.specs.Answers.{Answer, Why, answer_of, refused, why_of, IsFailure}
-use Rattle.zeb_engine.specs.Adopting.{StaysOpen}
+use Rattle.zeb_engine.specs.Answers.{Answer, Why, refused, why_of, IsFailure}
 use Rattle.zeb_engine.specs.Conditions.{Conditions}
-use Rattle.zeb_engine.specs.Found.{LooksUp, FindsIn}
+use Rattle.zeb_engine.specs.Alone.{Alone, AnswersAlone, FindSays, ScanSays}
 use Rattle.zeb_engine.specs.Holdings.{Holdings, Base}
 use Rattle.zeb_engine.specs.Image.{Keeps}
-use Rattle.zeb_engine.specs.Steps.{Turn, Outcome, Ends, OnlyAnswers, FoundAmong, FoundFrom, ready, turned, waited, waits}
-use Rattle.zeb_engine.specs.Works.{Always, Asks, Finds, Meets, Serves, ServesBy, ServesCommand}
-use Rattle.zeb_engine.proofs.Serving.{keeps_still, early_serves}
+use Rattle.zeb_engine.specs.Steps.{Turn, Outcome, Ends, OnlyAnswers, FoundFrom, ScannedFrom, ready, turned, waited, waits}
+use Rattle.zeb_engine.specs.Works.{Always, Asks, Finds, ScansFrom, Meets, Serves, ServesBy, ServesCommand}
+use Rattle.zeb_engine.proofs.Serving.{early_serves}
 use Rattle.zeb_engine.proofs.Turns.{turn_refused}
-use Rattle.zeb_register.specs.Formats.{Format, holds_in}
+use Rattle.zeb_register.specs.Formats.{Format}
 
 pub ready_met : {X : Type 0} (Good : List Base → X → Type 0) (said : Result (List Base) Why) (x : X) → Meets Good said (Ok x) → (bases : List Base) × (said ≡ Ok bases) × Good bases x
 ready_met Good (Ok bases) x met = (bases, refl, met)
@@ -46,22 +38,6 @@ module _ (format : Format) (c : Conditions) (old new : State) (refusal : Refusal
     | inl failed ↦ inl failed
     | inr said ↦ inr (ap (λ r. (waits r, before)) said)
   ])
-
-  pub unready_finds : (name query : List ℕ) (first count : ℕ) → Finds c name query first count old new (Err refusal)
-  unready_finds name query first count before keeps =
-      let still = keeps_still before old new nothing keeps in
-      elim (told before keeps) [
-        | inl failed ↦ inr (failed, still)
-        | inr said ↦ inl (subst (λ (r : Result (List Base) Why). FoundFrom c name query first count r (refused (why_of refusal))) (sym said) refl, still)
-      ]
-
--- what was found on a register that is ready
-pub ready_finds : (c : Conditions) (before : Holdings) (bases : List Base) (name query : List ℕ) (first count : ℕ) (answer : Answer) (Kept : Type 0) → ready c before ≡ Ok bases → Kept
-    → FoundAmong c name query first count bases (query_fault query) answer ⊎ IsFailure answer → (FoundFrom c name query first count (ready c before) answer × Kept) ⊎ (IsFailure answer × Kept)
-ready_finds c before bases name query first count answer Kept is kept found = elim found [
-  | inl among ↦ inl (subst (λ (r : Result (List Base) Why). FoundFrom c name query first count r answer) (sym is) among, kept)
-  | inr failed ↦ inr (failed, kept)
-]
 
 -- an answer that is described
 pub asks_serve : (Says : Holdings → Answer → Type 0) (old new : State) (result : Result Reply Refusal) → Asks Says old new result → ServesBy (λ before. OnlyAnswers (Says before) before) old new result
@@ -85,20 +61,26 @@ find_serves c old new result database query first count name asked from many is_
     (subst₂ (λ (n q : List ℕ). Finds c n q first count old new result) is_name is_asked
     (subst₂ (λ (f m : ℕ). Finds c name asked f m old new result) is_from is_many finds))
 
--- ---- a find by the registers alone
+pub scan_serves : (c : Conditions) (old new : State) (result : Result Reply Refusal) (database : DbName) (query : String Global) (number position : ℕ)
+    → (name asked : List ℕ) (many at : ℕ) → name ≡ name_bytes database → asked ≡ string_bytes query → many ≡ number → at ≡ position
+    → ScansFrom c name asked many at old new result → ServesCommand c (Scan database query number position) old new result
+scan_serves c old new result database query number position name asked many at is_name is_asked is_many is_at scans =
+    asks_serve (λ before. ScannedFrom c (name_bytes database) (string_bytes query) number position (ready c before)) old new result
+    (subst₂ (λ (n q : List ℕ). ScansFrom c n q number position old new result) is_name is_asked
+    (subst₂ (λ (m p : ℕ). ScansFrom c name asked m p old new result) is_many is_at scans))
 
-module _ (format : Format) (profile : List Directive) where
-  pub looks_same : (s : State) (result : Result Reply Refusal) (name name2 text text2 : List ℕ) (first first2 count count2 : ℕ) → name ≡ name2 → text ≡ text2 → first ≡ first2 → count ≡ count2
-      → LooksUp format profile name text first count s result → LooksUp format profile name2 text2 first2 count2 s result
-  looks_same s result name name2 text text2 first first2 count count2 is_name is_text is_first is_count looks =
-      subst₂ (λ (n t : List ℕ). LooksUp format profile n t first2 count2 s result) is_name is_text
-      (subst₂ (λ (f m : ℕ). LooksUp format profile name text f m s result) is_first is_count looks)
+-- ---- by the registers alone
 
-  -- after a look at the tables
-  pub looks_after : (old mid new : State) (name text : List ℕ) (first count : ℕ) (result : Result Reply Refusal) → ChangesNothing old mid → OnOk result (StaysOpen mid new)
-      → LooksUp format profile name text first count mid result → LooksUp format profile name text first count old result
-  looks_after old mid new name text first count (Ok reply) nothing opened looks store content rising has =
-      let same = nothing opened.0 in
-      subst (λ (d : Database). FindsIn profile content d.trees name text first count (answer_of (Ok reply))) same.1
-      (looks (store_same old mid same.1 store) content rising (subst (λ (d : Database). holds_in format d.trees content) (sym same.1) has))
-  looks_after old mid new name text first count (Err refusal) nothing opened looks store content rising has = tt
+pub find_alone : (format : Format) (profile : List Directive) (s : State) (result : Result Reply Refusal) (database : DbName) (query : String Global) (first count : ℕ)
+    → (name asked : List ℕ) (from many : ℕ) → name ≡ name_bytes database → asked ≡ string_bytes query → from ≡ first → many ≡ count
+    → Alone format (FindSays profile asked from many) name s result → AnswersAlone format profile (Find database query first count) s result
+find_alone format profile s result database query first count name asked from many is_name is_asked is_from is_many alone =
+    subst₂ (λ (n q : List ℕ). Alone format (FindSays profile q first count) n s result) is_name is_asked
+    (subst₂ (λ (f m : ℕ). Alone format (FindSays profile asked f m) name s result) is_from is_many alone)
+
+pub scan_alone : (format : Format) (profile : List Directive) (s : State) (result : Result Reply Refusal) (database : DbName) (query : String Global) (number position : ℕ)
+    → (name asked : List ℕ) (many at : ℕ) → name ≡ name_bytes database → asked ≡ string_bytes query → many ≡ number → at ≡ position
+    → Alone format (ScanSays profile asked many at) name s result → AnswersAlone format profile (Scan database query number position) s result
+scan_alone format profile s result database query number position name asked many at is_name is_asked is_many is_at alone =
+    subst₂ (λ (n q : List ℕ). Alone format (ScanSays profile q number position) n s result) is_name is_asked
+    (subst₂ (λ (m p : ℕ). Alone format (ScanSays profile asked m p) name s result) is_many is_at alone)

@@ -1,5 +1,5 @@
 -- What a crash leaves, by what a transaction was given to commit.
-use Rattle.std.proofs.Common.{◌≡◌, ◌⊎◌, ◌∙◌, ℕ, true, List, [], ◌∷◌, ◌++◌, ◌+◌, take, Option, Some, None, Result, Ok, Err, IfErr, OnOk, inl, inr, arith, refl, sym, ap, subst, IsTrue}
+use Rattle.std.proofs.Common.{◌≡◌, ◌⊎◌, ◌∙◌, ℕ, true, List, [], ◌∷◌, ◌++◌, ◌+◌, take, Result, Ok, Err, IfErr, OnOk, inl, inr, arith, refl, sym, ap, subst, IsTrue}
 use Rattle.sqlite.specs.Tree.{Trees}
 use Rattle.sqlite.specs.Store.{Ghosts}
 use Rattle.sqlite.specs.Effect.{Database, IsDatabase}
@@ -10,7 +10,6 @@ use Rattle.sqlite_catalog.proofs.ReadLemmas.{lists_once}
 use Rattle.sqlite_trees.specs.Objects.{catalog_tree}
 use Rattle.sqlite.proofs.StateLemmas.{survives_then}
 use Rattle.zeb_register.specs.Calls.{ChangesNothing, GoesOn}
-use Rattle.zeb_register.specs.Content.{Content}
 use Rattle.zeb_register.specs.Store.{IsStore, IsEmptyStore}
 use Rattle.zeb_register.specs.Tables.{no_schema, store_schema}
 use Rattle.zeb_engine.specs.declared.commands.Command.{Command}
@@ -19,7 +18,7 @@ use Rattle.zeb_engine.specs.declared.replies.Reply.TheVariants as reply
 use Rattle.zeb_engine.specs.declared.refusals.Refusal.{Refusal}
 use Rattle.zeb_engine.specs.declared.refusals.Refusal.TheVariants as refusal
 use Rattle.zeb_engine.specs.Adopting.{StaysOpen}
-use Rattle.zeb_engine.specs.Answers.{Answer, answer_of, reply_answer, IsFailure}
+use Rattle.zeb_engine.specs.Answers.{Answer, reply_answer, IsFailure}
 use Rattle.zeb_engine.specs.Conditions.{Conditions}
 use Rattle.zeb_engine.specs.Crashes.{Accepts, Bears, KeepsDisk, IsEmptyDisk, IsStoreDisk, Stands, Leaves, Commits, CommitsBy, CommitsCommand, CommitsAdopted, CommitsSome, CommitsTables, Endures}
 use Rattle.zeb_engine.specs.Holdings.{Holdings}
@@ -27,7 +26,7 @@ use Rattle.zeb_engine.specs.Image.{IsImage, Keeps}
 use Rattle.zeb_engine.specs.Steps.{Ends, Outcome}
 use Rattle.zeb_engine.specs.Transactions.{EnduresRefusal, IsDurable}
 use Rattle.zeb_engine.specs.declared.writes.Write.{Write}
-use Rattle.zeb_engine.specs.Writing.{Fits, IsReached, written}
+use Rattle.zeb_engine.specs.PrivateWriting.{Fits, IsReached, written}
 use Rattle.zeb_engine.specs.Works.{Always, Works, Runs, ServesBy}
 use Rattle.zeb_engine.proofs.RunLemmas.{run_more}
 use Rattle.zeb_engine.proofs.Serving.{keeps_still, reached_inside}

@@ -129,12 +129,12 @@ module _ (format : Format) (profile : List Directive) (old new : Trees) (name : 
   posted_then : ArePosted profile records_then (content_without id image.stored.content)
   posted_then = record {
     rising = without_rises id image.stored.content image.stored.posted.rising;
-    each = λ i key p. (
-      λ there. let was = (without_has id image.stored.content i key p).0 there in
-          let told = (image.stored.posted.each i key p).0 was.0 in
+    each = λ i n o. (
+      λ there. let was = (without_has id image.stored.content i o.key (record { sysno = n; seq = o.seq; pos = o.pos })).0 there in
+          let told = (image.stored.posted.each i n o).0 was.0 in
           (told.0, (kept_has i told.0).1 (told.1, was.1), told.2, told.3),
       λ told. let kept = (kept_has i told.0).0 told.1 in
-          (without_has id image.stored.content i key p).1 ((image.stored.posted.each i key p).1 (told.0, kept.0, told.2, told.3), kept.1),
+          (without_has id image.stored.content i o.key (record { sysno = n; seq = o.seq; pos = o.pos })).1 ((image.stored.posted.each i n o).1 (told.0, kept.0, told.2, told.3), kept.1),
     );
   }
 

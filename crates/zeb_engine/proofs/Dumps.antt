@@ -16,7 +16,6 @@ use Rattle.sqlite_value.proofs.OrderLemmas.{value_cmp-Int}
 use Rattle.zeb_profile.specs.declared.directives.Directive.{Directive}
 use Rattle.zeb_register.specs.declared.kept.Record.{Record}
 use Rattle.zeb_register.specs.Calls.{ChangesNothing}
-use Rattle.zeb_register.specs.Content.{Content}
 use Rattle.zeb_register.specs.Kept.{AreReadable, record_shown}
 use Rattle.zeb_register.specs.Sql.{IsListOf}
 use Rattle.zeb_register.specs.Store.{HasRecord, IsRest, records_tree}
@@ -29,7 +28,7 @@ use Rattle.zeb_engine.specs.Holdings.{Holdings, Base, Kept, base_named}
 use Rattle.zeb_engine.specs.Image.{Keeps}
 use Rattle.zeb_engine.specs.Steps.{dumped_by, dumped_from, dumped_in, existing, found_or, no_database, ready}
 use Rattle.zeb_engine.specs.Works.{Always, Meets, Serves}
-use Rattle.zeb_engine.proofs.Finds.{IsHeld}
+use Rattle.zeb_engine.proofs.Held.{IsHeld}
 use Rattle.zeb_engine.proofs.Serving.{early_serves, keeps_still}
 use Rattle.zeb_register.specs.Formats.{Format}
 

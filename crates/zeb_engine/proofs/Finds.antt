@@ -1,226 +1,173 @@
--- A find, step by step: what each refusal answers, and that the records whose postings were read are those that the definition picks.
-use Rattle.std.proofs.Common.{◌≡◌, ◌↔◌, ◌⊎◌, ◌∙◌, ◌-◌, ◌&&◌, ℕ, ℤ, pos, Bool, true, false, if◌then◌else◌, List, [], ◌∷◌, length, map, take, drop, nat_lt, Option, Some, None, Result, Ok, Err, string_bytes, refl, sym, ap, ap₂, subst, inl, inr, IsUtf8}
+-- A find, step by step: what a plan holds of by the postings of its key, and that sets of the same occurrences have the same answers.
+use Rattle.std.proofs.Common.{◌≡◌, ◌↔◌, ◌∙◌, ◌-◌, ◌&&◌, ℕ, ℤ, zero, suc, pos, Bool, true, false, if◌then◌else◌, List, [], ◌∷◌, length, take, drop, nat_lt, Option, Some, None, Result, Ok, Err, refl, sym, ap, subst, inl, inr, arith, IsUtf8, string_bytes}
 use Rattle.std.specs.Fmt.{decimal}
-use Rattle.std.specs.List.{Contains, take-map, drop-map}
-use Rattle.std.proofs.lemmas.List.{length-map}
 use Rattle.sqlite.specs.Tree.{Trees}
-use Rattle.sqlite_rules.proofs.ProbeLemmas.{has_mapped}
-use Rattle.sqlite.specs.State.{State}
 use Rattle.sqlite_rules.specs.Lists.{Has}
-use Rattle.sqlite_rules.proofs.ListLemmas.{has_contained, contains_had}
 use Rattle.zeb_profile.specs.declared.directives.Directive.{Directive}
 use Rattle.zeb_query.specs.declared.faults.QueryFault.{QueryFault}
 use Rattle.zeb_query.specs.declared.faults.QueryFault.TheVariants.{Diagnostic, Memory}
-use Rattle.zeb_query.specs.Faults.{Fails}
-use Rattle.zeb_query.specs.Faults.{IsFault}
+use Rattle.zeb_query.specs.Faults.{Fails, Refusal as PlanRefusal}
 use Rattle.zeb_query.specs.Queries.{QueryValue}
 use Rattle.zeb_query.specs.Reading.{SpellsQuery, query_fault}
 use Rattle.zeb_query.specs.Plans.{PlanValue, plan_of}
 use Rattle.zeb_extract.specs.declared.keys.Key.{Key}
-use Rattle.zeb_register.specs.declared.catalog.Database.{Database}
+use Rattle.zeb_extract.specs.declared.keys.Occurrence.{Occurrence}
 use Rattle.zeb_register.specs.declared.registers.Posting.{Posting}
-use Rattle.zeb_register.specs.Content.{Content, IsRising}
-use Rattle.zeb_register.specs.Store.{HasDatabase, HasRecord}
-use Rattle.zeb_register.specs.Terms.{HasTexts}
+use Rattle.zeb_register.specs.Content.{Content, posted}
+use Rattle.zeb_register.specs.Formats.{Format}
+use Rattle.zeb_register.specs.Occurring.{HasKey}
+use Rattle.zeb_register.specs.RowTerms.{IsInRecord}
+use Rattle.zeb_register.proofs.OccurringLemmas.{key_posted}
 use Rattle.zeb_engine.specs.declared.refusals.Refusal.{Refusal}
-use Rattle.zeb_engine.specs.declared.replies.Hit.{Hit}
-use Rattle.zeb_engine.specs.Answers.{Answer, Why, found, refused, diagnostic, unsupported, why_of, IsFailure}
-use Rattle.zeb_engine.specs.Conditions.{Conditions, AreSessions}
-use Rattle.zeb_engine.specs.Finding.{OccursIn, plan_key, shown_of, IsFoundBy, IsPlanned}
-use Rattle.zeb_engine.specs.Found.{key_or, asked_of, AreNumbersOf, AreShown, KeepsEach}
-use Rattle.zeb_engine.specs.Holdings.{Holdings, Base, Kept, base_named}
-use Rattle.zeb_engine.specs.Image.{IsBase, AreBases, IsImage, IsImageOf}
+use Rattle.zeb_engine.specs.Alone.{has_ident_in}
+use Rattle.zeb_engine.specs.Answers.{Answer, Why, found, refused, diagnostic, unsupported, why_of}
+use Rattle.zeb_engine.specs.Finding.{AreNumbers, AreShown, IsAnswered, IsFoundBy, IsPlanned, IsShown, TreeHolds, asked_of, has_name, occurs, plan_key}
+use Rattle.zeb_engine.specs.Holdings.{Base, base_named}
 use Rattle.zeb_engine.specs.Outcomes.{query_refusal}
-use Rattle.zeb_engine.specs.Steps.{ready, no_database, found_or, existing, FoundIn, FoundAmong}
-use Rattle.zeb_engine.specs.Works.{Meets}
-use Rattle.zeb_engine.proofs.Bases.{named_found}
-use Rattle.zeb_engine.proofs.KeptLemmas.{one_number}
-use Rattle.zeb_engine.proofs.ReadyImages.{image_ready}
-use Rattle.zeb_engine.proofs.TermTexts.{posted_texts}
-use Rattle.zeb_engine.proofs.Picking.{ArePicked, AreOfKey, picked, has_taken, has_dropped}
-use Rattle.zeb_register.specs.Formats.{Format, holds_in}
+use Rattle.zeb_engine.specs.Steps.{FindAnswers}
+use Rattle.zeb_engine.specs.Works.{KeepsEach, Meets, key_or}
+use Rattle.zeb_engine.proofs.Asked.{Ends, said_ends}
+use Rattle.zeb_engine.proofs.Held.{IsHeld, base_numbered, named_as_kept}
 
--- ---- what the tables hold of one database
+-- ---- sets of the same occurrences
 
-pub record IsHeld (format : Format) (profile : List Directive) (trees : Trees) (id : ℤ) (base : Base) : Type 0 where
-  pub content : Content
-  pub held : holds_in format trees content
-  pub rising : IsRising content
-  pub posted : (key : Key) → AreOfKey profile key base.records (content id key)
-  pub kept : (sysno : ℤ) (ident bytes : List ℕ) → HasRecord trees id sysno ident bytes
-      ↔ ((k : Kept) × Contains base.records k × (sysno ≡ pos k.sysno) × (ident ≡ k.ident) × (bytes ≡ k.bytes))
-  pub sound : IsBase profile base
-  pub texts : HasTexts content
+pub numbers_as : (P Q : ℕ → Type 0) → ((n : ℕ) → P n ↔ Q n) → (numbers : List ℕ) → AreNumbers P numbers → AreNumbers Q numbers
+numbers_as P Q so numbers are = record { rising = are.rising; each = λ n. (λ h. (so n).0 ((are.each n).0 h), λ h. (are.each n).1 ((so n).1 h)) }
 
-pub base_held : (format : Format) (profile : List Directive) (trees : Trees) (bases : List Base) → AreBases profile bases → (image : IsImageOf format profile trees bases)
-    → (id : ℤ) (base : Base) → Contains bases base → HasDatabase trees id base.name (pos base.last) → IsHeld format profile trees id base
-base_held format profile trees bases are image id base there row =
-    let of = (image.listed id base.name (pos base.last)).0 row in
-    let same : image.records_of id ≡ base.records = ap image.records_of (of.2 ∙ ap image.id_of (sym of.3)) ∙ image.of_base base there in
-    record {
-      content = image.stored.content;
-      held = image.stored.held;
-      rising = image.stored.posted.rising;
-      posted = λ key p. subst (λ (records : List Kept). Has (image.stored.content id key) p
-          ↔ ((kept : Kept) × Contains records kept × (kept.sysno ≡ p.sysno) × OccursIn profile kept (record { key = key; seq = p.seq; pos = p.pos }))) same (image.stored.posted.each id key p);
-      kept = λ sysno ident bytes. subst (λ (records : List Kept). HasRecord trees id sysno ident bytes
-          ↔ ((k : Kept) × Contains records k × (sysno ≡ pos k.sysno) × (ident ≡ k.ident) × (bytes ≡ k.bytes))) same (image.stored.kept id sysno ident bytes);
-      sound = are.each base there;
-      texts = posted_texts profile image.records_of image.stored.content image.stored.posted;
-    }
+shown_as : (N M : ℕ → List ℕ → Type 0) → ((n : ℕ) (ident : List ℕ) → N n ident → M n ident) → (numbers : List ℕ) (shown : List (ℕ × List ℕ)) → AreShown N numbers shown → AreShown M numbers shown
+shown_as N M so numbers shown are = record { in_order = are.in_order; named = λ hit there. so hit.0 hit.1 (are.named hit there) }
 
-module _ (format : Format) (profile : List Directive) (trees : Trees) (id : ℤ) (base : Base) (held : IsHeld format profile trees id base) where
-  pub postings_picked : (key : Key) (postings : List Posting) (numbers : List ℕ) → postings ≡ held.content id key → AreNumbersOf postings numbers → ArePicked profile key base.records numbers
-  postings_picked key postings numbers is are =
-      picked profile key base.records held.sound.rising postings (subst (AreOfKey profile key base.records) (sym is) (held.posted key)) numbers are
+module _ (O P : ℕ → Occurrence → Type 0) (same : (n : ℕ) (o : Occurrence) → O n o ↔ P n o) (N M : ℕ → List ℕ → Type 0) (so : (n : ℕ) (ident : List ℕ) → N n ident → M n ident) where
+  tree_as : (plan : PlanValue) (n : ℕ) → TreeHolds O plan n ↔ TreeHolds P plan n
+  tree_as plan n = (
+    λ h. (h.0, h.1, (h.2.0, (same n h.2.0).0 h.2.1, h.2.2)),
+    λ h. (h.0, h.1, (h.2.0, (same n h.2.0).1 h.2.1, h.2.2)),
+  )
 
-  -- the records of the numbers are kept
-  pub numbers_kept : (key : Key) (numbers asked : List ℕ) → ArePicked profile key base.records numbers → ((n : ℕ) → Has asked n → Has numbers n) → KeepsEach trees id asked
-  numbers_kept key numbers asked are some n there =
-      let of = number_has (some n there) in (
-        (of.0.ident, of.0.bytes, (held.kept (pos n) of.0.ident of.0.bytes).1 (of.0, contains_had base.records of.0 of.1, ap pos of.2, refl, refl)),
-        λ ident bytes row. let k = (held.kept (pos n) ident bytes).0 row in subst IsUtf8 (sym k.3) (held.sound.sound k.0 k.1).text,
-      )
-    where
-      number_has : Has numbers n → (k : Kept) × Has base.records k × (n ≡ k.sysno)
-      number_has h =
-          let of = has_mapped (λ (k : Kept). k.sysno) are.hits n (subst (λ (l : List ℕ). Has l n) (sym are.numbers_are) h) in
-          (of.0, are.kept of.0 of.1, of.2)
+  module _ (first count : ℕ) (answer : Answer) where
+    told_as : (hits : List ℕ) (asked : Result (List ℕ) Why) → IsShown O N hits asked answer → IsShown P M hits asked answer
+    told_as hits (Ok asked) is = (is.0, shown_as N M so asked is.0 is.1, is.2)
+    told_as hits (Err why) is = is
 
-  -- a shown record has the identifier of the record with its number
-  pub ident_shown : (numbers : List ℕ) (shown : List Hit) → AreShown trees id numbers shown → (hit : Hit) (k : Kept) → Has shown hit → Has base.records k → k.sysno ≡ hit.sysno → string_bytes hit.ident ≡ k.ident
-  ident_shown numbers shown are hit k there here same =
-      let row = are.named hit there in
-      let of = (held.kept (pos hit.sysno) (string_bytes hit.ident) row.0).0 row.1 in
-      let number : hit.sysno ≡ of.0.sysno = (let e = of.2 in cc) in
-      of.3 ∙ ap (λ (x : Kept). x.ident) (one_number base.records held.sound.rising of.0 k (has_contained base.records of.0 of.1) here (sym number ∙ sym same))
+    found_as : (key : Option Key) (plan : PlanValue) → IsFoundBy O N key plan first count answer → IsFoundBy P M key plan first count answer
+    found_as (Some key) plan is = (is.0, numbers_as (TreeHolds O plan) (TreeHolds P plan) (tree_as plan) is.0 is.1, told_as is.0 (asked_of is.0 first count) is.2)
+    found_as None plan is = is
 
--- ---- numbers and identifiers
+    pub planned_as : (plan : Result PlanValue PlanRefusal) → IsPlanned O N plan first count answer → IsPlanned P M plan first count answer
+    planned_as (Ok plan) is = found_as (plan_key plan) plan is
+    planned_as (Err e) is = is
 
-paired : (part : List Kept) (shown : List Hit) → map (λ (hit : Hit). hit.sysno) shown ≡ map (λ (k : Kept). k.sysno) part
-    → ((hit : Hit) (k : Kept) → Has shown hit → Has part k → k.sysno ≡ hit.sysno → string_bytes hit.ident ≡ k.ident)
-    → map {B = ℕ × List ℕ} (λ (hit : Hit). (hit.sysno, string_bytes hit.ident)) shown ≡ map {B = ℕ × List ℕ} (λ (k : Kept). (k.sysno, k.ident)) part
-paired [] [] same named = refl
-paired [] (hit ∷ hits) same named = absurd (cc)
-paired (k ∷ part) [] same named = absurd (cc)
-paired (k ∷ part) (hit ∷ hits) same named =
-    let number : hit.sysno ≡ k.sysno = cc in
-    let rest : map (λ (h : Hit). h.sysno) hits ≡ map (λ (x : Kept). x.sysno) part = cc in
-    ap₂ (λ (x : ℕ × List ℕ) (xs : List (ℕ × List ℕ)). x ∷ xs) (ap₂ (λ (n : ℕ) (text : List ℕ). (n, text)) number (named hit k (inl refl) (inl refl) (sym number)))
-    (paired part hits rest (λ h x there here. named h x (inr there) (inr here)))
-
-refused_if : (b : Bool) (why said : Why) (numbers : List ℕ) (rest : Answer) → (if b then Err why else Ok numbers) ≡ Err said → refused said ≡ (if b then refused why else rest)
-refused_if true why said numbers rest is = (let e : ◌≡◌ {A = Result (List ℕ) Why} (Err why) (Err said) = is in cc)
-refused_if false why said numbers rest is = (let e : ◌≡◌ {A = Result (List ℕ) Why} (Ok numbers) (Err said) = is in absurd cc)
-
-found_if : (b : Bool) (why : Why) (numbers asked : List ℕ) (rest : Answer) → (if b then Err why else Ok numbers) ≡ Ok asked → (numbers ≡ asked) × (rest ≡ (if b then refused why else rest))
-found_if true why numbers asked rest is = (let e : ◌≡◌ {A = Result (List ℕ) Why} (Err why) (Ok asked) = is in absurd cc)
-found_if false why numbers asked rest is = (let e : ◌≡◌ {A = Result (List ℕ) Why} (Ok numbers) (Ok asked) = is in (cc, refl))
-
-pub met_view : {A X : Type 0} (view : X → A) (said : Result A Why) (x : X) → Meets {A = A} {X = X} (λ wanted got. view got ≡ wanted) said (Ok x) → said ≡ Ok (view x)
-met_view view (Ok a) x met = ap Ok (sym met)
-met_view view (Err why) x met = absurd met
+-- ---- the postings of a key
 
 -- a plan that gave a key has it
 pub key_met : (o : Option Key) (key : Key) → Meets {A = Key} {X = Key} (λ wanted k. k ≡ wanted) (key_or o) (Ok key) → o ≡ Some key
 key_met (Some k) key met = ap Some (sym met)
 key_met None key met = absurd met
 
-pub existing_met : {X : Type 0} (Good : Base → X → Type 0) (name : List ℕ) (o : Option Base) (x : X) → Meets Good (found_or name o) (Ok x) → (base : Base) × (o ≡ Some base) × Good base x
-existing_met Good name (Some base) x met = (base, refl, met)
-existing_met Good name None x met = absurd met
+pub hits_posted : (content : Content) (db : ℤ) (plan : PlanValue) (key : Key) → plan_key plan ≡ Some key → (postings : List Posting) (numbers : List ℕ) → postings ≡ content db key
+    → AreNumbers (IsInRecord postings) numbers → AreNumbers (TreeHolds (posted content db) plan) numbers
+hits_posted content db plan key sought postings numbers is are = numbers_as (IsInRecord postings) (TreeHolds (posted content db) plan) holds numbers are
+  where
+    holds : (n : ℕ) → IsInRecord postings n ↔ TreeHolds (posted content db) plan n
+    holds n = (
+      λ h. (key, sought, (key_posted content db key n).1 (subst (λ (l : List Posting). IsInRecord l n) is h)),
+      λ h.
+          let both : ◌≡◌ {A = Option Key} (Some h.0) (Some key) = sym h.1 ∙ sought in
+          let one : h.0 ≡ key = cc in
+          subst (λ (l : List Posting). IsInRecord l n) (sym is) ((key_posted content db key n).0 (subst (λ (k : Key). HasKey (posted content db) k n) one h.2)),
+    )
 
--- the database that was looked up
-pub looked_up : (format : Format) (c : Conditions) → AreSessions format c → (old : State) (before : Holdings) (bases : List Base) (name : List ℕ) (it : Database) (Opened : Type 0)
-    → ready c before ≡ Ok bases → IsImage old.now.trees before
-    → Meets {X = Database} (λ base d. HasDatabase old.now.trees d.id.0 base.name (pos base.last) × (d.last ≡ base.last) × Opened) (existing name bases) (Ok it)
-    → (base : Base) × (base_named name bases ≡ Some base) × IsHeld format c.profile old.now.trees it.id.0 base × Opened
-looked_up format c session old before bases name it Opened is image met =
-    let at = image_ready format c session old.now.trees before bases is image in
-    let base = existing_met (λ (base : Base) (d : Database). HasDatabase old.now.trees d.id.0 base.name (pos base.last) × (d.last ≡ base.last) × Opened) name (base_named name bases) it met in
-    let there = named_found name bases base.0 base.1 in
-    (base.0, base.1, base_held format c.profile old.now.trees bases at.are at.image it.id.0 base.0 (contains_had bases base.0 there.0) base.2.0, base.2.2)
+-- ---- those that are asked for
 
--- ---- the answers
+pub met_view : {A X : Type 0} (view : X → A) (said : Result A Why) (x : X) → Meets {A = A} {X = X} (λ wanted got. view got ≡ wanted) said (Ok x) → said ≡ Ok (view x)
+met_view view (Ok a) x met = ap Ok (sym met)
+met_view view (Err why) x met = absurd met
 
-module _ (c : Conditions) (name query : List ℕ) (first count : ℕ) (bases : List Base) where
-  -- the answer of the definition, or a failure
-  abbrev pub Ends : Answer → Type 0
-  Ends answer = FoundAmong c name query first count bases (query_fault query) answer ⊎ IsFailure answer
+part_if : (b : Bool) (why : Why) (numbers asked : List ℕ) → (if b then Err why else Ok numbers) ≡ Ok asked → numbers ≡ asked
+part_if true why numbers asked is = (let e : ◌≡◌ {A = Result (List ℕ) Why} (Err why) (Ok asked) = is in absurd cc)
+part_if false why numbers asked is = (let e : ◌≡◌ {A = Result (List ℕ) Why} (Ok numbers) (Ok asked) = is in cc)
 
-  pub query_ends : (e : QueryFault) → IsFault e (query_fault query) → Ends (refused (why_of (query_refusal e)))
-  query_ends Memory is = inr (inr refl)
-  query_ends (Diagnostic number place addinfo) is =
-      inl (subst (λ (fault : Option (ℕ × ℕ)). FoundAmong c name query first count bases fault (refused (diagnostic number place (string_bytes addinfo)))) (sym is.0) (ap (λ text. refused (diagnostic number place text)) is.1))
+pub has_taken : {X : Type 0} (n : ℕ) (xs : List X) (x : X) → Has (take n xs) x → Has xs x
+has_taken zero xs x h = absurd h
+has_taken (suc n) [] x h = absurd h
+has_taken (suc n) (y ∷ xs) x (inl same) = inl same
+has_taken (suc n) (y ∷ xs) x (inr later) = inr (has_taken n xs x later)
 
-  module _ (sound : query_fault query ≡ None) where
-    in_base : (answer : Answer) → FoundIn c name query first count (base_named name bases) answer → Ends answer
-    in_base answer is = inl (subst (λ (fault : Option (ℕ × ℕ)). FoundAmong c name query first count bases fault answer) (sym sound) is)
+has_dropped : {X : Type 0} (n : ℕ) (xs : List X) (x : X) → Has (drop n xs) x → Has xs x
+has_dropped zero xs x h = h
+has_dropped (suc n) [] x h = absurd h
+has_dropped (suc n) (y ∷ xs) x h = inr (has_dropped n xs x h)
 
-    no_base : (why : Why) (o : Option Base) → found_or name o ≡ Err why → FoundIn c name query first count o (refused why)
-    no_base why (Some base) said = absurd (cc)
-    no_base why None said = (let e : ◌≡◌ {A = Result Base Why} (Err (no_database name)) (Err why) = said in cc)
+asked_has : (numbers asked : List ℕ) (first count : ℕ) → asked_of numbers first count ≡ Ok asked → (n : ℕ) → Has asked n → Has numbers n
+asked_has numbers asked first count said n there =
+    let part = part_if (nat_lt 1 first && nat_lt (length numbers) first) (diagnostic 13 0 (decimal first)) (take count (drop (first - 1) numbers)) asked said in
+    has_dropped (first - 1) numbers n (has_taken count (drop (first - 1) numbers) n (subst (λ (l : List ℕ). Has l n) (sym part) there))
 
-    pub existing_ends : {X : Type 0} (Good : Base → X → Type 0) (refusal : Refusal) → Meets {X = X} Good (existing name bases) (Err refusal) → Ends (refused (why_of refusal))
-    existing_ends Good refusal met = elim met [
-      | inl failed ↦ inr failed
-      | inr said ↦ in_base (refused (why_of refusal)) (no_base (why_of refusal) (base_named name bases) said)
-    ]
+module _ (format : Format) (profile : List Directive) (trees : Trees) (id : ℤ) (base : Base) (held : IsHeld format profile trees id base) where
+  -- the records of the hits are kept
+  pub asked_kept : (plan : PlanValue) (numbers asked : List ℕ) (first count : ℕ) → AreNumbers (TreeHolds (posted held.content id) plan) numbers → asked_of numbers first count ≡ Ok asked → KeepsEach trees id asked
+  asked_kept plan numbers asked first count are said n there =
+      let holds = (are.each n).0 (asked_has numbers asked first count said n there) in
+      let of = (held.occurring n holds.2.0).0 holds.2.1 in (
+        (of.0.ident, of.0.bytes, (held.kept (pos n) of.0.ident of.0.bytes).1 (of.0, of.1, ap pos (sym of.2), refl, refl)),
+        λ ident bytes row. let k = (held.kept (pos n) ident bytes).0 row in subst IsUtf8 (sym k.3) (held.sound.sound k.0 k.1).text,
+        (let number = base_numbered profile base held.sound of.0 of.1 in omega (arith, number.1, of.2)),
+      )
 
-    module _ (base : Base) (named : base_named name bases ≡ Some base) (value : QueryValue) (spells : SpellsQuery query value) where
-      planned_ends : (answer : Answer) → IsPlanned c.profile (plan_of c.profile value) first count base answer → Ends answer
-      planned_ends answer is = in_base answer (subst (λ (o : Option Base). FoundIn c name query first count o answer) (sym named) (value, spells, is))
+  -- ---- the answers
 
-      pub plan_ends : (e : QueryFault) → Fails e (plan_of c.profile value) → Ends (refused (why_of (query_refusal e)))
-      plan_ends Memory said = inr (inr refl)
-      plan_ends (Diagnostic number place addinfo) said =
-          planned_ends (refused (diagnostic number place (string_bytes addinfo))) (subst (λ r. IsPlanned c.profile r first count base (refused (diagnostic number place (string_bytes addinfo)))) (sym said) refl)
+  module _ (name query : List ℕ) (first count : ℕ) (bases : List Base) (sound : query_fault query ≡ None) (named : base_named name bases ≡ Some base) (value : QueryValue) (spells : SpellsQuery query value) where
+    abbrev pub FindEnds : Answer → Type 0
+    FindEnds = Ends (FindAnswers profile query first count) name query bases
 
-      module _ (plan : PlanValue) (planned : plan_of c.profile value ≡ Ok plan) where
-        by_key : (answer : Answer) → IsFoundBy c.profile (plan_key plan) first count base answer → Ends answer
-        by_key answer is = planned_ends answer (subst (λ r. IsPlanned c.profile r first count base answer) (sym planned) is)
+    -- what is answered by the registers is answered by the records' bytes
+    planned_ends : (answer : Answer) → IsPlanned (posted held.content id) (has_ident_in trees id) (plan_of profile value) first count answer → FindEnds answer
+    planned_ends answer is = said_ends (FindAnswers profile query first count) name query bases sound base named answer (
+      value,
+      spells,
+      planned_as (posted held.content id) (occurs profile base.records) held.occurring (has_ident_in trees id) (has_name base.records) (named_as_kept format profile trees id base held) first count answer (plan_of profile value) is,
+    )
 
-        no_key : (why : Why) (o : Option Key) → key_or o ≡ Err why → IsFoundBy c.profile o first count base (refused why)
-        no_key why (Some key) said = absurd (cc)
-        no_key why None said = (let e : ◌≡◌ {A = Result Key Why} (Err unsupported) (Err why) = said in cc)
+    pub plan_ends : (e : QueryFault) → Fails e (plan_of profile value) → FindEnds (refused (why_of (query_refusal e)))
+    plan_ends Memory said = inr (inr refl)
+    plan_ends (Diagnostic number place addinfo) said =
+        let answer = refused (diagnostic number place (string_bytes addinfo)) in
+        planned_ends answer (subst (λ r. IsPlanned (posted held.content id) (has_ident_in trees id) r first count answer) (sym said) refl)
 
-        pub key_ends : (refusal : Refusal) → Meets {A = Key} {X = Key} (λ wanted key. key ≡ wanted) (key_or (plan_key plan)) (Err refusal) → Ends (refused (why_of refusal))
-        key_ends refusal met = elim met [
+    module _ (plan : PlanValue) (planned : plan_of profile value ≡ Ok plan) where
+      by_key : (answer : Answer) → IsFoundBy (posted held.content id) (has_ident_in trees id) (plan_key plan) plan first count answer → FindEnds answer
+      by_key answer is = planned_ends answer (subst (λ r. IsPlanned (posted held.content id) (has_ident_in trees id) r first count answer) (sym planned) is)
+
+      no_key : (why : Why) (o : Option Key) → key_or o ≡ Err why → IsFoundBy (posted held.content id) (has_ident_in trees id) o plan first count (refused why)
+      no_key why (Some key) said = absurd (cc)
+      no_key why None said = (let e : ◌≡◌ {A = Result Key Why} (Err unsupported) (Err why) = said in cc)
+
+      pub key_ends : (refusal : Refusal) → Meets {A = Key} {X = Key} (λ wanted key. key ≡ wanted) (key_or (plan_key plan)) (Err refusal) → FindEnds (refused (why_of refusal))
+      key_ends refusal met = elim met [
+        | inl failed ↦ inr failed
+        | inr said ↦ by_key (refused (why_of refusal)) (no_key (why_of refusal) (plan_key plan) said)
+      ]
+
+      module _ (key : Key) (sought : plan_key plan ≡ Some key) (numbers : List ℕ) (are : AreNumbers (TreeHolds (posted held.content id) plan) numbers) where
+        shown_ends : (answer : Answer) → IsShown (posted held.content id) (has_ident_in trees id) numbers (asked_of numbers first count) answer → FindEnds answer
+        shown_ends answer is = by_key answer (subst (λ (o : Option Key). IsFoundBy (posted held.content id) (has_ident_in trees id) o plan first count answer) (sym sought) (numbers, are, is))
+
+        pub found_ends : (asked : List ℕ) → asked_of numbers first count ≡ Ok asked → (shown : List (ℕ × List ℕ)) → AreShown (has_ident_in trees id) asked shown → FindEnds (found (length numbers) shown)
+        found_ends asked said shown told = shown_ends (found (length numbers) shown)
+            (subst (λ (r : Result (List ℕ) Why). IsShown (posted held.content id) (has_ident_in trees id) numbers r (found (length numbers) shown)) (sym said) (shown, told, refl))
+
+        pub asked_ends : {X : Type 0} (Good : List ℕ → X → Type 0) (refusal : Refusal) → Meets {X = X} Good (asked_of numbers first count) (Err refusal) → FindEnds (refused (why_of refusal))
+        asked_ends Good refusal met = elim met [
           | inl failed ↦ inr failed
-          | inr said ↦ by_key (refused (why_of refusal)) (no_key (why_of refusal) (plan_key plan) said)
+          | inr said ↦ shown_ends (refused (why_of refusal)) (subst (λ (r : Result (List ℕ) Why). IsShown (posted held.content id) (has_ident_in trees id) numbers r (refused (why_of refusal))) (sym said) refl)
         ]
 
-        module _ (key : Key) (is_key : Meets {A = Key} {X = Key} (λ wanted k. k ≡ wanted) (key_or (plan_key plan)) (Ok key)) (numbers : List ℕ) (are : ArePicked c.profile key base.records numbers) where
-          hits_end : (answer : Answer) → answer ≡ shown_of are.hits first count → Ends answer
-          hits_end answer is = by_key answer (subst (λ (o : Option Key). IsFoundBy c.profile o first count base answer) (sym (key_met (plan_key plan) key is_key)) (are.hits, are.picks, is))
-
-          as_many : length numbers ≡ length are.hits
-          as_many = ap length (sym are.numbers_are) ∙ length-map are.hits (λ (k : Kept). k.sysno)
-
-          pub asked_ends : {X : Type 0} (Good : List ℕ → X → Type 0) (refusal : Refusal) → Meets {X = X} Good (asked_of numbers first count) (Err refusal) → Ends (refused (why_of refusal))
-          asked_ends Good refusal met = elim met [
-            | inl failed ↦ inr failed
-            | inr said ↦ hits_end (refused (why_of refusal)) (
-                subst (λ (n : ℕ). refused (why_of refusal) ≡ (if nat_lt 1 first && nat_lt n first then refused (diagnostic 13 0 (decimal first))
-                else found (length are.hits) (map {B = ℕ × List ℕ} (λ (k : Kept). (k.sysno, k.ident)) (take count (drop (first - 1) are.hits))))) as_many
-                (refused_if (nat_lt 1 first && nat_lt (length numbers) first) (diagnostic 13 0 (decimal first)) (why_of refusal) (take count (drop (first - 1) numbers)) _ said))
-          ]
-
-          pub asked_has : (asked : List ℕ) → asked_of numbers first count ≡ Ok asked → (n : ℕ) → Has asked n → Has numbers n
-          asked_has asked said n there =
-              let part = (found_if (nat_lt 1 first && nat_lt (length numbers) first) (diagnostic 13 0 (decimal first)) (take count (drop (first - 1) numbers)) asked (refused unsupported) said).0 in
-              has_dropped (first - 1) numbers n (has_taken count (drop (first - 1) numbers) n (subst (λ (l : List ℕ). Has l n) (sym part) there))
-
-          pub shown_ends : (asked : List ℕ) (shown : List Hit) → asked_of numbers first count ≡ Ok asked → map (λ (hit : Hit). hit.sysno) shown ≡ asked
-              → ((hit : Hit) (k : Kept) → Has shown hit → Has base.records k → k.sysno ≡ hit.sysno → string_bytes hit.ident ≡ k.ident)
-              → Ends (found (length numbers) (map {B = ℕ × List ℕ} (λ (hit : Hit). (hit.sysno, string_bytes hit.ident)) shown))
-          shown_ends asked shown said in_order named =
-              let part = take count (drop (first - 1) are.hits) in
-              let told = found_if (nat_lt 1 first && nat_lt (length numbers) first) (diagnostic 13 0 (decimal first)) (take count (drop (first - 1) numbers)) asked (found (length are.hits) (map {B = ℕ × List ℕ} (λ (k : Kept). (k.sysno, k.ident)) part)) said in
-              let numbered : map (λ (hit : Hit). hit.sysno) shown ≡ map (λ (k : Kept). k.sysno) part =
-              in_order ∙ sym told.0 ∙ ap (λ (l : List ℕ). take count (drop (first - 1) l)) (sym are.numbers_are) ∙ ap (take count) (drop-map (λ (k : Kept). k.sysno) (first - 1) are.hits)
-              ∙ take-map (λ (k : Kept). k.sysno) count (drop (first - 1) are.hits) in
-              let pairs = paired part shown numbered (λ hit k there here. named hit k there (are.kept k (has_dropped (first - 1) are.hits k (has_taken count (drop (first - 1) are.hits) k here)))) in
-              hits_end (found (length numbers) (map {B = ℕ × List ℕ} (λ (hit : Hit). (hit.sysno, string_bytes hit.ident)) shown)) (
-              ap₂ (λ (n : ℕ) (l : List (ℕ × List ℕ)). found n l) as_many pairs ∙ subst (λ (n : ℕ). found (length are.hits) (map {B = ℕ × List ℕ} (λ (k : Kept). (k.sysno, k.ident)) part)
-              ≡ (if nat_lt 1 first && nat_lt n first then refused (diagnostic 13 0 (decimal first)) else found (length are.hits) (map {B = ℕ × List ℕ} (λ (k : Kept). (k.sysno, k.ident)) part))) as_many told.1)
+-- what a find answers of a query with these hits
+pub hits_answered : (O : ℕ → Occurrence → Type 0) (N : ℕ → List ℕ → Type 0) (profile : List Directive) (query : List ℕ) (first count : ℕ) (value : QueryValue) → SpellsQuery query value
+    → (plan : PlanValue) → plan_of profile value ≡ Ok plan → (key : Key) → plan_key plan ≡ Some key → (numbers : List ℕ) → AreNumbers (TreeHolds O plan) numbers
+    → (asked : List ℕ) → asked_of numbers first count ≡ Ok asked → (shown : List (ℕ × List ℕ)) → AreShown N asked shown → IsAnswered O N profile query first count (found (length numbers) shown)
+hits_answered O N profile query first count value spells plan planned key sought numbers are asked said shown told =
+    let answer = found (length numbers) shown in
+    let shows : IsShown O N numbers (asked_of numbers first count) answer = subst (λ (r : Result (List ℕ) Why). IsShown O N numbers r answer) (sym said) (shown, told, refl) in
+    let by : IsFoundBy O N (plan_key plan) plan first count answer = subst (λ (o : Option Key). IsFoundBy O N o plan first count answer) (sym sought) (numbers, are, shows) in
+    (value, spells, subst (λ r. IsPlanned O N r first count answer) (sym planned) by)

@@ -2,10 +2,8 @@
 use Rattle.std.proofs.Common.{◌≡◌, ◌⊎◌, ◌∙◌, ◌+◌, ◌<◌, ◌≤◌, ℕ, zero, suc, ℤ, List, [], ◌∷◌, Bool, true, false, Option, Some, Result, Ok, Err, map, length, drop, get_or, set, length-set, get_or-set_other, get_or-set_same, arith, refl, sym, ap, subst, inl, inr}
 use Rattle.std.specs.List.{AllByRecursion}
 use Rattle.std.proofs.lemmas.Bool.{cases_order}
-use Rattle.sqlite.specs.Tree.{Trees}
 use Rattle.sqlite.specs.State.{State}
 use Rattle.zeb_marc.specs.Splits.{split_of}
-use Rattle.zeb_register.specs.Content.{Content}
 use Rattle.zeb_engine.specs.declared.changes.Fold.{Fold}
 use Rattle.zeb_engine.specs.declared.commands.Kind.{Kind}
 use Rattle.zeb_engine.specs.Answers.{Why}

@@ -1,11 +1,9 @@
 -- A file that is folded record by record: what the definition says of what is left of it.
 use Rattle.std.proofs.Common.{◌≡◌, ◌∙◌, ◌+◌, ℕ, ℤ, List, Bool, true, false, Option, Some, Result, Ok, Err, refl, sym, ap, subst}
-use Rattle.sqlite.specs.Tree.{Trees}
 use Rattle.sqlite.specs.State.{State}
 use Rattle.zeb_marc.specs.declared.faults.MarcFault.{MarcFault}
 use Rattle.zeb_marc.specs.Splits.{Next, at_end, a_slice, a_fault, next_of, split_of}
 use Rattle.zeb_marc.proofs.SplitLaws.{split_of-next}
-use Rattle.zeb_register.specs.Content.{Content}
 use Rattle.zeb_engine.specs.declared.changes.Fold.{Fold}
 use Rattle.zeb_engine.specs.declared.commands.Kind.{Kind}
 use Rattle.zeb_engine.specs.declared.refusals.Refusal.{Refusal}

@@ -1,8 +1,6 @@
 -- One record more of a change: what the definition says of it, and that the code counts the same.
 use Rattle.std.proofs.Common.{◌≡◌, ◌∙◌, ◌+◌, ℕ, ℤ, List, true, false, Result, Ok, Err, nat_le, refl, sym, ap, subst}
-use Rattle.sqlite.specs.Tree.{Trees}
 use Rattle.sqlite.specs.State.{State}
-use Rattle.zeb_register.specs.Content.{Content}
 use Rattle.zeb_engine.specs.declared.changes.Fold.{Fold}
 use Rattle.zeb_engine.specs.declared.commands.Kind.{Kind}
 use Rattle.zeb_engine.specs.declared.tally.Fate.{Fate}
@@ -12,7 +10,7 @@ use Rattle.zeb_engine.specs.Answers.{Why, too_many_records}
 use Rattle.zeb_engine.specs.Conditions.{Conditions}
 use Rattle.zeb_engine.specs.Folding.{Changed, Progress, changed_record, counted, folded}
 use Rattle.zeb_engine.specs.Holdings.{Base, Kept}
-use Rattle.zeb_engine.specs.Tallies.{IsCounted}
+use Rattle.zeb_engine.specs.PrivateTallies.{IsTallied}
 use Rattle.zeb_engine.specs.Works.{IsTaken, IsFolded, IsUnderWay, Meets, StandsFor}
 use Rattle.zeb_register.specs.Formats.{Format}
 
@@ -30,7 +28,7 @@ module _ (c : Conditions) (kind : Kind) (file nth : ℕ) (bytes : List ℕ) (p :
   folded_ok room changed is = rw (room, is) refl
 
 -- the tally counts what the definition counts
-stands_by : (fold : Fold) (p : Progress) (tally : Tally) (base : Base) (fate : Fate) → StandsFor fold p → IsCounted fate fold.tally tally → (new : Fold) → new.tally ≡ tally → new.progress.last ≡ base.last
+stands_by : (fold : Fold) (p : Progress) (tally : Tally) (base : Base) (fate : Fate) → StandsFor fold p → IsTallied fate fold.tally tally → (new : Fold) → new.tally ≡ tally → new.progress.last ≡ base.last
     → StandsFor new (counted base p fate)
 stands_by fold p tally base Inserted stands one new is last = record {
   last = last;
@@ -62,7 +60,7 @@ stands_by fold p tally base PassedOver stands one new is last = record {
 }
 
 module _ (format : Format) (c : Conditions) (id : ℤ) (records_of : ℤ → List Kept) (old new : State) (kind : Kind) (file nth : ℕ) (bytes : List ℕ) (p : Progress) (before after : Fold) (fate : Fate) where
-  pub one_folded : nat_le c.limits.records p.taken ≡ false → StandsFor before p → IsCounted fate before.tally after.tally
+  pub one_folded : nat_le c.limits.records p.taken ≡ false → StandsFor before p → IsTallied fate before.tally after.tally
       → Meets (IsTaken format c.profile id records_of old new after.progress.last) (changed_record c kind file nth bytes p.base) (Ok fate)
       → (done : Unit {0}) → Meets {A = Progress} {X = Unit {0}} (λ q _. IsFolded format c.profile id records_of old new after q) (folded c kind file nth bytes p) (Ok done)
   one_folded room stands one taken done = by (changed_record c kind file nth bytes p.base) refl taken
@@ -71,7 +69,7 @@ module _ (format : Format) (c : Conditions) (id : ℤ) (records_of : ℤ → Lis
           → Meets {A = Progress} {X = Unit {0}} (λ q _. IsFolded format c.profile id records_of old new after q) (folded c kind file nth bytes p) (Ok done)
       by (Ok changed) is taken =
           let told : IsFolded format c.profile id records_of old new after (counted changed.0 p changed.1) = record {
-            stands = stands_by before p after.tally changed.0 changed.1 stands (subst (λ f. IsCounted f before.tally after.tally) taken.fate_is one) after refl taken.last_is;
+            stands = stands_by before p after.tally changed.0 changed.1 stands (subst (λ f. IsTallied f before.tally after.tally) taken.fate_is one) after refl taken.last_is;
             under_way = in_base changed.1 changed.0 taken.under_way;
             names = taken.names;
           } in

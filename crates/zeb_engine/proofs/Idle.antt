@@ -14,11 +14,11 @@ use Rattle.zeb_register.proofs.RisingLists.{same_list}
 use Rattle.zeb_engine.specs.declared.changed_keys.ChangedKey.{ChangedKey}
 use Rattle.zeb_engine.specs.declared.refusals.Refusal.{Refusal}
 use Rattle.zeb_engine.specs.declared.tally.Fate.{Fate}
-use Rattle.zeb_engine.specs.ChangedKeys.{AreChangedKeys, AreTheSame, key_in, occurrence_at}
+use Rattle.zeb_engine.specs.PrivateChangedKeys.{AreChangedKeys, AreTheSame, key_in, occurrence_at}
 use Rattle.zeb_engine.specs.Folding.{ident_in}
 use Rattle.zeb_engine.specs.Holdings.{Base, Kept, kept_as}
 use Rattle.zeb_engine.specs.Image.{IsBase}
-use Rattle.zeb_engine.specs.Records.{AreOccurrencesOf, IsElderAs, IsIdle}
+use Rattle.zeb_engine.specs.PrivateRecords.{AreOccurrencesOf, IsElderAs, IsIdle}
 use Rattle.zeb_engine.proofs.BaseLemmas.{one_ident}
 use Rattle.zeb_engine.proofs.KeptLemmas.{one_found}
 

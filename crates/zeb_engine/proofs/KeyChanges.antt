@@ -14,8 +14,8 @@ use Rattle.zeb_register.specs.declared.registers.Place.{Place}
 use Rattle.zeb_register.specs.Content.{place_cmp}
 use Rattle.zeb_register.proofs.RisingLists.{never_itself}
 use Rattle.zeb_engine.specs.declared.changed_keys.ChangedKey.{ChangedKey}
-use Rattle.zeb_engine.specs.ChangedKeys.{AreChangedKeys, IsNoted, key_in, occurrence_at, place_in}
-use Rattle.zeb_engine.specs.KeyRuns.{AreOf, BeginsWith, Stops, IsNotAbove}
+use Rattle.zeb_engine.specs.PrivateChangedKeys.{AreChangedKeys, IsNoted, key_in, occurrence_at, place_in}
+use Rattle.zeb_engine.specs.PrivateKeyRuns.{AreOfKey, BeginsWithKey, Stops, IsNotAbove}
 
 -- all of one key
 abbrev pub IsRunOf : Key → List Occurrence → Type 0
@@ -394,7 +394,7 @@ pub record IsRun (key : Key) (left run rest : List Occurrence) : Type 0 where
   pub run_up : IsStrictlySortedBy occurrence_order run
   pub rest_up : IsStrictlySortedBy occurrence_order rest
 
-pub cut_run : (key : Key) (left run rest : List Occurrence) → left ≡ run ++ rest → IsStrictlySortedBy occurrence_order left → IsNotAbove key left → AreOf key run → Stops key rest → IsRun key left run rest
+pub cut_run : (key : Key) (left run rest : List Occurrence) → left ≡ run ++ rest → IsStrictlySortedBy occurrence_order left → IsNotAbove key left → AreOfKey key run → Stops key rest → IsRun key left run rest
 cut_run key left run rest is up low of stops =
     let both = subst (IsStrictlySortedBy occurrence_order) is up in
     let later = rest_rises run rest both in
@@ -419,10 +419,10 @@ first_is [] first is = absurd (cc)
 first_is (x ∷ rest) first is = (rest, cc)
 
 -- a list that begins with a key has an occurrence of it in its run
-pub some_begins : (key : Key) (left run rest : List Occurrence) → left ≡ run ++ rest → BeginsWith key left → Stops key rest → (o : Occurrence) × Has run o
-some_begins key left [] rest is begins stops = absurd (stops_there rest (subst (BeginsWith key) is begins) stops)
+pub some_begins : (key : Key) (left run rest : List Occurrence) → left ≡ run ++ rest → BeginsWithKey key left → Stops key rest → (o : Occurrence) × Has run o
+some_begins key left [] rest is begins stops = absurd (stops_there rest (subst (BeginsWithKey key) is begins) stops)
   where
-    stops_there : (rest : List Occurrence) → BeginsWith key rest → Stops key rest → ⊥
+    stops_there : (rest : List Occurrence) → BeginsWithKey key rest → Stops key rest → ⊥
     stops_there [] begins stops = begins
     stops_there (first ∷ more) begins stops = stops begins
 some_begins key left (o ∷ run) rest is begins stops = (o, inl refl)

@@ -1,6 +1,6 @@
 pub mod Bases
 pub mod Ready
-pub mod Listed
+pub mod ListedDatabases
 pub mod ReadyImages
 pub mod Ids
 pub mod Creating
@@ -10,7 +10,7 @@ pub mod Beginning
 pub mod WriteSteps
 pub mod Serving
 pub mod Commanding
-pub mod ScanCommand
+pub mod Asked
 pub mod RunLemmas
 pub mod StepLemmas
 pub mod RefusedSteps
@@ -29,17 +29,17 @@ pub mod TurnLemmas
 pub mod FoldLemmas
 pub mod KeyEquality
 pub mod KeyChanges
-pub mod Moved
+pub mod ChangeKeysContent
 pub mod Idle
 pub mod FoldSteps
 pub mod FoldFiles
 pub mod FoldNames
-pub mod Rebased
+pub mod DatabaseInPlace
 pub mod FoldAll
 pub mod ChangeSteps
 pub mod ChangeBegins
 pub mod ReadFaults
-pub mod Picking
+pub mod Held
 pub mod Numbers
 pub mod Showing
 pub mod TermTexts
@@ -65,5 +65,5 @@ pub mod OneAnswer
 pub mod Matched
 pub mod Folds
 pub mod Lasting
-pub mod Leaving
+pub mod DeletedRecords
 pub mod OneCount

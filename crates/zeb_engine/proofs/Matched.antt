@@ -1,15 +1,15 @@
--- A plan that has a key asks for one word: a record has the key where it has a word that the plan's pattern matches.
+-- A plan that has a key asks for one word: it holds of a record where that has a word that the plan's pattern matches.
 use Rattle.std.proofs.Common.{◌≡◌, ◌↔◌, ◌∙◌, ℕ, Bool, true, false, List, [], ◌∷◌, Option, Some, None, refl, sym, ap, subst}
 use Rattle.std.specs.Prelude.{encode_utf8_all}
 use Rattle.std.specs.Option.{option_map}
 use Rattle.zeb_text.specs.Symbols.{Symbol, Char, Star, literal}
 use Rattle.zeb_text.specs.Patterns.{Matches}
 use Rattle.zeb_text.proofs.MatchLemmas.{literal-same, same-literal}
-use Rattle.zeb_profile.specs.declared.directives.Directive.{Directive}
 use Rattle.zeb_query.specs.Plans.{PlanValue, TermOf, PairOf, NearOf, PhraseOf, RecordNumberOf, AlwaysOf, NumberOf, OrderedOf, CompleteOf, AllWordsOf, AnyWordOf}
 use Rattle.zeb_extract.specs.declared.keys.Key.{Key}
-use Rattle.zeb_engine.specs.Finding.{HasKey, plain_text, plan_key, word_key}
-use Rattle.zeb_engine.specs.Holdings.{Kept}
+use Rattle.zeb_extract.specs.declared.keys.Occurrence.{Occurrence}
+use Rattle.zeb_register.specs.Occurring.{HasKey}
+use Rattle.zeb_engine.specs.Finding.{TreeHolds, plain_text, plan_key, word_key}
 use Rattle.zeb_engine.specs.Matching.{HasMatch, AsksFor}
 
 -- what is mapped was there
@@ -48,8 +48,8 @@ key_asks (TermOf (AnyWordOf index patterns)) key is = cc
 key_asks (PairOf op left right) key is = cc
 key_asks (NearOf index left right separation) key is = cc
 
-module _ (profile : List Directive) (index : ℕ) (kept : Kept) where
-  has_match : (pattern : List Symbol) (text : List ℕ) → pattern ≡ literal text → HasKey profile (word_key index text) kept → HasMatch profile index pattern kept
+module _ (O : ℕ → Occurrence → Type 0) (index : ℕ) (n : ℕ) where
+  has_match : (pattern : List Symbol) (text : List ℕ) → pattern ≡ literal text → HasKey O (word_key index text) n → HasMatch O index pattern n
   has_match pattern text is has = record {
     occurrence = has.0;
     in_record = has.1;
@@ -60,14 +60,22 @@ module _ (profile : List Directive) (index : ℕ) (kept : Kept) where
     matches = subst (λ (p : List Symbol). Matches p text) (sym is) (same-literal text text refl);
   }
 
-  match_has : (pattern : List Symbol) (text : List ℕ) → pattern ≡ literal text → HasMatch profile index pattern kept → HasKey profile (word_key index text) kept
+  match_has : (pattern : List Symbol) (text : List ℕ) → pattern ≡ literal text → HasMatch O index pattern n → HasKey O (word_key index text) n
   match_has pattern text is has =
       let same : has.text ≡ text = literal-same text has.text (subst (λ (p : List Symbol). Matches p has.text) is has.matches) in
       let term : has.occurrence.key.term ≡ encode_utf8_all text = has.is_term ∙ ap encode_utf8_all same in
       (has.occurrence, has.in_record, λ i. record { index = has.in_index i; register = has.in_words i; term = term i })
 
-  pub key_matches : (pattern : List Symbol) (key : Key) → plan_key (TermOf (PhraseOf index (pattern ∷ []) false)) ≡ Some key → HasKey profile key kept ↔ HasMatch profile index pattern kept
-  key_matches pattern key is =
+  abbrev plan_of_pattern : List Symbol → PlanValue
+  plan_of_pattern pattern = TermOf (PhraseOf index (pattern ∷ []) false)
+
+  pub plan_matches : (pattern : List Symbol) (key : Key) → plan_key (plan_of_pattern pattern) ≡ Some key → TreeHolds O (plan_of_pattern pattern) n ↔ HasMatch O index pattern n
+  plan_matches pattern key is =
       let it = was_mapped (word_key index) (plain_text pattern) key is in
-      let plain = plain_literal pattern it.0 it.1 in
-      subst (λ (k : Key). HasKey profile k kept ↔ HasMatch profile index pattern kept) (sym it.2) (has_match pattern it.0 plain, match_has pattern it.0 plain)
+      let plain = plain_literal pattern it.0 it.1 in (
+        λ holds.
+            let both : ◌≡◌ {A = Option Key} (Some holds.0) (Some key) = sym holds.1 ∙ is in
+            let one : holds.0 ≡ key = cc in
+            has_match pattern it.0 plain (subst (λ (k : Key). HasKey O k n) (one ∙ it.2) holds.2),
+        λ matched. (key, is, subst (λ (k : Key). HasKey O k n) (sym it.2) (match_has pattern it.0 plain matched)),
+      )

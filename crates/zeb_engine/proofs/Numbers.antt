@@ -17,10 +17,10 @@ use Rattle.zeb_profile.specs.declared.registers.Register.TheVariants.{Word}
 use Rattle.zeb_extract.specs.declared.keys.Key.{Key}
 use Rattle.zeb_register.specs.declared.registers.Posting.{Posting}
 use Rattle.zeb_register.specs.Content.{posting_cmp}
-use Rattle.zeb_engine.specs.Finding.{plain_text, plain_word, word_key}
-use Rattle.zeb_engine.specs.Found.{AreNumbersOf, key_or}
+use Rattle.zeb_register.specs.RowTerms.{IsInRecord}
+use Rattle.zeb_engine.specs.Finding.{AreNumbers, plain_text, plain_word, word_key}
 use Rattle.zeb_engine.specs.Answers.{Why, unsupported}
-use Rattle.zeb_engine.specs.Works.{Meets}
+use Rattle.zeb_engine.specs.Works.{Meets, key_or}
 
 -- ---- numbers
 
@@ -41,7 +41,7 @@ numbers_sorted (p ∷ (q ∷ rest)) up zero d from within =
 numbers_sorted (p ∷ (q ∷ rest)) up (suc k) d from within = (let next : suc k + 1 ≡ suc (k + 1) = omega arith in rw next (numbers_sorted (q ∷ rest) up.1 k d (omega arith) (omega (arith, within))))
 
 pub numbers_from_dedup : (postings : List Posting) (all numbers : List ℕ) → all ≡ map (λ (p : Posting). p.sysno) postings → IsFiltered (DiffersFromLast nat_eq) [] all numbers
-    → IsStrictlySortedBy posting_cmp postings → AreNumbersOf postings numbers
+    → IsStrictlySortedBy posting_cmp postings → AreNumbers (IsInRecord postings) numbers
 numbers_from_dedup postings all numbers mapped filtered up =
     let number = λ (p : Posting). p.sysno in
     let is = dedup_is nat_eq all numbers filtered in

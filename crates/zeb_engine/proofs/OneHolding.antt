@@ -1,17 +1,12 @@
 -- Tables are the image of one holding at most.
-use Rattle.std.proofs.Common.{◌≡◌, ◌∙◌, ℕ, ℤ, pos, List, [], ◌∷◌, codes, inl, inr, refl, sym, ap, subst}
+use Rattle.std.proofs.Common.{◌≡◌, ◌∙◌, ℕ, pos, List, [], codes, inl, inr, refl, sym, ap, subst}
 use Rattle.std.specs.List.{Contains}
-use Rattle.std.specs.Ordering.{nat_cmp}
-use Rattle.std.specs.Cmp.Lexicographic.{slice_cmp}
 use Rattle.std.proofs.lemmas.Cmp.{nat_cmp_total, nat_list_cmp_total, on_total}
-use Rattle.sqlite.specs.declared.types.Value.TheVariants.{Int}
 use Rattle.sqlite.specs.Tree.{Trees}
-use Rattle.sqlite_rules.specs.Lists.{Has}
 use Rattle.sqlite_rules.proofs.ListLemmas.{has_contained, contains_had}
 use Rattle.zeb_profile.specs.declared.directives.Directive.{Directive}
 use Rattle.zeb_register.specs.Formats.{Format}
-use Rattle.zeb_register.specs.Sql.{HasRow}
-use Rattle.zeb_register.specs.Store.{HasDatabase, HasRecord, entry, meta_tree}
+use Rattle.zeb_register.specs.Store.{HasDatabase, HasRecord, meta_tree}
 use Rattle.zeb_register.proofs.RisingLists.{same_list}
 use Rattle.zeb_engine.specs.Holdings.{Base, Holdings, Kept, nothing_yet, under}
 use Rattle.zeb_engine.specs.Image.{AreBases, IsBase, IsImage, IsImageOf, IsImageUnder}

@@ -1,5 +1,5 @@
 -- Two profiles that say the same have the same images.
-use Rattle.std.proofs.Common.{◌≡◌, ◌↔◌, ◌∙◌, ℕ, ℤ, List, sym, ap, subst}
+use Rattle.std.proofs.Common.{◌≡◌, ◌∙◌, ℕ, ℤ, List, sym, ap, subst}
 use Rattle.std.proofs.Math.Logic.{∥∥₁_elim}
 use Rattle.std.specs.List.{Contains}
 use Rattle.std.specs.Option.{option_and_then, option_map}
@@ -61,9 +61,9 @@ module _ (one other : List Directive) (same : SaysTheSame one other) where
   posted_so : (records_of : ℤ → List Kept) (content : Content) → ArePosted one records_of content → ArePosted other records_of content
   posted_so records_of content are = record {
     rising = are.rising;
-    each = λ id key p. (
-      λ there. let it = (are.each id key p).0 there in (it.0, it.1, it.2, occurs_so one other same it.0 (record { key = key; seq = p.seq; pos = p.pos }) it.3),
-      λ it. (are.each id key p).1 (it.0, it.1, it.2, occurs_so other one (turned_round one other same) it.0 (record { key = key; seq = p.seq; pos = p.pos }) it.3),
+    each = λ id n o. (
+      λ there. let it = (are.each id n o).0 there in (it.0, it.1, it.2, occurs_so one other same it.0 o it.3),
+      λ it. (are.each id n o).1 (it.0, it.1, it.2, occurs_so other one (turned_round one other same) it.0 o it.3),
     );
   }
 

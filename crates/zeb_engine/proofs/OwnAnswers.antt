@@ -8,12 +8,12 @@ use Rattle.zeb_marc.specs.declared.faults.MarcFault.TheVariants as marc
 use Rattle.zeb_marc.specs.Records.{first_fault, fields_of}
 use Rattle.zeb_marc.specs.Contents.{units_of}
 use Rattle.zeb_marc.specs.Splits.{split_of}
-use Rattle.zeb_profile.specs.declared.directives.Directive.{Directive}
 use Rattle.zeb_profile.specs.Canonical.{canonical_text}
 use Rattle.zeb_query.specs.Faults.{Refusal}
 use Rattle.zeb_query.specs.Plans.{PlanValue, ScanValue, plan_of, scan_of}
 use Rattle.zeb_query.specs.Reading.{query_fault}
 use Rattle.zeb_extract.specs.declared.keys.Key.{Key}
+use Rattle.zeb_extract.specs.declared.keys.Occurrence.{Occurrence}
 use Rattle.zeb_extract.specs.declared.naming.IdentFault.{IdentFault}
 use Rattle.zeb_extract.specs.declared.naming.IdentFault.TheVariants as ident
 use Rattle.zeb_engine.specs.declared.commands.Command.{Command}
@@ -22,14 +22,14 @@ use Rattle.zeb_engine.specs.declared.commands.Kind.{Kind}
 use Rattle.zeb_engine.specs.declared.commands.Kind.TheVariants.{Update, Delete, Adelete}
 use Rattle.zeb_engine.specs.declared.tally.Fate.TheVariants.{Inserted, PassedOver}
 use Rattle.zeb_engine.specs.NameOf.{name_bytes}
-use Rattle.zeb_engine.specs.Answers.{Answer, Why, found, old_format, profile_changed, diagnostic, unknown, database_full, too_many_records, damaged, read_fault, store_failed, out_of_memory, refused, why_of}
+use Rattle.zeb_engine.specs.Answers.{Answer, Why, old_format, profile_changed, diagnostic, unknown, database_full, too_many_records, damaged, read_fault, store_failed, out_of_memory, refused, why_of}
 use Rattle.zeb_engine.specs.Conditions.{Conditions}
-use Rattle.zeb_engine.specs.Finding.{IsAnswered, IsFoundBy, IsPlanned, plan_key, shown_of}
-use Rattle.zeb_engine.specs.Scanning.{IsScanned, IsScanPlanned}
+use Rattle.zeb_engine.specs.Finding.{IsFoundBy, IsPlanned, IsShown, asked_of, has_name, occurs, plan_key}
+use Rattle.zeb_engine.specs.Scanning.{IsScanPlanned}
 use Rattle.zeb_engine.specs.Folding.{Changed, Progress, at_end, at_first, changed_by, changed_record, counted, deleted, file_folded, files_folded, folded, ident_in, slices_folded, updated, with_ident, with_record, ◌then◌}
 use Rattle.zeb_engine.specs.Holdings.{Base, Holdings, Kept, nothing_yet, under, base_named, kept_as, with_new}
 use Rattle.zeb_engine.specs.Outcomes.{marc_refusal}
-use Rattle.zeb_engine.specs.Steps.{AskedAmong, AskedFrom, AskedIn, CountedFrom, CountedIn, Turn, change_ends, change_from, changed_by_files, created, created_in, dropped, dropped_in, dumped_from, dumped_in, ends, initialised, ready, splits_of, start_of, turned, turned_from, waits}
+use Rattle.zeb_engine.specs.Steps.{AskedAmong, AskedFrom, AskedIn, CountedFrom, CountedIn, FindAnswers, ScanAnswers, Turn, change_ends, change_from, changed_by_files, created, created_in, dropped, dropped_in, dumped_from, dumped_in, ends, initialised, ready, splits_of, start_of, turned, turned_from, waits}
 use Rattle.zeb_engine.proofs.StepLemmas.{Answers}
 use Rattle.zeb_engine.proofs.FaultAnswers.{IsOfText, IsOfRecord, first_of_text, split_of_text, identifier_of_record}
 
@@ -197,24 +197,28 @@ waits_own (Err why) is = is
 
 -- ---- finds
 
-shown_own : (hits : List Kept) (first count : ℕ) → IsOwnAnswer (shown_of hits first count)
-shown_own hits first count = elim (nat_lt 1 first && nat_lt (length hits) first)
-    as (λ b. IsOwnAnswer (cond b (refused (diagnostic 13 0 (decimal first))) (found (length hits) (map (λ (kept : Kept). (kept.sysno, kept.ident)) (take count (drop (first - 1) hits)))))) [
+asked_of_own : (hits : List ℕ) (first count : ℕ) → AreOwn (asked_of hits first count)
+asked_of_own hits first count = elim (nat_lt 1 first && nat_lt (length hits) first)
+    as (λ b. AreOwn {A = List ℕ} (cond b (Err (diagnostic 13 0 (decimal first))) (Ok (take count (drop (first - 1) hits))))) [
       | true ↦ tt
       | false ↦ tt
     ]
 
-module _ (profile : List Directive) (first count : ℕ) (base : Base) (answer : Answer) where
-  found_by_own : (key : Option Key) → IsFoundBy profile key first count base answer → IsOwnAnswer answer
-  found_by_own None is = subst IsOwnAnswer (sym is) tt
-  found_by_own (Some key) is = subst IsOwnAnswer (sym is.2) (shown_own is.0 first count)
+module _ (O : ℕ → Occurrence → Type 0) (N : ℕ → List ℕ → Type 0) (first count : ℕ) (answer : Answer) where
+  shown_own : (hits : List ℕ) (asked : Result (List ℕ) Why) → AreOwn asked → IsShown O N hits asked answer → IsOwnAnswer answer
+  shown_own hits (Ok asked) own is = subst IsOwnAnswer (sym is.2) tt
+  shown_own hits (Err why) own is = subst IsOwnAnswer (sym is) own
 
-  planned_own : (plan : Result PlanValue Refusal) → IsPlanned profile plan first count base answer → IsOwnAnswer answer
-  planned_own (Ok plan) is = found_by_own (plan_key plan) is
+  found_by_own : (key : Option Key) (plan : PlanValue) → IsFoundBy O N key plan first count answer → IsOwnAnswer answer
+  found_by_own None plan is = subst IsOwnAnswer (sym is) tt
+  found_by_own (Some key) plan is = shown_own is.0 (asked_of is.0 first count) (asked_of_own is.0 first count) is.2
+
+  planned_own : (plan : Result PlanValue Refusal) → IsPlanned O N plan first count answer → IsOwnAnswer answer
+  planned_own (Ok plan) is = found_by_own (plan_key plan) plan is
   planned_own (Err e) is = subst IsOwnAnswer (sym is) tt
 
-module _ (profile : List Directive) (number position : ℕ) (base : Base) (answer : Answer) where
-  scanned_own : (plan : Result ScanValue Refusal) → IsScanPlanned profile plan number position base answer → IsOwnAnswer answer
+module _ (O : ℕ → Occurrence → Type 0) (number position : ℕ) (answer : Answer) where
+  scanned_own : (plan : Result ScanValue Refusal) → IsScanPlanned O plan number position answer → IsOwnAnswer answer
   scanned_own (Ok plan) is = subst IsOwnAnswer (sym is.2) tt
   scanned_own (Err e) is = subst IsOwnAnswer (sym is) tt
 
@@ -261,12 +265,14 @@ answers_own c (Change kind name files) before answer is =
     let texts = map (λ file. file.items) files.items in
     subst IsOwnAnswer (sym is) (turned_own c (changed_by_files c kind (name_bytes name) (splits_of texts)) before (change_own c kind (name_bytes name) texts))
 answers_own c (Find name query first count) before answer is =
-    asked_own (IsAnswered c.profile (string_bytes query) first count) (λ base given h. planned_own c.profile first count base given (plan_of c.profile h.0) h.2) (name_bytes name) (string_bytes query) answer
+    asked_own (FindAnswers c.profile (string_bytes query) first count)
+    (λ base given h. planned_own (occurs c.profile base.records) (has_name base.records) first count given (plan_of c.profile h.0) h.2) (name_bytes name) (string_bytes query) answer
     (ready c before) (ready_own c before) is
 answers_own c Check before answer is = subst IsOwnAnswer (sym is) (waits_own (ready c before) (ready_own c before))
 answers_own c (Stat name) before answer is = counted_own c (name_bytes name) answer (ready c before) (ready_own c before) is
 answers_own c (Dump name) before answer is = subst IsOwnAnswer (sym is) (dumped_own (name_bytes name) (ready c before) (ready_own c before))
 answers_own c (Scan name query number position) before answer is =
-    asked_own (IsScanned c.profile (string_bytes query) number position) (λ base given h. scanned_own c.profile number position base given (scan_of c.profile h.0) h.2) (name_bytes name) (string_bytes query) answer
+    asked_own (ScanAnswers c.profile (string_bytes query) number position)
+    (λ base given h. scanned_own (occurs c.profile base.records) number position given (scan_of c.profile h.0) h.2) (name_bytes name) (string_bytes query) answer
     (ready c before) (ready_own c before) is
 answers_own c (Analyse files) before answer is = subst IsOwnAnswer (sym is) tt

@@ -10,11 +10,11 @@ use Rattle.zeb_extract.specs.declared.keys.Occurrence.{Occurrence}
 use Rattle.zeb_register.specs.declared.registers.Place.{Place}
 use Rattle.zeb_register.specs.declared.registers.Posting.{Posting}
 use Rattle.zeb_register.specs.Content.{Content, posting_at}
-use Rattle.zeb_engine.specs.ChangedKeys.{occurrence_at, ArePostingsOf, IsReposted}
-use Rattle.zeb_engine.specs.Finding.{OccursIn}
+use Rattle.zeb_engine.specs.PrivateChangedKeys.{occurrence_at, ArePostingsOf, IsReposted}
+use Rattle.zeb_engine.specs.Finding.{OccursIn, occurs}
 use Rattle.zeb_engine.specs.Holdings.{Kept}
 use Rattle.zeb_engine.specs.Image.{ArePosted}
-use Rattle.zeb_engine.specs.Records.{AreOccurrencesOf}
+use Rattle.zeb_engine.specs.PrivateRecords.{AreOccurrencesOf}
 use Rattle.zeb_engine.specs.Works.{with_records}
 use Rattle.zeb_engine.proofs.KeptLemmas.{AreRisingKept, one_number}
 use Rattle.zeb_engine.proofs.KeptChanges.{IsPutIn}
@@ -52,17 +52,17 @@ module _ (profile : List Directive) where
   module _ (id : ℤ) (records_of : ℤ → List Kept) (sysno : ℕ) (elder newer : List Occurrence) (before after : List Kept) (swap : IsSwap profile sysno elder newer before after)
       (content : Content) (posted : ArePosted profile (with_records id before records_of) content) where
     abbrev IsOf : (ℤ → List Kept) → ℤ → Key → Posting → Type 0
-    IsOf all d key p = (kept : Kept) × Contains (all d) kept × (kept.sysno ≡ p.sysno) × OccursIn profile kept (record { key = key; seq = p.seq; pos = p.pos })
+    IsOf all d key p = occurs profile (all d) p.sysno (record { key = key; seq = p.seq; pos = p.pos })
 
     -- what the registers hold of the record
     pub posted_elder : ArePostingsOf sysno elder (content id)
     posted_elder key place = (
       λ there.
-          let it = (posted.each id key (posting_at sysno place)).0 there in
+          let it = (posted.each id sysno (occurrence_at key place)).0 there in
           (swap.old (occurrence_at key place)).1 (it.0, has_contained before it.0 (subst (λ l. Contains l it.0) (at_id id records_of before id refl) it.1), it.2, it.3),
       λ there.
           let it = (swap.old (occurrence_at key place)).0 there in
-          (posted.each id key (posting_at sysno place)).1 (it.0, subst (λ l. Contains l it.0) (sym (at_id id records_of before id refl)) (contains_had before it.0 it.1), it.2, it.3),
+          (posted.each id sysno (occurrence_at key place)).1 (it.0, subst (λ l. Contains l it.0) (sym (at_id id records_of before id refl)) (contains_had before it.0 it.1), it.2, it.3),
     )
 
     module _ (next : Content) (reposted : IsReposted id sysno newer content next) where
@@ -92,11 +92,12 @@ module _ (profile : List Directive) where
       -- another record's posting
       of_other : (d : ℤ) (key : Key) (p : Posting) → ((kept : Kept) → kept.sysno ≡ p.sysno → Contains (with_records id after records_of d) kept ↔ Contains (with_records id before records_of d) kept)
           → ¬ ((d ≡ id) × (p.sysno ≡ sysno)) → Has (next d key) p ↔ IsOf (with_records id after records_of) d key p
+      unfolding place_of
       of_other d key p same differs = (
         λ there.
-            let it = (posted.each d key p).0 ((reposted.others d key p differs).0 there) in
+            let it = (posted.each d p.sysno (occurrence_at key (place_of p))).0 ((reposted.others d key p differs).0 there) in
             (it.0, (same it.0 it.2).1 it.1, it.2, it.3),
-        λ it. (reposted.others d key p differs).1 ((posted.each d key p).1 (it.0, (same it.0 it.2).0 it.1, it.2, it.3)),
+        λ it. (reposted.others d key p differs).1 ((posted.each d p.sysno (occurrence_at key (place_of p))).1 (it.0, (same it.0 it.2).0 it.1, it.2, it.3)),
       )
 
       in_here : (d : ℤ) (kept : Kept) → d ≡ id → kept.sysno ≢ sysno → Contains (with_records id after records_of d) kept ↔ Contains (with_records id before records_of d) kept
@@ -119,15 +120,18 @@ module _ (profile : List Directive) where
           go true e = inl ((Decides-eqb a b).0 e)
           go false e = inr (λ same. let t : true ≡ false = sym ((Decides-eqb a b).1 same) ∙ e in cc)
 
+      each_after : (d : ℤ) (key : Key) (p : Posting) → Has (next d key) p ↔ IsOf (with_records id after records_of) d key p
+      each_after d key p = elim (told_id d id) [
+        | inl here ↦ elim (told_number p.sysno sysno) [
+          | inl same ↦ of_record d key p here same
+          | inr differs ↦ of_other d key p (λ kept is. in_here d kept here (λ number. differs (sym is ∙ number))) (λ h. differs h.1)
+        ]
+        | inr other ↦ of_other d key p (λ kept is. in_other d kept other) (λ h. other h.0)
+      ]
+
       -- the registers then hold the postings of the records then
       pub posted_after : ArePosted profile (with_records id after records_of) next
       posted_after = record {
         rising = reposted.rising;
-        each = λ d key p. elim (told_id d id) [
-          | inl here ↦ elim (told_number p.sysno sysno) [
-            | inl same ↦ of_record d key p here same
-            | inr differs ↦ of_other d key p (λ kept is. in_here d kept here (λ number. differs (sym is ∙ number))) (λ h. differs h.1)
-          ]
-          | inr other ↦ of_other d key p (λ kept is. in_other d kept other) (λ h. other h.0)
-        ];
+        each = λ d n o. each_after d o.key (record { sysno = n; seq = o.seq; pos = o.pos });
       }

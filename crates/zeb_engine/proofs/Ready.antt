@@ -10,7 +10,6 @@ use Rattle.sqlite.specs.Effect.{Database}
 use Rattle.sqlite.specs.State.{State}
 use Rattle.sqlite_rules.specs.Lists.{Has}
 use Rattle.zeb_profile.specs.Canonical.{canonical_text}
-use Rattle.zeb_register.specs.Content.{Content}
 use Rattle.zeb_register.specs.Sql.{HasRow}
 use Rattle.zeb_register.proofs.Calls.{store_same}
 use Rattle.zeb_register.specs.Store.{IsStore, IsValueOf, AreReadableTexts, entry, meta_tree}

@@ -5,7 +5,7 @@ use Rattle.sqlite.specs.Tree.{Trees}
 use Rattle.zeb_profile.specs.declared.directives.Directive.{Directive}
 use Rattle.zeb_profile.specs.Canonical.{canonical_text, pattern_text}
 use Rattle.zeb_profile.specs.Indexes.{identifier_pattern}
-use Rattle.zeb_register.specs.Formats.{Format, version_of}
+use Rattle.zeb_register.specs.Formats.{Format}
 use Rattle.zeb_register.proofs.FormatLemmas.{one_format}
 use Rattle.zeb_engine.specs.Conditions.{Conditions, AreSessions}
 use Rattle.zeb_engine.specs.Holdings.{Holdings, Base}

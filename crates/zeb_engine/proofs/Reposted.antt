@@ -12,7 +12,7 @@ use Rattle.zeb_register.specs.declared.registers.Posting.{Posting}
 use Rattle.zeb_register.specs.Content.{Content, IsRising, posting_at, posting_cmp, IsChangedAt}
 use Rattle.zeb_register.proofs.RisingLists.{told_by}
 use Rattle.zeb_register.proofs.ContentChanges.{changed_at, change_is}
-use Rattle.zeb_engine.specs.ChangedKeys.{occurrence_at, IsReposted}
+use Rattle.zeb_engine.specs.PrivateChangedKeys.{occurrence_at, IsReposted}
 use Rattle.zeb_engine.proofs.StoredLemmas.{told_id}
 
 place_of : Occurrence → Place

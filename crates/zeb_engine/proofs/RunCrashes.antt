@@ -3,7 +3,6 @@ use Rattle.std.proofs.Common.{◌≡◌, ◌≢◌, ◌⊎◌, ◌∙◌, true, 
 use Rattle.std.specs.List.{AllByRecursion}
 use Rattle.sqlite.specs.Tree.{Trees}
 use Rattle.sqlite.specs.State.{State, HasCleanDisk, Survives}
-use Rattle.zeb_register.specs.Content.{Content}
 use Rattle.zeb_engine.specs.declared.commands.Command.{Command}
 use Rattle.zeb_engine.specs.declared.replies.Reply.{Reply}
 use Rattle.zeb_engine.specs.declared.refusals.Refusal.{Refusal}
@@ -20,7 +19,6 @@ use Rattle.zeb_engine.specs.Works.{Runs, ServesCommand}
 use Rattle.zeb_engine.proofs.Crashing.{keeps_stand}
 use Rattle.zeb_engine.proofs.RefusedSteps.{refused_still}
 use Rattle.zeb_engine.proofs.StepLemmas.{step_told}
-use Rattle.zeb_register.specs.Formats.{Format}
 
 all_more : {X : Type 0} (P : X → Type 0) (xs : List X) (x : X) → AllByRecursion P xs → P x → AllByRecursion P (xs ++ x ∷ [])
 all_more P [] x all it = (it, tt)

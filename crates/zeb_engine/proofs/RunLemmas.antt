@@ -1,11 +1,9 @@
 -- A run goes on by one command.
-use Rattle.std.proofs.Common.{List, [], ◌∷◌, ◌++◌, Result, Ok, Err, OnOk, OnErr, IsTrue, rules, inl, inr, refl, subst}
+use Rattle.std.proofs.Common.{List, [], ◌∷◌, ◌++◌, Result, Ok, Err, OnOk, OnErr, IsTrue, rules, refl, subst}
 use Rattle.std.specs.List.{AllByRecursion}
 use Rattle.std.specs.Result.{IsErr}
-use Rattle.sqlite.specs.Tree.{Trees}
 use Rattle.sqlite.specs.State.{State}
 use Rattle.zeb_register.specs.Calls.{ChangesNothing}
-use Rattle.zeb_register.specs.Content.{Content}
 use Rattle.zeb_register.proofs.Calls.{nothing_then}
 use Rattle.zeb_engine.specs.declared.commands.Command.{Command}
 use Rattle.zeb_engine.specs.declared.replies.Reply.{Reply}
@@ -17,7 +15,6 @@ use Rattle.zeb_engine.specs.Holdings.{Holdings}
 use Rattle.zeb_engine.specs.Steps.{Run}
 use Rattle.zeb_engine.specs.Works.{FindOpen, Runs, ServesCommand}
 use Rattle.zeb_engine.proofs.Serving.{on_ok}
-use Rattle.zeb_register.specs.Formats.{Format}
 
 pub run_more : (c : Conditions) (commands : List Command) (answers : List Answer) (before mid last : Holdings) (command : Command) (answer : Answer) → Run c before commands answers mid → Run c mid (command ∷ []) (answer ∷ []) last
     → Run c before (commands ++ command ∷ []) (answers ++ answer ∷ []) last

@@ -6,19 +6,17 @@ use Rattle.sqlite.specs.Effect.{Database}
 use Rattle.sqlite.specs.State.{State, IsRolledBack, Shows}
 use Rattle.sqlite.specs.Held.{Held, state}
 use Rattle.zeb_register.specs.Calls.{ChangesNothing}
-use Rattle.zeb_register.specs.Content.{Content}
 use Rattle.zeb_register.proofs.Calls.{store_same}
 use Rattle.zeb_engine.specs.declared.replies.Reply.{Reply}
 use Rattle.zeb_engine.specs.declared.refusals.Refusal.{Refusal}
 use Rattle.zeb_engine.specs.Answers.{refused, why_of, IsFailure}
-use Rattle.zeb_engine.specs.Conditions.{Conditions}
 use Rattle.zeb_engine.specs.Holdings.{Holdings}
 use Rattle.zeb_engine.specs.Image.{IsImage, Keeps}
 use Rattle.zeb_engine.specs.Steps.{Outcome, holding}
 use Rattle.zeb_engine.specs.Works.{Works, Serves}
 use Rattle.zeb_engine.specs.declared.writes.Write.{Write}
 use Rattle.zeb_engine.specs.declared.writes.Write.TheVariants as write
-use Rattle.zeb_engine.specs.Writing.{Begins, IsReached}
+use Rattle.zeb_engine.specs.PrivateWriting.{Begins, IsReached}
 use Rattle.zeb_engine.proofs.Ready.{image_still}
 use Rattle.zeb_register.specs.Formats.{Format}
 

@@ -1,5 +1,5 @@
 -- A command's step, in two parts: its answer, and what is held then, which is computed.
-use Rattle.std.proofs.Common.{◌≡◌, ◌↔◌, ◌∙◌, ℕ, List, map, Option, Some, None, string_bytes, ap, sym}
+use Rattle.std.proofs.Common.{◌≡◌, ◌↔◌, ◌∙◌, map, Option, Some, None, string_bytes, ap, sym}
 use Rattle.zeb_engine.specs.declared.commands.Command.{Command}
 use Rattle.zeb_engine.specs.declared.commands.Command.TheVariants.{Init, Check, Create, Drop, Stat, Dump, Change, Find, Scan, Analyse}
 use Rattle.zeb_engine.specs.NameOf.{name_bytes}

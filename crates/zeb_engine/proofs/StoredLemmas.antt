@@ -14,7 +14,7 @@ use Rattle.zeb_register.specs.Store.{records_tree, record_row, HasRecord, HasNum
 use Rattle.zeb_register.specs.Kept.{IsElderOf, AreNumbered}
 use Rattle.zeb_engine.specs.Holdings.{Base, Kept}
 use Rattle.zeb_engine.specs.Image.{AreKept}
-use Rattle.zeb_engine.specs.Records.{IsElderAs}
+use Rattle.zeb_engine.specs.PrivateRecords.{IsElderAs}
 use Rattle.zeb_engine.specs.Works.{with_records}
 use Rattle.zeb_engine.proofs.KeptLemmas.{none_found, one_found}
 use Rattle.zeb_engine.proofs.KeptChanges.{IsPutIn, IsTakenFrom}

@@ -1,19 +1,25 @@
 -- One record is taken: it is added, stands in its elder's place, or takes it away.
-use Rattle.std.proofs.Common.{◌≡◌, ℕ, ℤ, pos, ◌+◌, ◌<◌, List, [], Some, None, refl, arith}
+use Rattle.std.proofs.Common.{◌≡◌, ◌≤◌, ℕ, ℤ, pos, ◌+◌, ◌<◌, List, [], Some, None, refl, sym, subst, arith}
 use Rattle.sqlite.specs.Tree.{Trees}
 use Rattle.sqlite.specs.State.{State}
 use Rattle.zeb_profile.specs.declared.directives.Directive.{Directive}
+use Rattle.sqlite_rules.proofs.ListLemmas.{contains_had, has_contained}
+use Rattle.zeb_marc.specs.Records.{fields_of}
+use Rattle.zeb_profile.specs.Indexes.{unit_targets}
 use Rattle.zeb_extract.specs.declared.keys.Occurrence.{Occurrence}
-use Rattle.zeb_register.specs.Content.{Content, IsRising}
+use Rattle.zeb_register.specs.declared.kept.Elder.{Elder}
+use Rattle.zeb_register.specs.Content.{Content, IsRising, IsStorable}
 use Rattle.zeb_register.specs.Sql.{Loses, Replaces}
 use Rattle.zeb_register.specs.Store.{Changes, KeepsRegisters, records_tree, record_row, HasNumber, SharesRecord}
 use Rattle.zeb_engine.specs.declared.tally.Fate.TheVariants.{Inserted, Updated, Deleted}
-use Rattle.zeb_engine.specs.ChangedKeys.{ArePostingsOf}
+use Rattle.zeb_engine.specs.PrivateChangedKeys.{ArePostingsOf, CanBeStored}
 use Rattle.zeb_engine.specs.Holdings.{Base, Kept, kept_as, with_new, with_bytes, without_ident}
-use Rattle.zeb_engine.specs.Image.{IsKept}
-use Rattle.zeb_engine.specs.Records.{AreOccurrencesOf, IsNewer}
-use Rattle.zeb_engine.specs.Works.{IsTaken, IsUnderWay}
+use Rattle.zeb_engine.specs.Image.{IsBase, IsKept}
+use Rattle.zeb_engine.specs.PrivateRecords.{AreOccurrencesOf, IsElderAs, IsNewer}
+use Rattle.zeb_engine.specs.Works.{IsTaken, IsUnderWay, with_records}
 use Rattle.zeb_engine.proofs.BaseLemmas.{one_ident, within_last, new_base, bytes_base, ident_base}
+use Rattle.zeb_engine.proofs.Held.{base_numbered, with_numbered}
+use Rattle.zeb_engine.proofs.TermTexts.{occurrence_storable, posted_storable}
 use Rattle.zeb_engine.proofs.KeptLemmas.{kept_found}
 use Rattle.zeb_engine.proofs.KeptChanges.{IsPutIn, IsTakenFrom, kept_of, new_put, bytes_put, ident_taken, others_put, others_taken}
 use Rattle.zeb_engine.proofs.PostedLemmas.{IsSwap, no_occurrences, put_occurrences, elder_occurrences}
@@ -25,17 +31,34 @@ use Rattle.zeb_register.specs.Formats.{Format, holds_in}
 newer_kept : (profile : List Directive) (sysno : ℕ) (ident bytes : List ℕ) (newer : List Occurrence) → IsNewer profile ident bytes newer → IsKept profile (kept_of sysno ident bytes)
 newer_kept profile sysno ident bytes newer is = record { whole = is.whole; named = is.named; text = is.text }
 
+-- the occurrences of a record can be stored under a number that a register gives
+pub newer_storable : (profile : List Directive) (bytes : List ℕ) (newer : List Occurrence) → AreOccurrencesOf profile bytes newer → (sysno : ℕ) → (1 ≤ sysno) × (sysno ≤ 999999999) → CanBeStored sysno newer
+newer_storable profile bytes newer are sysno number o there = occurrence_storable (unit_targets profile) (fields_of bytes) o sysno ((are.each o).0 there) number
+
+pub none_storable : (sysno : ℕ) → CanBeStored sysno []
+none_storable sysno o there = absurd (has_contained [] o there)
+
+-- the record that the database keeps has such a number
+pub elder_numbered : (profile : List Directive) (ident : List ℕ) (base : Base) (elder : Elder) → IsBase profile base → IsElderAs ident base (Some elder) → (1 ≤ elder.sysno) × (elder.sysno ≤ 999999999)
+elder_numbered profile ident base elder is there =
+    subst (λ (n : ℕ). (1 ≤ n) × (n ≤ 999999999)) (sym there.2) (base_numbered profile base is there.0 (contains_had base.records there.0 (kept_found ident base there.0 there.1).0))
+
 -- what the registers hold of a record, if it is just these occurrences
 pub record IsFoundAt (format : Format) (id : ℤ) (sysno : ℕ) (elder : List Occurrence) (s : State) : Type 0 where
   pub content : Content
   pub held : holds_in format s.now.trees content
   pub rising : IsRising content
+  pub storable : IsStorable content
   pub found : ArePostingsOf sysno elder (content id)
 
 module _ (format : Format) (stays : (old new : Trees) (content : Content) → KeepsRegisters old new → holds_in format old content → holds_in format new content)
     (profile : List Directive) (id : ℤ) (records_of : ℤ → List Kept) (old mid : State) (base : Base) (under : IsUnderWay format profile id records_of old base) where
   abbrev pub PutAs : ℕ → List ℕ → List ℕ → Type 0
   PutAs sysno ident bytes = Changes records_tree (Replaces (SharesRecord id (pos sysno) ident) (record_row id (pos sysno) ident bytes)) old mid
+
+  -- what the registers hold can be stored
+  all_storable : IsStorable under.1.content
+  all_storable = posted_storable profile (with_records id base.records records_of) (with_numbered profile id records_of base under.2 under.3) under.1.content under.1.posted
 
   -- ---- a record is added
 
@@ -55,6 +78,7 @@ module _ (format : Format) (stays : (old new : Trees) (content : Content) → Ke
       content = under.1.content;
       held = held_still format profile id records_of stays old mid base (with_new ident bytes base) under _ put;
       rising = under.1.posted.rising;
+      storable = all_storable;
       found = found_still format profile id records_of stays old mid base (with_new ident bytes base) under _ put (base.last + 1) [] newer new_swap;
     }
 
@@ -85,6 +109,7 @@ module _ (format : Format) (stays : (old new : Trees) (content : Content) → Ke
         content = under.1.content;
         held = held_still format profile id records_of stays old mid base (with_bytes ident bytes base) under _ put;
         rising = under.1.posted.rising;
+        storable = all_storable;
         found = found_still format profile id records_of stays old mid base (with_bytes ident bytes base) under _ put kept.sysno elder newer put_swap;
       }
 
@@ -111,6 +136,7 @@ module _ (format : Format) (stays : (old new : Trees) (content : Content) → Ke
         content = under.1.content;
         held = held_still format profile id records_of stays old mid base (without_ident ident base) under _ take;
         rising = under.1.posted.rising;
+        storable = all_storable;
         found = found_still format profile id records_of stays old mid base (without_ident ident base) under _ take kept.sysno elder [] take_swap;
       }
 

@@ -1,5 +1,5 @@
--- The term of each occurrence is UTF-8.
-use Rattle.std.proofs.Common.{◌≡◌, ℕ, ◌+◌, ◌<◌, ◌^◌, ◌||◌, Bool, true, false, not, List, [], ◌∷◌, map, encode_utf8, encode_utf8_all, IsUtf8, All, ℤ, refl, sym, ap, ◌∙◌, subst, inl, inr, arith, lit<}
+-- Each occurrence can be stored: its term is UTF-8, and units and places are numbered from 1.
+use Rattle.std.proofs.Common.{◌≡◌, ℕ, ◌+◌, ◌≤◌, ◌<◌, ◌^◌, suc, ◌||◌, Bool, true, false, not, List, [], ◌∷◌, map, encode_utf8, encode_utf8_all, IsUtf8, All, ℤ, refl, sym, ap, ◌∙◌, subst, inl, inr, arith, lit<}
 use Rattle.std.specs.Char.{IsScalar}
 use Rattle.std.specs.List.{AllByRecursion, AllPass, Contains, enumerate_from}
 use Rattle.std.proofs.lemmas.Bool.Decides.{nat_tests}
@@ -23,8 +23,9 @@ use Rattle.zeb_text.specs.Numbers.{number_key, numbers_of}
 use Rattle.zeb_text.proofs.KeyLemmas.{digits_of_key}
 use Rattle.zeb_text.proofs.NumberBounds.{numbers_below}
 use Rattle.zeb_text.proofs.MaximalRuns.{AllRuns, runs_are_runs}
+use Rattle.zeb_marc.specs.Directory.{FieldText}
 use Rattle.zeb_marc.specs.Records.{fields_of}
-use Rattle.zeb_marc.specs.Contents.{UnitText, units_of}
+use Rattle.zeb_marc.specs.Contents.{Content as Piece, UnitText, numbered_from, units_of}
 use Rattle.zeb_profile.specs.declared.directives.Directive.{Directive}
 use Rattle.zeb_profile.specs.declared.registers.Register.{Register}
 use Rattle.zeb_profile.specs.declared.registers.Register.TheVariants.{Word, Phrase, Number}
@@ -32,11 +33,10 @@ use Rattle.zeb_profile.specs.Indexes.{unit_targets}
 use Rattle.zeb_extract.specs.declared.keys.Occurrence.{Occurrence}
 use Rattle.zeb_extract.specs.Occurrences.{Targets, IsOccurrence, text_of, word_terms, joined, terms_of}
 use Rattle.zeb_extract.proofs.Members.{Contains-map}
-use Rattle.zeb_register.specs.declared.registers.Posting.{Posting}
-use Rattle.zeb_register.specs.Content.{Content}
-use Rattle.zeb_register.specs.Terms.{HasTexts}
+use Rattle.zeb_register.specs.Content.{Content, IsStorable, IsStorablePosting}
 use Rattle.zeb_engine.specs.Holdings.{Kept}
 use Rattle.zeb_engine.specs.Image.{ArePosted}
+use Rattle.zeb_engine.specs.Works.{AreNumbered}
 
 -- the characters that there are
 characters : List Range
@@ -121,14 +121,40 @@ occurrence_text targets units o is =
     let there : Contains terms o.key.term = subst (λ (l : List (List ℕ)). Contains l o.key.term) (numbered 1 terms) (Contains-map (λ (p : ℕ × List ℕ). p.1) (enumerate_from 1 terms) (o.pos, o.key.term) is.in_unit) in
     each_text terms (terms_text o.key.register (text_of is.unit.text)) o.key.term (has_contained terms o.key.term there)
 
--- ---- what an image holds
+-- ---- places
 
--- what is posted is posted under texts
-pub posted_texts : (profile : List Directive) (records_of : ℤ → List Kept) (content : Content) → ArePosted profile records_of content → HasTexts content
-posted_texts profile records_of content posted db key some = from (content db key) refl
-  where
-    from : (l : List Posting) → content db key ≡ l → IsUtf8 key.term
-    from [] none = absurd (some none)
-    from (p ∷ rest) is =
-        let it = (posted.each db key p).0 (subst (λ (l : List Posting). Has l p) (sym is) (inl refl)) in
-        occurrence_text (unit_targets profile) (units_of (fields_of it.0.bytes)) (record { key = key; seq = p.seq; pos = p.pos }) it.3
+-- what is numbered from n on has no number below n
+counted_from : {X : Type 0} (n : ℕ) (xs : List X) (x : ℕ × X) → Has (enumerate_from n xs) x → n ≤ x.0
+counted_from n [] x there = absurd there
+counted_from n (y ∷ ys) x (inl same) = (let e : x.0 ≡ n = ap (λ (p : ℕ × _). p.0) same in omega (arith, e))
+counted_from n (y ∷ ys) x (inr later) = (let more = counted_from (n + 1) ys x later in omega (arith, more))
+
+units_from : (n : ℕ) (contents : List Piece) (unit : UnitText) → Has (numbered_from n contents) unit → n ≤ unit.seq
+units_from n [] unit there = absurd there
+units_from n (c ∷ contents) unit (inl same) = (let e : unit.seq ≡ n = ap (λ (u : UnitText). u.seq) same in omega (arith, e))
+units_from n (c ∷ contents) unit (inr later) = (let more = units_from (suc n) contents unit later in omega (arith, more))
+
+unit_from : (fields : List FieldText) (unit : UnitText) → Contains (units_of fields) unit → 1 ≤ unit.seq
+unfolding units_of
+unit_from fields unit there = units_from 1 _ unit (has_contained _ unit there)
+
+pub occurrence_storable : (targets : Targets) (fields : List FieldText) (o : Occurrence) (sysno : ℕ) → IsOccurrence targets (units_of fields) o → (1 ≤ sysno) × (sysno ≤ 999999999)
+    → IsStorablePosting o.key (record { sysno = sysno; seq = o.seq; pos = o.pos })
+occurrence_storable targets fields o sysno is number =
+    let unit = unit_from fields is.unit is.in_record in
+    let terms = terms_of o.key.register (text_of is.unit.text) in
+    record {
+      text = occurrence_text targets (units_of fields) o is;
+      sysno = number;
+      seq = omega (arith, unit, is.same_seq);
+      pos = counted_from 1 terms (o.pos, o.key.term) (has_contained (enumerate_from 1 terms) (o.pos, o.key.term) is.in_unit);
+    }
+
+-- ---- what registers hold
+
+-- what is posted of numbered records can be stored
+pub posted_storable : (profile : List Directive) (records_of : ℤ → List Kept) → AreNumbered records_of → (content : Content) → ArePosted profile records_of content → IsStorable content
+posted_storable profile records_of numbered content posted db key p there =
+    let it = (posted.each db p.sysno (record { key = key; seq = p.seq; pos = p.pos })).0 there in
+    let number = subst (λ (n : ℕ). (1 ≤ n) × (n ≤ 999999999)) it.2 (numbered db it.0 it.1) in
+    occurrence_storable (unit_targets profile) (fields_of it.0.bytes) (record { key = key; seq = p.seq; pos = p.pos }) p.sysno it.3 number

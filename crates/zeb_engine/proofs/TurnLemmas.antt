@@ -21,7 +21,7 @@ use Rattle.zeb_engine.specs.Conditions.{Conditions}
 use Rattle.zeb_engine.specs.Folding.{Changed, updated, deleted}
 use Rattle.zeb_engine.specs.Holdings.{Base, Kept, kept_as, with_new, with_bytes, without_ident}
 use Rattle.zeb_engine.specs.Image.{IsBase}
-use Rattle.zeb_engine.specs.Records.{AreOccurrencesOf, IsNewer, IsElderAs}
+use Rattle.zeb_engine.specs.PrivateRecords.{AreOccurrencesOf, IsNewer, IsElderAs}
 use Rattle.zeb_engine.specs.Works.{Meets, IsTaken, IsUnderWay}
 use Rattle.zeb_engine.proofs.KeptLemmas.{kept_found}
 use Rattle.zeb_engine.proofs.UnderWay.{meets_failure, meets_so, same_way, same_names, taken_after, IsMoved}

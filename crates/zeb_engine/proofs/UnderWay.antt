@@ -15,7 +15,7 @@ use Rattle.zeb_register.proofs.Calls.{store_same}
 use Rattle.zeb_engine.specs.declared.refusals.Refusal.{Refusal}
 use Rattle.zeb_engine.specs.declared.tally.Fate.{Fate}
 use Rattle.zeb_engine.specs.Answers.{Why, why_of, refused, IsFailure}
-use Rattle.zeb_engine.specs.ChangedKeys.{ArePostingsOf, IsReposted}
+use Rattle.zeb_engine.specs.PrivateChangedKeys.{ArePostingsOf, IsReposted}
 use Rattle.zeb_engine.specs.Folding.{Changed}
 use Rattle.zeb_engine.specs.Holdings.{Base, Kept}
 use Rattle.zeb_engine.specs.Image.{IsBase, AreKept, AreStored}
@@ -70,6 +70,7 @@ module _ (format : Format) (profile : List Directive) (id : ℤ) (records_of : �
     store_same old new same under.0,
     subst (λ (db : Database). AreStored format profile db.trees (with_records id base.records records_of)) (sym same) under.1,
     under.2,
+    under.3,
   )
 
   pub same_names : (old new : State) → new.now ≡ old.now → KeepsNames old new
@@ -117,6 +118,7 @@ module _ (format : Format) (profile : List Directive) (id : ℤ) (records_of : �
                 posted = posted_after profile id records_of sysno elder newer base.records next.records swap under.1.content under.1.posted after change;
               },
               is,
+              under.3,
             ),
             (moved.1.0 ∙ put.others.0 (λ same. omega (arith, same)), moved.1.1 ∙ put.others.1.0 (λ same. omega (arith, same))),
           )

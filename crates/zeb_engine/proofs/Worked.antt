@@ -1,6 +1,10 @@
 -- "Moby Dick" is kept, and again, refused with what stands behind it, and found.
-use Rattle.std.proofs.Common.{◌≡◌, ◌↔◌, ◌∙◌, ℕ, ◌≤◌, Bool, true, false, not, List, [], ◌∷◌, None, Some, Ok, nat_le, refl, sym, ap, ap₂, subst, inl, inr, codes, arith}
+use Rattle.std.proofs.Common.{◌≡◌, ◌↔◌, ◌∙◌, ℕ, ◌≤◌, Bool, true, false, not, List, [], ◌∷◌, Option, None, Some, Ok, nat_le, refl, sym, ap, ap₂, subst, inl, inr, codes, arith}
+use lib.Utf8.{encode}
+use Rattle.std.specs.List.{Contains}
+use Rattle.std.specs.List.Sorted.{IsStrictlySortedBy}
 use Rattle.std.specs.Str.{bytes_eq}
+use Rattle.sqlite_rules.proofs.ListLemmas.{has_contained}
 use Rattle.std.proofs.lemmas.Bool.Decides.{nat_tests}
 use Rattle.std.proofs.lemmas.List.Elements.{All-contains}
 use Rattle.std.proofs.lemmas.List.Sums.{AllPass-from_list_all}
@@ -15,6 +19,8 @@ use Rattle.zeb_marc.specs.Worked.{worked_record, worked_fields}
 use Rattle.zeb_profile.specs.declared.registers.Register.TheVariants.{Word}
 use Rattle.zeb_extract.specs.declared.keys.Key.{Key}
 use Rattle.zeb_extract.specs.declared.keys.Occurrence.{Occurrence}
+use Rattle.zeb_query.specs.Plans.{PlanValue}
+use Rattle.zeb_register.specs.Occurring.{HasKey}
 use Rattle.zeb_extract.specs.Identifier.{identifier_of}
 use Rattle.zeb_extract.specs.Occurrences.{IsOccurrence}
 use Rattle.zeb_extract.specs.Sample.{moby_dick, moby_dick_analysis, title_profile, term_at}
@@ -27,12 +33,13 @@ use Rattle.zeb_engine.specs.declared.faults.RecordFault.TheVariants as fault
 use Rattle.zeb_engine.specs.declared.tally.Fate.TheVariants.{Inserted, Updated}
 use Rattle.zeb_engine.specs.Answers.{Answer, done, changed, refused, found, faulty}
 use Rattle.zeb_engine.specs.Conditions.{Conditions}
-use Rattle.zeb_engine.specs.Finding.{HasKey, Picks, shown_of, IsFound}
+use Rattle.zeb_engine.specs.Finding.{AreNumbers, AreShown, IsFound, IsFoundBy, OccursIn, TreeHolds, has_name, occurs, plan_key}
 use Rattle.zeb_engine.specs.Folding.{Progress, at_first, counted, folded, ident_in}
 use Rattle.zeb_engine.specs.Holdings.{Holdings, Base, Kept, new_base, with_base, with_new, with_bytes}
 use Rattle.zeb_engine.specs.Steps.{initialised, turned, changed_by_files, splits_of}
 use Rattle.zeb_engine.proofs.StepLemmas.{outcome}
-use Rattle.zeb_engine.specs.Worked.{book, book_base, book_conditions, faulty_file, no_books, one_book, title_word, IsUpdateBy}
+use Rattle.zeb_engine.proofs.OneAnswer.{found_once, name_once}
+use Rattle.zeb_engine.specs.Worked.{book, book_base, book_conditions, faulty_file, no_books, one_book, title_plan, title_word, IsUpdateBy}
 use Rattle.zeb_engine.proofs.WorkedLemmas.{new_folded, old_folded, whole_file, faulty_file as fault_behind, update_done, update_refused}
 
 -- ---- the record
@@ -65,50 +72,89 @@ then_fault = refl
 
 -- ---- what it has
 
-has_word : HasKey title_profile (title_word (codes "whale")) book
+abbrev pub book_occurs : ℕ → Occurrence → Type 0
+book_occurs = occurs title_profile book_base.records
+
+abbrev pub book_named : ℕ → List ℕ → Type 0
+book_named = has_name book_base.records
+
+has_word : HasKey book_occurs (title_word (codes "whale")) 1
 has_word =
     let o = term_at 0 Word 3 3 (codes "whale") in
-    (o, subst (λ units. IsOccurrence (unit_targets title_profile) units o) (sym units_are) ((members o).0 (4, omega arith, refl)), refl)
+    (o, (book, (0, omega arith, refl), refl, subst (λ units. IsOccurrence (unit_targets title_profile) units o) (sym units_are) ((members o).0 (4, omega arith, refl))), refl)
+
+-- the record is the one that there is
+is_book : (kept : Kept) → Contains book_base.records kept → kept ≡ book
+is_book kept there = elim (has_contained book_base.records kept there) [ inl same ↦ same | inr none ↦ absurd none ]
 
 abbrev is_other : Occurrence → Bool
 is_other o = not (bytes_eq o.key.term (codes "ahab"))
 
-pub has_no_other : ¬ HasKey title_profile (title_word (codes "ahab")) book
-has_no_other has =
-    let there = (members has.0).1 (subst (λ units. IsOccurrence (unit_targets title_profile) units has.0) units_are has.1) in
+pub has_no_other : (n : ℕ) → ¬ HasKey book_occurs (title_word (codes "ahab")) n
+has_no_other n has =
+    let occurs_there = subst (λ (k : Kept). OccursIn title_profile k has.0) (is_book has.1.0 has.1.1) has.1.3 in
+    let there = (members has.0).1 (subst (λ units. IsOccurrence (unit_targets title_profile) units has.0) units_are occurs_there) in
     let other : is_other has.0 ≡ true = All-contains (λ o. is_other o ≡ true) moby_dick_analysis has.0 (AllPass-from_list_all is_other moby_dick_analysis refl) there in
     let same : false ≡ true = sym (ap (λ k. not (bytes_eq k.term (codes "ahab"))) has.2) ∙ other in
     absurd cc
 
--- a record that has the key is the one that is picked
-one_pick : (key : Key) → HasKey title_profile key book → (hits : List Kept) → Picks (HasKey title_profile key) (book ∷ []) hits → hits ≡ book ∷ []
-one_pick key has hits (inl one) = one.1.1 ∙ ap (λ rest. book ∷ rest) one.1.2
-one_pick key has hits (inr none) = absurd (none.0 has)
-
-no_pick : (key : Key) → ¬ HasKey title_profile key book → (hits : List Kept) → Picks (HasKey title_profile key) (book ∷ []) hits → hits ≡ []
-no_pick key hasnt hits (inl one) = absurd (hasnt one.0)
-no_pick key hasnt hits (inr none) = none.1
-
 abbrev pub one_found : Answer
 one_found = found 1 ((1, codes "a1") ∷ [])
 
-shown_one : shown_of (book ∷ []) 1 20 ≡ one_found
-shown_one = refl
+whale_key : plan_key (title_plan (codes "whale")) ≡ Some (title_word (codes "whale"))
+unfolding encode
+whale_key = refl
 
-shown_none : shown_of [] 1 20 ≡ found 0 []
-shown_none = refl
+ahab_key : plan_key (title_plan (codes "ahab")) ≡ Some (title_word (codes "ahab"))
+unfolding encode
+ahab_key = refl
 
-pub word_found : (answer : Answer) → IsFound title_profile (title_word (codes "whale")) 1 20 book_base answer ↔ (answer ≡ one_found)
-word_found answer = (
-  λ is. is.2 ∙ ap (λ hits. shown_of hits 1 20) (one_pick (title_word (codes "whale")) has_word is.0 is.1) ∙ shown_one,
-  λ same. (book ∷ [], inl (has_word, ([], refl, refl)), same ∙ sym shown_one),
+-- just the record's number is a hit
+whale_hits : AreNumbers (TreeHolds book_occurs (title_plan (codes "whale"))) (1 ∷ [])
+unfolding IsStrictlySortedBy
+whale_hits = record {
+  rising = (tt, tt);
+  each = λ n. (
+    λ h. elim h [ inl same ↦ (title_word (codes "whale"), whale_key, subst (HasKey book_occurs (title_word (codes "whale"))) (sym same) has_word) | inr none ↦ absurd none ],
+    λ holds. inl (sym holds.2.1.2 ∙ ap (λ (k : Kept). k.sysno) (is_book holds.2.1.0 holds.2.1.1)),
+  );
+}
+
+no_hits : AreNumbers (TreeHolds book_occurs (title_plan (codes "ahab"))) []
+unfolding IsStrictlySortedBy
+no_hits = record {
+  rising = tt;
+  each = λ n. (
+    λ h. absurd h,
+    λ holds.
+        let both : ◌≡◌ {A = Option Key} (Some holds.0) (Some (title_word (codes "ahab"))) = sym holds.1 ∙ ahab_key in
+        let one : holds.0 ≡ title_word (codes "ahab") = cc in
+        absurd (has_no_other n (subst (λ (k : Key). HasKey book_occurs k n) one holds.2)),
+  );
+}
+
+book_shown : AreShown book_named (1 ∷ []) ((1, codes "a1") ∷ [])
+book_shown = record { in_order = refl; named = λ hit there. elim there [ inl same ↦ subst (λ (h : ℕ × List ℕ). book_named h.0 h.1) (sym same) refl | inr none ↦ absurd none ] }
+
+none_shown : AreShown book_named [] []
+none_shown = record { in_order = refl; named = λ hit there. absurd there }
+
+-- one answer, and no other
+just_one : (plan : PlanValue) (told : Answer) → IsFound book_occurs book_named plan 1 20 told → (answer : Answer) → IsFound book_occurs book_named plan 1 20 answer ↔ (answer ≡ told)
+just_one plan told is answer = (
+  λ given. found_once book_occurs book_named (name_once book_base.records) 1 20 answer told plan given is,
+  λ same. subst (IsFound book_occurs book_named plan 1 20) (sym same) is,
 )
 
-pub word_not_found : (answer : Answer) → IsFound title_profile (title_word (codes "ahab")) 1 20 book_base answer ↔ (answer ≡ found 0 [])
-word_not_found answer = (
-  λ is. is.2 ∙ ap (λ hits. shown_of hits 1 20) (no_pick (title_word (codes "ahab")) has_no_other is.0 is.1) ∙ shown_none,
-  λ same. ([], inr (has_no_other, refl), same ∙ sym shown_none),
-)
+pub word_found : (answer : Answer) → IsFound book_occurs book_named (title_plan (codes "whale")) 1 20 answer ↔ (answer ≡ one_found)
+word_found = just_one (title_plan (codes "whale")) one_found (1 ∷ [], whale_hits, ((1, codes "a1") ∷ [], book_shown, refl))
+
+pub word_not_found : (answer : Answer) → IsFound book_occurs book_named (title_plan (codes "ahab")) 1 20 answer ↔ (answer ≡ found 0 [])
+word_not_found = just_one (title_plan (codes "ahab")) (found 0 []) ([], no_hits, ([], none_shown, refl))
+
+-- the word is asked for by its plan
+pub word_planned : IsFoundBy book_occurs book_named (plan_key (title_plan (codes "whale"))) (title_plan (codes "whale")) 1 20 one_found
+word_planned = subst (λ (o : Option Key). IsFoundBy book_occurs book_named o (title_plan (codes "whale")) 1 20 one_found) (sym whale_key) ((word_found one_found).1 refl)
 
 -- ---- the commands
 

@@ -1,21 +1,19 @@
 -- The word of a title, asked for by a query's text.
-use Rattle.std.proofs.Common.{◌≡◌, ◌↔◌, ℕ, false, List, [], ◌∷◌, map, None, Ok, refl, sym, subst, codes, string_bytes}
+use Rattle.std.proofs.Common.{◌≡◌, ◌↔◌, ℕ, List, [], ◌∷◌, None, Ok, refl, sym, subst, codes, string_bytes}
 use Rattle.std.specs.Str.{chars, is_utf8}
 use lib.Utf8.{encode}
 use Rattle.ucd_category.proofs.Computing.{ucd_category}
 use Rattle.caseless.proofs.Computing.{caseless}
 use Rattle.zeb_text.specs.Folding.{folded}
 use Rattle.zeb_text.specs.Words.{is_word_character, runs_of}
-use Rattle.zeb_text.specs.Symbols.{Char}
 use Rattle.zeb_text.specs.Truncation.{truncated}
 use Rattle.zeb_query.specs.Words.{Word, words_at, unquoted}
 use Rattle.zeb_query.specs.Queries.{QueryValue, TermValue}
 use Rattle.zeb_query.specs.Grammar.{IsQuery, is_term, is_attribute, is_structure, kind_and_value, no_head, under, with_attribute}
-use Rattle.zeb_query.proofs.TextFaults.{one_query}
-use Rattle.zeb_query.proofs.WordStretches.{words_are_read}
 use Rattle.zeb_query.specs.Reading.{SpellsQuery, query_fault}
 use Rattle.zeb_query.specs.Holding.{holding_of}
-use Rattle.zeb_query.specs.Plans.{PlanValue, TermOf, PhraseOf, leaf_plan, plan_asked, plan_of}
+use Rattle.zeb_query.proofs.WordStretches.{words_are_read}
+use Rattle.zeb_query.specs.Plans.{leaf_plan, plan_asked, plan_of}
 use Rattle.zeb_extract.specs.Sample.{title_profile}
 use Rattle.zeb_engine.specs.declared.commands.Command.{Command}
 use Rattle.zeb_engine.specs.declared.commands.Command.TheVariants.{Init, Check, Create, Drop, Stat, Dump, Change, Find, Scan, Analyse}
@@ -23,11 +21,12 @@ use Rattle.zeb_engine.specs.declared.commands.Limits.{Limits}
 use Rattle.zeb_engine.specs.NameOf.{name_bytes}
 use Rattle.zeb_engine.specs.Answers.{Answer}
 use Rattle.zeb_engine.specs.Conditions.{Conditions}
-use Rattle.zeb_engine.specs.Finding.{IsFound, IsPlanned, IsAnswered, word_key}
+use Rattle.zeb_engine.specs.Finding.{IsPlanned}
 use Rattle.zeb_engine.specs.Holdings.{Holdings}
-use Rattle.zeb_engine.specs.Steps.{FoundFrom, FoundAmong, ready, Step}
-use Rattle.zeb_engine.specs.Worked.{book_base, book_conditions, one_book, title_word, IsFindBy}
-use Rattle.zeb_engine.proofs.Worked.{one_found, word_found}
+use Rattle.zeb_engine.specs.Steps.{AskedAmong, FindAnswers, FoundFrom, ready, Step}
+use Rattle.zeb_engine.specs.Worked.{book_base, book_conditions, one_book, title_plan, IsFindBy}
+use Rattle.zeb_engine.proofs.OneAnswer.{answered_once, name_once}
+use Rattle.zeb_engine.proofs.Worked.{book_named, book_occurs, one_found, word_planned}
 use Rattle.zeb_engine.proofs.WorkedLemmas.{ready_held}
 
 abbrev text : List ℕ
@@ -41,9 +40,6 @@ term = plain 10 (codes "whale")
 
 abbrev query : QueryValue
 query = record { attribute_set = None; tree = under (with_attribute None (1, codes "4")) (TermValue 10 no_head (codes "whale")) }
-
-abbrev plan : PlanValue
-plan = TermOf (PhraseOf 0 (map Char (codes "whale") ∷ []) false)
 
 words_are : words_at 0 (chars text) ≡ plain 0 (codes "@attr") ∷ plain 6 (codes "1=4") ∷ term ∷ []
 unfolding chars is_utf8 encode
@@ -60,48 +56,41 @@ sound : query_fault text ≡ None
 unfolding chars is_utf8 encode kind_and_value
 sound = refl
 
-planned : plan_of title_profile query ≡ Ok plan
+planned : plan_of title_profile query ≡ Ok (title_plan (codes "whale"))
 unfolding leaf_plan plan_asked holding_of chars is_utf8 encode caseless ucd_category folded is_word_character runs_of truncated
 planned = refl
 
-key_is : word_key 0 (codes "whale") ≡ title_word (codes "whale")
-unfolding encode
-key_is = refl
+abbrev Answers : Answer → Type 0
+Answers = FindAnswers title_profile text 1 20 book_base
 
-answered : IsAnswered title_profile text 1 20 book_base one_found
-answered =
-    let by_key = subst (λ key. IsFound title_profile key 1 20 book_base one_found) (sym key_is) ((word_found one_found).1 refl) in
-    (query, spells, subst (λ p. IsPlanned title_profile p 1 20 book_base one_found) (sym planned) by_key)
+answered : Answers one_found
+answered = (query, spells, subst (λ p. IsPlanned book_occurs book_named p 1 20 one_found) (sym planned) word_planned)
 
--- no other query is spelled, and so nothing else is answered
-answered_once : (answer : Answer) → IsAnswered title_profile text 1 20 book_base answer → answer ≡ one_found
-answered_once answer is =
-    let same : is.0 ≡ query = one_query text is.0 query is.1 spells in
-    let by_query = subst (λ q. IsPlanned title_profile (plan_of title_profile q) 1 20 book_base answer) same is.2 in
-    let by_plan = subst (λ p. IsPlanned title_profile p 1 20 book_base answer) planned by_query in
-    (word_found answer).0 (subst (λ key. IsFound title_profile key 1 20 book_base answer) key_is by_plan)
+-- nothing else is answered
+only_answered : (answer : Answer) → Answers answer → answer ≡ one_found
+only_answered answer is = answered_once book_occurs book_named (name_once book_base.records) 1 20 answer one_found title_profile text is answered
 
 module _ (version : List ℕ) (limits : Limits) (answer : Answer) where
   abbrev c : Conditions
   c = book_conditions version limits
 
   -- the text has no fault, and the database is there
-  here : IsAnswered title_profile text 1 20 book_base answer → FoundFrom c (codes "Default") text 1 20 (ready c (one_book version)) answer
+  here : Answers answer → FoundFrom c (codes "Default") text 1 20 (ready c (one_book version)) answer
   here is =
-      let among = subst (λ fault. FoundAmong c (codes "Default") text 1 20 (book_base ∷ []) fault answer) (sym sound) is in
+      let among = subst (λ fault. AskedAmong (FindAnswers title_profile text 1 20) (codes "Default") (book_base ∷ []) fault answer) (sym sound) is in
       subst (λ bases. FoundFrom c (codes "Default") text 1 20 bases answer) (sym (ready_held c (book_base ∷ []))) among
 
-  there : FoundFrom c (codes "Default") text 1 20 (ready c (one_book version)) answer → IsAnswered title_profile text 1 20 book_base answer
+  there : FoundFrom c (codes "Default") text 1 20 (ready c (one_book version)) answer → Answers answer
   there is =
       let among = subst (λ bases. FoundFrom c (codes "Default") text 1 20 bases answer) (ready_held c (book_base ∷ [])) is in
-      subst (λ fault. FoundAmong c (codes "Default") text 1 20 (book_base ∷ []) fault answer) sound among
+      subst (λ fault. AskedAmong (FindAnswers title_profile text 1 20) (codes "Default") (book_base ∷ []) fault answer) sound among
 
   -- asked under any names for the four parts of the command
   asked_as : (name words : List ℕ) (first count : ℕ) → name ≡ codes "Default" → words ≡ text → first ≡ 1 → count ≡ 20
       → FoundFrom c name words first count (ready c (one_book version)) answer ↔ (answer ≡ one_found)
   asked_as name words first count is_name is_text is_first is_count =
       let asked_here : FoundFrom c (codes "Default") text 1 20 (ready c (one_book version)) answer ↔ (answer ≡ one_found) =
-      (λ h. answered_once answer (there h), λ same. here (subst (λ a. IsAnswered title_profile text 1 20 book_base a) (sym same) answered)) in
+      (λ h. only_answered answer (there h), λ same. here (subst (λ a. Answers a) (sym same) answered)) in
       let by_name = subst (λ n. FoundFrom c n text 1 20 (ready c (one_book version)) answer ↔ (answer ≡ one_found)) (sym is_name) asked_here in
       let by_text = subst (λ t. FoundFrom c name t 1 20 (ready c (one_book version)) answer ↔ (answer ≡ one_found)) (sym is_text) by_name in
       let by_first = subst (λ n. FoundFrom c name words n 20 (ready c (one_book version)) answer ↔ (answer ≡ one_found)) (sym is_first) by_text in

@@ -1,6 +1,5 @@
 -- What each command that writes leaves in the tables is the image of its outcome.
 use Rattle.std.proofs.Common.{◌≡◌, ◌∙◌, ℕ, ℤ, pos, List, [], Result, Ok, Err, IfErr, OnOk, refl, sym, ap, subst, inl, arith}
-use Rattle.sqlite.specs.Tree.{Trees}
 use Rattle.sqlite.specs.State.{State}
 use Rattle.zeb_profile.specs.declared.directives.Directive.{Directive}
 use Rattle.zeb_register.specs.Calls.{GoesOn}
@@ -20,7 +19,7 @@ use Rattle.zeb_engine.specs.Image.{IsImage}
 use Rattle.zeb_engine.specs.Steps.{Outcome, holding, initialised, turned, created, dropped}
 use Rattle.zeb_engine.specs.Transactions.{Stays}
 use Rattle.zeb_engine.specs.Works.{Works}
-use Rattle.zeb_engine.specs.Writing.{AreOf, IsFree, IsKnown}
+use Rattle.zeb_engine.specs.PrivateWriting.{AreOf, IsFree, IsKnown}
 use Rattle.zeb_engine.proofs.Beginning.{texts_still}
 use Rattle.zeb_engine.proofs.Creating.{with_new_base, created_image}
 use Rattle.zeb_engine.proofs.Dropping.{without_bases, dropped_image}

@@ -1,10 +1,9 @@
 -- What a crash leaves on the disk, as an open finds it.
-use Rattle.std.specs.Prelude.{◌≡◌, ◌≢◌, ◌⊎◌, ℕ, List, [], ◌∷◌, take, Option, Some, None, Result, Ok, Err, IsTrue}
+use Rattle.std.specs.Prelude.{◌≡◌, ◌≢◌, ◌⊎◌, ℕ, List, [], ◌∷◌, take, Result, Ok, Err, IsTrue}
 use Rattle.std.specs.List.{AllByRecursion}
 use Rattle.sqlite.specs.Tree.{Trees}
 use Rattle.sqlite.specs.Effect.{IsDatabase}
 use Rattle.sqlite.specs.State.{State}
-use Rattle.zeb_register.specs.Content.{Content}
 use Rattle.zeb_register.specs.Sql.{IsKeyed}
 use Rattle.zeb_register.specs.Store.{IsStore, LacksLists, LacksRegisters}
 use Rattle.zeb_register.specs.Tables.{no_schema, store_schema}
@@ -17,7 +16,6 @@ use Rattle.zeb_engine.specs.Conditions.{Conditions}
 use Rattle.zeb_engine.specs.Holdings.{Holdings, nothing_yet}
 use Rattle.zeb_engine.specs.Image.{IsImage, Keeps}
 use Rattle.zeb_engine.specs.Steps.{Answered, Outcome, Run, Step}
-use Rattle.zeb_register.specs.Formats.{Format}
 
 -- ---- what a disk stands for
 

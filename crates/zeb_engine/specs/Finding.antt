@@ -1,8 +1,13 @@
--- What a query finds, by reading all kept records from nothing (Z39.50 Bib-1: a word in an index). No register is
--- looked into: a record is found where the word is among the occurrences of its bytes.
-use Rattle.std.specs.Prelude.{◌≡◌, ◌⊎◌, ℕ, ◌-◌, Bool, false, List, [], ◌∷◌, Option, None, Some, Result, Ok, Err, length, map, take, drop, nat_lt, ◌&&◌, encode_utf8_all, if◌then◌else◌}
+-- What a query finds among the records that have a set of occurrences (Z39.50 Bib-1: a word in an index). Such a set says of a record's
+-- number and an occurrence whether the record has it. Read with the bytes of all kept records, from nothing, it tells what a find answers;
+-- read with the postings of the registers, what it answers by the registers alone.
+use Rattle.std.specs.Prelude.{◌≡◌, ◌↔◌, ℕ, ◌-◌, Bool, false, List, [], ◌∷◌, Option, None, Some, Result, Ok, Err, length, map, find, take, drop, nat_eq, nat_lt, ◌&&◌, encode_utf8_all, if◌then◌else◌}
+use Rattle.std.specs.List.{Contains}
+use Rattle.std.specs.List.Sorted.{IsStrictlySortedBy}
 use Rattle.std.specs.Option.{option_map}
+use Rattle.std.specs.Ordering.{nat_cmp}
 use Rattle.std.specs.Fmt.{decimal}
+use Rattle.sqlite_rules.specs.Lists.{Has}
 use Rattle.zeb_marc.specs.Records.{fields_of}
 use Rattle.zeb_marc.specs.Contents.{units_of}
 use Rattle.zeb_text.specs.Symbols.{Symbol, Char, Star}
@@ -16,30 +21,23 @@ use Rattle.zeb_query.specs.Plans.{PlanValue, TermOf, PairOf, NearOf, TermPlanVal
 use Rattle.zeb_extract.specs.declared.keys.Key.{Key}
 use Rattle.zeb_extract.specs.declared.keys.Occurrence.{Occurrence}
 use Rattle.zeb_extract.specs.Occurrences.{IsOccurrence}
-use Rattle.zeb_engine.specs.Answers.{Answer, found, refused, diagnostic, unsupported}
-use Rattle.zeb_engine.specs.Holdings.{Base, Kept}
+use Rattle.zeb_register.specs.Occurring.{HasKey}
+use Rattle.zeb_engine.specs.Answers.{Answer, Why, found, refused, diagnostic, unsupported}
+use Rattle.zeb_engine.specs.Holdings.{Kept}
+
+-- ---- kept records
 
 -- an occurrence of a kept record, from its bytes
 abbrev pub OccursIn : List Directive → Kept → Occurrence → Type 0
 OccursIn profile kept o = IsOccurrence (unit_targets profile) (units_of (fields_of kept.bytes)) o
 
--- the record has the key somewhere
-abbrev pub HasKey : List Directive → Key → Kept → Type 0
-HasKey profile key kept = (o : Occurrence) × OccursIn profile kept o × (o.key ≡ key)
+-- the set of their occurrences: a kept record of this number has the occurrence
+abbrev pub occurs : List Directive → List Kept → ℕ → Occurrence → Type 0
+occurs profile records n o = (kept : Kept) × Contains records kept × (kept.sysno ≡ n) × OccursIn profile kept o
 
--- just those of a list that are P, in its order
-abbrev pub Picks : (P : Kept → Type 0) → List Kept → List Kept → Type 0
-Picks P [] picked = picked ≡ []
-Picks P (kept ∷ more) picked = (P kept × ((rest : List Kept) × (picked ≡ kept ∷ rest) × Picks P more rest)) ⊎ ((¬ P kept) × Picks P more picked)
-
--- a first record past the last hit is diagnostic 13, which names it; else those from the first-th on are shown, at most count
-abbrev pub shown_of : List Kept → ℕ → ℕ → Answer
-shown_of hits first count =
-    if nat_lt 1 first && nat_lt (length hits) first then refused (diagnostic 13 0 (decimal first))
-    else found (length hits) (map (λ kept. (kept.sysno, kept.ident)) (take count (drop (first - 1) hits)))
-
-abbrev pub IsFound : List Directive → Key → ℕ → ℕ → Base → Answer → Type 0
-IsFound profile key first count base answer = (hits : List Kept) × Picks (HasKey profile key) base.records hits × (answer ≡ shown_of hits first count)
+-- the record of this number has the identifier
+abbrev pub has_name : List Kept → ℕ → List ℕ → Type 0
+has_name records n ident = option_map (λ kept. kept.ident) (find (λ kept. nat_eq kept.sysno n) records) ≡ Some ident
 
 -- ---- what a query asks for
 
@@ -66,15 +64,49 @@ plan_key (TermOf plan) = term_key plan
 plan_key (PairOf op left right) = None
 plan_key (NearOf index left right separation) = None
 
-abbrev pub IsFoundBy : List Directive → Option Key → ℕ → ℕ → Base → Answer → Type 0
-IsFoundBy profile None first count base answer = answer ≡ refused unsupported
-IsFoundBy profile (Some key) first count base answer = IsFound profile key first count base answer
+-- the plan holds of the record with this number
+abbrev pub TreeHolds : (ℕ → Occurrence → Type 0) → PlanValue → ℕ → Type 0
+TreeHolds O plan n = (key : Key) × (plan_key plan ≡ Some key) × HasKey O key n
 
--- a query that has no plan is refused by its first diagnostic
-abbrev pub IsPlanned : List Directive → Result PlanValue Refusal → ℕ → ℕ → Base → Answer → Type 0
-IsPlanned profile (Err e) first count base answer = answer ≡ refused (diagnostic e.number e.place e.addinfo)
-IsPlanned profile (Ok plan) first count base answer = IsFoundBy profile (plan_key plan) first count base answer
+-- just the numbers that are P, rising
+pub record AreNumbers (P : ℕ → Type 0) (numbers : List ℕ) : Type 0 where
+  pub rising : IsStrictlySortedBy nat_cmp numbers
+  pub each : (n : ℕ) → Has numbers n ↔ P n
 
--- the answer to a query's text in a database: the text spells one query
-abbrev pub IsAnswered : List Directive → List ℕ → ℕ → ℕ → Base → Answer → Type 0
-IsAnswered profile text first count base answer = (query : QueryValue) × SpellsQuery text query × IsPlanned profile (plan_of profile query) first count base answer
+-- ---- what is shown
+
+-- those from the first-th on, at most count; a first past the last is diagnostic 13, which names it
+abbrev pub asked_of : List ℕ → ℕ → ℕ → Result (List ℕ) Why
+asked_of hits first count =
+    if nat_lt 1 first && nat_lt (length hits) first then Err (diagnostic 13 0 (decimal first)) else Ok (take count (drop (first - 1) hits))
+
+-- the records of these numbers, in their order, each with its identifier
+pub record AreShown (Named : ℕ → List ℕ → Type 0) (numbers : List ℕ) (shown : List (ℕ × List ℕ)) : Type 0 where
+  pub in_order : map (λ hit. hit.0) shown ≡ numbers
+  pub named : (hit : ℕ × List ℕ) → Has shown hit → Named hit.0 hit.1
+
+-- ---- the answer
+
+-- `O` is a set of occurrences, and `Named` tells the identifier of each record
+module _ (O : ℕ → Occurrence → Type 0) (Named : ℕ → List ℕ → Type 0) where
+  abbrev pub IsShown : List ℕ → Result (List ℕ) Why → Answer → Type 0
+  IsShown hits (Err why) answer = answer ≡ refused why
+  IsShown hits (Ok asked) answer = (shown : List (ℕ × List ℕ)) × AreShown Named asked shown × (answer ≡ found (length hits) shown)
+
+  -- all hits are counted, and those that are asked for are shown
+  abbrev pub IsFound : PlanValue → ℕ → ℕ → Answer → Type 0
+  IsFound plan first count answer = (hits : List ℕ) × AreNumbers (TreeHolds O plan) hits × IsShown hits (asked_of hits first count) answer
+
+  -- a plan that has no key is not answered yet
+  abbrev pub IsFoundBy : Option Key → PlanValue → ℕ → ℕ → Answer → Type 0
+  IsFoundBy None plan first count answer = answer ≡ refused unsupported
+  IsFoundBy (Some key) plan first count answer = IsFound plan first count answer
+
+  -- a query that has no plan is refused by its first diagnostic
+  abbrev pub IsPlanned : Result PlanValue Refusal → ℕ → ℕ → Answer → Type 0
+  IsPlanned (Err e) first count answer = answer ≡ refused (diagnostic e.number e.place e.addinfo)
+  IsPlanned (Ok plan) first count answer = IsFoundBy (plan_key plan) plan first count answer
+
+  -- the answer to a query's text: the text spells one query
+  abbrev pub IsAnswered : List Directive → List ℕ → ℕ → ℕ → Answer → Type 0
+  IsAnswered profile text first count answer = (query : QueryValue) × SpellsQuery text query × IsPlanned (plan_of profile query) first count answer

@@ -2,16 +2,13 @@
 -- keeping its number; the registers hold exactly the kept records' postings; every answered find and scan is what reading
 -- all kept records from nothing gives; and a refused command changes nothing.
 use Rattle.std.specs.Prelude.{List, map, Result}
-use Rattle.sqlite.specs.Tree.{Trees}
 use Rattle.sqlite.specs.State.{State, HasCleanDisk}
-use Rattle.zeb_register.specs.Content.{Content}
 use Rattle.zeb_engine.specs.declared.commands.Command.{Command}
 use Rattle.zeb_engine.specs.declared.refusals.Refusal.{Refusal}
 use Rattle.zeb_engine.specs.declared.replies.Reply.{Reply}
 use Rattle.zeb_engine.specs.Answers.{answer_of}
 use Rattle.zeb_engine.specs.Conditions.{Conditions}
 use Rattle.zeb_engine.specs.Works.{Runs}
-use Rattle.zeb_register.specs.Formats.{Format}
 
 -- From tables that are an image, on a disk that has returned what was written: the answers are those of a run of the commands,
 -- and the tables are then the image of what the run leaves.

@@ -7,19 +7,17 @@ use Rattle.std.specs.Cmp.Lexicographic.{slice_cmp}
 use Rattle.std.specs.List.Sorted.{IsStrictlySortedBy}
 use Rattle.sqlite.specs.Tree.{Trees}
 use Rattle.sqlite.specs.State.{State}
-use Rattle.sqlite_rules.specs.Lists.{Has}
 use Rattle.zeb_marc.specs.Records.{first_fault}
 use Rattle.zeb_profile.specs.declared.directives.Directive.{Directive}
 use Rattle.zeb_profile.specs.Indexes.{identifier_pattern}
 use Rattle.zeb_profile.specs.Canonical.{canonical_text, pattern_text}
 use Rattle.zeb_profile.specs.Laws.{IsProfile}
-use Rattle.zeb_extract.specs.declared.keys.Key.{Key}
-use Rattle.zeb_register.specs.declared.registers.Posting.{Posting}
-use Rattle.zeb_register.specs.Content.{Content, IsRising}
+use Rattle.zeb_extract.specs.declared.keys.Occurrence.{Occurrence}
+use Rattle.zeb_register.specs.Content.{Content, IsRising, posted}
 use Rattle.zeb_register.specs.Sql.{HasRow}
 use Rattle.zeb_register.specs.Store.{IsStore, HasDatabase, HasRecord, LacksLists, LacksRegisters, entry, meta_tree}
 use Rattle.zeb_engine.specs.Names.{IsDatabaseName}
-use Rattle.zeb_engine.specs.Finding.{OccursIn}
+use Rattle.zeb_engine.specs.Finding.{occurs}
 use Rattle.zeb_engine.specs.Folding.{ident_in}
 use Rattle.zeb_engine.specs.Holdings.{Holdings, nothing_yet, under, Base, Kept}
 use Rattle.zeb_register.specs.Formats.{Format, holds_in, version_of}
@@ -64,8 +62,7 @@ AreListed trees bases id_of = (id : ℤ) (name : List ℕ) (last : ℤ) → HasD
 -- the postings are just those of the records' occurrences
 pub record ArePosted (profile : List Directive) (records_of : ℤ → List Kept) (content : Content) : Type 0 where
   pub rising : IsRising content
-  pub each : (id : ℤ) (key : Key) (p : Posting) → Has (content id key) p
-      ↔ ((kept : Kept) × Contains (records_of id) kept × (kept.sysno ≡ p.sysno) × OccursIn profile kept (record { key = key; seq = p.seq; pos = p.pos }))
+  pub each : (id : ℤ) (n : ℕ) (o : Occurrence) → posted content id n o ↔ occurs profile (records_of id) n o
 
 abbrev pub AreKept : Trees → (ℤ → List Kept) → Type 0
 AreKept trees records_of = (id sysno : ℤ) (ident bytes : List ℕ) → HasRecord trees id sysno ident bytes

@@ -1,8 +1,9 @@
 -- What each command answers, and what the register holds then. A refusal gives back what it held. The order of refusals is
 -- that of the cases: the register, the query's text, the database, the query's meaning, and then record after record.
-use Rattle.std.specs.Prelude.{◌≡◌, ◌⊎◌, ℕ, List, [], ◌∷◌, map, Option, Some, None, Result, Ok, Err, string_bytes, if◌then◌else◌}
+use Rattle.std.specs.Prelude.{◌≡◌, ◌⊎◌, ℕ, List, [], ◌∷◌, map, Option, Some, None, Result, Ok, Err, length, string_bytes, if◌then◌else◌}
 use Rattle.std.specs.List.{flat_map}
 use Rattle.std.specs.Str.{bytes_eq}
+use Rattle.zeb_profile.specs.declared.directives.Directive.{Directive}
 use Rattle.zeb_profile.specs.Canonical.{canonical_text}
 use Rattle.zeb_query.specs.Reading.{query_fault}
 use Rattle.zeb_marc.specs.Splits.{Split, split_of}
@@ -16,7 +17,7 @@ use Rattle.zeb_engine.specs.Holdings.{Holdings, nothing_yet, under, Base, new_ba
 use Rattle.zeb_engine.specs.Conditions.{Conditions}
 use Rattle.zeb_engine.specs.Folding.{Progress, at_first, files_folded}
 use Rattle.zeb_engine.specs.Counting.{IsCounted}
-use Rattle.zeb_engine.specs.Finding.{IsAnswered}
+use Rattle.zeb_engine.specs.Finding.{IsAnswered, has_name, occurs}
 use Rattle.zeb_engine.specs.Scanning.{IsScanned}
 
 -- an answer, and what is held then
@@ -98,6 +99,16 @@ changed_by_files c kind name files bases = change_from c kind files bases (start
 
 -- ---- the commands that ask a database by a query
 
+-- what is answered of a database, by the bytes of its records
+abbrev pub FindAnswers : List Directive → List ℕ → ℕ → ℕ → Base → Answer → Type 0
+FindAnswers profile query first count base = IsAnswered (occurs profile base.records) (has_name base.records) profile query first count
+
+abbrev pub ScanAnswers : List Directive → List ℕ → ℕ → ℕ → Base → Answer → Type 0
+ScanAnswers profile query number position base = IsScanned (occurs profile base.records) profile query number position
+
+abbrev pub StatAnswers : List Directive → Base → Answer → Type 0
+StatAnswers profile base = IsCounted (occurs profile base.records) profile (length base.records) base.last
+
 -- `Says` is the answer of a database that is there
 abbrev pub AskedIn : (Says : Base → Answer → Type 0) → List ℕ → Option Base → Answer → Type 0
 AskedIn Says name None answer = answer ≡ refused (no_database name)
@@ -111,22 +122,16 @@ abbrev pub AskedFrom : (Says : Base → Answer → Type 0) → (name query : Lis
 AskedFrom Says name query (Err why) answer = answer ≡ refused why
 AskedFrom Says name query (Ok bases) answer = AskedAmong Says name bases (query_fault query) answer
 
-abbrev pub FoundIn : Conditions → List ℕ → List ℕ → ℕ → ℕ → Option Base → Answer → Type 0
-FoundIn c name query first count = AskedIn (IsAnswered c.profile query first count) name
-
-abbrev pub FoundAmong : Conditions → List ℕ → List ℕ → ℕ → ℕ → List Base → Option (ℕ × ℕ) → Answer → Type 0
-FoundAmong c name query first count = AskedAmong (IsAnswered c.profile query first count) name
-
 abbrev pub FoundFrom : Conditions → List ℕ → List ℕ → ℕ → ℕ → Result (List Base) Why → Answer → Type 0
-FoundFrom c name query first count = AskedFrom (IsAnswered c.profile query first count) name query
+FoundFrom c name query first count = AskedFrom (FindAnswers c.profile query first count) name query
 
 abbrev pub ScannedFrom : Conditions → List ℕ → List ℕ → ℕ → ℕ → Result (List Base) Why → Answer → Type 0
-ScannedFrom c name query number position = AskedFrom (IsScanned c.profile query number position) name query
+ScannedFrom c name query number position = AskedFrom (ScanAnswers c.profile query number position) name query
 
 -- ---- the command that counts
 
 abbrev pub CountedIn : Conditions → List ℕ → Option Base → Answer → Type 0
-CountedIn c name = AskedIn (IsCounted c.profile) name
+CountedIn c name = AskedIn (StatAnswers c.profile) name
 
 abbrev pub CountedFrom : Conditions → List ℕ → Result (List Base) Why → Answer → Type 0
 CountedFrom c name (Err why) answer = answer ≡ refused why

@@ -1,9 +1,11 @@
 -- Worked commands: "Moby Dick" is kept in a database, and again, and found by a word of its title; behind it in a file stands a
 -- record of five letters.
-use Rattle.std.specs.Prelude.{◌≡◌, ◌↔◌, ℕ, List, [], ◌∷◌, ◌++◌, map, codes, string_bytes}
+use Rattle.std.specs.Prelude.{◌≡◌, ◌↔◌, ℕ, false, List, [], ◌∷◌, ◌++◌, map, codes, string_bytes}
 use Rattle.zeb_profile.specs.declared.registers.Register.TheVariants.{Word}
 use Rattle.zeb_profile.specs.Canonical.{canonical_text}
 use Rattle.zeb_marc.specs.Worked.{worked_record}
+use Rattle.zeb_text.specs.Symbols.{literal}
+use Rattle.zeb_query.specs.Plans.{PlanValue, TermOf, PhraseOf}
 use Rattle.zeb_extract.specs.declared.keys.Key.{Key}
 use Rattle.zeb_extract.specs.Sample.{title_profile}
 use Rattle.zeb_engine.specs.declared.commands.Command.{Command}
@@ -40,6 +42,10 @@ faulty_file = worked_record ++ codes "xxxxx"
 -- a word in the index of titles
 abbrev pub title_word : List ℕ → Key
 title_word word = record { index = 0; register = Word; term = word }
+
+-- the plan of a word there
+abbrev pub title_plan : List ℕ → PlanValue
+title_plan word = TermOf (PhraseOf 0 (literal word ∷ []) false)
 
 -- the command updates the database `Default` by files of these bytes
 abbrev pub IsUpdateBy : List (List ℕ) → Command → Type 0

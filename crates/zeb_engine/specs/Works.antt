@@ -1,17 +1,20 @@
 -- What commands do to a connection, and to what its tables hold.
-use Rattle.std.specs.Prelude.{◌≡◌, ◌⊎◌, ℕ, ℤ, List, [], ◌∷◌, Result, Ok, Err, IsTrue, OnOk, if◌then◌else◌}
+use Rattle.std.specs.Prelude.{◌≡◌, ◌⊎◌, ◌≤◌, ◌<◌, ◌^◌, ℕ, ℤ, pos, List, [], ◌∷◌, Option, Some, None, Result, Ok, Err, IsTrue, OnOk, if◌then◌else◌}
+use Rattle.std.specs.List.{Contains}
 use Rattle.std.specs.Ordering.{int_eq}
 use Rattle.sqlite.specs.Tree.{Trees}
 use Rattle.sqlite.specs.State.{State, KeepsCommit}
+use Rattle.sqlite_rules.specs.Lists.{Has}
 use Rattle.zeb_profile.specs.declared.directives.Directive.{Directive}
+use Rattle.zeb_extract.specs.declared.keys.Key.{Key}
 use Rattle.zeb_register.specs.Calls.{GoesOn}
-use Rattle.zeb_register.specs.Content.{Content}
-use Rattle.zeb_register.specs.Store.{IsStore, meta_tree, databases_tree}
+use Rattle.zeb_register.specs.Store.{IsStore, HasRecord, meta_tree, databases_tree}
+use Rattle.zeb_register.specs.Kept.{AreReadableIdents}
 use Rattle.zeb_engine.specs.declared.commands.Command.{Command}
 use Rattle.zeb_engine.specs.declared.replies.Reply.{Reply}
 use Rattle.zeb_engine.specs.declared.refusals.Refusal.{Refusal}
 use Rattle.zeb_engine.specs.Adopting.{StaysOpen}
-use Rattle.zeb_engine.specs.Answers.{Answer, Why, refused, why_of, reply_answer, answer_of, IsFailure}
+use Rattle.zeb_engine.specs.Answers.{Answer, Why, refused, unsupported, why_of, reply_answer, answer_of, IsFailure}
 use Rattle.zeb_engine.specs.Conditions.{Conditions, conditions}
 use Rattle.zeb_engine.specs.Holdings.{Holdings, Base, Kept}
 use Rattle.zeb_engine.specs.Image.{IsBase, AreStored, IsImage, Sees, Keeps}
@@ -56,9 +59,14 @@ conditions_of version setting = conditions version setting.profile.now setting.l
 abbrev pub with_records : ℤ → List Kept → (ℤ → List Kept) → ℤ → List Kept
 with_records id records records_of other = if int_eq other id then records else records_of other
 
+-- each record has a number that a register can give
+abbrev pub AreNumbered : (ℤ → List Kept) → Type 0
+AreNumbered records_of = (id : ℤ) (kept : Kept) → Contains (records_of id) kept → (1 ≤ kept.sysno) × (kept.sysno ≤ 999999999)
+
 -- the database with this id is as given, and each other has the records that it had
 abbrev pub IsUnderWay : (format : Format) → List Directive → ℤ → (ℤ → List Kept) → State → Base → Type 0
-IsUnderWay format profile id records_of s base = IsStore s × AreStored format profile s.now.trees (with_records id base.records records_of) × IsBase profile base
+IsUnderWay format profile id records_of s base =
+    IsStore s × AreStored format profile s.now.trees (with_records id base.records records_of) × IsBase profile base × AreNumbered records_of
 
 -- the texts and the databases are as they were
 abbrev pub KeepsNames : State → State → Type 0
@@ -84,6 +92,22 @@ pub record IsFolded (format : Format) (profile : List Directive) (id : ℤ) (rec
   pub stands : StandsFor fold p
   pub under_way : IsUnderWay format profile id records_of new p.base
   pub names : KeepsNames old new
+
+-- ---- a find
+
+-- the key that is asked for; a plan that has none is not there yet
+abbrev pub key_or : Option Key → Result Key Why
+key_or (Some key) = Ok key
+key_or None = Err unsupported
+
+-- an open connection shows these tables, and they are the store's
+abbrev pub ShowsStore : State → Trees → Type 0
+ShowsStore s trees = IsTrue s.is_open → IsStore s × (s.now.trees ≡ trees)
+
+-- a record of each of the numbers is kept, its identifier is UTF-8, and a column stores the number
+abbrev pub KeepsEach : Trees → ℤ → List ℕ → Type 0
+KeepsEach trees db numbers =
+    (n : ℕ) → Has numbers n → ((ident : List ℕ) × (bytes : List ℕ) × HasRecord trees db (pos n) ident bytes) × AreReadableIdents trees db (pos n) × (n < 2 ^ 63)
 
 -- ---- outside a transaction
 

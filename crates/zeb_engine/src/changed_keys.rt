@@ -2,8 +2,8 @@
 
 ghost use Rattle.std.specs.Prelude.{◌≡◌, ◌+◌, ◌≤◌, ◌<◌, ◌⊎◌, length, map, take, drop, IfOk, OnOk, IfSome, IfNone, []};
 ghost use Rattle.zeb_extract.specs.Order.{IsRising as AreRising};
-ghost use Rattle.zeb_engine.specs.ChangedKeys.{AreChangedKeys, IsNoted, place_in};
-ghost use Rattle.zeb_engine.specs.KeyRuns.{BeginsWith, AreOf, Stops, IsNotAbove};
+ghost use Rattle.zeb_engine.specs.PrivateChangedKeys.{AreChangedKeys, IsNoted, place_in};
+ghost use Rattle.zeb_engine.specs.PrivateKeyRuns.{BeginsWithKey, AreOfKey, Stops, IsNotAbove};
 
 use std::alloc::{AllocError, Global};
 use std::cmp::Ordering;
@@ -21,9 +21,9 @@ pub(crate) struct ChangedKey<'a> {
 /// How many of the first occurrences are of this key.
 fn run_length(occurrences: &[Occurrence], key: &Key) -> usize
     ensures within { result ≤ length occurrences.now }
-    ensures run { AreOf key.now (take result occurrences.now) }
+    ensures run { AreOfKey key.now (take result occurrences.now) }
     ensures stops { Stops key.now (drop result occurrences.now) }
-    ensures some { BeginsWith key.now occurrences.now → 1 ≤ result }
+    ensures some { BeginsWithKey key.now occurrences.now → 1 ≤ result }
 {
     for (index, occurrence) in occurrences.iter().enumerate() {
         if occurrence.key != *key {
@@ -48,7 +48,7 @@ fn places_of(alloc: Global, occurrences: &[Occurrence]) -> Result<Vec<Place>, Al
 
 /// The lesser of the keys that two lists begin with.
 fn lesser_key<'a>(old: &'a [Occurrence], new: &'a [Occurrence]) -> Option<&'a Key>
-    ensures found { IfSome result (λ key. BeginsWith key.now old.now ⊎ BeginsWith key.now new.now) }
+    ensures found { IfSome result (λ key. BeginsWithKey key.now old.now ⊎ BeginsWithKey key.now new.now) }
     ensures lesser { IfSome result (λ key. IsNotAbove key.now old.now × IsNotAbove key.now new.now) }
     ensures none { IfNone result ((old.now ≡ []) × (new.now ≡ [])) }
 {

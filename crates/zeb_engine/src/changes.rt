@@ -6,7 +6,7 @@ ghost use Rattle.sqlite.specs.State.{HasCleanDisk, Survives};
 ghost use Rattle.zeb_register.specs.Calls.{ChangesNothing};
 ghost use Rattle.zeb_register.specs.Formats.{version_of};
 ghost use Rattle.zeb_marc.specs.Splits.{next_of, split_of};
-ghost use Rattle.zeb_engine.specs.Changing.{BeginsWith, last_of};
+ghost use Rattle.zeb_engine.specs.PrivateChanging.{BeginsWith, last_of};
 ghost use Rattle.zeb_engine.specs.Conditions.{Conditions};
 ghost use Rattle.zeb_engine.specs.Crashes.{Commits};
 ghost use Rattle.zeb_engine.specs.Folding.{Progress as FoldProgress, folded, file_folded, files_folded};

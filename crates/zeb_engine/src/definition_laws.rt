@@ -12,7 +12,7 @@ ghost use Rattle.zeb_extract.specs.declared.keys.Key.{Key};
 ghost use Rattle.zeb_engine.specs.Answers.{Answer, changed, refused, damaged, store_failed, out_of_memory, read_fault};
 ghost use Rattle.zeb_engine.specs.Conditions.{Conditions};
 ghost use Rattle.zeb_engine.specs.Counts.{FoldsTo, HasNamesake, IsAccepted, records_in, told};
-ghost use Rattle.zeb_engine.specs.Finding.{HasKey, plan_key};
+ghost use Rattle.zeb_engine.specs.Finding.{TreeHolds, occurs, plan_key};
 ghost use Rattle.zeb_engine.specs.Matching.{AsksFor, HasMatch};
 ghost use Rattle.zeb_engine.specs.Folding.{Progress};
 ghost use Rattle.zeb_engine.specs.Holdings.{Base, Holdings, Kept};
@@ -48,13 +48,14 @@ pub fn a_command_has_one_answer()
         → Step c command before other right → (one ≡ other) × (left ≡ right) }
 {}
 
-/// What a find asks for, said by matching and not by keys: a plan that has a key is that of one word in one index, and a record
-/// has the key just where a word of its text stands in that index that the plan's pattern matches. So a reader can check a
+/// What a find asks for, said by matching and not by keys: a plan that has a key is that of one word in one index, and it holds of
+/// a record just where a word of its text stands in that index that the plan's pattern matches. So a reader can check a
 /// find's answer against the records' texts, without a register in mind.
 pub fn a_word_is_found_where_it_stands()
-    ensures found { (profile : List Directive) (index : ℕ) (pattern : List Symbol) (key : Key) (kept : Kept)
+    ensures found { (profile : List Directive) (records : List Kept) (index : ℕ) (pattern : List Symbol) (key : Key) (n : ℕ)
         → plan_key (TermOf (PhraseOf index (pattern ∷ []) false)) ≡ Some key
-        → HasKey profile key kept ↔ HasMatch profile index pattern kept }
+        → TreeHolds (occurs profile records) (TermOf (PhraseOf index (pattern ∷ []) false)) n
+        ↔ HasMatch (occurs profile records) index pattern n }
     ensures others { (plan : PlanValue) (key : Key) → plan_key plan ≡ Some key → AsksFor plan key }
 {}
 

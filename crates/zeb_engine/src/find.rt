@@ -1,6 +1,6 @@
 //! Finding records by a query.
 
-ghost use Rattle.std.specs.Prelude.{◌≡◌, ◌⊎◌, List, false, IfOk, IfErr, OnOk, IsTrue, Ok};
+ghost use Rattle.std.specs.Prelude.{◌≡◌, ◌⊎◌, List, false, map, string_bytes, IfOk, IfErr, OnOk, IsTrue, Ok};
 ghost use Rattle.std.specs.List.Sorted.{IsStrictlySortedBy};
 ghost use Rattle.sqlite.specs.Held.{state};
 ghost use Rattle.sqlite.specs.State.{HasCleanDisk, Survives};
@@ -10,18 +10,19 @@ ghost use Rattle.zeb_query.specs.Reading.{query_fault};
 ghost use Rattle.zeb_register.specs.Calls.{ChangesNothing};
 ghost use Rattle.zeb_register.specs.Formats.{version_of};
 ghost use Rattle.zeb_register.specs.Content.{posting_cmp};
+ghost use Rattle.zeb_register.specs.RowTerms.{IsInRecord};
 ghost use Rattle.zeb_engine.specs.declared.commands.Limits.{Limits};
 ghost use Rattle.zeb_engine.specs.Adopting.{StaysOpen};
 ghost use Rattle.zeb_engine.specs.Answers.{answer_of, refused, why_of, IsFailure};
 ghost use Rattle.zeb_engine.specs.Conditions.{conditions};
-ghost use Rattle.zeb_engine.specs.Finding.{plain_word, plan_key};
-ghost use Rattle.zeb_engine.specs.Found.{key_or, asked_of, AreNumbersOf, AreShown, KeepsEach, LooksUp, ShowsStore};
+ghost use Rattle.zeb_engine.specs.Alone.{Alone, FindSays, has_ident_in};
+ghost use Rattle.zeb_engine.specs.Finding.{AreNumbers, AreShown, asked_of, plain_word, plan_key};
 ghost use Rattle.zeb_engine.specs.Holdings.{Holdings, Base};
 ghost use Rattle.zeb_engine.specs.Image.{Keeps};
 ghost use Rattle.zeb_engine.specs.NameOf.{name_bytes};
 ghost use Rattle.zeb_engine.specs.Reading.{NoReadFault};
-ghost use Rattle.zeb_engine.specs.Steps.{ready, FoundAmong};
-ghost use Rattle.zeb_engine.specs.Works.{Meets};
+ghost use Rattle.zeb_engine.specs.Steps.{ready, AskedAmong, FindAnswers};
+ghost use Rattle.zeb_engine.specs.Works.{key_or, KeepsEach, Meets, ShowsStore};
 
 use crate::names::DbName;
 use crate::readiness::existing_database;
@@ -83,7 +84,7 @@ fn key_of_plan(alloc: Global, plan: &Plan) -> Result<Key, Refusal>
 
 /// The numbers of the records that have a posting, each once; postings rise by number.
 fn numbers_of(alloc: Global, postings: &[Posting]) -> Result<Vec<u64>, AllocError>
-    ensures { IsStrictlySortedBy posting_cmp postings.now → IfOk result (λ numbers. AreNumbersOf postings.now numbers.items) }
+    ensures { IsStrictlySortedBy posting_cmp postings.now → IfOk result (λ numbers. AreNumbers (IsInRecord postings.now) numbers.items) }
 {
     let mut numbers: Vec<u64> = postings.iter().map(|posting| posting.sysno).collect(alloc)?;
     numbers.dedup();
@@ -99,11 +100,15 @@ fn show<S: Alter>(
 ) -> Result<Vec<Hit>, Refusal>
     requires idle { connection.old.in_transaction ≡ false }
     ensures idle { connection.new.in_transaction ≡ false }
-    ensures open { HasCleanDisk (state S.Store connection.new) → OnOk result (IsTrue (state S.Store connection.old).is_open → IsTrue (state S.Store connection.new).is_open) }
-    ensures same { HasCleanDisk (state S.Store connection.new) → ChangesNothing (state S.Store connection.old) (state S.Store connection.new) }
+    ensures open { HasCleanDisk (state S.Store connection.new)
+        → OnOk result (IsTrue (state S.Store connection.old).is_open → IsTrue (state S.Store connection.new).is_open) }
+    ensures same { HasCleanDisk (state S.Store connection.new)
+        → ChangesNothing (state S.Store connection.old) (state S.Store connection.new) }
     ensures shown { HasCleanDisk (state S.Store connection.new) → (trees : Trees) → ShowsStore (state S.Store connection.old) trees
-        → IfOk result (λ shown. AreShown trees database.0 numbers.now shown.items) }
-    ensures failed { HasCleanDisk (state S.Store connection.new) → (trees : Trees) → ShowsStore (state S.Store connection.old) trees → KeepsEach trees database.0 numbers.now
+        → IfOk result (λ shown. AreShown (has_ident_in trees database.0) numbers.now (map (λ hit.
+        (hit.sysno, string_bytes hit.ident)) shown.items)) }
+    ensures failed { HasCleanDisk (state S.Store connection.new) → (trees : Trees) → ShowsStore (state S.Store connection.old) trees
+        → KeepsEach trees database.0 numbers.now
         → IfErr result (λ refusal. IsFailure (refused (why_of refusal))) }
     ensures crash { Survives (state S.Store connection.old) (state S.Store connection.new) (λ _. ⊥) }
     ensures unread { NoReadFault result }
@@ -154,17 +159,22 @@ pub(crate) fn find<S: Alter, L: Layout>(
 ) -> Result<Reply, Refusal>
     requires idle { connection.old.in_transaction ≡ false }
     ensures idle { connection.new.in_transaction ≡ false }
-    ensures open { HasCleanDisk (state S.Store connection.new) → OnOk result (StaysOpen (state S.Store connection.old) (state S.Store connection.new)) }
-    ensures same { HasCleanDisk (state S.Store connection.new) → ChangesNothing (state S.Store connection.old) (state S.Store connection.new) }
-    ensures found { HasCleanDisk (state S.Store connection.new) → IsTrue (state S.Store connection.old).is_open → (limits : Limits) (before : Holdings) (bases : List Base)
+    ensures open { HasCleanDisk (state S.Store connection.new)
+        → OnOk result (StaysOpen (state S.Store connection.old) (state S.Store connection.new)) }
+    ensures same { HasCleanDisk (state S.Store connection.new)
+        → ChangesNothing (state S.Store connection.old) (state S.Store connection.new) }
+    ensures found { HasCleanDisk (state S.Store connection.new) → IsTrue (state S.Store connection.old).is_open
+        → (limits : Limits) (before : Holdings) (bases : List Base)
         → ready (conditions (version_of L.format) profile.now limits) before ≡ Ok bases → Keeps (state S.Store connection.old) before
-        → FoundAmong (conditions (version_of L.format) profile.now limits) (name_bytes name.now) question.entry.query.now question.entry.first question.entry.count bases (query_fault question.entry.query.now) (answer_of result)
+        → AskedAmong (FindAnswers profile.now question.entry.query.now question.entry.first question.entry.count)
+        (name_bytes name.now) bases (query_fault question.entry.query.now) (answer_of result)
         ⊎ IsFailure (answer_of result) }
     ensures crash { Survives (state S.Store connection.old) (state S.Store connection.new) (λ _. ⊥) }
     ensures unread { NoReadFault result }
     // The hits are read from the registers, on any tables that hold a content.
     ensures alone { HasCleanDisk (state S.Store connection.new)
-        → LooksUp L.format profile.now (name_bytes name.now) question.entry.query.now question.entry.first question.entry.count (state S.Store connection.old) result }
+        → Alone L.format (FindSays profile.now question.entry.query.now question.entry.first question.entry.count) (name_bytes name.now)
+        (state S.Store connection.old) result }
 {
     // Its profile is some text's.
     profile.is_of_some_text();

@@ -3,10 +3,11 @@ ghost use Rattle.std.specs.Prelude.{◌≡◌, ◌↔◌, ℕ, List, [], ◌∷�
 ghost use Rattle.zeb_marc.specs.Worked.{worked_record};
 ghost use Rattle.zeb_extract.specs.Sample.{title_profile};
 ghost use Rattle.zeb_engine.specs.Answers.{Answer, done, changed, refused, found, faulty};
-ghost use Rattle.zeb_engine.specs.Finding.{HasKey, IsFound};
+ghost use Rattle.zeb_engine.specs.Finding.{IsFound, has_name, occurs};
+ghost use Rattle.zeb_register.specs.Occurring.{HasKey};
 ghost use Rattle.zeb_engine.specs.Holdings.{Holdings, nothing_yet};
 ghost use Rattle.zeb_engine.specs.Steps.{Run, Step};
-ghost use Rattle.zeb_engine.specs.Worked.{book, book_base, book_conditions, faulty_file, no_books, one_book, title_word, IsFindBy, IsJust, IsUpdateBy};
+ghost use Rattle.zeb_engine.specs.Worked.{book_base, book_conditions, faulty_file, no_books, one_book, title_plan, title_word, IsFindBy, IsJust, IsUpdateBy};
 
 use crate::commands::{Command, Limits};
 use crate::faults::RecordFault;
@@ -29,10 +30,12 @@ pub fn worked_examples()
     ensures refused_again { (version : List ℕ) (limits : Limits) (command : Command) → IsUpdateBy (faulty_file ∷ []) command
         → IsJust (Step (book_conditions version limits) command (one_book version)) (refused (faulty 1 2 RecordFault.LengthDigits))
         (one_book version) }
-    ensures found { (answer : Answer) → IsFound title_profile (title_word (codes "whale")) 1 20 book_base answer
+    ensures found { (answer : Answer)
+        → IsFound (occurs title_profile book_base.records) (has_name book_base.records) (title_plan (codes "whale")) 1 20 answer
         ↔ (answer ≡ found 1 ((1, codes "a1") ∷ [])) }
-    ensures other_word { ¬ HasKey title_profile (title_word (codes "ahab")) book }
-    ensures not_found { (answer : Answer) → IsFound title_profile (title_word (codes "ahab")) 1 20 book_base answer
+    ensures other_word { (n : ℕ) → ¬ HasKey (occurs title_profile book_base.records) (title_word (codes "ahab")) n }
+    ensures not_found { (answer : Answer)
+        → IsFound (occurs title_profile book_base.records) (has_name book_base.records) (title_plan (codes "ahab")) 1 20 answer
         ↔ (answer ≡ found 0 []) }
     ensures asked { (version : List ℕ) (limits : Limits) (command : Command) → IsFindBy (codes "@attr 1=4 whale") command
         → IsJust (Step (book_conditions version limits) command (one_book version)) (found 1 ((1, codes "a1") ∷ [])) (one_book version) }

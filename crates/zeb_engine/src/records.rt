@@ -6,15 +6,15 @@ ghost use Rattle.sqlite.specs.Held.{state};
 ghost use Rattle.sqlite.specs.State.{HasCleanDisk, KeepsCounts, Survives};
 ghost use Rattle.zeb_marc.specs.Records.{first_fault, IsRecord};
 ghost use Rattle.zeb_extract.specs.Order.{IsRising as AreRising};
-ghost use Rattle.zeb_register.specs.Content.{Content, IsRising};
+ghost use Rattle.zeb_register.specs.Content.{Content, IsRising, IsStorable};
 ghost use Rattle.zeb_register.specs.Formats.{holds_in};
 ghost use Rattle.zeb_register.specs.Store.{IsStore, KeepsLists};
-ghost use Rattle.zeb_engine.specs.ChangedKeys.{ArePostingsOf, AreTheSame, IsReposted};
+ghost use Rattle.zeb_engine.specs.PrivateChangedKeys.{ArePostingsOf, AreTheSame, CanBeStored, IsReposted};
 ghost use Rattle.zeb_engine.specs.Answers.{Why, why_of, refused, IsFailure};
 ghost use Rattle.zeb_engine.specs.Folding.{Changed, changed_record, updated, deleted, ident_in};
 ghost use Rattle.zeb_engine.specs.Holdings.{Base, Kept, kept_as};
 ghost use Rattle.zeb_engine.specs.Reading.{NoReadFault};
-ghost use Rattle.zeb_engine.specs.Records.{AreOccurrencesOf, IsElderAs, IsIdle, IsNewer, Takes};
+ghost use Rattle.zeb_engine.specs.PrivateRecords.{AreOccurrencesOf, IsElderAs, IsIdle, IsNewer, Takes};
 ghost use Rattle.zeb_engine.specs.Transactions.{Stays};
 ghost use Rattle.zeb_engine.specs.Works.{IsTaken, IsUnderWay, Meets, conditions_of};
 
@@ -87,9 +87,9 @@ fn change_keys<S: Alter, L: Layout>(
     ensures fails { IfErr result (λ refusal. (refusal ≡ Refusal.Damaged) ⊎ IsFailure (refused (why_of refusal))) }
     ensures honest { HasCleanDisk (state S.Store tx.new.conn.now) → IsTrue (state S.Store tx.old.conn.now).in_transaction
         → IsStore (state S.Store tx.old.conn.now)
-        → AreRising elder.now → AreRising newer.now → result ≡ Err Refusal.Damaged
-        → (content : Content) → holds_in L.format (state S.Store tx.old.conn.now).now.trees content → IsRising content
-        → ¬ ArePostingsOf sysno elder.now (content progress.old.database.0) }
+        → AreRising elder.now → AreRising newer.now → result ≡ Err Refusal.Damaged → CanBeStored sysno newer.now
+        → (content : Content) → IsStorable content → holds_in L.format (state S.Store tx.old.conn.now).now.trees content
+        → IsRising content → ¬ ArePostingsOf sysno elder.now (content progress.old.database.0) }
     ensures crash { Survives (state S.Store tx.old.conn.now) (state S.Store tx.new.conn.now) (λ _. ⊥) }
     ensures idle { AreRising elder.now → AreRising newer.now → AreTheSame elder.now newer.now
         → ((state S.Store tx.new.conn.now).now ≡ (state S.Store tx.old.conn.now).now)

@@ -7,9 +7,8 @@ ghost use Rattle.zeb_query.specs.Plans.{scan_value};
 ghost use Rattle.zeb_query.specs.Reading.{query_fault};
 ghost use Rattle.zeb_register.specs.Calls.{ChangesNothing};
 ghost use Rattle.zeb_register.specs.Formats.{holds_in, version_of};
-ghost use Rattle.zeb_register.specs.Content.{Content};
+ghost use Rattle.zeb_register.specs.Content.{Content, IsStorable, posted};
 ghost use Rattle.zeb_register.specs.Store.{IsStore};
-ghost use Rattle.zeb_register.specs.Terms.{HasTexts};
 ghost use Rattle.zeb_engine.specs.declared.commands.Limits.{Limits};
 ghost use Rattle.zeb_engine.specs.Adopting.{StaysOpen};
 ghost use Rattle.zeb_engine.specs.Answers.{answer_of, refused, why_of, IsFailure};
@@ -18,9 +17,9 @@ ghost use Rattle.zeb_engine.specs.Holdings.{Holdings, Base};
 ghost use Rattle.zeb_engine.specs.Image.{Keeps};
 ghost use Rattle.zeb_engine.specs.NameOf.{name_bytes};
 ghost use Rattle.zeb_engine.specs.Reading.{NoReadFault};
-ghost use Rattle.zeb_engine.specs.Scanned.{AreAround, Scans};
-ghost use Rattle.zeb_engine.specs.Scanning.{IsScanned};
-ghost use Rattle.zeb_engine.specs.Steps.{ready, AskedAmong};
+ghost use Rattle.zeb_engine.specs.Alone.{Alone, ScanSays};
+ghost use Rattle.zeb_engine.specs.Scanning.{AreAround};
+ghost use Rattle.zeb_engine.specs.Steps.{ready, AskedAmong, ScanAnswers};
 
 use crate::names::DbName;
 use crate::readiness::existing_database;
@@ -62,12 +61,16 @@ fn terms_around<S: Alter, L: Layout>(
 ) -> Result<Vec<TermCount>, Refusal>
     requires idle { connection.old.in_transaction ≡ false }
     ensures idle { connection.new.in_transaction ≡ false }
-    ensures open { HasCleanDisk (state S.Store connection.new) → OnOk result (StaysOpen (state S.Store connection.old) (state S.Store connection.new)) }
-    ensures same { HasCleanDisk (state S.Store connection.new) → ChangesNothing (state S.Store connection.old) (state S.Store connection.new) }
+    ensures open { HasCleanDisk (state S.Store connection.new)
+        → OnOk result (StaysOpen (state S.Store connection.old) (state S.Store connection.new)) }
+    ensures same { HasCleanDisk (state S.Store connection.new)
+        → ChangesNothing (state S.Store connection.old) (state S.Store connection.new) }
     ensures around { HasCleanDisk (state S.Store connection.new) → IsStore (state S.Store connection.old)
-        → IfOk result (λ terms. (content : Content) → holds_in L.format (state S.Store connection.old).now.trees content → AreAround content database.0 (scan_value plan.now) around.now.number around.now.position terms.items) }
+        → IfOk result (λ terms. (content : Content) → holds_in L.format (state S.Store connection.old).now.trees content
+        → AreAround (posted content database.0) (scan_value plan.now) around.now.number around.now.position terms.items) }
     ensures failed { HasCleanDisk (state S.Store connection.new) → IsStore (state S.Store connection.old)
-        → (content : Content) → HasTexts content → holds_in L.format (state S.Store connection.old).now.trees content → IfErr result (λ refusal. IsFailure (refused (why_of refusal))) }
+        → (content : Content) → IsStorable content → holds_in L.format (state S.Store connection.old).now.trees content
+        → IfErr result (λ refusal. IsFailure (refused (why_of refusal))) }
     ensures crash { Survives (state S.Store connection.old) (state S.Store connection.new) (λ _. ⊥) }
     ensures unread { NoReadFault result }
 {
@@ -95,17 +98,22 @@ pub(crate) fn scan<S: Alter, L: Layout>(
 ) -> Result<Reply, Refusal>
     requires idle { connection.old.in_transaction ≡ false }
     ensures idle { connection.new.in_transaction ≡ false }
-    ensures open { HasCleanDisk (state S.Store connection.new) → OnOk result (StaysOpen (state S.Store connection.old) (state S.Store connection.new)) }
-    ensures same { HasCleanDisk (state S.Store connection.new) → ChangesNothing (state S.Store connection.old) (state S.Store connection.new) }
-    ensures scanned { HasCleanDisk (state S.Store connection.new) → IsTrue (state S.Store connection.old).is_open → (limits : Limits) (before : Holdings) (bases : List Base)
+    ensures open { HasCleanDisk (state S.Store connection.new)
+        → OnOk result (StaysOpen (state S.Store connection.old) (state S.Store connection.new)) }
+    ensures same { HasCleanDisk (state S.Store connection.new)
+        → ChangesNothing (state S.Store connection.old) (state S.Store connection.new) }
+    ensures scanned { HasCleanDisk (state S.Store connection.new) → IsTrue (state S.Store connection.old).is_open
+        → (limits : Limits) (before : Holdings) (bases : List Base)
         → ready (conditions (version_of L.format) profile.now limits) before ≡ Ok bases → Keeps (state S.Store connection.old) before
-        → AskedAmong (IsScanned profile.now around.entry.query.now around.entry.number around.entry.position) (name_bytes name.now) bases (query_fault around.entry.query.now) (answer_of result)
+        → AskedAmong (ScanAnswers profile.now around.entry.query.now around.entry.number around.entry.position)
+        (name_bytes name.now) bases (query_fault around.entry.query.now) (answer_of result)
         ⊎ IsFailure (answer_of result) }
     ensures crash { Survives (state S.Store connection.old) (state S.Store connection.new) (λ _. ⊥) }
     ensures unread { NoReadFault result }
     // The terms are read from the registers, on any tables that hold a content.
     ensures alone { HasCleanDisk (state S.Store connection.new)
-        → Scans L.format profile.now (name_bytes name.now) around.entry.query.now around.entry.number around.entry.position (state S.Store connection.old) result }
+        → Alone L.format (ScanSays profile.now around.entry.query.now around.entry.number around.entry.position) (name_bytes name.now)
+        (state S.Store connection.old) result }
 {
     // Its profile is some text's.
     profile.is_of_some_text();

@@ -5,11 +5,10 @@ ghost use Rattle.std.specs.List.{AllByRecursion};
 ghost use Rattle.std.specs.Result.{IsErr};
 ghost use Rattle.sqlite.specs.Held.{state};
 ghost use Rattle.sqlite.specs.State.{HasCleanDisk, IsLive, Opens, Survives};
+ghost use Rattle.zeb_engine.specs.Alone.{AnswersAlone};
 ghost use Rattle.zeb_engine.specs.Answers.{answer_of};
 ghost use Rattle.zeb_engine.specs.Conditions.{conditions};
-ghost use Rattle.zeb_engine.specs.Found.{LooksUpFor};
 ghost use Rattle.zeb_engine.specs.NameOf.{name_bytes};
-ghost use Rattle.zeb_engine.specs.Scanned.{ScansFor};
 ghost use Rattle.zeb_engine.specs.Reading.{HasFailedAt, NamesFailed, NoneFailed, NoReadFault};
 ghost use Rattle.zeb_engine.specs.Steps.{Step, TakesFiles, created, dropped, holding, OnlyAsks, turned};
 ghost use Rattle.zeb_engine.specs.Transactions.{Commanded, EnduresRefusal, IsDurable};
@@ -179,17 +178,15 @@ impl<S: Alter, L: Layout> Session<S, L> {
         ensures begun { HasCleanDisk (state S.Store self.new.connection) → command.now ≡ Command.Init
             → OnOk result (IsStore (state S.Store self.old.connection)
             → Keeps (state S.Store self.new.connection) (holding (conditions (version_of L.format) self.old.profile self.old.limits) [])) }
-        // A find and a scan are answered by the registers, on any tables that hold a content.
+        // A find, a scan and a stat are answered by the registers, on any tables that hold a content.
         ensures alone { HasCleanDisk (state S.Store self.new.connection)
-            → LooksUpFor L.format self.old.profile command.now (state S.Store self.old.connection) result }
+            → AnswersAlone L.format self.old.profile command.now (state S.Store self.old.connection) result }
         // Damage is answered only where the tables are the image of nothing that can be held.
         ensures honest { HasCleanDisk (state S.Store self.new.connection) → result ≡ Err Refusal.Damaged
             → (before : Holdings) → ¬ Keeps (state S.Store self.old.connection) before }
         // A command that only asks changes nothing, whatever it answers and whatever the tables hold.
         ensures reads { HasCleanDisk (state S.Store self.new.connection) → OnlyAsks command.now
             → ChangesNothing (state S.Store self.old.connection) (state S.Store self.new.connection) }
-        ensures scans { HasCleanDisk (state S.Store self.new.connection)
-            → ScansFor L.format self.old.profile command.now (state S.Store self.old.connection) result }
     {
         let answer = self.carry_out(command);
         // What is shown is what was committed.
@@ -213,11 +210,9 @@ impl<S: Alter, L: Layout> Session<S, L> {
             × IsImage (state S.Store self.new.connection).now.trees
             (holding (conditions (version_of L.format) self.old.profile self.old.limits) [])) }
         ensures alone { HasCleanDisk (state S.Store self.new.connection)
-            → LooksUpFor L.format self.old.profile command.now (state S.Store self.old.connection) result }
+            → AnswersAlone L.format self.old.profile command.now (state S.Store self.old.connection) result }
         ensures reads { HasCleanDisk (state S.Store self.new.connection) → OnlyAsks command.now
             → ChangesNothing (state S.Store self.old.connection) (state S.Store self.new.connection) }
-        ensures scans { HasCleanDisk (state S.Store self.new.connection)
-            → ScansFor L.format self.old.profile command.now (state S.Store self.old.connection) result }
     {
         self.work = Work::default();
         match command {

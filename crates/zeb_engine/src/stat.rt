@@ -6,20 +6,18 @@ ghost use Rattle.sqlite.specs.State.{HasCleanDisk, Survives};
 ghost use Rattle.sqlite.specs.Tree.{Trees};
 ghost use Rattle.zeb_register.specs.Calls.{ChangesNothing};
 ghost use Rattle.zeb_register.specs.Formats.{holds_in, version_of};
-ghost use Rattle.zeb_register.specs.Content.{Content};
-ghost use Rattle.zeb_register.specs.Terms.{HasTexts};
+ghost use Rattle.zeb_register.specs.Content.{Content, IsStorable, posted};
 ghost use Rattle.zeb_engine.specs.Adopting.{StaysOpen};
-ghost use Rattle.zeb_engine.specs.Answers.{IsFailure, refused, why_of};
+ghost use Rattle.zeb_engine.specs.Alone.{Alone, StatSays};
+ghost use Rattle.zeb_engine.specs.Answers.{IsFailure, extent_of, refused, why_of};
 ghost use Rattle.zeb_engine.specs.Conditions.{conditions};
-ghost use Rattle.zeb_engine.specs.Counted.{IsHolding};
-ghost use Rattle.zeb_engine.specs.Counting.{Paired, name_of_index, target_in, target_list};
+ghost use Rattle.zeb_engine.specs.Counting.{IsExtent, Paired, name_of_index, target_in, target_list};
 ghost use Rattle.zeb_engine.specs.declared.commands.Limits.{Limits};
-ghost use Rattle.zeb_engine.specs.Found.{ShowsStore};
 ghost use Rattle.zeb_engine.specs.Holdings.{Holdings};
 ghost use Rattle.zeb_engine.specs.NameOf.{name_bytes};
 ghost use Rattle.zeb_engine.specs.Reading.{NoReadFault};
 ghost use Rattle.zeb_engine.specs.Steps.{CountedFrom, ready};
-ghost use Rattle.zeb_engine.specs.Works.{Asks};
+ghost use Rattle.zeb_engine.specs.Works.{Asks, ShowsStore};
 
 use crate::names::DbName;
 use crate::readiness::{check_ready, existing_database};
@@ -90,12 +88,19 @@ fn holdings_of<S: Alter, L: Layout>(
 ) -> Result<Vec<Holding>, Refusal>
     requires idle { connection.old.in_transaction ≡ false }
     ensures idle { connection.new.in_transaction ≡ false }
-    ensures open { HasCleanDisk (state S.Store connection.new) → OnOk result (IsTrue (state S.Store connection.old).is_open → IsTrue (state S.Store connection.new).is_open) }
-    ensures same { HasCleanDisk (state S.Store connection.new) → ChangesNothing (state S.Store connection.old) (state S.Store connection.new) }
-    ensures held { HasCleanDisk (state S.Store connection.new) → (trees : Trees) → ShowsStore (state S.Store connection.old) trees → IsTrue (state S.Store connection.old).is_open
-        → (content : Content) → holds_in L.format trees content → IfOk result (λ holdings. Paired (IsHolding profile.now content database.0) targets.now holdings.items) }
-    ensures failed { HasCleanDisk (state S.Store connection.new) → (trees : Trees) → ShowsStore (state S.Store connection.old) trees → IsTrue (state S.Store connection.old).is_open
-        → (content : Content) → HasTexts content → holds_in L.format trees content → IfErr result (λ refusal. IsFailure (refused (why_of refusal))) }
+    ensures open { HasCleanDisk (state S.Store connection.new)
+        → OnOk result (IsTrue (state S.Store connection.old).is_open → IsTrue (state S.Store connection.new).is_open) }
+    ensures same { HasCleanDisk (state S.Store connection.new)
+        → ChangesNothing (state S.Store connection.old) (state S.Store connection.new) }
+    ensures held { HasCleanDisk (state S.Store connection.new) → (trees : Trees) → ShowsStore (state S.Store connection.old) trees
+        → IsTrue (state S.Store connection.old).is_open
+        → (content : Content) → holds_in L.format trees content
+        → IfOk result (λ holdings. Paired (λ target holding. IsExtent (posted content database.0) profile.now target
+        (extent_of holding)) targets.now holdings.items) }
+    ensures failed { HasCleanDisk (state S.Store connection.new) → (trees : Trees) → ShowsStore (state S.Store connection.old) trees
+        → IsTrue (state S.Store connection.old).is_open
+        → (content : Content) → IsStorable content → holds_in L.format trees content
+        → IfErr result (λ refusal. IsFailure (refused (why_of refusal))) }
     ensures crash { Survives (state S.Store connection.old) (state S.Store connection.new) (λ _. ⊥) }
     ensures unread { NoReadFault result }
 {
@@ -118,13 +123,19 @@ pub(crate) fn stat<S: Alter, L: Layout>(
 ) -> Result<Reply, Refusal>
     requires idle { connection.old.in_transaction ≡ false }
     ensures idle { connection.new.in_transaction ≡ false }
-    ensures open { HasCleanDisk (state S.Store connection.new) → OnOk result (StaysOpen (state S.Store connection.old) (state S.Store connection.new)) }
-    ensures same { HasCleanDisk (state S.Store connection.new) → ChangesNothing (state S.Store connection.old) (state S.Store connection.new) }
+    ensures open { HasCleanDisk (state S.Store connection.new)
+        → OnOk result (StaysOpen (state S.Store connection.old) (state S.Store connection.new)) }
+    ensures same { HasCleanDisk (state S.Store connection.new)
+        → ChangesNothing (state S.Store connection.old) (state S.Store connection.new) }
     ensures serves { HasCleanDisk (state S.Store connection.new) → (limits : Limits)
-        → Asks (λ before answer. CountedFrom (conditions (version_of L.format) profile.now limits) (name_bytes name.now) (ready (conditions (version_of L.format) profile.now limits) before) answer)
+        → Asks (λ before answer. CountedFrom (conditions (version_of L.format) profile.now limits) (name_bytes name.now)
+        (ready (conditions (version_of L.format) profile.now limits) before) answer)
         (state S.Store connection.old) (state S.Store connection.new) result }
     ensures crash { Survives (state S.Store connection.old) (state S.Store connection.new) (λ _. ⊥) }
     ensures unread { NoReadFault result }
+    // The terms and occurrences are counted in the registers, on any tables that hold a content.
+    ensures alone { HasCleanDisk (state S.Store connection.new)
+        → Alone L.format (StatSays profile.now) (name_bytes name.now) (state S.Store connection.old) result }
 {
     // Its profile is some text's.
     profile.is_of_some_text();

@@ -25,7 +25,7 @@ pub(crate) struct Tally {
 }
 
 impl Tally {
-    ghost use Rattle.zeb_engine.specs.Tallies.{IsCounted};
+    ghost use Rattle.zeb_engine.specs.PrivateTallies.{IsTallied};
 
     /// Nothing was taken yet.
     pub(crate) fn new() -> Tally
@@ -42,7 +42,7 @@ impl Tally {
     /// One more record is taken.
     pub(crate) fn count(&mut self, fate: Fate)
         requires { self.old.records < 1_000_000 }
-        ensures { IsCounted fate self.old self.new }
+        ensures { IsTallied fate self.old self.new }
     {
         self.records += 1;
         match fate {

@@ -16,7 +16,7 @@ ghost use Rattle.zeb_engine.specs.Reading.{NoReadFault};
 ghost use Rattle.zeb_engine.specs.Steps.{holding, initialised, turned, created, dropped};
 ghost use Rattle.zeb_engine.specs.Transactions.{Commanded, Stays};
 ghost use Rattle.zeb_engine.specs.Works.{Always, IsReady, Serves, Works};
-ghost use Rattle.zeb_engine.specs.Writing.{AreOf, Begins, IsFree, IsKnown, Fits, IsReached, PutsTexts, written};
+ghost use Rattle.zeb_engine.specs.PrivateWriting.{AreOf, Begins, IsFree, IsKnown, Fits, IsReached, PutsTexts, written};
 
 use crate::names::DbName;
 use crate::readiness::{IDENTIFIER, PROFILE, VERSION, existing_database};

@@ -14,15 +14,22 @@ use Rattle.sqlite_resolve.specs.Lowering.{and_then}
 use Rattle.sqlite_resolve.specs.declared.compiled.Compiled.{Compiled}
 use Rattle.sqlite_resolve.specs.declared.error.CompileError.{CompileError}
 use Rattle.std.proofs.lemmas.Bool.{cases_Bool}
-use Rattle.zeb_register.proofs.Parts.{same_value}
-use Rattle.zeb_register.proofs.Chains.{inside_keeps}
+use Rattle.zeb_register.proofs.WrittenRows.{same_value}
+use Rattle.zeb_register.proofs.CallsInTurn.{inside_keeps}
 use Rattle.std.specs.List.{AllByRecursion}
 use Rattle.sqlite.specs.Effect.{Database, IsDatabase}
 use Rattle.zeb_register.specs.Tables.{store_schema}
-use Rattle.zeb_register.specs.Sql.{IsListOf, IsKeyed, KeepsOthers}
+use Rattle.zeb_register.specs.Sql.{IsKeyed, KeepsOthers, IsListOf}
 use Rattle.zeb_register.specs.Store.{IsStore, Changes}
-use Rattle.zeb_register.specs.Calls.{GoesOn, OnlyReads, ChangesNothing, Alters, Lists, ListsInside, Stays}
-use Rattle.zeb_register.specs.Terms.{Reads}
+use Rattle.zeb_register.specs.Calls.{GoesOn, OnlyReads, ChangesNothing, Alters}
+use Rattle.zeb_register.specs.RowStatements.{Lists, ListsInside}
+use Rattle.zeb_register.specs.RowTerms.{Reads}
+
+-- any number of writes inside a transaction, none too
+pub record Stays (old new : State) : Type 0 where
+  pub kept : KeepsCommit old new
+  pub open_still : IsTrue old.is_open → IsTrue new.is_open
+  pub inside : IsTrue new.in_transaction
 
 -- ---- a text that is a query under every schema
 

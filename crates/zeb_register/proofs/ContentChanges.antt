@@ -1,5 +1,5 @@
 -- Contents that differ in one place: a content that is changed at one key, or from which a database is taken, is there, and there is one; and a content is told by its postings.
-use Rattle.std.proofs.Common.{◌≡◌, ◌≢◌, ◌↔◌, ◌⊎◌, ℕ, ℤ, Bool, true, not, List, [], ◌∷◌, IsUtf8, map, filter, refl, sym, ap, subst, inl, inr, Ordering, Less, Equal, Greater, nat_eq, nat_cmp, int_cmp, arith}
+use Rattle.std.proofs.Common.{◌≡◌, ◌≢◌, ◌↔◌, ◌⊎◌, ℕ, ℤ, Bool, true, not, List, [], ◌∷◌, map, filter, refl, sym, ap, subst, inl, inr, Ordering, Less, Equal, Greater, nat_eq, nat_cmp, int_cmp, arith}
 use Rattle.std.specs.Ordering.{ordering_then}
 use Rattle.std.specs.Cmp.{IsTotalOrder, then_total, on_total, nat_cmp_total, int_cmp_total}
 use Rattle.std.specs.List.Sorted.{IsStrictlySortedBy}
@@ -13,7 +13,6 @@ use Rattle.zeb_register.specs.declared.registers.Place.{Place}
 use Rattle.zeb_register.specs.declared.registers.Posting.{Posting}
 use Rattle.zeb_extract.proofs.Rising.{key_total, keys_apart}
 use Rattle.zeb_register.specs.Content.{Content, posting_cmp, IsRising, posting_at, ArePlacesOf, IsChangedAt, IsWithout}
-use Rattle.zeb_register.specs.Terms.{HasTexts}
 use Rattle.zeb_register.proofs.RisingLists.{same_list, kept_rises, told_by, with_all, all_there, all_rise}
 
 -- ---- orders that tell apart
@@ -181,18 +180,3 @@ without_is db content up = record { rising = λ d k. rises d k (told_by int_cmp_
 pub one_without : (db : ℤ) (content a b : Content) → IsWithout db content a → IsWithout db content b → a ≡ b
 one_without db content a b left right =
     same_content a b left.rising right.rising (λ d k p. (λ h. (right.left d k p).1 ((left.left d k p).0 h), λ h. (left.left d k p).1 ((right.left d k p).0 h)))
-
--- ---- texts
-
-kept_some : (list kept : List Posting) → ((p : Posting) → Has kept p → Has list p) → kept ≢ [] → list ≢ []
-kept_some list [] from some none = some refl
-kept_some list (p ∷ ps) from some none = subst (λ l. Has l p) none (from p (inl refl))
-
-pub texts_stay : (db : ℤ) (key : Key) (sysno : ℕ) (places : List Place) (old new : Content) → HasTexts old → IsUtf8 key.term → IsChangedAt db key sysno places old new → HasTexts new
-texts_stay db key sysno places old new texts text change d k some = elim (told_by key_total keys_apart k key) [
-  | inl same ↦ subst (λ (l : Key). IsUtf8 l.term) (sym same) text
-  | inr other ↦ texts d k (kept_some (old d k) (new d k) (λ p h. (change.others d k p (λ same. other same.1)).0 h) some)
-]
-
-pub texts_without : (db : ℤ) (old new : Content) → HasTexts old → IsWithout db old new → HasTexts new
-texts_without db old new texts taken d k some = texts d k (kept_some (old d k) (new d k) (λ p h. ((taken.left d k p).0 h).0) some)

@@ -8,7 +8,8 @@ use Rattle.std.proofs.lemmas.Bool.Decides.{nat_tests}
 use Rattle.sqlite_rules.specs.Lists.{Has}
 use Rattle.sqlite_rules.proofs.ListLemmas.{has_left, has_right, has_either}
 use Rattle.zeb_register.specs.declared.registers.TermCount.{TermCount}
-use Rattle.zeb_register.specs.Terms.{IsCount, AreCounts, IsCountedIn, term_cmp, term_with}
+use Rattle.zeb_register.specs.Occurring.{IsCount, AreCounts, term_cmp}
+use Rattle.zeb_register.specs.RowTerms.{IsCountedIn, term_with}
 use Rattle.zeb_register.proofs.RisingLists.{same_list, pushed_rises, before_last, front_rises, snoc_of, same_last}
 
 pub term_total : IsTotalOrder term_cmp

@@ -10,10 +10,12 @@ use Rattle.sqlite.specs.Listing.{understood, reads_listing}
 use Rattle.sqlite.proofs.Callers.{IsPlain, command_of}
 use Rattle.sqlite_tied.specs.Compute.{everything}
 use Rattle.zeb_register.specs.Tables.{store_schema, databases_table}
-use Rattle.zeb_register.specs.Sql.{Condition, equals, reading, alone, shows, no_limit, IsListOf}
-use Rattle.zeb_register.specs.Kinds.{codes_of, IsPlainTable, HasKeys, code}
+use Rattle.zeb_register.proofs.StatementForms.{Condition, equals, reading, alone, shows, no_limit}
+use Rattle.zeb_register.specs.Sql.{IsListOf}
+use Rattle.zeb_register.proofs.ValueKinds.{codes_of, IsPlainTable, HasKeys, code}
 use Rattle.sqlite.specs.Table.{Table}
-use Rattle.zeb_register.specs.Store.{IsStore, Changes, databases_tree, HasDatabase, AddsDatabase, SetsLast, TakesDatabase, IsDatabaseRow}
+use Rattle.zeb_register.specs.Store.{IsStore, Changes, databases_tree, HasDatabase, TakesDatabase}
+use Rattle.zeb_register.specs.RowStatements.{AddsDatabase, SetsLast, IsDatabaseRow}
 use Rattle.zeb_register.proofs.Writes.{next_free, GainsRow, LosesRows, RemakesRows, updates, changed_so, deletes, inserts, codes_there}
 use Rattle.zeb_register.proofs.RowLemmas.{null_of, spread, code_at, int_of, text_of}
 use Rattle.zeb_register.proofs.Selects.{IsSelected, selects, list_so}

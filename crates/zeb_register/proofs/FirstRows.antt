@@ -10,7 +10,7 @@ use Rattle.sqlite_sql.proofs.QueryLemmas.{output_cmp_total}
 use Rattle.sqlite_value.specs.declared.keys.Key.{Key}
 use Rattle.sqlite_rules.specs.Lists.{Has}
 use Rattle.sqlite_rules.proofs.ListLemmas.{contains_had}
-use Rattle.zeb_register.specs.Sql.{Condition, passes, reading_by, shown_of, one_row, IsReading}
+use Rattle.zeb_register.proofs.StatementForms.{Condition, passes, reading_by, shown_of, one_row, IsReading}
 use Rattle.zeb_register.proofs.Scans.{origin, in_order}
 
 module _ (db : List Row) (wheres : List Condition) (project : List Term) (keys : List (Term × Key)) (params : Row) (rows : List Row) (h : IsReading db wheres project keys one_row params rows) where

@@ -2,13 +2,21 @@
 use Rattle.std.proofs.Common.{◌≡◌, ◌∙◌, ℕ, ℤ, List, [], ◌∷◌, sym, subst, refl}
 use Rattle.std.specs.List.Sorted.{IsStrictlySortedBy}
 use Rattle.sqlite.specs.declared.types.Value.TheVariants.{Int}
-use Rattle.sqlite.specs.Order.{Row}
 use Rattle.sqlite.specs.Tree.{Trees}
 use Rattle.sqlite_rules.specs.Lists.{Has}
-use Rattle.zeb_register.specs.Content.{Content, HoldsRows, IsRising}
+use Rattle.sqlite.specs.State.{State}
+use Rattle.zeb_profile.specs.declared.Register.{Register}
+use Rattle.zeb_register.specs.declared.registers.TermCount.{TermCount}
+use Rattle.zeb_register.specs.Content.{Content, IsRising, IsWithout, posted}
 use Rattle.zeb_register.specs.Formats.{Format, plain_rows, version_of, holds_in}
-use Rattle.zeb_register.specs.Store.{KeepsRegisters, LacksRegisters}
+use Rattle.zeb_register.specs.Occurring.{AreTermsOf}
+use Rattle.zeb_register.specs.PlainRows.{HoldsRows}
+use Rattle.zeb_register.specs.RowPlaces.{DropsRegisters}
+use Rattle.zeb_register.specs.Sql.{Loses}
+use Rattle.zeb_register.specs.Store.{Changes, IsRecordIn, KeepsRegisters, LacksRegisters, TakesDatabase, databases_tree, records_tree}
 use Rattle.zeb_register.proofs.ContentLemmas.{one_content}
+use Rattle.zeb_register.proofs.PlaceLemmas.{rows_without}
+use Rattle.zeb_register.proofs.TermRows.{held_terms}
 
 -- what the tables hold is told by the tables of the registers alone
 rows_stay : (old new : Trees) (content : Content) → KeepsRegisters old new → HoldsRows old content → HoldsRows new content
@@ -45,6 +53,16 @@ registers_hold_one plain_rows trees one two left right = λ i db key. one_conten
 -- each of its lists rises
 pub registers_rise : (format : Format) (trees : Trees) (content : Content) → holds_in format trees content → IsRising content
 registers_rise plain_rows trees content holds = holds.rising
+
+-- each register has a list of its terms
+pub registers_have_terms : (format : Format) (trees : Trees) (content : Content) (db : ℤ) (index : ℕ) (register : Register) → holds_in format trees content
+    → (terms : List TermCount) × AreTermsOf (posted content db) index register terms
+registers_have_terms plain_rows = held_terms
+
+-- the registers hold what is left where a database is taken
+pub registers_without : (format : Format) (db : ℤ) (a b c d : State) → DropsRegisters db a b → Changes records_tree (Loses (IsRecordIn db)) b c → Changes databases_tree (TakesDatabase db) c d
+    → (before after : Content) → holds_in format a.now.trees before → IsWithout db before after → holds_in format d.now.trees after
+registers_without plain_rows = rows_without
 
 -- no two formats have one version
 pub one_format : (one two : Format) → version_of one ≡ version_of two → one ≡ two

@@ -16,21 +16,25 @@ use Rattle.sqlite_value.proofs.OrderLemmas.{value_cmp-Int}
 use Rattle.zeb_extract.specs.declared.keys.Key.{Key}
 use Rattle.zeb_register.specs.declared.registers.Place.{Place}
 use Rattle.zeb_register.specs.declared.registers.Posting.{Posting}
-use Rattle.zeb_register.specs.Sql.{HasRow, IsListOf}
-use Rattle.zeb_register.specs.Store.{postings_tree, IsRest}
-use Rattle.zeb_register.specs.Content.{Content, HoldsRows, ArePlacesOf, posting_at, place_cmp, posting_row, place_front, IsTwoNumbers, place_row, first_two}
+use Rattle.zeb_register.specs.Sql.{HasRow, KeepsOthers, IsKeyed, Loses, IsListOf}
+use Rattle.zeb_register.specs.RowStatements.{Gains, place_key}
+use Rattle.zeb_register.specs.Store.{postings_tree, IsRest, Changes, blocks_tree, dict_tree, databases_tree, records_tree, TakesDatabase, IsRecordIn, IsPostingIn}
+use Rattle.zeb_register.specs.Content.{Content, ArePlacesOf, posting_at, place_cmp, IsWithout, TakesWhole, IsChangedAt}
+use Rattle.zeb_register.specs.PlainRows.{HoldsRows, posting_row, code_of_register, key_row}
+use Rattle.zeb_register.specs.RowPlaces.{IsTwoNumbers, place_row, first_two, DropsRegisters, KeepsBesidePostings, GainsPlaces, Puts, posting_columns, IsPlaceIn}
 use Rattle.sqlite.specs.declared.types.Value.{Value}
 use Rattle.sqlite.specs.Order.{value_cmp}
 use Rattle.sqlite.specs.State.{State}
 use Rattle.sqlite_value.proofs.OrderLemmas.{value_cmp_total}
 use Rattle.std.proofs.lemmas.Cmp.{tied_itself}
 use Rattle.zeb_register.specs.Tables.{store_schema}
-use Rattle.zeb_register.specs.Sql.{KeepsOthers, IsKeyed, Gains, Loses}
-use Rattle.zeb_register.specs.Store.{Changes, blocks_tree, dict_tree, databases_tree, records_tree, TakesDatabase, IsRecordIn, IsPostingIn}
-use Rattle.zeb_register.specs.Kinds.{code, is_exact}
+use Rattle.zeb_register.proofs.ValueKinds.{code, is_exact}
 use Rattle.zeb_register.proofs.RowLemmas.{tied_is}
-use Rattle.zeb_register.specs.Content.{IsWithout, TakesWhole, DropsRegisters, IsChangedAt, KeepsBesidePostings, GainsPlaces, Puts, posting_columns, IsPlaceIn, code_of_register, key_row}
 use Rattle.zeb_register.proofs.ContentLemmas.{told_apart, one_list, ints_order, same_key}
+
+-- the rows of the key in the record, shown by their places
+abbrev pub place_front : ℤ → Key → ℕ → Row
+place_front db key sysno = place_key db (pos key.index) (pos (code_of_register key.register)) key.term (pos sysno)
 
 pub both_more : (xs : List Row) (ys : List Place) (i : ℕ) (x : Row) (d : Place) → x ≡ get_or xs i x → i < length xs → i < length ys → map first_two (take i xs) ≡ map place_row (take i ys) → first_two x ≡ place_row (get_or ys i d)
     → map first_two (take (i + 1) xs) ≡ map place_row (take (i + 1) ys)

@@ -9,10 +9,12 @@ use Rattle.sqlite.specs.Listing.{understood, reads_listing}
 use Rattle.sqlite.proofs.Callers.{IsPlain, command_of}
 use Rattle.sqlite_tied.specs.Compute.{everything}
 use Rattle.zeb_register.specs.Tables.{store_schema, postings_table, blocks_table, dict_table}
-use Rattle.zeb_register.specs.Sql.{Condition, equals, reading, alone, keyed_from, shows, no_limit, Loses, Gains, IsListOf}
-use Rattle.zeb_register.specs.Kinds.{IsPlainTable, HasKeys}
+use Rattle.zeb_register.specs.Sql.{Loses, IsListOf}
+use Rattle.zeb_register.proofs.StatementForms.{Condition, equals, reading, alone, keyed_from, shows, no_limit}
+use Rattle.zeb_register.specs.RowStatements.{Gains, posting, place_key, IsPlaceOf}
+use Rattle.zeb_register.proofs.ValueKinds.{IsPlainTable, HasKeys}
 use Rattle.sqlite.specs.Table.{Table}
-use Rattle.zeb_register.specs.Store.{IsStore, Changes, postings_tree, blocks_tree, dict_tree, posting, key_of, place_key, IsPlaceOf, IsPostingIn, IsRest}
+use Rattle.zeb_register.specs.Store.{IsStore, Changes, postings_tree, blocks_tree, dict_tree, key_of, IsPostingIn, IsRest}
 use Rattle.zeb_register.proofs.Writes.{deletes, inserts, loses, gains}
 use Rattle.zeb_register.proofs.Selects.{list_so}
 use Rattle.zeb_register.proofs.Prefix.{IsAfter, lists_after}

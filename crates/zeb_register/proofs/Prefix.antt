@@ -19,8 +19,9 @@ use Rattle.sqlite.proofs.Callers.{IsPlain, command_of}
 use Rattle.sqlite_rules.specs.Lists.{Has}
 use Rattle.sqlite_rules.proofs.ListLemmas.{all_has}
 use Rattle.sqlite_rules.proofs.TableLemmas.{int_is}
-use Rattle.zeb_register.specs.Sql.{Condition, MeetsAll, keyed_from, reading, alone, shows, ordering, HasLayout, IsListOf}
-use Rattle.zeb_register.specs.Kinds.{IsPlainTable, HasKeys, are_fit, are_comparable, code, codes_of, covers}
+use Rattle.zeb_register.specs.Sql.{HasLayout, IsListOf}
+use Rattle.zeb_register.proofs.StatementForms.{Condition, MeetsAll, keyed_from, reading, alone, shows, ordering}
+use Rattle.zeb_register.proofs.ValueKinds.{IsPlainTable, HasKeys, are_fit, are_comparable, code, codes_of, covers}
 use Rattle.zeb_register.proofs.RowLemmas.{later_columns}
 use Rattle.zeb_register.proofs.Writes.{keyed_there, codes_there}
 use Rattle.zeb_register.proofs.Selects.{IsSelected, selects, list_so}

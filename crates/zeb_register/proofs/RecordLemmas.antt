@@ -7,8 +7,9 @@ use Rattle.sqlite_rules.specs.Lists.{Has}
 use Rattle.zeb_register.specs.declared.kept.Record.{Record}
 use Rattle.zeb_register.specs.Sql.{HasRow, IsListOf}
 use Rattle.zeb_register.specs.Store.{IsStore, records_tree, IsRest}
-use Rattle.zeb_register.specs.Content.{first_three}
-use Rattle.zeb_register.specs.Kept.{AreReadable, IsRecordShown, record_shown}
+use Rattle.zeb_register.specs.RowPlaces.{first_three}
+use Rattle.zeb_register.specs.Kept.{AreReadable, record_shown}
+use Rattle.zeb_register.specs.RowStatements.{IsRecordShown}
 use Rattle.zeb_register.proofs.RecordStatements.{record_rest}
 
 module _ (s : State) (db : ℤ) (store : IsStore s) where

@@ -11,10 +11,12 @@ use Rattle.sqlite.specs.Listing.{understood, reads_listing}
 use Rattle.sqlite.proofs.Callers.{IsPlain, command_of}
 use Rattle.sqlite_tied.specs.Compute.{everything}
 use Rattle.zeb_register.specs.Tables.{store_schema, records_table}
-use Rattle.zeb_register.specs.Sql.{Condition, equals, reading, alone, keyed_from, rising, shows, no_limit, Loses, Replaces, HasRow, IsListOf}
-use Rattle.zeb_register.specs.Kinds.{codes_of, IsPlainTable, HasKeys, code}
+use Rattle.zeb_register.specs.Sql.{Loses, Replaces, HasRow, IsListOf}
+use Rattle.zeb_register.proofs.StatementForms.{Condition, equals, reading, alone, keyed_from, rising, shows, no_limit}
+use Rattle.zeb_register.proofs.ValueKinds.{codes_of, IsPlainTable, HasKeys, code}
 use Rattle.sqlite.specs.Table.{Table}
-use Rattle.zeb_register.specs.Store.{IsStore, Changes, records_tree, record_row, HasNumber, SharesRecord, IsRecordIn, IsElderRow, IsIdentRow, IsRest}
+use Rattle.zeb_register.specs.Store.{IsStore, Changes, records_tree, record_row, HasNumber, SharesRecord, IsRecordIn, IsRest}
+use Rattle.zeb_register.specs.RowStatements.{IsElderRow, IsIdentRow}
 use Rattle.zeb_register.proofs.Writes.{deletes, replaces, loses, takes_place, codes_there}
 use Rattle.zeb_register.proofs.RowLemmas.{spread, code_at, int_of, text_of, blob_of}
 use Rattle.zeb_register.proofs.Selects.{IsSelected, selects, list_so}

@@ -18,7 +18,7 @@ use Rattle.sqlite_trees.specs.declared.error.StoreError.TheVariants as cause
 use Rattle.zeb_register.specs.declared.faults.RegFault.TheVariants.{Store}
 use Rattle.zeb_register.specs.Faults.{fault_of}
 use Rattle.zeb_register.specs.Tables.{store_schema}
-use Rattle.zeb_register.specs.Sql.{Condition, reading_by, alone}
+use Rattle.zeb_register.proofs.StatementForms.{Condition, reading_by, alone}
 use Rattle.zeb_register.specs.Store.{IsStore}
 use Rattle.zeb_register.specs.Calls.{MayRefuse}
 

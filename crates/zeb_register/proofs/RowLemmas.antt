@@ -35,8 +35,8 @@ use Rattle.sqlite_rules.proofs.ListLemmas.{some_has, some_from, test_has}
 use Rattle.sqlite_rules.specs.Lists.{Has}
 use Rattle.sqlite_rules.proofs.RuleLemmas.{keeps_at}
 use Rattle.sqlite_catalog.specs.Listing.{IsSound}
-use Rattle.zeb_register.specs.Sql.{Condition, equals, at_least, less_than, term_of, Meets, MeetsAll, passes, ascending, ordering}
-use Rattle.zeb_register.specs.Kinds.{keeps, keeps_all, term_code, is_plain_term, holds_code, store_all, code, codes_from, codes_of, is_empty, are_whole, is_whole, is_exact, fits, are_comparable, SharesKey, HasKeys, is_at, covers}
+use Rattle.zeb_register.proofs.StatementForms.{Condition, equals, at_least, less_than, term_of, Meets, MeetsAll, passes, ascending, ordering}
+use Rattle.zeb_register.proofs.ValueKinds.{keeps, keeps_all, term_code, is_plain_term, holds_code, store_all, code, codes_from, codes_of, is_empty, are_whole, is_whole, is_exact, fits, are_comparable, SharesKey, HasKeys, is_at, covers}
 
 -- ---- types
 

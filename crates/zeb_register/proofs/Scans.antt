@@ -24,7 +24,7 @@ use Rattle.sqlite_trees.proofs.ListLemmas.{map-map, all-permutation}
 use Rattle.sqlite_rules.specs.Lists.{Has}
 use Rattle.sqlite_rules.proofs.ListLemmas.{all_has, all_from, contains_had, has_filtered, has_kept}
 use Rattle.sqlite_rules.proofs.ProbeLemmas.{has_mapped, mapped_has}
-use Rattle.zeb_register.specs.Sql.{Condition, term_of, passes, reading, reading_by, alone, rising, ascending, ordering, shown_of, IsReading}
+use Rattle.zeb_register.proofs.StatementForms.{Condition, term_of, passes, reading, reading_by, alone, rising, ascending, ordering, shown_of, IsReading}
 
 -- ---- sorted lists
 

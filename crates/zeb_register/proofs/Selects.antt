@@ -15,8 +15,9 @@ use Rattle.sqlite.proofs.Callers.{never_commits, IsPlain, command_of, reads_as}
 use Rattle.sqlite.proofs.StateLemmas.{survives_weaker}
 use Rattle.sqlite_rules.specs.Lists.{Has}
 use Rattle.sqlite_rules.proofs.ListLemmas.{all_has, has_got}
-use Rattle.zeb_register.specs.Sql.{Condition, MeetsAll, passes, reading, alone, rising, shows, ordering, HasLayout, IsListOf}
-use Rattle.zeb_register.specs.Kinds.{IsPlainTable, HasKeys, are_fit, are_comparable, codes_of, covers}
+use Rattle.zeb_register.specs.Sql.{HasLayout, IsListOf}
+use Rattle.zeb_register.proofs.StatementForms.{Condition, MeetsAll, passes, reading, alone, rising, shows, ordering}
+use Rattle.zeb_register.proofs.ValueKinds.{IsPlainTable, HasKeys, are_fit, are_comparable, codes_of, covers}
 use Rattle.zeb_register.proofs.RowLemmas.{covered_some, ordering_tied, shares_alone}
 use Rattle.zeb_register.proofs.Scans.{reads, shows_each, shows_rising, all_shown}
 use Rattle.zeb_register.proofs.Writes.{keyed_there, codes_there, meets_there}

@@ -1,5 +1,5 @@
 -- The list of a register's terms: there is one, and what its parts next to a text are.
-use Rattle.std.proofs.Common.{◌≡◌, ◌≢◌, ◌↔◌, ◌⊎◌, ◌∙◌, ◌<◌, ◌≤◌, ◌+◌, ◌-◌, ℕ, ℤ, zero, suc, Bool, true, false, not, List, [], ◌∷◌, ◌++◌, length, map, filter, take, drop, reverse, refl, sym, ap, ap₂, subst, inl, inr, Ordering, Less, Equal, Greater, nat_cmp, arith, append_assoc, Some, None, String, string_bytes}
+use Rattle.std.proofs.Common.{◌≡◌, ◌⊎◌, ◌∙◌, ◌<◌, ◌≤◌, ◌+◌, ◌-◌, ℕ, zero, suc, Bool, true, false, not, List, [], ◌∷◌, ◌++◌, length, filter, take, drop, reverse, refl, sym, ap, subst, inl, inr, Ordering, Less, Equal, Greater, nat_cmp, arith, append_assoc, Some, None, String, string_bytes}
 use Rattle.std.specs.declared.alloc.Global.{Global}
 use Rattle.std.specs.Ordering.{is_lt, ordering_then, ordering_reverse}
 use Rattle.std.specs.Cmp.{nat_cmp_total}
@@ -10,11 +10,9 @@ use Rattle.std.proofs.lemmas.Bool.{cases_Bool}
 use Rattle.std.proofs.lemmas.List.{reverse-append, length-reverse}
 use Rattle.sqlite_rules.specs.Lists.{Has}
 use Rattle.sqlite_rules.proofs.ListLemmas.{all_from, has_filtered, has_kept, has_left, has_right, has_either}
-use Rattle.zeb_profile.specs.declared.Register.{Register}
-use Rattle.zeb_register.specs.declared.registers.Posting.{Posting}
 use Rattle.zeb_register.specs.declared.registers.TermCount.{TermCount}
-use Rattle.zeb_register.specs.Content.{Content}
-use Rattle.zeb_register.specs.Terms.{IsCount, IsInRecord, AreCounts, AreTermsOf, listed, term_cmp, is_before, is_from, last, IsLeastTerm, IsGreatestTerm}
+use Rattle.zeb_register.specs.Occurring.{IsCount, AreCounts, term_cmp, is_before, is_from, last}
+use Rattle.zeb_register.specs.RowTerms.{IsTerm, IsLeastTerm, IsGreatestTerm}
 use Rattle.zeb_register.proofs.RowLemmas.{same_bytes}
 use Rattle.zeb_register.proofs.RisingLists.{same_list, kept_rises, pushed_rises, never_back}
 use Rattle.zeb_register.proofs.CountLemmas.{is_less, term_total, one_count}
@@ -112,69 +110,46 @@ first_rises : (t : TermCount) (rest : List TermCount) → ((u : TermCount) → H
 unfolding IsStrictlySortedBy
 first_rises t rest above up = (all_from (λ u. term_cmp t u ≡ Less) rest above, up)
 
--- ---- one register of one database
+-- ---- the terms that P has with some number
 
-module _ (content : Content) (db : ℤ) (index : ℕ) (register : Register) where
-  abbrev list_of : List ℕ → List Posting
-  list_of = listed content db index register
-
-  pub some_listed : (term : List ℕ) (n : ℕ) → IsInRecord (list_of term) n → list_of term ≢ []
-  some_listed term n p none = subst (λ l. Has l p.0) none p.1
-
-  a_record : (list : List Posting) → list ≢ [] → (n : ℕ) × IsInRecord list n
-  a_record [] some = absurd (some refl)
-  a_record (p ∷ ps) some = (p.sysno, (p, inl refl, refl))
-
-  pub terms_counted : (terms : List TermCount) → AreCounts (λ term. IsInRecord (list_of term)) terms → AreTermsOf content db index register terms
-  terms_counted terms it = record {
-    rising = it.rising;
-    each = λ term. (
-      λ some. let n = a_record (list_of term) some in it.found term n.0 n.1,
-      λ there. let n = it.some there.0 there.1 in subst (λ t. list_of t ≢ []) there.2 (some_listed there.0.term n.0 n.1),
-    );
-    counts = it.counts;
-  }
-
+module _ (P : List ℕ → ℕ → Type 0) where
   same_term_count : (s t : TermCount) → s.term ≡ t.term → s.records ≡ t.records → s ≡ t
   same_term_count s t a b i = record { term = a i; records = b i }
 
   -- with the count of a term the whole is known
-  pub one_of : (terms : List TermCount) → AreTermsOf content db index register terms → (t : TermCount) → list_of t.term ≢ [] → IsCount (IsInRecord (list_of t.term)) t.records → Has terms t
+  pub one_of : (terms : List TermCount) → AreCounts P terms → (t : TermCount) → IsTerm P t.term → IsCount (P t.term) t.records → Has terms t
   one_of terms are t some count =
-      let there = (are.each t.term).0 some in
-      let records : t.records ≡ there.0.records = one_count (IsInRecord (list_of t.term)) t.records there.0.records count (subst (λ u. IsCount (IsInRecord (list_of u)) there.0.records) there.2 (are.counts there.0 there.1)) in
+      let there = are.found t.term some.0 some.1 in
+      let records : t.records ≡ there.0.records = one_count (P t.term) t.records there.0.records count (subst (λ u. IsCount (P u) there.0.records) there.2 (are.counts there.0 there.1)) in
       subst (Has terms) (sym (same_term_count t there.0 (sym there.2) records)) there.1
 
-  pub is_listed : (terms : List TermCount) → AreTermsOf content db index register terms → (t : TermCount) → Has terms t → list_of t.term ≢ []
-  is_listed terms are t there = (are.each t.term).1 (t, there, refl)
-
-  pub one_list_of_terms : (one two : List TermCount) → AreTermsOf content db index register one → AreTermsOf content db index register two → one ≡ two
+  pub one_list_of_terms : (one two : List TermCount) → AreCounts P one → AreCounts P two → one ≡ two
   one_list_of_terms one two left right =
-      same_list term_total one two left.rising right.rising (λ t h. one_of two right t (is_listed one left t h) (left.counts t h)) (λ t h. one_of one left t (is_listed two right t h) (right.counts t h))
+      same_list term_total one two left.rising right.rising (λ t h. one_of two right t (left.some t h) (left.counts t h)) (λ t h. one_of one left t (right.some t h) (right.counts t h))
 
-  module _ (all : List TermCount) (are : AreTermsOf content db index register all) where
-    pub none_from : (start : List ℕ) → ((term : List ℕ) → list_of term ≢ [] → lower term start ≡ true) → filter (is_from start) all ≡ []
+  module _ (all : List TermCount) (are : AreCounts P all) where
+    pub none_from : (start : List ℕ) → ((term : List ℕ) → IsTerm P term → lower term start ≡ true) → filter (is_from start) all ≡ []
     none_from start none = from (filter (is_from start) all) refl
       where
         from : (ts : List TermCount) → filter (is_from start) all ≡ ts → filter (is_from start) all ≡ []
         from [] is = is
         from (t ∷ ts) is =
             let here = has_filtered (is_from start) all t (subst (λ l. Has l t) (sym is) (inl refl)) in
-            let low = none t.term (is_listed all are t here.0) in
+            let low = none t.term (are.some t here.0) in
             absurd (let e : false ≡ true = sym (ap not low) ∙ here.1 in cc)
 
-    pub none_before : (start : List ℕ) → ((term : List ℕ) → list_of term ≢ [] → lower term start ≡ false) → filter (is_before start) all ≡ []
+    pub none_before : (start : List ℕ) → ((term : List ℕ) → IsTerm P term → lower term start ≡ false) → filter (is_before start) all ≡ []
     none_before start none = from (filter (is_before start) all) refl
       where
         from : (ts : List TermCount) → filter (is_before start) all ≡ ts → filter (is_before start) all ≡ []
         from [] is = is
         from (t ∷ ts) is =
             let here = has_filtered (is_before start) all t (subst (λ l. Has l t) (sym is) (inl refl)) in
-            let low = none t.term (is_listed all are t here.0) in
+            let low = none t.term (are.some t here.0) in
             absurd (let e : false ≡ true = sym low ∙ here.1 in cc)
 
     -- the least term from a text on, and then those above it
-    pub next_from : (start : List ℕ) (t : TermCount) → list_of t.term ≢ [] → lower t.term start ≡ false → ((term : List ℕ) → list_of term ≢ [] → lower term start ≡ false → lower term t.term ≡ false) → IsCount (IsInRecord (list_of t.term)) t.records
+    pub next_from : (start : List ℕ) (t : TermCount) → IsTerm P t.term → lower t.term start ≡ false → ((term : List ℕ) → IsTerm P term → lower term start ≡ false → lower term t.term ≡ false) → IsCount (P t.term) t.records
         → filter (is_from start) all ≡ t ∷ filter (is_from (t.term ++ 0 ∷ [])) all
     next_from start t some low least count =
         let rest = filter (is_from (t.term ++ 0 ∷ [])) all in
@@ -182,8 +157,8 @@ module _ (content : Content) (db : ℤ) (index : ℕ) (register : Register) wher
         same_list term_total (filter (is_from start) all) (t ∷ rest) (kept_rises term_total (is_from start) all are.rising) (first_rises t rest above (kept_rises term_total (is_from (t.term ++ 0 ∷ [])) all are.rising))
         (λ u h.
         let here = has_filtered (is_from start) all u h in
-        elim (not_lower u.term t.term (least u.term (is_listed all are u here.0) (not_true_is _ here.1))) [
-          | inl same ↦ inl (same_term_count u t same (one_count (IsInRecord (list_of t.term)) u.records t.records (subst (λ v. IsCount (IsInRecord (list_of v)) u.records) same (are.counts u here.0)) count))
+        elim (not_lower u.term t.term (least u.term (are.some u here.0) (not_true_is _ here.1))) [
+          | inl same ↦ inl (same_term_count u t same (one_count (P t.term) u.records t.records (subst (λ v. IsCount (P v) u.records) same (are.counts u here.0)) count))
           | inr more ↦ inr (has_kept (is_from (t.term ++ 0 ∷ [])) all u here.0 (ap not (above_least u.term t.term more)))
         ])
         (λ u h. elim h [
@@ -192,7 +167,7 @@ module _ (content : Content) (db : ℤ) (index : ℕ) (register : Register) wher
         ])
 
     -- the greatest term below a text, after those below it
-    pub next_before : (start : List ℕ) (t : TermCount) → list_of t.term ≢ [] → lower t.term start ≡ true → ((term : List ℕ) → list_of term ≢ [] → lower term start ≡ true → lower t.term term ≡ false) → IsCount (IsInRecord (list_of t.term)) t.records
+    pub next_before : (start : List ℕ) (t : TermCount) → IsTerm P t.term → lower t.term start ≡ true → ((term : List ℕ) → IsTerm P term → lower term start ≡ true → lower t.term term ≡ false) → IsCount (P t.term) t.records
         → filter (is_before start) all ≡ filter (is_before t.term) all ++ t ∷ []
     next_before start t some low greatest count =
         let front = filter (is_before t.term) all in
@@ -200,8 +175,8 @@ module _ (content : Content) (db : ℤ) (index : ℕ) (register : Register) wher
         same_list term_total (filter (is_before start) all) (front ++ t ∷ []) (kept_rises term_total (is_before start) all are.rising) (pushed_rises term_total front t (kept_rises term_total (is_before t.term) all are.rising) below)
         (λ u h.
         let here = has_filtered (is_before start) all u h in
-        elim (not_lower t.term u.term (greatest u.term (is_listed all are u here.0) here.1)) [
-          | inl same ↦ has_right front (t ∷ []) u (inl (same_term_count u t (sym same) (one_count (IsInRecord (list_of t.term)) u.records t.records (subst (λ v. IsCount (IsInRecord (list_of v)) u.records) (sym same) (are.counts u here.0)) count)))
+        elim (not_lower t.term u.term (greatest u.term (are.some u here.0) here.1)) [
+          | inl same ↦ has_right front (t ∷ []) u (inl (same_term_count u t (sym same) (one_count (P t.term) u.records t.records (subst (λ v. IsCount (P v) u.records) (sym same) (are.counts u here.0)) count)))
           | inr less ↦ has_left front (t ∷ []) u (has_kept (is_before t.term) all u here.0 (ap is_lt less))
         ])
         (λ u h. elim (has_either front (t ∷ []) u h) [
@@ -212,36 +187,36 @@ module _ (content : Content) (db : ℤ) (index : ℕ) (register : Register) wher
     -- ---- one term after the other
 
     -- the count of the least term from a text on is put behind those before it
-    pub from_step : (start next above : List ℕ) (items : List TermCount) (least : String Global) (t : TermCount) → IsLeastTerm content db index register next (Some least)
-        → (t.term ≡ string_bytes least) × IsCount (IsInRecord (list_of (string_bytes least))) t.records → above ≡ t.term ++ 0 ∷ [] → filter (is_from start) all ≡ items ++ filter (is_from next) all
+    pub from_step : (start next above : List ℕ) (items : List TermCount) (least : String Global) (t : TermCount) → IsLeastTerm P next (Some least)
+        → (t.term ≡ string_bytes least) × IsCount (P (string_bytes least)) t.records → above ≡ t.term ++ 0 ∷ [] → filter (is_from start) all ≡ items ++ filter (is_from next) all
         → filter (is_from start) all ≡ (items ++ t ∷ []) ++ filter (is_from above) all
     from_step start next above items least t is counted above_is before =
-        let some : list_of t.term ≢ [] = subst (λ u. list_of u ≢ []) (sym counted.0) is.0 in
+        let some : IsTerm P t.term = subst (λ u. IsTerm P u) (sym counted.0) is.0 in
         let low : lower t.term next ≡ false = subst (λ u. lower u next ≡ false) (sym counted.0) is.1 in
-        let first : (term : List ℕ) → list_of term ≢ [] → lower term next ≡ false → lower term t.term ≡ false = λ term there from. subst (λ u. lower term u ≡ false) (sym counted.0) (is.2 term there from) in
-        let count : IsCount (IsInRecord (list_of t.term)) t.records = subst (λ u. IsCount (IsInRecord (list_of u)) t.records) (sym counted.0) counted.1 in
+        let first : (term : List ℕ) → IsTerm P term → lower term next ≡ false → lower term t.term ≡ false = λ term there from. subst (λ u. lower term u ≡ false) (sym counted.0) (is.2 term there from) in
+        let count : IsCount (P t.term) t.records = subst (λ u. IsCount (P u) t.records) (sym counted.0) counted.1 in
         before ∙ ap (λ l. items ++ l) (next_from next t some low first count) ∙ sym (append_assoc items (t ∷ []) (filter (is_from (t.term ++ 0 ∷ [])) all)) ∙ ap (λ u. (items ++ t ∷ []) ++ filter (is_from u) all) (sym above_is)
 
     pub from_whole : (start next : List ℕ) (items : List TermCount) (n : ℕ) → filter (is_from start) all ≡ items ++ filter (is_from next) all → length items ≡ n → items ≡ take n (filter (is_from start) all)
     from_whole start next items n before long = sym (ap (take n) before ∙ taken n items (filter (is_from next) all) (inl long))
 
-    pub from_end : (start next : List ℕ) (items : List TermCount) (n : ℕ) → filter (is_from start) all ≡ items ++ filter (is_from next) all → IsLeastTerm content db index register next None → length items ≤ n → items ≡ take n (filter (is_from start) all)
+    pub from_end : (start next : List ℕ) (items : List TermCount) (n : ℕ) → filter (is_from start) all ≡ items ++ filter (is_from next) all → IsLeastTerm P next None → length items ≤ n → items ≡ take n (filter (is_from start) all)
     from_end start next items n before none long = sym (ap (take n) before ∙ taken n items (filter (is_from next) all) (inr (none_from next none, long)))
 
     -- the count of the greatest term below a text is put before those after it
-    pub before_step : (start above below : List ℕ) (items : List TermCount) (greatest : String Global) (t : TermCount) → IsGreatestTerm content db index register above (Some greatest)
-        → (t.term ≡ string_bytes greatest) × IsCount (IsInRecord (list_of (string_bytes greatest))) t.records → below ≡ t.term → filter (is_before start) all ≡ filter (is_before above) all ++ reverse items
+    pub before_step : (start above below : List ℕ) (items : List TermCount) (greatest : String Global) (t : TermCount) → IsGreatestTerm P above (Some greatest)
+        → (t.term ≡ string_bytes greatest) × IsCount (P (string_bytes greatest)) t.records → below ≡ t.term → filter (is_before start) all ≡ filter (is_before above) all ++ reverse items
         → filter (is_before start) all ≡ filter (is_before below) all ++ reverse (items ++ t ∷ [])
     before_step start above below items greatest t is counted below_is before =
-        let some : list_of t.term ≢ [] = subst (λ u. list_of u ≢ []) (sym counted.0) is.0 in
+        let some : IsTerm P t.term = subst (λ u. IsTerm P u) (sym counted.0) is.0 in
         let low : lower t.term above ≡ true = subst (λ u. lower u above ≡ true) (sym counted.0) is.1 in
-        let last_one : (term : List ℕ) → list_of term ≢ [] → lower term above ≡ true → lower t.term term ≡ false = λ term there from. subst (λ u. lower u term ≡ false) (sym counted.0) (is.2 term there from) in
-        let count : IsCount (IsInRecord (list_of t.term)) t.records = subst (λ u. IsCount (IsInRecord (list_of u)) t.records) (sym counted.0) counted.1 in
+        let last_one : (term : List ℕ) → IsTerm P term → lower term above ≡ true → lower t.term term ≡ false = λ term there from. subst (λ u. lower u term ≡ false) (sym counted.0) (is.2 term there from) in
+        let count : IsCount (P t.term) t.records = subst (λ u. IsCount (P u) t.records) (sym counted.0) counted.1 in
         before ∙ ap (λ l. l ++ reverse items) (next_before above t some low last_one count) ∙ append_assoc (filter (is_before t.term) all) (t ∷ []) (reverse items)
         ∙ ap (λ l. filter (is_before t.term) all ++ l) (sym (reverse-append items (t ∷ []))) ∙ ap (λ u. filter (is_before u) all ++ reverse (items ++ t ∷ [])) (sym below_is)
 
     pub before_whole : (start above : List ℕ) (items : List TermCount) (n : ℕ) → filter (is_before start) all ≡ filter (is_before above) all ++ reverse items → length items ≡ n → reverse items ≡ last n (filter (is_before start) all)
     before_whole start above items n before long = sym (ap (last n) before ∙ last_taken n (filter (is_before above) all) (reverse items) (inl (length-reverse items ∙ long)))
 
-    pub before_end : (start above : List ℕ) (items : List TermCount) (n : ℕ) → filter (is_before start) all ≡ filter (is_before above) all ++ reverse items → IsGreatestTerm content db index register above None → length items ≤ n → reverse items ≡ last n (filter (is_before start) all)
+    pub before_end : (start above : List ℕ) (items : List TermCount) (n : ℕ) → filter (is_before start) all ≡ filter (is_before above) all ++ reverse items → IsGreatestTerm P above None → length items ≤ n → reverse items ≡ last n (filter (is_before start) all)
     before_end start above items n before none long = sym (ap (last n) before ∙ last_taken n (filter (is_before above) all) (reverse items) (inr (none_before above none, omega (arith, length-reverse items, long))))

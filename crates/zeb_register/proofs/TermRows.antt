@@ -1,35 +1,36 @@
 -- Rows of a register as the terms of a content.
-use Rattle.std.proofs.Common.{◌≡◌, ◌≢◌, ◌↔◌, ◌⊎◌, ◌∙◌, ◌<◌, ◌≤◌, ◌+◌, ℕ, ℤ, pos, zero, suc, Bool, true, false, List, [], ◌∷◌, ◌++◌, length, map, filter, take, drop, sum, get_or, refl, sym, ap, ap₂, subst, inl, inr, Ordering, Less, Equal, Greater, nat_cmp, arith, Option, Some, None, String, string_bytes, IsUtf8, length-append}
-use Rattle.std.proofs.lemmas.List.{take_more, length-map}
-use Rattle.std.specs.List.{slice_set, fold}
+use Rattle.std.proofs.Common.{◌≡◌, ◌≢◌, ◌↔◌, ◌⊎◌, ◌∙◌, ◌<◌, ◌≤◌, ◌+◌, ℕ, ℤ, pos, negsuc, zero, suc, Bool, true, false, List, [], ◌∷◌, ◌++◌, length, map, filter, take, drop, get_or, refl, sym, ap, ap₂, subst, inl, inr, Ordering, Less, Equal, Greater, nat_cmp, arith, Option, Some, None, String, string_bytes, IsUtf8}
+use Rattle.std.proofs.lemmas.List.{take_more}
+use Rattle.std.specs.List.{slice_set}
 use Rattle.std.specs.Ordering.{is_lt, ordering_then}
 use Rattle.std.specs.Cmp.{nat_cmp_total}
 use Rattle.std.specs.Cmp.Lexicographic.{slice_cmp, nat_list_cmp_total}
 use Rattle.std.specs.List.Sorted.{IsStrictlySortedBy}
-use Rattle.std.proofs.lemmas.Cmp.{tied_itself}
 use Rattle.std.specs.declared.alloc.Global.{Global}
 use Rattle.sqlite.specs.declared.types.Value.{Value}
 use Rattle.sqlite.specs.declared.types.Value.TheVariants.{Null, Int, Real, Text, Blob}
 use Rattle.sqlite.specs.Order.{Row, column, value_cmp, row_cmp}
 use Rattle.sqlite.specs.Tree.{Trees}
 use Rattle.sqlite_rules.specs.Lists.{Has}
-use Rattle.sqlite_rules.proofs.ListLemmas.{all_has, all_from, has_filtered, has_kept, has_left, has_right, has_either}
+use Rattle.sqlite_rules.proofs.ListLemmas.{has_filtered, has_kept, has_left, has_right, has_either}
 use Rattle.sqlite_rules.proofs.ProbeLemmas.{has_mapped, mapped_has}
-use Rattle.sqlite_value.proofs.OrderLemmas.{row_cmp_total, value_cmp_total, value_cmp-Int, value_cmp-Text}
+use Rattle.sqlite_value.proofs.OrderLemmas.{row_cmp_total, value_cmp-Int, value_cmp-Text}
 use Rattle.zeb_profile.specs.declared.Register.{Register}
 use Rattle.zeb_register.specs.declared.registers.Posting.{Posting}
 use Rattle.zeb_register.specs.declared.registers.TermCount.{TermCount}
 use Rattle.zeb_register.specs.Sql.{HasRow, IsListOf}
 use Rattle.zeb_register.specs.Store.{postings_tree, key_of, IsRest}
-use Rattle.zeb_register.specs.Content.{Content, HoldsRows, posting_cmp, posting_row, code_of_register}
-use Rattle.zeb_register.specs.Terms.{IsCount, IsInRecord, AreCounts, AreTermsOf, listed, key_in, term_cmp, term_with, HasTerm, HasTexts, ShowsOccurrence, IsOccurrenceRow, IsShown, ShowsTerm, IsTermRow, ShowsLeast, ShowsGreatest, IsLeastTerm, IsGreatestTerm}
-use Rattle.zeb_register.proofs.RisingLists.{same_list, joined_rises, front_rises, before_last, kept_rises, with_all, all_there, all_rise}
+use Rattle.zeb_register.specs.Content.{Content, IsStorable, posted, posting_cmp}
+use Rattle.zeb_register.specs.PlainRows.{HoldsRows, posting_row, code_of_register}
+use Rattle.zeb_register.specs.Occurring.{IsCount, AreCounts, AreSpotsOf, AreTermsOf, HasSpot, Spot, TermIn, key_in, spot_cmp, term_cmp}
+use Rattle.zeb_register.specs.RowTerms.{IsInRecord, IsTerm, term_with, HasTerm, ShowsOccurrence, IsOccurrenceRow, IsShown, ShowsTerm, IsTermRow, ShowsLeast, ShowsGreatest, IsLeastTerm, IsGreatestTerm}
+use Rattle.zeb_register.proofs.RisingLists.{front_rises, before_last, kept_rises, with_all, all_there, all_rise}
 use Rattle.zeb_register.proofs.RowLemmas.{same_bytes}
 use Rattle.zeb_register.proofs.Scans.{strictly_mapped}
 use Rattle.zeb_register.proofs.ContentChanges.{numbers_apart}
-use Rattle.zeb_register.proofs.ContentLemmas.{ints_order, same_key, rows_rise}
+use Rattle.zeb_register.proofs.ContentLemmas.{ints_order, same_key}
 use Rattle.zeb_register.proofs.CountLemmas.{IsNewest, is_less, counts_so, count_so, count_more, counted_none, newest_is, above_newest, newest_stays}
-use Rattle.zeb_register.proofs.TermLists.{terms_counted}
+use Rattle.zeb_register.proofs.OccurringLemmas.{key_posted}
 
 -- ---- rows one after the other
 
@@ -135,16 +136,46 @@ register_front db index register = Int db ∷ Int (pos index) ∷ Int (pos (code
 abbrev term_of_row : List ℕ → Posting → Row
 term_of_row term p = Text term ∷ posting_row p
 
-sum_on : (a b : ℕ) (ns : List ℕ) → fold (λ m n. m + n) (a + b) ns ≡ a + fold (λ m n. m + n) b ns
-sum_on a b [] = refl
-sum_on a b (n ∷ ns) = ap (λ m. fold (λ m n. m + n) m ns) (let e : a + b + n ≡ a + (b + n) = omega arith in e) ∙ sum_on a (b + n) ns
+text_of : Value → List ℕ
+text_of (Text t) = t
+text_of Null = []
+text_of (Int n) = []
+text_of (Real x) = []
+text_of (Blob b) = []
 
-sum_first : (n : ℕ) (ns : List ℕ) → sum (n ∷ ns) ≡ n + sum ns
-sum_first n ns = ap (λ m. fold (λ m n. m + n) m ns) (let e : 0 + n ≡ n + 0 = omega arith in e) ∙ sum_on n 0 ns
+natural_of : Value → ℕ
+natural_of (Int (pos n)) = n
+natural_of (Int (negsuc n)) = 0
+natural_of Null = 0
+natural_of (Text t) = 0
+natural_of (Real x) = 0
+natural_of (Blob b) = 0
+
+-- the place of a term that a row shows
+pub spot_at : Row → Spot
+spot_at row = (text_of (column row 0), record { sysno = natural_of (column row 1); seq = natural_of (column row 2); pos = natural_of (column row 3) })
+
+then_equal : (a b c : Ordering) → ordering_then a (ordering_then b (ordering_then c Equal)) ≡ ordering_then a (ordering_then b c)
+then_equal Less b c = refl
+then_equal Greater b c = refl
+then_equal Equal Less c = refl
+then_equal Equal Greater c = refl
+then_equal Equal Equal Less = refl
+then_equal Equal Equal Equal = refl
+then_equal Equal Equal Greater = refl
+
+posting_order : (p q : Posting) → row_cmp (posting_row p) (posting_row q) ≡ posting_cmp p q
+posting_order p q = rw (int_at p.sysno q.sysno, int_at p.seq q.seq, int_at p.pos q.pos) (then_equal (nat_cmp p.sysno q.sysno) (nat_cmp p.seq q.seq) (nat_cmp p.pos q.pos))
+
+spots_order : (s t : List ℕ) (p q : Posting) → row_cmp (term_of_row s p) (term_of_row t q) ≡ Less → spot_cmp (s, p) (t, q) ≡ Less
+spots_order s t p q less = ap₂ ordering_then (sym (value_cmp-Text s t)) (sym (posting_order p q)) ∙ less
 
 module _ (trees : Trees) (content : Content) (db : ℤ) (index : ℕ) (register : Register) (holds : HoldsRows trees content) where
   abbrev list_of : List ℕ → List Posting
-  list_of = listed content db index register
+  list_of term = content db (key_in index register term)
+
+  abbrev term_in : List ℕ → ℕ → Type 0
+  term_in = TermIn (posted content db) index register
 
   -- a row of the register, by its term and its posting
   register_row : (row : Row) → HasRow trees postings_tree (register_front db index register ++ row) → (term : List ℕ) × (p : Posting) × Has (list_of term) p × (row ≡ term_of_row term p)
@@ -161,19 +192,15 @@ module _ (trees : Trees) (content : Content) (db : ℤ) (index : ℕ) (register 
   register_there term p here = (holds.each (register_front db index register ++ term_of_row term p)).1 (db, key_in index register term, p, here, refl)
 
   -- a term has a row where it has a posting
-  pub term_there : (term : List ℕ) → list_of term ≢ [] → HasTerm trees db (pos index) (pos (code_of_register register)) term
-  term_there term some = from (list_of term) refl
-    where
-      from : (ps : List Posting) → list_of term ≡ ps → HasTerm trees db (pos index) (pos (code_of_register register)) term
-      from [] is = absurd (some is)
-      from (p ∷ ps) is = (posting_row p, register_there term p (subst (λ l. Has l p) (sym is) (inl refl)))
+  pub term_there : (term : List ℕ) → IsTerm term_in term → HasTerm trees db (pos index) (pos (code_of_register register)) term
+  term_there term some = let p = (key_posted content db (key_in index register term) some.0).0 some.1 in (posting_row p.0, register_there term p.0 p.1)
 
-  pub term_listed : (term : List ℕ) → HasTerm trees db (pos index) (pos (code_of_register register)) term → list_of term ≢ []
+  pub term_listed : (term : List ℕ) → HasTerm trees db (pos index) (pos (code_of_register register)) term → IsTerm term_in term
   term_listed term there =
       let it = register_row (Text term ∷ there.0) there.1 in
       let head : Text term ≡ Text it.0 = ap (λ (r : Row). column r 0) it.3 in
       let same : it.0 ≡ term = cc in
-      λ none. subst (λ l. Has l it.1) none (subst (λ t. Has (list_of t) it.1) same it.2)
+      (it.1.sysno, (key_posted content db (key_in index register term) it.1.sysno).1 (it.1, subst (λ t. Has (list_of t) it.1) same it.2, refl))
 
   -- ---- all rows of the register
   module _ (rows : List Row) (are : IsListOf (IsRest postings_tree (register_front db index register) trees) rows) where
@@ -188,111 +215,56 @@ module _ (trees : Trees) (content : Content) (db : ℤ) (index : ℕ) (register 
       λ h. (term_of_row term h.0, (are.each (term_of_row term h.0)).1 (register_there term h.0 h.1), (refl, ap (λ (m : ℕ). Int (pos m)) h.2)),
     )
 
-    pub counts_are : (terms : List TermCount) → AreCounts (IsShown rows) terms → AreTermsOf content db index register terms
-    counts_are terms it = terms_counted content db index register terms (counts_so (IsShown rows) (λ term. IsInRecord (list_of term)) terms shown_in it)
+    pub counts_are : (terms : List TermCount) → AreCounts (IsShown rows) terms → AreTermsOf (posted content db) index register terms
+    counts_are terms it = counts_so (IsShown rows) term_in terms (λ term n. (
+      λ h. (key_posted content db (key_in index register term) n).1 ((shown_in term n).0 h),
+      λ h. (shown_in term n).1 ((key_posted content db (key_in index register term) n).0 h),
+    )) it
 
-    pub rows_readable : HasTexts content → (row : Row) → Has rows row → IsOccurrenceRow row
-    rows_readable texts row here =
+    pub rows_readable : IsStorable content → (row : Row) → Has rows row → IsOccurrenceRow row
+    rows_readable storable row here =
         let it = register_row row ((are.each row).0 here) in
-        (omega (arith, ap length it.3), (it.0, it.1.sysno, (ap (λ (r : Row). column r 0) it.3, ap (λ (r : Row). column r 1) it.3), texts db (key_in index register it.0) (λ none. subst (λ l. Has l it.1) none it.2)))
+        (omega (arith, ap length it.3), (it.0, it.1.sysno, (ap (λ (r : Row). column r 0) it.3, ap (λ (r : Row). column r 1) it.3), (storable db (key_in index register it.0) it.1 it.2).text))
 
-    -- the rows, term by term
-    abbrev of_term : TermCount → List Row
-    of_term t = map (term_of_row t.term) (list_of t.term)
-
-    spread : List TermCount → List Row
-    spread [] = []
-    spread (t ∷ ts) = of_term t ++ spread ts
-
-    spread_from : (ts : List TermCount) (row : Row) → Has (spread ts) row → (t : TermCount) × (p : Posting) × Has ts t × Has (list_of t.term) p × (row ≡ term_of_row t.term p)
-    unfolding spread
-    spread_from [] row h = absurd h
-    spread_from (t ∷ ts) row h = elim (has_either (of_term t) (spread ts) row h) [
-      | inl first ↦ let p = has_mapped (term_of_row t.term) (list_of t.term) row first in (t, p.0, inl refl, p.1, p.2)
-      | inr later ↦ let it = spread_from ts row later in (it.0, it.1, inr it.2, it.3, it.4)
-    ]
-
-    spread_has : (ts : List TermCount) (t : TermCount) (p : Posting) → Has ts t → Has (list_of t.term) p → Has (spread ts) (term_of_row t.term p)
-    unfolding spread
-    spread_has [] t p h here = absurd h
-    spread_has (u ∷ ts) t p (inl same) here = has_left (of_term u) (spread ts) (term_of_row t.term p) (subst (λ v. Has (of_term v) (term_of_row t.term p)) same (mapped_has (term_of_row t.term) (list_of t.term) p here))
-    spread_has (u ∷ ts) t p (inr later) here = has_right (of_term u) (spread ts) (term_of_row t.term p) (spread_has ts t p later here)
-
-    same_head : (v : Value) (x y : Row) → row_cmp x y ≡ Less → row_cmp (v ∷ x) (v ∷ y) ≡ Less
-    same_head v x y less = ap (λ o. ordering_then o (row_cmp x y)) (tied_itself value_cmp_total v) ∙ less
-
-    lower_head : (s t : List ℕ) (x y : Row) → slice_cmp nat_cmp s t ≡ Less → row_cmp (Text s ∷ x) (Text t ∷ y) ≡ Less
-    lower_head s t x y less = ap (λ o. ordering_then o (row_cmp x y)) (value_cmp-Text s t ∙ less)
-
-    all_heads : (v : Value) (x : Row) (xs : List Row) → IsStrictlySortedBy row_cmp (x ∷ xs) → Rattle.std.specs.List.AllByRecursion (λ y. row_cmp (v ∷ x) y ≡ Less) (map (λ y. v ∷ y) xs)
-    unfolding IsStrictlySortedBy
-    all_heads v x xs up = all_from (λ y. row_cmp (v ∷ x) y ≡ Less) (map (λ y. v ∷ y) xs) (λ y h. let z = has_mapped (λ y. v ∷ y) xs y h in subst (λ w. row_cmp (v ∷ x) w ≡ Less) (sym z.2) (same_head v x z.0 (all_has (λ w. row_cmp x w ≡ Less) xs z.0 up.0 z.1)))
-
-    posting_rows_rise : (term : List ℕ) (ps : List Posting) → IsStrictlySortedBy row_cmp (map posting_row ps) → IsStrictlySortedBy row_cmp (map (term_of_row term) ps)
-    unfolding IsStrictlySortedBy
-    posting_rows_rise term [] up = tt
-    posting_rows_rise term (p ∷ ps) up = (
-      all_from (λ y. row_cmp (term_of_row term p) y ≡ Less) (map (term_of_row term) ps) (λ y h.
-          let q = has_mapped (term_of_row term) ps y h in
-          subst (λ w. row_cmp (term_of_row term p) w ≡ Less) (sym q.2) (same_head (Text term) (posting_row p) (posting_row q.0) (all_has (λ w. row_cmp (posting_row p) w ≡ Less) (map posting_row ps) (posting_row q.0) up.0 (mapped_has posting_row ps q.0 q.1)))),
-      posting_rows_rise term ps up.1,
-    )
-
-    spread_rises : (ts : List TermCount) → IsStrictlySortedBy term_cmp ts → IsStrictlySortedBy row_cmp (spread ts)
-    unfolding IsStrictlySortedBy spread
-    spread_rises [] up = tt
-    spread_rises (t ∷ ts) up =
-        joined_rises row_cmp_total (of_term t) (spread ts) (posting_rows_rise t.term (list_of t.term) (rows_rise (list_of t.term) (holds.rising db (key_in index register t.term)))) (spread_rises ts up.1) (λ x y here there.
-        let p = has_mapped (term_of_row t.term) (list_of t.term) x here in
-        let q = spread_from ts y there in
-        subst (λ a. row_cmp a y ≡ Less) (sym p.2) (subst (λ b. row_cmp (term_of_row t.term p.0) b ≡ Less) (sym q.4) (lower_head t.term q.0.term (posting_row p.0) (posting_row q.1) (all_has (λ u. term_cmp t u ≡ Less) ts q.0 up.0 q.2))))
-
-    spread_long : (ts : List TermCount) → length (spread ts) ≡ sum (map (λ (t : TermCount). length (list_of t.term)) ts)
-    unfolding spread
-    spread_long [] = refl
-    spread_long (t ∷ ts) =
-        length-append (of_term t) (spread ts) ∙ ap₂ (λ a b. a + b) (length-map (list_of t.term) (term_of_row t.term)) (spread_long ts)
-        ∙ sym (sum_first (length (list_of t.term)) (map (λ (t : TermCount). length (list_of t.term)) ts))
-
-    pub rows_long : (terms : List TermCount) → AreTermsOf content db index register terms → length rows ≡ sum (map (λ (t : TermCount). length (list_of t.term)) terms)
-    rows_long terms it =
-        let there : (row : Row) → Has rows row → Has (spread terms) row = λ row h.
-        let found = register_row row ((are.each row).0 h) in
-        let t = (it.each found.0).0 (λ none. subst (λ l. Has l found.1) none found.2) in
-        subst (Has (spread terms)) (ap (λ u. term_of_row u found.1) t.2 ∙ sym found.3) (spread_has terms t.0 found.1 t.1 (subst (λ u. Has (list_of u) found.1) (sym t.2) found.2)) in
-        let back : (row : Row) → Has (spread terms) row → Has rows row = λ row h.
-        let found = spread_from terms row h in
-        subst (Has rows) (sym found.4) ((are.each (term_of_row found.0.term found.1)).1 (register_there found.0.term found.1 found.3)) in
-        ap length (same_list row_cmp_total rows (spread terms) are.rising (spread_rises terms it.rising) there back) ∙ spread_long terms
+    -- the rows as places of terms
+    pub spots_are : AreSpotsOf (posted content db) index register (map spot_at rows)
+    unfolding spot_at text_of natural_of
+    spots_are = record {
+      rising = strictly_mapped row_cmp spot_cmp spot_at rows (λ a b here there less.
+          let p = register_row a ((are.each a).0 here) in
+          let q = register_row b ((are.each b).0 there) in
+          rw (p.3, q.3) (spots_order p.0 q.0 p.1 q.1 (rw (p.3, q.3) at less))) are.rising;
+      each = λ spot. (
+        λ h.
+            let row = has_mapped spot_at rows spot h in
+            let p = register_row row.0 ((are.each row.0).0 row.1) in
+            let is : spot ≡ (p.0, p.1) = row.2 ∙ ap spot_at p.3 in
+            subst (HasSpot (posted content db) index register) (sym is) p.2,
+        λ h. mapped_has spot_at rows (term_of_row spot.0 spot.1) ((are.each (term_of_row spot.0 spot.1)).1 (register_there spot.0 spot.1 h)),
+      );
+    }
 
   -- ---- there is a list of the terms
   text_at : Row → List ℕ
-  text_at row = of_value (column row 4)
-    where
-      of_value : Value → List ℕ
-      of_value (Text t) = t
-      of_value Null = []
-      of_value (Int n) = []
-      of_value (Real x) = []
-      of_value (Blob b) = []
+  text_at row = text_of (column row 4)
 
   text_is : (id : ℤ) (term : List ℕ) (rest : Row) → text_at (Int id ∷ key_of db (pos index) (pos (code_of_register register)) term ++ rest) ≡ term
-  unfolding text_at
+  unfolding text_at text_of
   text_is id term rest = refl
 
   has_some : List Posting → Bool
   has_some [] = false
   has_some (p ∷ ps) = true
 
-  some_is : (ps : List Posting) → has_some ps ≡ true → ps ≢ []
+  some_is : (ps : List Posting) → has_some ps ≡ true → (p : Posting) × Has ps p
   unfolding has_some
   some_is [] h = absurd (cc)
-  some_is (p ∷ ps) h = λ e. cc
+  some_is (p ∷ ps) h = (p, inl refl)
 
-  is_some : (ps : List Posting) → ps ≢ [] → has_some ps ≡ true
+  is_some : (ps : List Posting) (p : Posting) → Has ps p → has_some ps ≡ true
   unfolding has_some
-  is_some [] h = absurd (h refl)
-  is_some (p ∷ ps) h = refl
+  is_some [] p h = absurd h
+  is_some (q ∷ ps) p h = refl
 
   texts : List (List ℕ)
   texts = filter (λ t. has_some (list_of t)) (with_all nat_list_cmp_total same_bytes (map text_at (trees 7)) [])
@@ -315,35 +287,39 @@ module _ (trees : Trees) (content : Content) (db : ℤ) (index : ℕ) (register 
   counted : List ℕ → TermCount
   counted t = term_with t (length (numbers_of (list_of t)))
 
-  pub held_terms : (terms : List TermCount) × AreTermsOf content db index register terms
+  pub held_terms : (terms : List TermCount) × AreTermsOf (posted content db) index register terms
   unfolding texts counted IsStrictlySortedBy
-  held_terms = (map counted texts, record { rising = rises; each = λ term. (λ some. there term some, λ h. back term h); counts = λ t h. count t h })
+  held_terms = (map counted texts, record { rising = rises; found = there; some = back; counts = count })
     where
       rises : IsStrictlySortedBy term_cmp (map counted texts)
       rises = strictly_mapped (slice_cmp nat_cmp) term_cmp counted texts (λ a b here there less. less) (kept_rises nat_list_cmp_total (λ t. has_some (list_of t)) (with_all nat_list_cmp_total same_bytes (map text_at (trees 7)) []) (all_rise nat_list_cmp_total same_bytes (map text_at (trees 7)) [] tt))
 
-      there : (term : List ℕ) → list_of term ≢ [] → (t : TermCount) × Has (map counted texts) t × (t.term ≡ term)
-      there term some =
-          let row = term_there term some in
+      there : (term : List ℕ) (n : ℕ) → term_in term n → (t : TermCount) × Has (map counted texts) t × (t.term ≡ term)
+      there term n in_it =
+          let p = (key_posted content db (key_in index register term) n).0 in_it in
+          let row = term_there term (n, in_it) in
           let whole = Int row.1.0 ∷ key_of db (pos index) (pos (code_of_register register)) term ++ row.0 in
           let listed_text : Has (map text_at (trees 7)) term = subst (Has (map text_at (trees 7))) (text_is row.1.0 term row.0) (mapped_has text_at (trees 7) whole row.1.1) in
-          let here = has_kept (λ t. has_some (list_of t)) (with_all nat_list_cmp_total same_bytes (map text_at (trees 7)) []) term ((all_there nat_list_cmp_total same_bytes (map text_at (trees 7)) [] term).1 (inr listed_text)) (is_some (list_of term) some) in
+          let here = has_kept (λ t. has_some (list_of t)) (with_all nat_list_cmp_total same_bytes (map text_at (trees 7)) []) term ((all_there nat_list_cmp_total same_bytes (map text_at (trees 7)) [] term).1 (inr listed_text)) (is_some (list_of term) p.0 p.1) in
           (counted term, mapped_has counted texts term here, refl)
 
-      back : (term : List ℕ) → (t : TermCount) × Has (map counted texts) t × (t.term ≡ term) → list_of term ≢ []
-      back term h =
-          let t = has_mapped counted texts h.0 h.1 in
-          let passes = (has_filtered (λ t. has_some (list_of t)) (with_all nat_list_cmp_total same_bytes (map text_at (trees 7)) []) t.0 t.1).1 in
-          subst (λ u. list_of u ≢ []) (sym (ap (λ (x : TermCount). x.term) t.2) ∙ h.2) (some_is (list_of t.0) passes)
+      back : (t : TermCount) → Has (map counted texts) t → (n : ℕ) × term_in t.term n
+      back t h =
+          let u = has_mapped counted texts t h in
+          let passes = (has_filtered (λ t. has_some (list_of t)) (with_all nat_list_cmp_total same_bytes (map text_at (trees 7)) []) u.0 u.1).1 in
+          let p = some_is (list_of u.0) passes in
+          subst (λ (x : List ℕ). (n : ℕ) × term_in x n) (sym (ap (λ (x : TermCount). x.term) u.2)) (p.0.sysno, (key_posted content db (key_in index register u.0) p.0.sysno).1 (p.0, p.1, refl))
 
-      count : (t : TermCount) → Has (map counted texts) t → IsCount (IsInRecord (list_of t.term)) t.records
-      count t h = let u = has_mapped counted texts t h in subst (λ (x : TermCount). IsCount (IsInRecord (list_of x.term)) x.records) (sym u.2) (numbers_count (list_of u.0))
+      count : (t : TermCount) → Has (map counted texts) t → IsCount (term_in t.term) t.records
+      count t h =
+          let u = has_mapped counted texts t h in
+          subst (λ (x : TermCount). IsCount (term_in x.term) x.records) (sym u.2) (count_so (IsInRecord (list_of u.0)) (term_in u.0) (length (numbers_of (list_of u.0))) (λ n. ((key_posted content db (key_in index register u.0) n).1, (key_posted content db (key_in index register u.0) n).0)) (numbers_count (list_of u.0)))
 
   -- ---- the term next to a text
   abbrev here_has : List ℕ → Type 0
   here_has = HasTerm trees db (pos index) (pos (code_of_register register))
 
-  pub least_shown : (start : List ℕ) (rows : List Row) (term : Option (String Global)) → ShowsLeast (λ t. here_has t × (is_lt (slice_cmp nat_cmp t start) ≡ false)) rows → ShowsTerm rows term → IsLeastTerm content db index register start term
+  pub least_shown : (start : List ℕ) (rows : List Row) (term : Option (String Global)) → ShowsLeast (λ t. here_has t × (is_lt (slice_cmp nat_cmp t start) ≡ false)) rows → ShowsTerm rows term → IsLeastTerm term_in start term
   least_shown start rows None least shown = λ term some. elim (Rattle.std.proofs.lemmas.Bool.cases_Bool (is_lt (slice_cmp nat_cmp term start))) [
     | inl is ↦ is
     | inr is ↦ absurd (subst (ShowsLeast (λ t. here_has t × (is_lt (slice_cmp nat_cmp t start) ≡ false))) shown least term (term_there term some, is))
@@ -353,12 +329,12 @@ module _ (trees : Trees) (content : Content) (db : ℤ) (index : ℕ) (register 
       let first = it.1 in
       let head : Text first.0 ≡ Text (string_bytes text) = sym (ap (λ (r : Row). column r 0) first.1) ∙ shown.3 in
       let same : first.0 ≡ string_bytes text = cc in (
-        subst (λ t. list_of t ≢ []) same (term_listed first.0 first.2.0),
+        subst (IsTerm term_in) same (term_listed first.0 first.2.0),
         subst (λ t. is_lt (slice_cmp nat_cmp t start) ≡ false) same first.2.1,
         λ other some low. subst (λ t. is_lt (slice_cmp nat_cmp other t) ≡ false) same (first.3 other (term_there other some, low)),
       )
 
-  pub greatest_shown : (start : List ℕ) (rows : List Row) (term : Option (String Global)) → ShowsGreatest (λ t. here_has t × (is_lt (slice_cmp nat_cmp t start) ≡ true)) rows → ShowsTerm rows term → IsGreatestTerm content db index register start term
+  pub greatest_shown : (start : List ℕ) (rows : List Row) (term : Option (String Global)) → ShowsGreatest (λ t. here_has t × (is_lt (slice_cmp nat_cmp t start) ≡ true)) rows → ShowsTerm rows term → IsGreatestTerm term_in start term
   greatest_shown start rows None greatest shown = λ term some. elim (Rattle.std.proofs.lemmas.Bool.cases_Bool (is_lt (slice_cmp nat_cmp term start))) [
     | inr is ↦ is
     | inl is ↦ absurd (subst (ShowsGreatest (λ t. here_has t × (is_lt (slice_cmp nat_cmp t start) ≡ true))) shown greatest term (term_there term some, is))
@@ -368,25 +344,28 @@ module _ (trees : Trees) (content : Content) (db : ℤ) (index : ℕ) (register 
       let first = it.1 in
       let head : Text first.0 ≡ Text (string_bytes text) = sym (ap (λ (r : Row). column r 0) first.1) ∙ shown.3 in
       let same : first.0 ≡ string_bytes text = cc in (
-        subst (λ t. list_of t ≢ []) same (term_listed first.0 first.2.0),
+        subst (IsTerm term_in) same (term_listed first.0 first.2.0),
         subst (λ t. is_lt (slice_cmp nat_cmp t start) ≡ true) same first.2.1,
         λ other some low. subst (λ t. is_lt (slice_cmp nat_cmp t other) ≡ false) same (first.3 other (term_there other some, low)),
       )
 
-  shown_text : HasTexts content → (term : List ℕ) → here_has term → IsUtf8 term
-  shown_text texts term there = texts db (key_in index register term) (term_listed term there)
+  shown_text : IsStorable content → (term : List ℕ) → here_has term → IsUtf8 term
+  shown_text storable term there =
+      let some = term_listed term there in
+      let p = (key_posted content db (key_in index register term) some.0).0 some.1 in
+      (storable db (key_in index register term) p.0 p.1).text
 
-  pub least_readable : HasTexts content → (start : List ℕ) (rows : List Row) → ShowsLeast (λ t. here_has t × (is_lt (slice_cmp nat_cmp t start) ≡ false)) rows → (row : Row) → Has rows row → IsTermRow row
-  least_readable texts start [] least row h = absurd h
-  least_readable texts start (first ∷ rest) least row (inl same) =
-      let it = least.1 in (omega (arith, ap length (same ∙ it.1)), (it.0, ap (λ (r : Row). column r 0) (same ∙ it.1), shown_text texts it.0 it.2.0))
-  least_readable texts start (first ∷ rest) least row (inr later) = absurd (subst (λ l. Has l row) least.0 later)
+  pub least_readable : IsStorable content → (start : List ℕ) (rows : List Row) → ShowsLeast (λ t. here_has t × (is_lt (slice_cmp nat_cmp t start) ≡ false)) rows → (row : Row) → Has rows row → IsTermRow row
+  least_readable storable start [] least row h = absurd h
+  least_readable storable start (first ∷ rest) least row (inl same) =
+      let it = least.1 in (omega (arith, ap length (same ∙ it.1)), (it.0, ap (λ (r : Row). column r 0) (same ∙ it.1), shown_text storable it.0 it.2.0))
+  least_readable storable start (first ∷ rest) least row (inr later) = absurd (subst (λ l. Has l row) least.0 later)
 
-  pub greatest_readable : HasTexts content → (start : List ℕ) (rows : List Row) → ShowsGreatest (λ t. here_has t × (is_lt (slice_cmp nat_cmp t start) ≡ true)) rows → (row : Row) → Has rows row → IsTermRow row
-  greatest_readable texts start [] greatest row h = absurd h
-  greatest_readable texts start (first ∷ rest) greatest row (inl same) =
-      let it = greatest.1 in (omega (arith, ap length (same ∙ it.1)), (it.0, ap (λ (r : Row). column r 0) (same ∙ it.1), shown_text texts it.0 it.2.0))
-  greatest_readable texts start (first ∷ rest) greatest row (inr later) = absurd (subst (λ l. Has l row) greatest.0 later)
+  pub greatest_readable : IsStorable content → (start : List ℕ) (rows : List Row) → ShowsGreatest (λ t. here_has t × (is_lt (slice_cmp nat_cmp t start) ≡ true)) rows → (row : Row) → Has rows row → IsTermRow row
+  greatest_readable storable start [] greatest row h = absurd h
+  greatest_readable storable start (first ∷ rest) greatest row (inl same) =
+      let it = greatest.1 in (omega (arith, ap length (same ∙ it.1)), (it.0, ap (λ (r : Row). column r 0) (same ∙ it.1), shown_text storable it.0 it.2.0))
+  greatest_readable storable start (first ∷ rest) greatest row (inr later) = absurd (subst (λ l. Has l row) greatest.0 later)
 
 -- ---- the steps of the loops
 

@@ -1,13 +1,14 @@
 -- The statements that find the term next to a text.
-use Rattle.std.proofs.Common.{◌≡◌, ◌↔◌, ◌∙◌, ℕ, ℤ, true, false, List, [], ◌∷◌, codes, refl, sym, ap, ap₂, subst, inl, inr, Equal, map}
+use Rattle.std.proofs.Common.{◌≡◌, ◌↔◌, ◌∙◌, ℕ, ℤ, pos, true, false, List, [], ◌∷◌, codes, refl, sym, ap, ap₂, subst, inl, inr, Equal, map, arith}
 use Rattle.std.specs.Ordering.{is_lt, nat_cmp, ordering_then}
 use Rattle.std.specs.Cmp.Lexicographic.{slice_cmp}
 use Rattle.sqlite.specs.declared.types.Value.{Value}
 use Rattle.sqlite.specs.declared.types.Value.TheVariants.{Int, Text}
 use Rattle.sqlite.specs.Order.{Row, column, value_cmp}
 use Rattle.sqlite.specs.Tree.{Trees}
-use Rattle.sqlite.specs.State.{State, Shown}
-use Rattle.sqlite.specs.Term.{Term, col}
+use Rattle.sqlite.specs.State.{State, Shown, FailsToQuery}
+use Rattle.sqlite.specs.declared.error.Error.{Error}
+use Rattle.sqlite.specs.Term.{Term, col, lit}
 use Rattle.sqlite.specs.Command.TheVariants.{Select}
 use Rattle.sqlite.specs.Listing.{understood, reads_listing}
 use Rattle.sqlite.proofs.Callers.{IsPlain, command_of, reads_as}
@@ -15,16 +16,20 @@ use Rattle.sqlite_tied.specs.Compute.{everything}
 use Rattle.sqlite_value.specs.declared.keys.Key.{Key}
 use Rattle.sqlite_value.proofs.OrderLemmas.{value_cmp-Text, then-Equal}
 use Rattle.sqlite_rules.specs.Lists.{Has}
+use Rattle.zeb_register.specs.declared.faults.RegFault.TheVariants.{Store}
+use Rattle.zeb_register.specs.Calls.{MayRefuse}
+use Rattle.zeb_register.specs.Faults.{fault_of}
 use Rattle.zeb_register.specs.Tables.{store_schema}
-use Rattle.zeb_register.specs.Sql.{Condition, equals, at_least, less_than, MeetsAll, passes, reading_by, alone, shows, ascending, descending, one_row}
-use Rattle.zeb_register.specs.Kinds.{code, codes_of}
+use Rattle.zeb_register.proofs.StatementForms.{Condition, equals, at_least, less_than, MeetsAll, passes, reading, reading_by, alone, shows, ascending, descending, one_row}
+use Rattle.zeb_register.proofs.ValueKinds.{code, codes_of}
 use Rattle.zeb_register.specs.Store.{IsStore}
-use Rattle.zeb_register.specs.Terms.{HasTerm, ShowsLeast, ShowsGreatest}
+use Rattle.zeb_register.specs.RowTerms.{HasTerm, ShowsLeast, ShowsGreatest}
 use Rattle.zeb_register.proofs.RowLemmas.{spread, code_at, int_of, text_of}
 use Rattle.zeb_register.proofs.Scans.{reads}
 use Rattle.zeb_register.proofs.FirstRows.{first_shown}
 use Rattle.zeb_register.proofs.Writes.{codes_there, meets_there}
 use Rattle.zeb_register.proofs.Calls.{IsSilent}
+use Rattle.zeb_register.proofs.Refusals.{IsWhole, IsFit, why_refused}
 use Rattle.zeb_register.proofs.PostingStatements.{postings, postings_static}
 
 abbrev pub from_text : List ℕ
@@ -39,6 +44,26 @@ nothing_text = codes "SELECT term FROM postings LIMIT 0"
 pub nothing_silent : IsSilent nothing_text
 unfolding everything
 nothing_silent = λ schema base. refl
+
+nothing_is : command_of (understood store_schema nothing_text) ≡ Select (alone (reading 7 [] (shows (4 ∷ [])) [] (lit (Int (pos 0))))) (codes "term" ∷ [])
+unfolding understood everything
+nothing_is = refl
+
+nothing_plain : IsPlain (understood store_schema nothing_text) × (reads_listing store_schema nothing_text ≡ false)
+unfolding understood everything
+nothing_plain = ((refl, refl), refl)
+
+nothing_whole : IsWhole nothing_text 0 (understood store_schema nothing_text)
+unfolding understood everything
+nothing_whole = (omega arith, refl)
+
+nothing_fit : IsFit (alone (reading 7 [] (shows (4 ∷ [])) [] (lit (Int (pos 0))))) []
+unfolding everything
+nothing_fit trees mistyped = absurd (let t : true ≡ false = mistyped in cc)
+
+pub nothing_refused : (old new : State) (e : Error) → IsStore old → fault_of e ≡ Store → FailsToQuery nothing_text [] old new e → MayRefuse old new
+nothing_refused old new e store told failed =
+    why_refused nothing_text [] 7 [] (shows (4 ∷ [])) [] (lit (Int (pos 0))) (codes "term" ∷ []) nothing_is nothing_plain.0 nothing_plain.1 nothing_whole nothing_fit old new store e told failed
 
 pub from_silent : IsSilent from_text
 unfolding everything

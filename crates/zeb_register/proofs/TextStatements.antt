@@ -10,9 +10,11 @@ use Rattle.sqlite.specs.Listing.{understood, reads_listing}
 use Rattle.sqlite.proofs.Callers.{IsPlain, command_of}
 use Rattle.sqlite_tied.specs.Compute.{everything}
 use Rattle.zeb_register.specs.Tables.{store_schema, meta_table}
-use Rattle.zeb_register.specs.Sql.{equals, reading, alone, shows, no_limit, Replaces, HasRow, IsListOf}
-use Rattle.zeb_register.specs.Kinds.{IsPlainTable, HasKeys, code}
-use Rattle.zeb_register.specs.Store.{IsStore, Changes, meta_tree, entry, IsEntryOf, IsValueRow}
+use Rattle.zeb_register.specs.Sql.{Replaces, HasRow, IsListOf}
+use Rattle.zeb_register.proofs.StatementForms.{equals, reading, alone, shows, no_limit}
+use Rattle.zeb_register.proofs.ValueKinds.{IsPlainTable, HasKeys, code}
+use Rattle.zeb_register.specs.Store.{IsStore, Changes, meta_tree, entry, IsEntryOf}
+use Rattle.zeb_register.specs.RowStatements.{IsValueRow}
 use Rattle.zeb_register.proofs.Writes.{replaces, takes_place, codes_there}
 use Rattle.zeb_register.proofs.RowLemmas.{spread, code_at, text_of}
 use Rattle.zeb_register.proofs.Selects.{list_so}

@@ -6,10 +6,11 @@ use Rattle.sqlite.specs.Listing.{understood}
 use Rattle.sqlite.proofs.Callers.{IsPlain, command_of}
 use Rattle.sqlite_tied.specs.Compute.{everything}
 use Rattle.zeb_register.specs.Tables.{store_schema, meta_table, databases_table, records_table, postings_table, blocks_table, dict_table}
-use Rattle.zeb_register.specs.Sql.{reading, alone, shows, no_limit}
-use Rattle.zeb_register.specs.Kinds.{IsPlainTable}
+use Rattle.zeb_register.proofs.StatementForms.{reading, alone, shows, no_limit}
+use Rattle.zeb_register.proofs.ValueKinds.{IsPlainTable}
 use Rattle.sqlite.specs.Table.{Table}
-use Rattle.zeb_register.specs.Store.{IsStore, Changes, Empties}
+use Rattle.zeb_register.specs.Store.{IsStore, Changes}
+use Rattle.zeb_register.specs.RowStatements.{Empties}
 use Rattle.zeb_register.proofs.Writes.{LosesRows, changed_so, deletes}
 use Rattle.sqlite.specs.Order.{Row}
 use Rattle.sqlite_rules.specs.Lists.{Has}

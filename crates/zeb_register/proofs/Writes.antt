@@ -30,12 +30,14 @@ use Rattle.sqlite_rules.specs.Calls.{ids_of}
 use Rattle.sqlite_rules.specs.Keys.{conflicts}
 use Rattle.sqlite_rules.proofs.ListLemmas.{all_has, all_from, has_got, some_from}
 use Rattle.sqlite_rules.proofs.PlaceLemmas.{next_is_free}
-use Rattle.zeb_register.specs.Sql.{Condition, MeetsAll, passes, reading, alone, shows, no_limit, Loses, Gains, Replaces, KeepsOthers, IsKeyed, HasLayout, Changed}
-use Rattle.zeb_register.specs.Kinds.{is_plain_term, term_code, store_all, IsPlainTable, HasKeys, SharesKey, are_fit, is_stored, keeps_all, codes_of, code}
+use Rattle.zeb_register.specs.Sql.{Loses, Replaces, KeepsOthers, IsKeyed, HasLayout, Changed}
+use Rattle.zeb_register.proofs.StatementForms.{Condition, MeetsAll, passes, reading, alone, shows, no_limit}
+use Rattle.zeb_register.specs.RowStatements.{Gains}
+use Rattle.zeb_register.proofs.ValueKinds.{is_plain_term, term_code, store_all, IsPlainTable, HasKeys, SharesKey, are_fit, is_stored, keeps_all, codes_of, code}
 use Rattle.zeb_register.proofs.RowLemmas.{int_kept, term_is, stores, tied_rowid, row_codes, meets, shares_means}
 use Rattle.zeb_register.proofs.Scans.{reads, shows_each}
 use Rattle.zeb_register.proofs.Edits.{Lacks, edited_has, edited_keyed, keyed_after, picked}
-use Rattle.zeb_register.proofs.Parts.{updated, cast_row_same, deleted, inserted, replaced, IsCleared}
+use Rattle.zeb_register.proofs.WrittenRows.{updated, cast_row_same, deleted, inserted, replaced, IsCleared}
 
 -- what a write says of the table's rows, with their rowids
 abbrev pub LosesRows : List Condition → Row → ℕ → Trees → Trees → Type 0

@@ -1,10 +1,8 @@
 -- What a call on the tables does to a connection, beside what it does to rows.
-use Rattle.std.specs.Prelude.{◌≡◌, ◌⊎◌, ℕ, true, false, List, IsTrue, IsSome}
-use Rattle.sqlite.specs.Order.{Row}
+use Rattle.std.specs.Prelude.{◌≡◌, ◌⊎◌, ℕ, true, false, IsTrue, IsSome, Result, IfOk, OnErr}
 use Rattle.sqlite.specs.Tree.{Trees}
 use Rattle.sqlite_disk.specs.Disk.{MoreFaults}
-use Rattle.sqlite.specs.State.{State, Shows, IsUnchanged, KeepsCommit}
-use Rattle.zeb_register.specs.Sql.{IsListOf}
+use Rattle.sqlite.specs.State.{State, HasCleanDisk, Shows, KeepsCommit, Survives}
 use Rattle.zeb_register.specs.Store.{IsStore, Changes}
 
 -- inside a transaction: it goes on, and nothing is committed
@@ -24,20 +22,22 @@ pub record Alters (tree : ℕ) (Rows : ℕ → Trees → Trees → Type 0) (old 
   pub on : GoesOn old new
   pub rows : IsStore old → Changes tree Rows old new
 
--- rows are read outside a transaction: just those that are P of the tables, rising
-abbrev pub Lists : (Trees → Row → Type 0) → State → State → List Row → Type 0
-Lists P old new rows = IsUnchanged old new × (IsStore old → IsListOf (P old.now.trees) rows)
-
--- the same inside a transaction
-abbrev pub ListsInside : (Trees → Row → Type 0) → State → State → List Row → Type 0
-ListsInside P old new rows = OnlyReads old new × (IsStore old → IsListOf (P old.now.trees) rows)
-
 -- why the store may refuse a query that fits its tables: the connection was closed, the disk failed, or a limit on steps is set
 abbrev pub MayRefuse : State → State → Type 0
 MayRefuse old new = (old.is_open ≡ false) ⊎ (MoreFaults old.faults new.faults ⊎ IsSome old.step_limit)
 
--- any number of writes inside a transaction, none too
-pub record Stays (old new : State) : Type 0 where
-  pub kept : KeepsCommit old new
-  pub open_still : IsTrue old.is_open → IsTrue new.is_open
-  pub inside : IsTrue new.in_transaction
+-- ---- what is said of every call. What a call returns is known where the disk has given back what was written to it.
+
+-- a call inside a transaction: where it is accepted this is done, where it is refused nothing was committed, and a crash leaves what it left before
+pub record Inside {A E : Type 0} (old new : State) (result : Result A E) (Done : A → State → State → Type 0) : Type 0 where
+  pub ok : HasCleanDisk new → IsTrue old.in_transaction → IfOk result (λ a. Done a old new)
+  pub err : HasCleanDisk new → IsTrue old.in_transaction → OnErr result (KeepsCommit old new)
+  pub crash : Survives old new (λ _. ⊥)
+
+-- a call that reads: where it is accepted this is shown, outside a transaction nothing is changed whatever it answers, and a crash
+-- leaves what it left before
+pub record Reading {A E : Type 0} (old new : State) (result : Result A E) (Shown : A → State → State → Type 0) : Type 0 where
+  pub idle : old.in_transaction ≡ false → new.in_transaction ≡ false
+  pub ok : HasCleanDisk new → IfOk result (λ a. Shown a old new)
+  pub same : HasCleanDisk new → old.in_transaction ≡ false → ChangesNothing old new
+  pub crash : Survives old new (λ _. ⊥)

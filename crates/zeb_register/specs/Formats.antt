@@ -2,7 +2,8 @@
 -- `version` (this project's own).
 use Rattle.std.specs.Prelude.{ℕ, List, codes}
 use Rattle.sqlite.specs.Tree.{Trees}
-use Rattle.zeb_register.specs.Content.{Content, HoldsRows}
+use Rattle.zeb_register.specs.Content.{Content}
+use Rattle.zeb_register.specs.PlainRows.{HoldsRows}
 
 pub data Format : Type 0 where
   -- a row of `postings` for each posting

@@ -33,7 +33,3 @@ AreReadable trees db = (sysno : ℤ) (ident bytes : List ℕ) → HasRecord tree
 -- the columns of a record beside its database
 abbrev pub record_shown : Record → Row
 record_shown record' = Int (pos record'.sysno) ∷ Text (string_bytes record'.ident) ∷ Blob record'.bytes.items ∷ []
-
--- a row that shows a record
-abbrev pub IsRecordShown : Row → Type 0
-IsRecordShown row = (n : ℕ) × (t : List ℕ) × (b : List ℕ) × (row ≡ Int (pos n) ∷ Text t ∷ Blob b ∷ []) × IsUtf8 t

@@ -1,11 +1,15 @@
 pub mod Tables
 pub mod Sql
-pub mod Kinds
 pub mod Store
 pub mod Faults
 pub mod Calls
 pub mod Catalog
 pub mod Kept
 pub mod Content
-pub mod Terms
+pub mod Occurring
+pub mod Tallies
+pub mod PlainRows
+pub mod RowStatements
+pub mod RowTerms
+pub mod RowPlaces
 pub mod Formats

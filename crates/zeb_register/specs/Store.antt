@@ -37,9 +37,6 @@ dict_tree = 11
 abbrev pub IsPostingIn : ℤ → Row → Type 0
 IsPostingIn db columns = column columns 0 ≡ Int db
 
-abbrev pub posting : ℤ → ℤ → ℤ → List ℕ → ℤ → ℤ → ℤ → Row
-posting db idx reg term sysno seq place = Int db ∷ Int idx ∷ Int reg ∷ Text term ∷ Int sysno ∷ Int seq ∷ Int place ∷ []
-
 abbrev pub entry : List ℕ → List ℕ → Row
 entry name value = Text name ∷ Text value ∷ []
 
@@ -49,10 +46,6 @@ IsEntryOf name columns = column columns 0 ≡ Text name
 
 abbrev pub key_of : ℤ → ℤ → ℤ → List ℕ → Row
 key_of db idx reg term = Int db ∷ Int idx ∷ Int reg ∷ Text term ∷ []
-
--- a row that shows a value of the name
-abbrev pub IsValueRow : Trees → List ℕ → Row → Type 0
-IsValueRow trees name row = (value : List ℕ) × (row ≡ Text value ∷ []) × HasRow trees meta_tree (entry name value)
 
 -- the value of the name, or none where it has none
 abbrev pub IsValueOf : Trees → List ℕ → Option (String Global) → Type 0
@@ -70,29 +63,9 @@ databases_tree = 2
 abbrev pub HasDatabase : Trees → ℤ → List ℕ → ℤ → Type 0
 HasDatabase trees id name last = Has (trees databases_tree) (Int id ∷ Null ∷ Text name ∷ Int last ∷ [])
 
--- there is one database more, with an id that none had
-abbrev pub AddsDatabase : ℤ → List ℕ → ℤ → ℕ → Trees → Trees → Type 0
-AddsDatabase id name last tree old new =
-    ((i : ℤ) (n : List ℕ) (l : ℤ) → HasDatabase new i n l ↔ (HasDatabase old i n l ⊎ ((i ≡ id) × (n ≡ name) × (l ≡ last))))
-    × ((n : List ℕ) (l : ℤ) → ¬ HasDatabase old id n l)
-
--- the database with the id has this last number, and keeps its name, and each other is as it was
-abbrev pub SetsLast : ℤ → ℤ → ℕ → Trees → Trees → Type 0
-SetsLast id last tree old new =
-    (i : ℤ) (name : List ℕ) (n : ℤ) → HasDatabase new i name n
-    ↔ (((i ≢ id) × HasDatabase old i name n) ⊎ ((i ≡ id) × (n ≡ last) × ((before : ℤ) × HasDatabase old i name before)))
-
--- a row that shows the id and the last number of the database of this name
-abbrev pub IsDatabaseRow : Trees → List ℕ → Row → Type 0
-IsDatabaseRow trees name row = (id : ℤ) × (last : ℤ) × (row ≡ Int id ∷ Int last ∷ []) × HasDatabase trees id name last
-
 -- there is no database of this id any more, and each other is as it was
 abbrev pub TakesDatabase : ℤ → ℕ → Trees → Trees → Type 0
 TakesDatabase id tree old new = (i : ℤ) (name : List ℕ) (last : ℤ) → HasDatabase new i name last ↔ (HasDatabase old i name last × (i ≢ id))
-
--- no row is left
-abbrev pub Empties : ℕ → Trees → Trees → Type 0
-Empties tree old new = new tree ≡ []
 
 -- ---- records
 
@@ -117,24 +90,6 @@ SharesRecord db sysno ident columns = HasNumber db sysno columns ⊎ ((column co
 -- a record of the database
 abbrev pub IsRecordIn : ℤ → Row → Type 0
 IsRecordIn db columns = column columns 0 ≡ Int db
-
--- a row that shows the number and the bytes of the record with this identifier
-abbrev pub IsElderRow : ℤ → List ℕ → Trees → Row → Type 0
-IsElderRow db ident trees row = (sysno : ℤ) × (bytes : List ℕ) × (row ≡ Int sysno ∷ Blob bytes ∷ []) × HasRecord trees db sysno ident bytes
-
--- a row that shows the identifier of the record with this number
-abbrev pub IsIdentRow : ℤ → ℤ → Trees → Row → Type 0
-IsIdentRow db sysno trees row = (ident : List ℕ) × (bytes : List ℕ) × (row ≡ Text ident ∷ []) × HasRecord trees db sysno ident bytes
-
--- ---- postings
-
-abbrev pub place_key : ℤ → ℤ → ℤ → List ℕ → ℤ → Row
-place_key db idx reg term sysno = Int db ∷ Int idx ∷ Int reg ∷ Text term ∷ Int sysno ∷ []
-
--- a posting of the key in the record
-abbrev pub IsPlaceOf : ℤ → ℤ → ℤ → List ℕ → ℤ → Row → Type 0
-IsPlaceOf db idx reg term sysno columns =
-    (column columns 0 ≡ Int db) × (column columns 1 ≡ Int idx) × (column columns 2 ≡ Int reg) × (column columns 3 ≡ Text term) × (column columns 4 ≡ Int sysno)
 
 -- a row that begins with these columns, shown by the others
 abbrev pub IsRest : ℕ → Row → Trees → Row → Type 0

@@ -1,12 +1,12 @@
 //! The databases of the store.
 
-ghost use Rattle.std.specs.Prelude.{◌≡◌, ◌≢◌, false, pos, IsTrue, OnOk, OnErr, IfOk, FitsSigned};
+ghost use Rattle.std.specs.Prelude.{◌≡◌, ◌≢◌, pos, IsTrue, IfOk, FitsSigned};
 ghost use Rattle.std.specs.Int.{w64};
 ghost use Rattle.sqlite.specs.Held.{state};
-ghost use Rattle.sqlite.specs.State.{HasCleanDisk, IsUnchanged, KeepsCommit, Survives};
+ghost use Rattle.sqlite.specs.State.{HasCleanDisk, IsUnchanged};
 ghost use Rattle.zeb_register.specs.Store.{IsStore, Changes, databases_tree, TakesDatabase};
 ghost use Rattle.zeb_register.specs.Catalog.{IsDatabaseOf, AreCountedDatabases, PutsDatabase};
-ghost use Rattle.zeb_register.specs.Calls.{ChangesNothing, GoesOn, Alters, MayRefuse};
+ghost use Rattle.zeb_register.specs.Calls.{GoesOn, Alters, Inside, Reading, MayRefuse};
 
 use crate::RegFault;
 use crate::statements::databases::{
@@ -43,14 +43,14 @@ pub fn database_of<S: Alter>(
     conn: &mut Connection<S>,
     name: &str,
 ) -> Result<Option<Database>, RegFault>
-    ensures idle { conn.old.in_transaction ≡ false → conn.new.in_transaction ≡ false }
-    ensures ok { HasCleanDisk (state S.Store conn.new) → OnOk result (IsUnchanged (state S.Store conn.old) (state S.Store conn.new)) }
-    ensures same { HasCleanDisk (state S.Store conn.new) → conn.old.in_transaction ≡ false → ChangesNothing (state S.Store conn.old) (state S.Store conn.new) }
-    ensures value { HasCleanDisk (state S.Store conn.new) → IsStore (state S.Store conn.old) → IfOk result (IsDatabaseOf (state S.Store conn.old).now.trees name.now) }
-    ensures honest { HasCleanDisk (state S.Store conn.new) → IsStore (state S.Store conn.old) → result ≡ Err RegFault.Damaged → ¬ AreCountedDatabases (state S.Store conn.old).now.trees name.now }
+    ensures call { Reading (state S.Store conn.old) (state S.Store conn.new) result (λ _. IsUnchanged) }
+    ensures value { HasCleanDisk (state S.Store conn.new) → IsStore (state S.Store conn.old)
+        → IfOk result (IsDatabaseOf (state S.Store conn.old).now.trees name.now) }
+    ensures honest { HasCleanDisk (state S.Store conn.new) → IsStore (state S.Store conn.old) → result ≡ Err RegFault.Damaged
+        → ¬ AreCountedDatabases (state S.Store conn.old).now.trees name.now }
     ensures opened { HasCleanDisk (state S.Store conn.new) → result ≡ Err RegFault.Damaged → IsTrue (state S.Store conn.old).is_open }
-    ensures refused { HasCleanDisk (state S.Store conn.new) → IsStore (state S.Store conn.old) → result ≡ Err RegFault.Store → MayRefuse (state S.Store conn.old) (state S.Store conn.new) }
-    ensures crash { Survives (state S.Store conn.old) (state S.Store conn.new) (λ _. ⊥) }
+    ensures refused { HasCleanDisk (state S.Store conn.new) → IsStore (state S.Store conn.old) → result ≡ Err RegFault.Store
+        → MayRefuse (state S.Store conn.old) (state S.Store conn.new) }
 {
     let rows = database_rows(conn, name)?;
     match rows.first() {
@@ -71,13 +71,15 @@ pub fn database_put<S: Alter>(
     last: u64,
 ) -> Result<DatabaseId, RegFault>
     ensures same { tx.new.conn.ghost_name ≡ tx.old.conn.ghost_name }
-    ensures ok { HasCleanDisk (state S.Store tx.new.conn.now) → IsTrue (state S.Store tx.old.conn.now).in_transaction
-        → OnOk result (GoesOn (state S.Store tx.old.conn.now) (state S.Store tx.new.conn.now)) }
-    ensures err { HasCleanDisk (state S.Store tx.new.conn.now) → IsTrue (state S.Store tx.old.conn.now).in_transaction → OnErr result (KeepsCommit (state S.Store tx.old.conn.now) (state S.Store tx.new.conn.now)) }
-    ensures put { HasCleanDisk (state S.Store tx.new.conn.now) → IsTrue (state S.Store tx.old.conn.now).in_transaction → IsStore (state S.Store tx.old.conn.now) → IfOk result (λ id. Changes databases_tree (PutsDatabase id.0 name.now (pos last)) (state S.Store tx.old.conn.now) (state S.Store tx.new.conn.now)) }
-    ensures honest { HasCleanDisk (state S.Store tx.new.conn.now) → IsTrue (state S.Store tx.old.conn.now).in_transaction → IsStore (state S.Store tx.old.conn.now) → result ≢ Err RegFault.Damaged }
-    ensures opened { HasCleanDisk (state S.Store tx.new.conn.now) → IsTrue (state S.Store tx.old.conn.now).in_transaction → result ≡ Err RegFault.Damaged → IsTrue (state S.Store tx.old.conn.now).is_open }
-    ensures crash { Survives (state S.Store tx.old.conn.now) (state S.Store tx.new.conn.now) (λ _. ⊥) }
+    ensures call { Inside (state S.Store tx.old.conn.now) (state S.Store tx.new.conn.now) result (λ _. GoesOn) }
+    ensures put { HasCleanDisk (state S.Store tx.new.conn.now) → IsTrue (state S.Store tx.old.conn.now).in_transaction
+        → IsStore (state S.Store tx.old.conn.now)
+        → IfOk result (λ id. Changes databases_tree (PutsDatabase id.0 name.now (pos last))
+        (state S.Store tx.old.conn.now) (state S.Store tx.new.conn.now)) }
+    ensures honest { HasCleanDisk (state S.Store tx.new.conn.now) → IsTrue (state S.Store tx.old.conn.now).in_transaction
+        → IsStore (state S.Store tx.old.conn.now) → result ≢ Err RegFault.Damaged }
+    ensures opened { HasCleanDisk (state S.Store tx.new.conn.now) → IsTrue (state S.Store tx.old.conn.now).in_transaction
+        → result ≡ Err RegFault.Damaged → IsTrue (state S.Store tx.old.conn.now).is_open }
 {
     let last = stored(last)?;
     let rows = database_rows_inside(tx, name)?;
@@ -100,11 +102,9 @@ pub(crate) fn database_drop<S: Alter>(
     db: DatabaseId,
 ) -> Result<(), RegFault>
     ensures same { tx.new.conn.ghost_name ≡ tx.old.conn.ghost_name }
-    ensures ok { HasCleanDisk (state S.Store tx.new.conn.now) → IsTrue (state S.Store tx.old.conn.now).in_transaction
-        → OnOk result (Alters databases_tree (TakesDatabase db.0) (state S.Store tx.old.conn.now) (state S.Store tx.new.conn.now)) }
-    ensures err { HasCleanDisk (state S.Store tx.new.conn.now) → IsTrue (state S.Store tx.old.conn.now).in_transaction → OnErr result (KeepsCommit (state S.Store tx.old.conn.now) (state S.Store tx.new.conn.now)) }
+    ensures call { Inside (state S.Store tx.old.conn.now) (state S.Store tx.new.conn.now) result
+        (λ _. Alters databases_tree (TakesDatabase db.0)) }
     ensures honest { result ≢ Err RegFault.Damaged }
-    ensures crash { Survives (state S.Store tx.old.conn.now) (state S.Store tx.new.conn.now) (λ _. ⊥) }
 {
     database_cut(tx, db.column())?;
     Ok(())

@@ -1,16 +1,18 @@
 //! The records that a database keeps.
 
-ghost use Rattle.std.specs.Prelude.{◌≡◌, ◌≢◌, ◌⊎◌, ◌≤◌, ◌^◌, false, [], ◌∷◌, pos, map, IsTrue, OnOk, OnErr, IfOk};
+ghost use Rattle.std.specs.Prelude.{◌≡◌, ◌≢◌, ◌<◌, ◌≤◌, ◌^◌, [], ◌∷◌, pos, map, None, IsTrue, IfOk};
 ghost use Rattle.sqlite.specs.Held.{state};
-ghost use Rattle.sqlite.specs.State.{HasCleanDisk, IsUnchanged, KeepsCommit, Survives};
+ghost use Rattle.sqlite.specs.State.{HasCleanDisk, IsUnchanged};
 ghost use Rattle.sqlite.specs.declared.types.Value.TheVariants.{Int};
 ghost use Rattle.zeb_register.specs.Sql.{Loses, Replaces, IsListOf};
 ghost use Rattle.zeb_register.specs.Store.{IsStore, records_tree, record_row, HasNumber, SharesRecord, IsRecordIn, IsRest};
 ghost use Rattle.sqlite_rules.specs.Lists.{Has};
-ghost use Rattle.zeb_register.specs.Content.{first_three};
-ghost use Rattle.zeb_register.specs.Kept.{IsElderOf, IsIdentOf, AreNumbered, AreReadableIdents, AreReadable, IsRecordShown, record_shown};
-ghost use Rattle.zeb_register.specs.Calls.{ChangesNothing, OnlyReads, Alters, MayRefuse};
+ghost use Rattle.zeb_register.specs.RowPlaces.{first_three};
+ghost use Rattle.zeb_register.specs.Kept.{IsElderOf, IsIdentOf, AreNumbered, AreReadableIdents, AreReadable, record_shown};
+ghost use Rattle.zeb_register.specs.RowStatements.{IsRecordShown};
+ghost use Rattle.zeb_register.specs.Calls.{OnlyReads, Alters, Inside, Reading, MayRefuse};
 
+use crate::statements::postings::nothing_of;
 use crate::statements::records::{
     elder_rows, ident_rows, record_keep, record_remove, record_rows, records_clear,
 };
@@ -45,11 +47,9 @@ pub fn record_put<S: Alter>(
     bytes: &[u8],
 ) -> Result<(), RegFault>
     ensures same { tx.new.conn.ghost_name ≡ tx.old.conn.ghost_name }
-    ensures ok { HasCleanDisk (state S.Store tx.new.conn.now) → IsTrue (state S.Store tx.old.conn.now).in_transaction
-        → OnOk result (Alters records_tree (Replaces (SharesRecord db.0 (pos sysno) ident.now) (record_row db.0 (pos sysno) ident.now bytes.now)) (state S.Store tx.old.conn.now) (state S.Store tx.new.conn.now)) }
-    ensures err { HasCleanDisk (state S.Store tx.new.conn.now) → IsTrue (state S.Store tx.old.conn.now).in_transaction → OnErr result (KeepsCommit (state S.Store tx.old.conn.now) (state S.Store tx.new.conn.now)) }
+    ensures call { Inside (state S.Store tx.old.conn.now) (state S.Store tx.new.conn.now) result
+        (λ _. Alters records_tree (Replaces (SharesRecord db.0 (pos sysno) ident.now) (record_row db.0 (pos sysno) ident.now bytes.now))) }
     ensures honest { result ≢ Err RegFault.Damaged }
-    ensures crash { Survives (state S.Store tx.old.conn.now) (state S.Store tx.new.conn.now) (λ _. ⊥) }
 {
     let sysno = stored(sysno)?;
     record_keep(tx, db.column(), sysno, ident, bytes)?;
@@ -65,11 +65,9 @@ pub fn record_take<S: Alter>(
     sysno: u64,
 ) -> Result<(), RegFault>
     ensures same { tx.new.conn.ghost_name ≡ tx.old.conn.ghost_name }
-    ensures ok { HasCleanDisk (state S.Store tx.new.conn.now) → IsTrue (state S.Store tx.old.conn.now).in_transaction
-        → OnOk result (Alters records_tree (Loses (HasNumber db.0 (pos sysno))) (state S.Store tx.old.conn.now) (state S.Store tx.new.conn.now)) }
-    ensures err { HasCleanDisk (state S.Store tx.new.conn.now) → IsTrue (state S.Store tx.old.conn.now).in_transaction → OnErr result (KeepsCommit (state S.Store tx.old.conn.now) (state S.Store tx.new.conn.now)) }
+    ensures call { Inside (state S.Store tx.old.conn.now) (state S.Store tx.new.conn.now) result
+        (λ _. Alters records_tree (Loses (HasNumber db.0 (pos sysno)))) }
     ensures honest { result ≢ Err RegFault.Damaged }
-    ensures crash { Survives (state S.Store tx.old.conn.now) (state S.Store tx.new.conn.now) (λ _. ⊥) }
 {
     let sysno = stored(sysno)?;
     record_remove(tx, db.column(), sysno)?;
@@ -85,13 +83,14 @@ pub fn record_of_ident<S: Alter>(
     ident: &str,
 ) -> Result<Option<Elder>, RegFault>
     ensures same { tx.new.conn.ghost_name ≡ tx.old.conn.ghost_name }
-    ensures ok { HasCleanDisk (state S.Store tx.new.conn.now) → IsTrue (state S.Store tx.old.conn.now).in_transaction
-        → OnOk result (OnlyReads (state S.Store tx.old.conn.now) (state S.Store tx.new.conn.now)) }
-    ensures err { HasCleanDisk (state S.Store tx.new.conn.now) → IsTrue (state S.Store tx.old.conn.now).in_transaction → OnErr result (KeepsCommit (state S.Store tx.old.conn.now) (state S.Store tx.new.conn.now)) }
-    ensures value { HasCleanDisk (state S.Store tx.new.conn.now) → IsTrue (state S.Store tx.old.conn.now).in_transaction → IsStore (state S.Store tx.old.conn.now) → IfOk result (IsElderOf (state S.Store tx.old.conn.now).now.trees db.0 ident.now) }
-    ensures honest { HasCleanDisk (state S.Store tx.new.conn.now) → IsTrue (state S.Store tx.old.conn.now).in_transaction → IsStore (state S.Store tx.old.conn.now) → result ≡ Err RegFault.Damaged → ¬ AreNumbered (state S.Store tx.old.conn.now).now.trees db.0 ident.now }
-    ensures opened { HasCleanDisk (state S.Store tx.new.conn.now) → IsTrue (state S.Store tx.old.conn.now).in_transaction → result ≡ Err RegFault.Damaged → IsTrue (state S.Store tx.old.conn.now).is_open }
-    ensures crash { Survives (state S.Store tx.old.conn.now) (state S.Store tx.new.conn.now) (λ _. ⊥) }
+    ensures call { Inside (state S.Store tx.old.conn.now) (state S.Store tx.new.conn.now) result (λ _. OnlyReads) }
+    ensures value { HasCleanDisk (state S.Store tx.new.conn.now) → IsTrue (state S.Store tx.old.conn.now).in_transaction
+        → IsStore (state S.Store tx.old.conn.now) → IfOk result (IsElderOf (state S.Store tx.old.conn.now).now.trees db.0 ident.now) }
+    ensures honest { HasCleanDisk (state S.Store tx.new.conn.now) → IsTrue (state S.Store tx.old.conn.now).in_transaction
+        → IsStore (state S.Store tx.old.conn.now) → result ≡ Err RegFault.Damaged
+        → ¬ AreNumbered (state S.Store tx.old.conn.now).now.trees db.0 ident.now }
+    ensures opened { HasCleanDisk (state S.Store tx.new.conn.now) → IsTrue (state S.Store tx.old.conn.now).in_transaction
+        → result ≡ Err RegFault.Damaged → IsTrue (state S.Store tx.old.conn.now).is_open }
 {
     let rows = elder_rows(tx, db.column(), ident)?;
     match rows.first() {
@@ -105,24 +104,29 @@ pub fn record_of_ident<S: Alter>(
 
 /// The identifier of the record of a system number, or `None`.
 ///
-/// `Damaged` where it is no UTF-8, `Store` also where `sysno` is above `2^63 - 1`. It changes nothing.
+/// `None` also where `sysno` is above `2^63 - 1`, which no column stores. `Damaged` where it is no UTF-8. It changes nothing.
 pub fn ident_of<S: Alter>(
     conn: &mut Connection<S>,
     db: DatabaseId,
     sysno: u64,
 ) -> Result<Option<String>, RegFault>
-    ensures idle { conn.old.in_transaction ≡ false → conn.new.in_transaction ≡ false }
-    ensures ok { HasCleanDisk (state S.Store conn.new) → OnOk result (IsUnchanged (state S.Store conn.old) (state S.Store conn.new)) }
-    ensures same { HasCleanDisk (state S.Store conn.new) → conn.old.in_transaction ≡ false → ChangesNothing (state S.Store conn.old) (state S.Store conn.new) }
-    ensures value { HasCleanDisk (state S.Store conn.new) → IsStore (state S.Store conn.old) → IfOk result (IsIdentOf (state S.Store conn.old).now.trees db.0 (pos sysno)) }
-    ensures honest { HasCleanDisk (state S.Store conn.new) → IsStore (state S.Store conn.old) → result ≡ Err RegFault.Damaged → ¬ AreReadableIdents (state S.Store conn.old).now.trees db.0 (pos sysno) }
+    ensures call { Reading (state S.Store conn.old) (state S.Store conn.new) result (λ _. IsUnchanged) }
+    ensures value { HasCleanDisk (state S.Store conn.new) → IsStore (state S.Store conn.old) → sysno < 2 ^ 63
+        → IfOk result (IsIdentOf (state S.Store conn.old).now.trees db.0 (pos sysno)) }
+    ensures large { 2 ^ 63 ≤ sysno → IfOk result (λ found. found ≡ None) }
+    ensures honest { HasCleanDisk (state S.Store conn.new) → IsStore (state S.Store conn.old) → result ≡ Err RegFault.Damaged
+        → ¬ AreReadableIdents (state S.Store conn.old).now.trees db.0 (pos sysno) }
     ensures opened { HasCleanDisk (state S.Store conn.new) → result ≡ Err RegFault.Damaged → IsTrue (state S.Store conn.old).is_open }
-    ensures refused { HasCleanDisk (state S.Store conn.new) → IsStore (state S.Store conn.old) → result ≡ Err RegFault.Store → (2 ^ 63 ≤ sysno) ⊎ MayRefuse (state S.Store conn.old) (state S.Store conn.new) }
-    ensures crash { Survives (state S.Store conn.old) (state S.Store conn.new) (λ _. ⊥) }
+    ensures refused { HasCleanDisk (state S.Store conn.new) → IsStore (state S.Store conn.old) → result ≡ Err RegFault.Store
+        → MayRefuse (state S.Store conn.old) (state S.Store conn.new) }
 {
     // What is seen outside a transaction is what was committed.
     let _idle = conn.is_autocommit();
-    let sysno = stored(sysno)?;
+    let Ok(sysno) = stored(sysno) else {
+        // A closed connection is refused for such a number too.
+        nothing_of(conn)?;
+        return Ok(None);
+    };
     let rows = ident_rows(conn, db.column(), sysno)?;
     match rows.first() {
         Some(row) => Ok(Some(read(row, 0)?)),
@@ -138,14 +142,14 @@ pub fn records<S: Alter>(
     conn: &mut Connection<S>,
     db: DatabaseId,
 ) -> Result<Vec<Record>, RegFault>
-    ensures idle { conn.old.in_transaction ≡ false → conn.new.in_transaction ≡ false }
-    ensures ok { HasCleanDisk (state S.Store conn.new) → OnOk result (IsUnchanged (state S.Store conn.old) (state S.Store conn.new)) }
-    ensures same { HasCleanDisk (state S.Store conn.new) → conn.old.in_transaction ≡ false → ChangesNothing (state S.Store conn.old) (state S.Store conn.new) }
-    ensures value { HasCleanDisk (state S.Store conn.new) → IsStore (state S.Store conn.old) → IfOk result (λ list. IsListOf (IsRest records_tree (Int db.0 ∷ []) (state S.Store conn.old).now.trees) (map record_shown list.items)) }
-    ensures honest { HasCleanDisk (state S.Store conn.new) → IsStore (state S.Store conn.old) → result ≡ Err RegFault.Damaged → ¬ AreReadable (state S.Store conn.old).now.trees db.0 }
+    ensures call { Reading (state S.Store conn.old) (state S.Store conn.new) result (λ _. IsUnchanged) }
+    ensures value { HasCleanDisk (state S.Store conn.new) → IsStore (state S.Store conn.old) → IfOk result
+        (λ list. IsListOf (IsRest records_tree (Int db.0 ∷ []) (state S.Store conn.old).now.trees) (map record_shown list.items)) }
+    ensures honest { HasCleanDisk (state S.Store conn.new) → IsStore (state S.Store conn.old) → result ≡ Err RegFault.Damaged
+        → ¬ AreReadable (state S.Store conn.old).now.trees db.0 }
     ensures opened { HasCleanDisk (state S.Store conn.new) → result ≡ Err RegFault.Damaged → IsTrue (state S.Store conn.old).is_open }
-    ensures refused { HasCleanDisk (state S.Store conn.new) → IsStore (state S.Store conn.old) → result ≡ Err RegFault.Store → MayRefuse (state S.Store conn.old) (state S.Store conn.new) }
-    ensures crash { Survives (state S.Store conn.old) (state S.Store conn.new) (λ _. ⊥) }
+    ensures refused { HasCleanDisk (state S.Store conn.new) → IsStore (state S.Store conn.old) → result ≡ Err RegFault.Store
+        → MayRefuse (state S.Store conn.old) (state S.Store conn.new) }
 {
     let rows = record_rows(conn, db.column())?;
     records_of(alloc, &rows)
@@ -183,11 +187,9 @@ pub(crate) fn records_drop<S: Alter>(
     db: DatabaseId,
 ) -> Result<(), RegFault>
     ensures same { tx.new.conn.ghost_name ≡ tx.old.conn.ghost_name }
-    ensures ok { HasCleanDisk (state S.Store tx.new.conn.now) → IsTrue (state S.Store tx.old.conn.now).in_transaction
-        → OnOk result (Alters records_tree (Loses (IsRecordIn db.0)) (state S.Store tx.old.conn.now) (state S.Store tx.new.conn.now)) }
-    ensures err { HasCleanDisk (state S.Store tx.new.conn.now) → IsTrue (state S.Store tx.old.conn.now).in_transaction → OnErr result (KeepsCommit (state S.Store tx.old.conn.now) (state S.Store tx.new.conn.now)) }
+    ensures call { Inside (state S.Store tx.old.conn.now) (state S.Store tx.new.conn.now) result
+        (λ _. Alters records_tree (Loses (IsRecordIn db.0))) }
     ensures honest { result ≢ Err RegFault.Damaged }
-    ensures crash { Survives (state S.Store tx.old.conn.now) (state S.Store tx.new.conn.now) (λ _. ⊥) }
 {
     records_clear(tx, db.column())?;
     Ok(())

@@ -7,10 +7,12 @@
 #![tactic(auto)]
 
 mod catalog;
+mod dropping;
 mod faults;
 mod kept;
 mod lists;
 mod meta;
+mod occurring;
 mod plain;
 mod registers;
 mod statements;
@@ -24,7 +26,8 @@ pub use faults::RegFault;
 pub use kept::{Elder, Record, ident_of, record_of_ident, record_put, record_take, records};
 pub use lists::rows_are_lists;
 pub use meta::{meta_of, meta_put};
-pub use plain::{Rows, registers_have_one_list_of_terms};
+pub use occurring::{OccurrenceSet, occurrences_have_one_list_of_terms};
+pub use plain::Rows;
 pub use registers::{
     Layout, Place, Posting, TermCount, Totals, Work, contents_change, registers_hold_one_content,
 };

@@ -1,11 +1,11 @@
 //! Texts that the store keeps of itself, each under a name.
 
-ghost use Rattle.std.specs.Prelude.{◌≡◌, ◌≢◌, false, IsTrue, OnOk, OnErr, IfOk, IsUtf8};
+ghost use Rattle.std.specs.Prelude.{◌≡◌, ◌≢◌, IsTrue, IfOk};
 ghost use Rattle.sqlite.specs.Held.{state};
-ghost use Rattle.sqlite.specs.State.{HasCleanDisk, IsUnchanged, KeepsCommit, Survives};
+ghost use Rattle.sqlite.specs.State.{HasCleanDisk, IsUnchanged};
 ghost use Rattle.zeb_register.specs.Sql.{Replaces};
 ghost use Rattle.zeb_register.specs.Store.{IsStore, meta_tree, entry, IsEntryOf, IsValueOf, AreReadableTexts};
-ghost use Rattle.zeb_register.specs.Calls.{ChangesNothing, GoesOn, Alters, MayRefuse};
+ghost use Rattle.zeb_register.specs.Calls.{Alters, Inside, Reading, MayRefuse};
 
 use crate::RegFault;
 use crate::statements::texts::{text_rows, text_set};
@@ -16,14 +16,14 @@ use sqlite::{Alter, Connection, Transaction};
 ///
 /// `Damaged` where it is no UTF-8. It changes nothing.
 pub fn meta_of<S: Alter>(conn: &mut Connection<S>, name: &str) -> Result<Option<String>, RegFault>
-    ensures idle { conn.old.in_transaction ≡ false → conn.new.in_transaction ≡ false }
-    ensures ok { HasCleanDisk (state S.Store conn.new) → OnOk result (IsUnchanged (state S.Store conn.old) (state S.Store conn.new)) }
-    ensures same { HasCleanDisk (state S.Store conn.new) → conn.old.in_transaction ≡ false → ChangesNothing (state S.Store conn.old) (state S.Store conn.new) }
-    ensures value { HasCleanDisk (state S.Store conn.new) → IsStore (state S.Store conn.old) → IfOk result (IsValueOf (state S.Store conn.old).now.trees name.now) }
-    ensures honest { HasCleanDisk (state S.Store conn.new) → IsStore (state S.Store conn.old) → result ≡ Err RegFault.Damaged → ¬ AreReadableTexts (state S.Store conn.old).now.trees name.now }
+    ensures call { Reading (state S.Store conn.old) (state S.Store conn.new) result (λ _. IsUnchanged) }
+    ensures value { HasCleanDisk (state S.Store conn.new) → IsStore (state S.Store conn.old)
+        → IfOk result (IsValueOf (state S.Store conn.old).now.trees name.now) }
+    ensures honest { HasCleanDisk (state S.Store conn.new) → IsStore (state S.Store conn.old) → result ≡ Err RegFault.Damaged
+        → ¬ AreReadableTexts (state S.Store conn.old).now.trees name.now }
     ensures opened { HasCleanDisk (state S.Store conn.new) → result ≡ Err RegFault.Damaged → IsTrue (state S.Store conn.old).is_open }
-    ensures refused { HasCleanDisk (state S.Store conn.new) → IsStore (state S.Store conn.old) → result ≡ Err RegFault.Store → MayRefuse (state S.Store conn.old) (state S.Store conn.new) }
-    ensures crash { Survives (state S.Store conn.old) (state S.Store conn.new) (λ _. ⊥) }
+    ensures refused { HasCleanDisk (state S.Store conn.new) → IsStore (state S.Store conn.old) → result ≡ Err RegFault.Store
+        → MayRefuse (state S.Store conn.old) (state S.Store conn.new) }
 {
     let rows = text_rows(conn, name)?;
     match rows.first() {
@@ -39,11 +39,9 @@ pub fn meta_put<S: Alter>(
     value: &str,
 ) -> Result<(), RegFault>
     ensures same { tx.new.conn.ghost_name ≡ tx.old.conn.ghost_name }
-    ensures ok { HasCleanDisk (state S.Store tx.new.conn.now) → IsTrue (state S.Store tx.old.conn.now).in_transaction
-        → OnOk result (Alters meta_tree (Replaces (IsEntryOf name.now) (entry name.now value.now)) (state S.Store tx.old.conn.now) (state S.Store tx.new.conn.now)) }
-    ensures err { HasCleanDisk (state S.Store tx.new.conn.now) → IsTrue (state S.Store tx.old.conn.now).in_transaction → OnErr result (KeepsCommit (state S.Store tx.old.conn.now) (state S.Store tx.new.conn.now)) }
+    ensures call { Inside (state S.Store tx.old.conn.now) (state S.Store tx.new.conn.now) result
+        (λ _. Alters meta_tree (Replaces (IsEntryOf name.now) (entry name.now value.now))) }
     ensures honest { result ≢ Err RegFault.Damaged }
-    ensures crash { Survives (state S.Store tx.old.conn.now) (state S.Store tx.new.conn.now) (λ _. ⊥) }
 {
     text_set(tx, name, value)?;
     Ok(())

@@ -1,24 +1,25 @@
 //! Registers with one row for each posting.
 
-ghost use Rattle.std.specs.Prelude.{ℕ, ℤ, List, IsUtf8, ◌≡◌, ◌≢◌, true, false, pos, map, IsTrue, OnOk, OnErr, IfOk, FitsSigned};
+ghost use Rattle.std.specs.Prelude.{IsUtf8, ◌≡◌, ◌≢◌, true, false, pos, map, IsTrue, OnOk, IfOk, FitsSigned};
 ghost use Rattle.std.specs.Int.{w64};
-ghost use Rattle.sqlite.specs.Tree.{Trees};
 ghost use Rattle.sqlite_rules.specs.Lists.{Has};
 ghost use Rattle.sqlite.specs.Held.{state};
-ghost use Rattle.sqlite.specs.State.{HasCleanDisk, IsUnchanged, KeepsCommit, Survives};
-ghost use Rattle.zeb_register.specs.Content.{Content, HoldsRows, ArePlacesOf, place_cmp, place_row, first_two, IsTwoNumbers, IsPlaceIn, posting_columns, Puts, DropsRegisters, code_of_register, posting_row, first_three, IsThreeNumbers};
+ghost use Rattle.sqlite.specs.State.{HasCleanDisk, IsUnchanged};
+ghost use Rattle.zeb_register.specs.Content.{Content, ArePlacesOf, place_cmp};
+ghost use Rattle.zeb_register.specs.PlainRows.{HoldsRows, code_of_register, posting_row};
+ghost use Rattle.zeb_register.specs.RowPlaces.{place_row, first_two, IsTwoNumbers, IsPlaceIn, posting_columns, Puts, first_three};
+ghost use Rattle.zeb_register.specs.RowPlaces.{IsThreeNumbers};
 ghost use Rattle.std.specs.List.Sorted.{IsStrictlySortedBy};
-ghost use Rattle.zeb_register.specs.Sql.{Loses, Gains};
+ghost use Rattle.zeb_register.specs.Sql.{Loses};
+ghost use Rattle.zeb_register.specs.RowStatements.{Gains};
 ghost use Rattle.zeb_register.specs.Store.{IsStore, postings_tree};
-ghost use Rattle.zeb_register.specs.Calls.{ChangesNothing, GoesOn, OnlyReads, Alters};
-ghost use Rattle.zeb_register.specs.Terms.{key_in, AreTermsOf};
+ghost use Rattle.zeb_register.specs.Calls.{GoesOn, OnlyReads, Alters, Inside, Reading};
+ghost use Rattle.zeb_register.specs.Occurring.{key_in};
 
-use crate::catalog::database_drop;
-use crate::kept::records_drop;
+use crate::dropping::database_drop_whole;
 use crate::registers::{Layout, Place, Posting, TermCount, Totals, Work};
-use crate::statements::packed::{blocks_clear, dict_clear};
 use crate::statements::postings::{
-    nothing_of, place_rows, places_lift, posting_put, posting_rows, postings_clear, register_rows,
+    nothing_of, place_rows, places_lift, posting_put, posting_rows, register_rows,
 };
 use crate::terms::{count_terms, term_before, term_count, term_from, text_above};
 use crate::values::{read, stored};
@@ -34,7 +35,7 @@ pub struct Rows;
 
 impl Layout for Rows {
     ghost use Rattle.zeb_register.specs.Formats.{plain_rows};
-    ghost use Rattle.zeb_register.specs.Terms.{no_rows};
+    ghost use Rattle.zeb_register.specs.PlainRows.{no_rows};
 
     ghost format = { plain_rows };
 
@@ -66,9 +67,7 @@ impl Layout for Rows {
         tx: &mut Transaction<'_, S>,
         db: DatabaseId,
     ) -> Result<(), RegFault> {
-        registers_drop(tx, db)?;
-        records_drop(tx, db)?;
-        database_drop(tx, db)
+        database_drop_whole(tx, db)
     }
 
     fn key_list<S: Alter>(
@@ -161,27 +160,6 @@ impl Layout for Rows {
     }
 }
 
-/// Each register of a content has at most one list of terms, and where tables hold the content it has one.
-pub fn registers_have_one_list_of_terms()
-    ensures one { (content : Content) (db : ℤ) (index : ℕ) (register : _) (one two : List _) → AreTermsOf content db index register one → AreTermsOf content db index register two → one ≡ two }
-    ensures held { (trees : Trees) (content : Content) (db : ℤ) (index : ℕ) (register : _) → HoldsRows trees content → (terms : List _) × AreTermsOf content db index register terms }
-{}
-
-/// Takes the rows of the database out of each table of the registers.
-fn registers_drop<S: Alter>(tx: &mut Transaction<'_, S>, db: DatabaseId) -> Result<(), RegFault>
-    ensures same { tx.new.conn.ghost_name ≡ tx.old.conn.ghost_name }
-    ensures ok { HasCleanDisk (state S.Store tx.new.conn.now) → IsTrue (state S.Store tx.old.conn.now).in_transaction
-        → OnOk result (GoesOn (state S.Store tx.old.conn.now) (state S.Store tx.new.conn.now) × (IsStore (state S.Store tx.old.conn.now) → DropsRegisters db.0 (state S.Store tx.old.conn.now) (state S.Store tx.new.conn.now))) }
-    ensures err { HasCleanDisk (state S.Store tx.new.conn.now) → IsTrue (state S.Store tx.old.conn.now).in_transaction → OnErr result (KeepsCommit (state S.Store tx.old.conn.now) (state S.Store tx.new.conn.now)) }
-    ensures honest { result ≢ Err RegFault.Damaged }
-    ensures crash { Survives (state S.Store tx.old.conn.now) (state S.Store tx.new.conn.now) (λ _. ⊥) }
-{
-    postings_clear(tx, db.column())?;
-    blocks_clear(tx, db.column())?;
-    dict_clear(tx, db.column())?;
-    Ok(())
-}
-
 /// The number by which the tables know a register.
 pub(crate) fn code_of(register: Register) -> i64
     ensures value { result ≡ pos (code_of_register register) }
@@ -203,13 +181,12 @@ pub(crate) fn postings_under<S: Alter>(
     register: Register,
     term: &str,
 ) -> Result<Vec<Posting>, RegFault>
-    ensures idle { conn.old.in_transaction ≡ false → conn.new.in_transaction ≡ false }
-    ensures ok { HasCleanDisk (state S.Store conn.new) → OnOk result (IsUnchanged (state S.Store conn.old) (state S.Store conn.new)) }
-    ensures same { HasCleanDisk (state S.Store conn.new) → conn.old.in_transaction ≡ false → ChangesNothing (state S.Store conn.old) (state S.Store conn.new) }
+    ensures call { Reading (state S.Store conn.old) (state S.Store conn.new) result (λ _. IsUnchanged) }
     ensures value { HasCleanDisk (state S.Store conn.new) → IsStore (state S.Store conn.old)
-        → IfOk result (λ list. (content : Content) → HoldsRows (state S.Store conn.old).now.trees content → list.items ≡ content db.0 (key_in index register term.now)) }
-    ensures honest { HasCleanDisk (state S.Store conn.new) → IsStore (state S.Store conn.old) → result ≡ Err RegFault.Damaged → (content : Content) → ¬ HoldsRows (state S.Store conn.old).now.trees content }
-    ensures crash { Survives (state S.Store conn.old) (state S.Store conn.new) (λ _. ⊥) }
+        → IfOk result (λ list. (content : Content) → HoldsRows (state S.Store conn.old).now.trees content
+        → list.items ≡ content db.0 (key_in index register term.now)) }
+    ensures honest { HasCleanDisk (state S.Store conn.new) → IsStore (state S.Store conn.old) → result ≡ Err RegFault.Damaged
+        → (content : Content) → ¬ HoldsRows (state S.Store conn.old).now.trees content }
 {
     let rows = posting_rows(conn, db.column(), index, code_of(register), term)?;
     postings_of(alloc, &rows)
@@ -276,15 +253,17 @@ fn holds_places<S: Alter>(
     places: &[Place],
 ) -> Result<bool, RegFault>
     ensures same { tx.new.conn.ghost_name ≡ tx.old.conn.ghost_name }
-    ensures ok { HasCleanDisk (state S.Store tx.new.conn.now) → IsTrue (state S.Store tx.old.conn.now).in_transaction → OnOk result (OnlyReads (state S.Store tx.old.conn.now) (state S.Store tx.new.conn.now)) }
-    ensures err { HasCleanDisk (state S.Store tx.new.conn.now) → IsTrue (state S.Store tx.old.conn.now).in_transaction → OnErr result (KeepsCommit (state S.Store tx.old.conn.now) (state S.Store tx.new.conn.now)) }
-    ensures found { HasCleanDisk (state S.Store tx.new.conn.now) → IsTrue (state S.Store tx.old.conn.now).in_transaction → IsStore (state S.Store tx.old.conn.now) → (content : Content) → HoldsRows (state S.Store tx.old.conn.now).now.trees content
+    ensures call { Inside (state S.Store tx.old.conn.now) (state S.Store tx.new.conn.now) result (λ _. OnlyReads) }
+    ensures found { HasCleanDisk (state S.Store tx.new.conn.now) → IsTrue (state S.Store tx.old.conn.now).in_transaction
+        → IsStore (state S.Store tx.old.conn.now) → (content : Content) → HoldsRows (state S.Store tx.old.conn.now).now.trees content
         → result ≡ Ok true → ArePlacesOf sysno places.now (content db.0 key.now) }
-    ensures lost { HasCleanDisk (state S.Store tx.new.conn.now) → IsTrue (state S.Store tx.old.conn.now).in_transaction → IsStore (state S.Store tx.old.conn.now) → (content : Content) → HoldsRows (state S.Store tx.old.conn.now).now.trees content
+    ensures lost { HasCleanDisk (state S.Store tx.new.conn.now) → IsTrue (state S.Store tx.old.conn.now).in_transaction
+        → IsStore (state S.Store tx.old.conn.now) → (content : Content) → HoldsRows (state S.Store tx.old.conn.now).now.trees content
         → IsStrictlySortedBy place_cmp places.now → result ≡ Ok false → ¬ ArePlacesOf sysno places.now (content db.0 key.now) }
-    ensures honest { HasCleanDisk (state S.Store tx.new.conn.now) → IsTrue (state S.Store tx.old.conn.now).in_transaction → IsStore (state S.Store tx.old.conn.now) → (content : Content) → HoldsRows (state S.Store tx.old.conn.now).now.trees content → result ≢ Err RegFault.Damaged }
+    ensures honest { HasCleanDisk (state S.Store tx.new.conn.now) → IsTrue (state S.Store tx.old.conn.now).in_transaction
+        → IsStore (state S.Store tx.old.conn.now) → (content : Content) → HoldsRows (state S.Store tx.old.conn.now).now.trees content
+        → result ≢ Err RegFault.Damaged }
     ensures text { OnOk result (IsUtf8 key.now.term) }
-    ensures crash { Survives (state S.Store tx.old.conn.now) (state S.Store tx.new.conn.now) (λ _. ⊥) }
 {
     let sysno = stored(sysno)?;
     let register = code_of(key.register);
@@ -307,10 +286,9 @@ fn places_take<S: Alter>(
     sysno: u64,
 ) -> Result<(), RegFault>
     ensures same { tx.new.conn.ghost_name ≡ tx.old.conn.ghost_name }
-    ensures ok { HasCleanDisk (state S.Store tx.new.conn.now) → IsTrue (state S.Store tx.old.conn.now).in_transaction → OnOk result (Alters postings_tree (Loses (IsPlaceIn db.0 key.now sysno)) (state S.Store tx.old.conn.now) (state S.Store tx.new.conn.now)) }
-    ensures err { HasCleanDisk (state S.Store tx.new.conn.now) → IsTrue (state S.Store tx.old.conn.now).in_transaction → OnErr result (KeepsCommit (state S.Store tx.old.conn.now) (state S.Store tx.new.conn.now)) }
+    ensures call { Inside (state S.Store tx.old.conn.now) (state S.Store tx.new.conn.now) result
+        (λ _. Alters postings_tree (Loses (IsPlaceIn db.0 key.now sysno))) }
     ensures honest { result ≢ Err RegFault.Damaged }
-    ensures crash { Survives (state S.Store tx.old.conn.now) (state S.Store tx.new.conn.now) (λ _. ⊥) }
 {
     let sysno = stored(sysno)?;
     let register = code_of(key.register);
@@ -334,12 +312,11 @@ fn places_put<S: Alter>(
     places: &[Place],
 ) -> Result<(), RegFault>
     ensures same { tx.new.conn.ghost_name ≡ tx.old.conn.ghost_name }
-    ensures ok { HasCleanDisk (state S.Store tx.new.conn.now) → IsTrue (state S.Store tx.old.conn.now).in_transaction → OnOk result (IsTrue (state S.Store tx.old.conn.now).is_open → GoesOn (state S.Store tx.old.conn.now) (state S.Store tx.new.conn.now)) }
-    ensures err { HasCleanDisk (state S.Store tx.new.conn.now) → IsTrue (state S.Store tx.old.conn.now).in_transaction → OnErr result (KeepsCommit (state S.Store tx.old.conn.now) (state S.Store tx.new.conn.now)) }
-    ensures put { HasCleanDisk (state S.Store tx.new.conn.now) → IsTrue (state S.Store tx.old.conn.now).in_transaction → IsStore (state S.Store tx.old.conn.now)
+    ensures call { Inside (state S.Store tx.old.conn.now) (state S.Store tx.new.conn.now) result (λ _ a b. IsTrue a.is_open → GoesOn a b) }
+    ensures put { HasCleanDisk (state S.Store tx.new.conn.now) → IsTrue (state S.Store tx.old.conn.now).in_transaction
+        → IsStore (state S.Store tx.old.conn.now)
         → OnOk result (Puts db.0 key.now sysno places.now (state S.Store tx.old.conn.now) (state S.Store tx.new.conn.now)) }
     ensures honest { result ≢ Err RegFault.Damaged }
-    ensures crash { Survives (state S.Store tx.old.conn.now) (state S.Store tx.new.conn.now) (λ _. ⊥) }
 {
     for place in places {
         place_put(tx, db, key, sysno, *place)?;
@@ -356,10 +333,9 @@ fn place_put<S: Alter>(
     place: Place,
 ) -> Result<(), RegFault>
     ensures same { tx.new.conn.ghost_name ≡ tx.old.conn.ghost_name }
-    ensures ok { HasCleanDisk (state S.Store tx.new.conn.now) → IsTrue (state S.Store tx.old.conn.now).in_transaction → OnOk result (Alters postings_tree (Gains (posting_columns db.0 key.now sysno place)) (state S.Store tx.old.conn.now) (state S.Store tx.new.conn.now)) }
-    ensures err { HasCleanDisk (state S.Store tx.new.conn.now) → IsTrue (state S.Store tx.old.conn.now).in_transaction → OnErr result (KeepsCommit (state S.Store tx.old.conn.now) (state S.Store tx.new.conn.now)) }
+    ensures call { Inside (state S.Store tx.old.conn.now) (state S.Store tx.new.conn.now) result
+        (λ _. Alters postings_tree (Gains (posting_columns db.0 key.now sysno place))) }
     ensures honest { result ≢ Err RegFault.Damaged }
-    ensures crash { Survives (state S.Store tx.old.conn.now) (state S.Store tx.new.conn.now) (λ _. ⊥) }
 {
     let sysno = stored(sysno)?;
     let seq = stored(place.seq)?;

@@ -1,10 +1,10 @@
 //! What a layout of the registers has to do, whatever tables it keeps them in.
 
-ghost use Rattle.std.specs.Prelude.{◌≡◌, ◌≢◌, ◌↔◌, ◌+◌, ◌*◌, ℕ, ℤ, false, List, [], length, IsUtf8, IsTrue, OnOk, OnErr, IfOk};
+ghost use Rattle.std.specs.Prelude.{◌≡◌, ◌≢◌, ◌↔◌, ◌+◌, ◌*◌, ℕ, ℤ, List, [], length, IsUtf8, IsTrue, OnOk, IfOk};
 ghost use Rattle.sqlite.specs.Held.{state};
-ghost use Rattle.sqlite.specs.State.{HasCleanDisk, IsUnchanged, KeepsCommit, Survives};
+ghost use Rattle.sqlite.specs.State.{HasCleanDisk, IsUnchanged};
 ghost use Rattle.sqlite_rules.specs.Lists.{Has};
-ghost use Rattle.zeb_register.specs.Calls.{ChangesNothing, GoesOn};
+ghost use Rattle.zeb_register.specs.Calls.{GoesOn, Inside, Reading};
 ghost use Rattle.sqlite.specs.Tree.{Trees};
 ghost use Rattle.zeb_register.specs.Content.{Content, IsRising, IsChangedAt, IsWithout};
 ghost use Rattle.zeb_register.specs.Formats.{Format, holds_in, version_of};
@@ -45,7 +45,8 @@ pub struct Totals {
     pub occurrences: u64,
 }
 
-/// How many rows of the packed tables were read and written: of `dict`, one row for each term, and of `blocks`, one for each block of a term's postings. A count stays at its type's greatest value once it is there.
+/// How many rows of the packed tables were read and written: of `dict`, one row for each term, and of `blocks`, one for each block of
+/// a term's postings. A count stays at its type's greatest value once it is there.
 #[derive(Clone, Copy, Debug, Default, PartialEq, Eq)]
 pub struct Work {
     pub dict_read: u64,
@@ -63,8 +64,9 @@ pub trait Layout {
     ghost use Rattle.sqlite.specs.Tree.{Trees};
     ghost use Rattle.zeb_register.specs.Formats.{Format, version_of, holds_in};
     ghost use Rattle.zeb_register.specs.Store.{IsStore, KeepsLists};
-    ghost use Rattle.zeb_register.specs.Content.{Content, IsChangedAt, ArePlacesOf, place_cmp, IsWithout, TakesWhole};
-    ghost use Rattle.zeb_register.specs.Terms.{AreTermsOf, AreTermsFrom, AreTermsBefore, AreTotals, HasTexts, Works, ReadsTerms};
+    ghost use Rattle.zeb_register.specs.Content.{Content, IsChangedAt, ArePlacesOf, IsStorable, place_cmp, posted, IsWithout, TakesWhole};
+    ghost use Rattle.zeb_register.specs.Occurring.{AreTermsOf, AreTermsFrom, AreTermsBefore, AreTotals};
+    ghost use Rattle.zeb_register.specs.Tallies.{Works, ReadsTerms};
     ghost use Rattle.zeb_register.specs.declared.registers.Posting.{Posting};
 
     /// In which format the tables keep the registers.
@@ -93,31 +95,38 @@ pub trait Layout {
         new: &[Place],
     ) -> Result<(), RegFault>
         ensures same { tx.new.conn.ghost_name ≡ tx.old.conn.ghost_name }
-        ensures ok { HasCleanDisk (state S.Store tx.new.conn.now) → IsTrue (state S.Store tx.old.conn.now).in_transaction → OnOk result (GoesOn (state S.Store tx.old.conn.now) (state S.Store tx.new.conn.now)) }
-        ensures err { HasCleanDisk (state S.Store tx.new.conn.now) → IsTrue (state S.Store tx.old.conn.now).in_transaction → OnErr result (KeepsCommit (state S.Store tx.old.conn.now) (state S.Store tx.new.conn.now)) }
-        ensures change { HasCleanDisk (state S.Store tx.new.conn.now) → IsTrue (state S.Store tx.old.conn.now).in_transaction → IsStore (state S.Store tx.old.conn.now)
-            → OnOk result (IsStore (state S.Store tx.new.conn.now) × KeepsLists (state S.Store tx.old.conn.now).now.trees (state S.Store tx.new.conn.now).now.trees
-            × ((before after : Content) → holds_in format (state S.Store tx.old.conn.now).now.trees before → IsChangedAt db.0 key.now sysno new.now before after → holds_in format (state S.Store tx.new.conn.now).now.trees after)) }
-        ensures found { HasCleanDisk (state S.Store tx.new.conn.now) → IsTrue (state S.Store tx.old.conn.now).in_transaction → IsStore (state S.Store tx.old.conn.now)
-            → OnOk result ((content : Content) → holds_in format (state S.Store tx.old.conn.now).now.trees content → ArePlacesOf sysno old.now (content db.0 key.now)) }
-        ensures damaged { HasCleanDisk (state S.Store tx.new.conn.now) → IsTrue (state S.Store tx.old.conn.now).in_transaction → IsStore (state S.Store tx.old.conn.now)
-            → result ≡ Err RegFault.Damaged → IsStrictlySortedBy place_cmp old.now → (content : Content) → holds_in format (state S.Store tx.old.conn.now).now.trees content → ¬ ArePlacesOf sysno old.now (content db.0 key.now) }
+        ensures call { Inside (state S.Store tx.old.conn.now) (state S.Store tx.new.conn.now) result (λ _. GoesOn) }
+        ensures change { HasCleanDisk (state S.Store tx.new.conn.now) → IsTrue (state S.Store tx.old.conn.now).in_transaction
+            → IsStore (state S.Store tx.old.conn.now)
+            → OnOk result (IsStore (state S.Store tx.new.conn.now)
+            × KeepsLists (state S.Store tx.old.conn.now).now.trees (state S.Store tx.new.conn.now).now.trees
+            × ((before after : Content) → holds_in format (state S.Store tx.old.conn.now).now.trees before
+            → IsChangedAt db.0 key.now sysno new.now before after → holds_in format (state S.Store tx.new.conn.now).now.trees after)) }
+        ensures found { HasCleanDisk (state S.Store tx.new.conn.now) → IsTrue (state S.Store tx.old.conn.now).in_transaction
+            → IsStore (state S.Store tx.old.conn.now)
+            → OnOk result ((content : Content) → holds_in format (state S.Store tx.old.conn.now).now.trees content
+            → ArePlacesOf sysno old.now (content db.0 key.now)) }
+        ensures damaged { HasCleanDisk (state S.Store tx.new.conn.now) → IsTrue (state S.Store tx.old.conn.now).in_transaction
+            → IsStore (state S.Store tx.old.conn.now)
+            → result ≡ Err RegFault.Damaged → IsStrictlySortedBy place_cmp old.now → (content : Content) → IsStorable content
+            → holds_in format (state S.Store tx.old.conn.now).now.trees content → ¬ ArePlacesOf sysno old.now (content db.0 key.now) }
         ensures text { OnOk result (IsUtf8 key.now.term) }
-        ensures work { HasCleanDisk (state S.Store tx.new.conn.now) → IsTrue (state S.Store tx.old.conn.now).in_transaction → IsStore (state S.Store tx.old.conn.now)
-            → OnOk result ((content : Content) → holds_in format (state S.Store tx.old.conn.now).now.trees content → Works row_work row_work row_work row_work work.old work.new) }
-        ensures no_work { row_work ≡ 0 → work.new ≡ work.old }
-        ensures crash { Survives (state S.Store tx.old.conn.now) (state S.Store tx.new.conn.now) (λ _. ⊥) };
+        ensures work { HasCleanDisk (state S.Store tx.new.conn.now) → IsTrue (state S.Store tx.old.conn.now).in_transaction
+            → IsStore (state S.Store tx.old.conn.now)
+            → OnOk result ((content : Content) → holds_in format (state S.Store tx.old.conn.now).now.trees content
+            → Works row_work row_work row_work row_work work.old work.new) }
+        ensures no_work { row_work ≡ 0 → work.new ≡ work.old };
 
     /// Takes a database out, with its records and its rows in every table of the registers.
     fn database_take<S: Alter>(tx: &mut Transaction<'_, S>, db: DatabaseId) -> Result<(), RegFault>
         ensures same { tx.new.conn.ghost_name ≡ tx.old.conn.ghost_name }
-        ensures ok { HasCleanDisk (state S.Store tx.new.conn.now) → IsTrue (state S.Store tx.old.conn.now).in_transaction → OnOk result (GoesOn (state S.Store tx.old.conn.now) (state S.Store tx.new.conn.now)) }
-        ensures err { HasCleanDisk (state S.Store tx.new.conn.now) → IsTrue (state S.Store tx.old.conn.now).in_transaction → OnErr result (KeepsCommit (state S.Store tx.old.conn.now) (state S.Store tx.new.conn.now)) }
-        ensures taken { HasCleanDisk (state S.Store tx.new.conn.now) → IsTrue (state S.Store tx.old.conn.now).in_transaction → IsStore (state S.Store tx.old.conn.now)
+        ensures call { Inside (state S.Store tx.old.conn.now) (state S.Store tx.new.conn.now) result (λ _. GoesOn) }
+        ensures taken { HasCleanDisk (state S.Store tx.new.conn.now) → IsTrue (state S.Store tx.old.conn.now).in_transaction
+            → IsStore (state S.Store tx.old.conn.now)
             → OnOk result (TakesWhole db.0 (state S.Store tx.old.conn.now) (state S.Store tx.new.conn.now)
-            × ((before after : Content) → holds_in format (state S.Store tx.old.conn.now).now.trees before → IsWithout db.0 before after → holds_in format (state S.Store tx.new.conn.now).now.trees after)) }
-        ensures honest { result ≢ Err RegFault.Damaged }
-        ensures crash { Survives (state S.Store tx.old.conn.now) (state S.Store tx.new.conn.now) (λ _. ⊥) };
+            × ((before after : Content) → holds_in format (state S.Store tx.old.conn.now).now.trees before → IsWithout db.0 before after
+            → holds_in format (state S.Store tx.new.conn.now).now.trees after)) }
+        ensures honest { result ≢ Err RegFault.Damaged };
 
     /// The postings of a key, rising.
     fn key_list<S: Alter>(
@@ -127,16 +136,16 @@ pub trait Layout {
         db: DatabaseId,
         key: &Key,
     ) -> Result<Vec<Posting>, RegFault>
-        ensures idle { conn.old.in_transaction ≡ false → conn.new.in_transaction ≡ false }
-        ensures ok { HasCleanDisk (state S.Store conn.new) → OnOk result (IsUnchanged (state S.Store conn.old) (state S.Store conn.new)) }
-        ensures same { HasCleanDisk (state S.Store conn.new) → conn.old.in_transaction ≡ false → ChangesNothing (state S.Store conn.old) (state S.Store conn.new) }
+        ensures call { Reading (state S.Store conn.old) (state S.Store conn.new) result (λ _. IsUnchanged) }
         ensures value { HasCleanDisk (state S.Store conn.new) → IsStore (state S.Store conn.old)
-            → IfOk result (λ list. (content : Content) → holds_in format (state S.Store conn.old).now.trees content → list.items ≡ content db.0 key.now) }
-        ensures honest { HasCleanDisk (state S.Store conn.new) → IsStore (state S.Store conn.old) → result ≡ Err RegFault.Damaged → (content : Content) → ¬ holds_in format (state S.Store conn.old).now.trees content }
+            → IfOk result (λ list. (content : Content) → holds_in format (state S.Store conn.old).now.trees content
+            → list.items ≡ content db.0 key.now) }
+        ensures honest { HasCleanDisk (state S.Store conn.new) → IsStore (state S.Store conn.old) → result ≡ Err RegFault.Damaged
+            → (content : Content) → IsStorable content → ¬ holds_in format (state S.Store conn.old).now.trees content }
         ensures work { HasCleanDisk (state S.Store conn.new) → IsStore (state S.Store conn.old)
-            → IfOk result (λ list. (content : Content) → holds_in format (state S.Store conn.old).now.trees content → Works 0 0 (block_rows list.items) 0 work.old work.new) }
-        ensures no_work { row_work ≡ 0 → work.new ≡ work.old }
-        ensures crash { Survives (state S.Store conn.old) (state S.Store conn.new) (λ _. ⊥) };
+            → IfOk result (λ list. (content : Content) → holds_in format (state S.Store conn.old).now.trees content
+            → Works 0 0 (block_rows list.items) 0 work.old work.new) }
+        ensures no_work { row_work ≡ 0 → work.new ≡ work.old };
 
     /// The terms of a register that have a posting, in the order of their bytes.
     fn terms_of<S: Alter>(
@@ -147,16 +156,16 @@ pub trait Layout {
         index: u32,
         register: Register,
     ) -> Result<Vec<TermCount>, RegFault>
-        ensures idle { conn.old.in_transaction ≡ false → conn.new.in_transaction ≡ false }
-        ensures ok { HasCleanDisk (state S.Store conn.new) → OnOk result (IsUnchanged (state S.Store conn.old) (state S.Store conn.new)) }
-        ensures same { HasCleanDisk (state S.Store conn.new) → conn.old.in_transaction ≡ false → ChangesNothing (state S.Store conn.old) (state S.Store conn.new) }
+        ensures call { Reading (state S.Store conn.old) (state S.Store conn.new) result (λ _. IsUnchanged) }
         ensures value { HasCleanDisk (state S.Store conn.new) → IsStore (state S.Store conn.old)
-            → IfOk result (λ list. (content : Content) → holds_in format (state S.Store conn.old).now.trees content → AreTermsOf content db.0 index register list.items) }
-        ensures honest { HasCleanDisk (state S.Store conn.new) → IsStore (state S.Store conn.old) → result ≡ Err RegFault.Damaged → (content : Content) → HasTexts content → ¬ holds_in format (state S.Store conn.old).now.trees content }
+            → IfOk result (λ list. (content : Content) → holds_in format (state S.Store conn.old).now.trees content
+            → AreTermsOf (posted content db.0) index register list.items) }
+        ensures honest { HasCleanDisk (state S.Store conn.new) → IsStore (state S.Store conn.old) → result ≡ Err RegFault.Damaged
+            → (content : Content) → IsStorable content → ¬ holds_in format (state S.Store conn.old).now.trees content }
         ensures work { HasCleanDisk (state S.Store conn.new) → IsStore (state S.Store conn.old)
-            → IfOk result (λ list. (content : Content) → holds_in format (state S.Store conn.old).now.trees content → Works (row_work * length list.items) 0 0 0 work.old work.new) }
-        ensures no_work { row_work ≡ 0 → work.new ≡ work.old }
-        ensures crash { Survives (state S.Store conn.old) (state S.Store conn.new) (λ _. ⊥) };
+            → IfOk result (λ list. (content : Content) → holds_in format (state S.Store conn.old).now.trees content
+            → Works (row_work * length list.items) 0 0 0 work.old work.new) }
+        ensures no_work { row_work ≡ 0 → work.new ≡ work.old };
 
     /// The first `n` of these terms that are not below `start`, in the order of their bytes.
     fn terms_from<S: Alter>(
@@ -169,16 +178,16 @@ pub trait Layout {
         start: &str,
         n: u64,
     ) -> Result<Vec<TermCount>, RegFault>
-        ensures idle { conn.old.in_transaction ≡ false → conn.new.in_transaction ≡ false }
-        ensures ok { HasCleanDisk (state S.Store conn.new) → OnOk result (IsUnchanged (state S.Store conn.old) (state S.Store conn.new)) }
-        ensures same { HasCleanDisk (state S.Store conn.new) → conn.old.in_transaction ≡ false → ChangesNothing (state S.Store conn.old) (state S.Store conn.new) }
+        ensures call { Reading (state S.Store conn.old) (state S.Store conn.new) result (λ _. IsUnchanged) }
         ensures value { HasCleanDisk (state S.Store conn.new) → IsStore (state S.Store conn.old)
-            → IfOk result (λ list. (content : Content) → holds_in format (state S.Store conn.old).now.trees content → AreTermsFrom content db.0 index register start.now n list.items) }
-        ensures honest { HasCleanDisk (state S.Store conn.new) → IsStore (state S.Store conn.old) → result ≡ Err RegFault.Damaged → (content : Content) → HasTexts content → ¬ holds_in format (state S.Store conn.old).now.trees content }
+            → IfOk result (λ list. (content : Content) → holds_in format (state S.Store conn.old).now.trees content
+            → AreTermsFrom (posted content db.0) index register start.now n list.items) }
+        ensures honest { HasCleanDisk (state S.Store conn.new) → IsStore (state S.Store conn.old) → result ≡ Err RegFault.Damaged
+            → (content : Content) → IsStorable content → ¬ holds_in format (state S.Store conn.old).now.trees content }
         ensures work { HasCleanDisk (state S.Store conn.new) → IsStore (state S.Store conn.old)
-            → IfOk result (λ list. (content : Content) → holds_in format (state S.Store conn.old).now.trees content → ReadsTerms (row_work * (n + 1)) work.old work.new) }
-        ensures no_work { row_work ≡ 0 → work.new ≡ work.old }
-        ensures crash { Survives (state S.Store conn.old) (state S.Store conn.new) (λ _. ⊥) };
+            → IfOk result (λ list. (content : Content) → holds_in format (state S.Store conn.old).now.trees content
+            → ReadsTerms (row_work * (n + 1)) work.old work.new) }
+        ensures no_work { row_work ≡ 0 → work.new ≡ work.old };
 
     /// The last `n` of these terms that are below `start`, in the order of their bytes.
     fn terms_before<S: Alter>(
@@ -191,16 +200,16 @@ pub trait Layout {
         start: &str,
         n: u64,
     ) -> Result<Vec<TermCount>, RegFault>
-        ensures idle { conn.old.in_transaction ≡ false → conn.new.in_transaction ≡ false }
-        ensures ok { HasCleanDisk (state S.Store conn.new) → OnOk result (IsUnchanged (state S.Store conn.old) (state S.Store conn.new)) }
-        ensures same { HasCleanDisk (state S.Store conn.new) → conn.old.in_transaction ≡ false → ChangesNothing (state S.Store conn.old) (state S.Store conn.new) }
+        ensures call { Reading (state S.Store conn.old) (state S.Store conn.new) result (λ _. IsUnchanged) }
         ensures value { HasCleanDisk (state S.Store conn.new) → IsStore (state S.Store conn.old)
-            → IfOk result (λ list. (content : Content) → holds_in format (state S.Store conn.old).now.trees content → AreTermsBefore content db.0 index register start.now n list.items) }
-        ensures honest { HasCleanDisk (state S.Store conn.new) → IsStore (state S.Store conn.old) → result ≡ Err RegFault.Damaged → (content : Content) → HasTexts content → ¬ holds_in format (state S.Store conn.old).now.trees content }
+            → IfOk result (λ list. (content : Content) → holds_in format (state S.Store conn.old).now.trees content
+            → AreTermsBefore (posted content db.0) index register start.now n list.items) }
+        ensures honest { HasCleanDisk (state S.Store conn.new) → IsStore (state S.Store conn.old) → result ≡ Err RegFault.Damaged
+            → (content : Content) → IsStorable content → ¬ holds_in format (state S.Store conn.old).now.trees content }
         ensures work { HasCleanDisk (state S.Store conn.new) → IsStore (state S.Store conn.old)
-            → IfOk result (λ list. (content : Content) → holds_in format (state S.Store conn.old).now.trees content → ReadsTerms (row_work * n) work.old work.new) }
-        ensures no_work { row_work ≡ 0 → work.new ≡ work.old }
-        ensures crash { Survives (state S.Store conn.old) (state S.Store conn.new) (λ _. ⊥) };
+            → IfOk result (λ list. (content : Content) → holds_in format (state S.Store conn.old).now.trees content
+            → ReadsTerms (row_work * n) work.old work.new) }
+        ensures no_work { row_work ≡ 0 → work.new ≡ work.old };
 
     /// How many terms and postings a register holds.
     fn totals<S: Alter>(
@@ -211,21 +220,22 @@ pub trait Layout {
         index: u32,
         register: Register,
     ) -> Result<Totals, RegFault>
-        ensures idle { conn.old.in_transaction ≡ false → conn.new.in_transaction ≡ false }
-        ensures ok { HasCleanDisk (state S.Store conn.new) → OnOk result (IsUnchanged (state S.Store conn.old) (state S.Store conn.new)) }
-        ensures same { HasCleanDisk (state S.Store conn.new) → conn.old.in_transaction ≡ false → ChangesNothing (state S.Store conn.old) (state S.Store conn.new) }
+        ensures call { Reading (state S.Store conn.old) (state S.Store conn.new) result (λ _. IsUnchanged) }
         ensures value { HasCleanDisk (state S.Store conn.new) → IsStore (state S.Store conn.old)
-            → IfOk result (λ sums. (content : Content) → holds_in format (state S.Store conn.old).now.trees content → AreTotals content db.0 index register sums) }
-        ensures honest { HasCleanDisk (state S.Store conn.new) → IsStore (state S.Store conn.old) → result ≡ Err RegFault.Damaged → (content : Content) → HasTexts content → ¬ holds_in format (state S.Store conn.old).now.trees content }
-        ensures no_work { row_work ≡ 0 → work.new ≡ work.old }
-        ensures crash { Survives (state S.Store conn.old) (state S.Store conn.new) (λ _. ⊥) };
+            → IfOk result (λ sums. (content : Content) → holds_in format (state S.Store conn.old).now.trees content
+            → AreTotals (posted content db.0) index register sums) }
+        ensures honest { HasCleanDisk (state S.Store conn.new) → IsStore (state S.Store conn.old) → result ≡ Err RegFault.Damaged
+            → (content : Content) → IsStorable content → ¬ holds_in format (state S.Store conn.old).now.trees content }
+        ensures no_work { row_work ≡ 0 → work.new ≡ work.old };
 }
 
 /// A content is told by its postings. It can be changed at one key of one record, and a database can be taken from it, each in one way.
 pub fn contents_change()
-    ensures told { (one two : Content) → IsRising one → IsRising two → ((db : ℤ) (key : _) (p : _) → Has (one db key) p ↔ Has (two db key) p) → one ≡ two }
+    ensures told { (one two : Content) → IsRising one → IsRising two
+        → ((db : ℤ) (key : _) (p : _) → Has (one db key) p ↔ Has (two db key) p) → one ≡ two }
     ensures changed { (db : ℤ) (key : _) (sysno : ℕ) (places : List _) (old : Content) → IsRising old
-        → ((new : Content) × IsChangedAt db key sysno places old new) × ((one two : Content) → IsChangedAt db key sysno places old one → IsChangedAt db key sysno places old two → one ≡ two) }
+        → ((new : Content) × IsChangedAt db key sysno places old new)
+        × ((one two : Content) → IsChangedAt db key sysno places old one → IsChangedAt db key sysno places old two → one ≡ two) }
     ensures without { (db : ℤ) (old : Content) → IsRising old
         → ((new : Content) × IsWithout db old new) × ((one two : Content) → IsWithout db old one → IsWithout db old two → one ≡ two) }
 {}
@@ -233,9 +243,11 @@ pub fn contents_change()
 /// What tables hold in a format is one content at most, and each of its lists rises. It is told by the tables of the registers alone, and
 /// where these have no row it has no posting. No two formats have one version.
 pub fn registers_hold_one_content()
-    ensures one { (format : Format) (trees : Trees) (one two : Content) → holds_in format trees one → holds_in format trees two → one ≡ two }
+    ensures one { (format : Format) (trees : Trees) (one two : Content) → holds_in format trees one → holds_in format trees two
+        → one ≡ two }
     ensures rising { (format : Format) (trees : Trees) (content : Content) → holds_in format trees content → IsRising content }
-    ensures stays { (format : Format) (old new : Trees) (content : Content) → KeepsRegisters old new → holds_in format old content → holds_in format new content }
+    ensures stays { (format : Format) (old new : Trees) (content : Content) → KeepsRegisters old new → holds_in format old content
+        → holds_in format new content }
     ensures empty { (format : Format) (trees : Trees) → LacksRegisters trees → holds_in format trees (λ _ _. []) }
     ensures version { (one two : Format) → version_of one ≡ version_of two → one ≡ two }
 {}

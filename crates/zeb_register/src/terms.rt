@@ -1,15 +1,18 @@
 //! The terms of a register, read from the rows of its postings.
 
-ghost use Rattle.std.specs.Prelude.{◌≡◌, ◌≢◌, ◌<◌, ◌+◌, ◌^◌, ◌++◌, [], ◌∷◌, false, length, pos, IfOk, OnOk, string_bytes};
+ghost use Rattle.std.specs.Prelude.{◌≡◌, ◌≢◌, ◌<◌, ◌+◌, ◌^◌, ◌++◌, [], ◌∷◌, IfOk, OnOk, string_bytes};
 ghost use Rattle.std.specs.List.Sorted.{IsStrictlySortedBy};
 ghost use Rattle.sqlite.specs.Held.{state};
-ghost use Rattle.sqlite.specs.State.{HasCleanDisk, IsUnchanged, Survives};
+ghost use Rattle.sqlite.specs.State.{HasCleanDisk, IsUnchanged};
 ghost use Rattle.sqlite.specs.Order.{row_cmp};
 ghost use Rattle.sqlite_rules.specs.Lists.{Has};
-ghost use Rattle.zeb_register.specs.Calls.{ChangesNothing};
-ghost use Rattle.zeb_register.specs.Content.{Content, HoldsRows, posting_cmp};
+ghost use Rattle.zeb_register.specs.Calls.{Reading};
+ghost use Rattle.zeb_register.specs.Content.{Content, posting_cmp, posted, IsStorable};
+ghost use Rattle.zeb_register.specs.PlainRows.{HoldsRows};
 ghost use Rattle.zeb_register.specs.Store.{IsStore};
-ghost use Rattle.zeb_register.specs.Terms.{IsCount, IsInRecord, AreCounts, IsShown, ShowsOccurrence, IsOccurrenceRow, ShowsTerm, IsTermRow, IsCountedIn, IsLeastTerm, IsGreatestTerm, HasTexts, key_in};
+ghost use Rattle.zeb_register.specs.Occurring.{IsCount, AreCounts, TermIn};
+ghost use Rattle.zeb_register.specs.RowTerms.{IsInRecord, IsShown, ShowsOccurrence, IsOccurrenceRow, ShowsTerm, IsTermRow, IsCountedIn};
+ghost use Rattle.zeb_register.specs.RowTerms.{IsLeastTerm, IsGreatestTerm};
 
 use crate::plain::{code_of, postings_under};
 use crate::registers::{Posting, TermCount};
@@ -93,13 +96,12 @@ pub(crate) fn term_count<S: Alter>(
     register: Register,
     term: String,
 ) -> Result<TermCount, RegFault>
-    ensures idle { conn.old.in_transaction ≡ false → conn.new.in_transaction ≡ false }
-    ensures ok { HasCleanDisk (state S.Store conn.new) → OnOk result (IsUnchanged (state S.Store conn.old) (state S.Store conn.new)) }
-    ensures same { HasCleanDisk (state S.Store conn.new) → conn.old.in_transaction ≡ false → ChangesNothing (state S.Store conn.old) (state S.Store conn.new) }
-    ensures value { HasCleanDisk (state S.Store conn.new) → IsStore (state S.Store conn.old) → IfOk result (λ t. (content : Content) → HoldsRows (state S.Store conn.old).now.trees content
-        → (t.term ≡ string_bytes term) × IsCount (IsInRecord (content db.0 (key_in index register (string_bytes term)))) t.records) }
-    ensures honest { HasCleanDisk (state S.Store conn.new) → IsStore (state S.Store conn.old) → result ≡ Err RegFault.Damaged → (content : Content) → ¬ HoldsRows (state S.Store conn.old).now.trees content }
-    ensures crash { Survives (state S.Store conn.old) (state S.Store conn.new) (λ _. ⊥) }
+    ensures call { Reading (state S.Store conn.old) (state S.Store conn.new) result (λ _. IsUnchanged) }
+    ensures value { HasCleanDisk (state S.Store conn.new) → IsStore (state S.Store conn.old)
+        → IfOk result (λ t. (content : Content) → HoldsRows (state S.Store conn.old).now.trees content
+        → (t.term ≡ string_bytes term) × IsCount (TermIn (posted content db.0) index register (string_bytes term)) t.records) }
+    ensures honest { HasCleanDisk (state S.Store conn.new) → IsStore (state S.Store conn.old) → result ≡ Err RegFault.Damaged
+        → (content : Content) → ¬ HoldsRows (state S.Store conn.old).now.trees content }
 {
     let list = postings_under(alloc, conn, db, index, register, term.as_str())?;
     let records = records_in(&list);
@@ -137,14 +139,12 @@ pub(crate) fn term_from<S: Alter>(
     register: Register,
     start: &str,
 ) -> Result<Option<String>, RegFault>
-    ensures idle { conn.old.in_transaction ≡ false → conn.new.in_transaction ≡ false }
-    ensures ok { HasCleanDisk (state S.Store conn.new) → OnOk result (IsUnchanged (state S.Store conn.old) (state S.Store conn.new)) }
-    ensures same { HasCleanDisk (state S.Store conn.new) → conn.old.in_transaction ≡ false → ChangesNothing (state S.Store conn.old) (state S.Store conn.new) }
+    ensures call { Reading (state S.Store conn.old) (state S.Store conn.new) result (λ _. IsUnchanged) }
     ensures value { HasCleanDisk (state S.Store conn.new) → IsStore (state S.Store conn.old)
-        → IfOk result (λ term. (content : Content) → HoldsRows (state S.Store conn.old).now.trees content → IsLeastTerm content db.0 index register start.now term) }
+        → IfOk result (λ term. (content : Content) → HoldsRows (state S.Store conn.old).now.trees content
+        → IsLeastTerm (TermIn (posted content db.0) index register) start.now term) }
     ensures honest { HasCleanDisk (state S.Store conn.new) → IsStore (state S.Store conn.old) → result ≡ Err RegFault.Damaged
-        → (content : Content) → HasTexts content → ¬ HoldsRows (state S.Store conn.old).now.trees content }
-    ensures crash { Survives (state S.Store conn.old) (state S.Store conn.new) (λ _. ⊥) }
+        → (content : Content) → IsStorable content → ¬ HoldsRows (state S.Store conn.old).now.trees content }
 {
     let rows = rows_from(conn, db.column(), index, code_of(register), start)?;
     term_of(&rows)
@@ -158,14 +158,12 @@ pub(crate) fn term_before<S: Alter>(
     register: Register,
     start: &str,
 ) -> Result<Option<String>, RegFault>
-    ensures idle { conn.old.in_transaction ≡ false → conn.new.in_transaction ≡ false }
-    ensures ok { HasCleanDisk (state S.Store conn.new) → OnOk result (IsUnchanged (state S.Store conn.old) (state S.Store conn.new)) }
-    ensures same { HasCleanDisk (state S.Store conn.new) → conn.old.in_transaction ≡ false → ChangesNothing (state S.Store conn.old) (state S.Store conn.new) }
+    ensures call { Reading (state S.Store conn.old) (state S.Store conn.new) result (λ _. IsUnchanged) }
     ensures value { HasCleanDisk (state S.Store conn.new) → IsStore (state S.Store conn.old)
-        → IfOk result (λ term. (content : Content) → HoldsRows (state S.Store conn.old).now.trees content → IsGreatestTerm content db.0 index register start.now term) }
+        → IfOk result (λ term. (content : Content) → HoldsRows (state S.Store conn.old).now.trees content
+        → IsGreatestTerm (TermIn (posted content db.0) index register) start.now term) }
     ensures honest { HasCleanDisk (state S.Store conn.new) → IsStore (state S.Store conn.old) → result ≡ Err RegFault.Damaged
-        → (content : Content) → HasTexts content → ¬ HoldsRows (state S.Store conn.old).now.trees content }
-    ensures crash { Survives (state S.Store conn.old) (state S.Store conn.new) (λ _. ⊥) }
+        → (content : Content) → IsStorable content → ¬ HoldsRows (state S.Store conn.old).now.trees content }
 {
     let rows = rows_before(conn, db.column(), index, code_of(register), start)?;
     term_of(&rows)

@@ -31,9 +31,11 @@ pub fn run_batch<W: Write>(
 ) -> Result<u8, AllocError>
     ensures sound { output.new.failed ≡ false → output.old.failed ≡ false }
     ensures answer { IfOk result (λ status. output.new.failed ≡ false →
-        AnswersOpened profile batch.entry.lines_before batch.entry.text.now (W.contents output.old.writer) (W.contents output.new.writer) status) }
+        AnswersOpened profile batch.entry.lines_before batch.entry.text.now (W.contents output.old.writer)
+        (W.contents output.new.writer) status) }
     ensures stopped { OnErr result (output.new.failed ≡ false →
-        AnswersStopped profile batch.entry.lines_before batch.entry.text.now (W.contents output.old.writer) (W.contents output.new.writer)) }
+        AnswersStopped profile batch.entry.lines_before batch.entry.text.now (W.contents output.old.writer)
+        (W.contents output.new.writer)) }
     ensures range { IfOk result (λ status. status ≤ FAILED) }
 {
     let Ok(connection) = Connection::open_in_memory(alloc) else {
@@ -52,10 +54,16 @@ fn run_lines<S: Alter, L: Layout, W: Write>(
     output: &mut Sink<W>,
 ) -> Result<u8, AllocError>
     ensures sound { output.new.failed ≡ false → output.old.failed ≡ false }
-    ensures answer { IfOk result (λ status. output.new.failed ≡ false → HasCleanDisk (state S.Store session.new.connection) → Leads (state S.Store session.old.connection) (state S.Store session.new.connection) (W.contents output.old.writer) (W.contents output.new.writer)
-        (λ before bytes last. AnswersBatch (conditions (version_of L.format) session.old.profile session.old.limits) batch.entry.lines_before batch.entry.text.now before bytes status last)) }
-    ensures stopped { OnErr result (output.new.failed ≡ false → HasCleanDisk (state S.Store session.new.connection) → Stops (state S.Store session.old.connection) (W.contents output.old.writer) (W.contents output.new.writer)
-        (AnswersPart (conditions (version_of L.format) session.old.profile session.old.limits) batch.entry.lines_before batch.entry.text.now)) }
+    ensures answer { IfOk result (λ status. output.new.failed ≡ false → HasCleanDisk (state S.Store session.new.connection)
+        → Leads (state S.Store session.old.connection) (state S.Store session.new.connection) (W.contents output.old.writer)
+        (W.contents output.new.writer)
+        (λ before bytes last. AnswersBatch (conditions
+        (version_of L.format) session.old.profile session.old.limits) batch.entry.lines_before batch.entry.text.now before bytes status
+        last)) }
+    ensures stopped { OnErr result (output.new.failed ≡ false → HasCleanDisk (state S.Store session.new.connection)
+        → Stops (state S.Store session.old.connection) (W.contents output.old.writer) (W.contents output.new.writer)
+        (AnswersPart (conditions
+        (version_of L.format) session.old.profile session.old.limits) batch.entry.lines_before batch.entry.text.now)) }
     ensures range { IfOk result (λ status. status ≤ FAILED) }
 {
     let mut rest = batch.text;
@@ -78,8 +86,11 @@ fn run_line<S: Alter, L: Layout, W: Write>(
     output: &mut Sink<W>,
 ) -> Result<u8, AllocError>
     ensures sound { output.new.failed ≡ false → output.old.failed ≡ false }
-    ensures answer { IfOk result (λ status. output.new.failed ≡ false → HasCleanDisk (state S.Store session.new.connection) → Leads (state S.Store session.old.connection) (state S.Store session.new.connection) (W.contents output.old.writer) (W.contents output.new.writer)
-        (λ before bytes later. AnswersLine (conditions (version_of L.format) session.old.profile session.old.limits) number line.now before bytes status later)) }
+    ensures answer { IfOk result (λ status. output.new.failed ≡ false → HasCleanDisk (state S.Store session.new.connection)
+        → Leads (state S.Store session.old.connection) (state S.Store session.new.connection) (W.contents output.old.writer)
+        (W.contents output.new.writer)
+        (λ before bytes later. AnswersLine (conditions
+        (version_of L.format) session.old.profile session.old.limits) number line.now before bytes status later)) }
     ensures stopped { OnErr result (output.new ≡ output.old) }
     ensures clean { HasCleanDisk (state S.Store session.new.connection) → HasCleanDisk (state S.Store session.old.connection) }
     ensures under { (session.new.profile ≡ session.old.profile) × (session.new.limits ≡ session.old.limits) }
@@ -102,8 +113,11 @@ fn run_command<S: Alter, L: Layout, W: Write>(
     output: &mut Sink<W>,
 ) -> Result<u8, AllocError>
     ensures sound { output.new.failed ≡ false → output.old.failed ≡ false }
-    ensures answer { IfOk result (λ status. output.new.failed ≡ false → HasCleanDisk (state S.Store session.new.connection) → Leads (state S.Store session.old.connection) (state S.Store session.new.connection) (W.contents output.old.writer) (W.contents output.new.writer)
-        (λ before bytes later. IsAnswer (conditions (version_of L.format) session.old.profile session.old.limits) command.now before bytes status later)) }
+    ensures answer { IfOk result (λ status. output.new.failed ≡ false → HasCleanDisk (state S.Store session.new.connection)
+        → Leads (state S.Store session.old.connection) (state S.Store session.new.connection) (W.contents output.old.writer)
+        (W.contents output.new.writer)
+        (λ before bytes later. IsAnswer (conditions
+        (version_of L.format) session.old.profile session.old.limits) command.now before bytes status later)) }
     ensures stopped { OnErr result (output.new ≡ output.old) }
     ensures clean { HasCleanDisk (state S.Store session.new.connection) → HasCleanDisk (state S.Store session.old.connection) }
     ensures under { (session.new.profile ≡ session.old.profile) × (session.new.limits ≡ session.old.limits) }
@@ -126,7 +140,8 @@ fn refuse<W: Write>(
 ) -> Result<u8, AllocError>
     ensures sound { output.new.failed ≡ false → output.old.failed ≡ false }
     ensures answer { IfOk result (λ status. output.new.failed ≡ false →
-        Writes (W.contents output.old.writer) (W.contents output.new.writer) (λ bytes. (bytes ≡ refusal_text refusal.now ++ 10 ∷ []) × (status ≡ status_of refusal.now))) }
+        Writes (W.contents output.old.writer) (W.contents output.new.writer) (λ bytes. (bytes ≡ refusal_text refusal.now ++ 10 ∷ [])
+        × (status ≡ status_of refusal.now))) }
     ensures stopped { OnErr result (output.new ≡ output.old) }
     ensures range { IfOk result (λ status. status ≤ FAILED) }
 {

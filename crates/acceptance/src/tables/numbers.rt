@@ -46,7 +46,7 @@ pub const GREATEST: Script = &[&[
     (Step::Rows(POSTINGS), ""),
 ]];
 
-/// A number that no column stores is refused: the database's last number, the record's, the unit's or the word's.
+/// A number that no column stores is refused: as the database's last number, the record's to be put or taken, the unit's or the word's.
 pub const TOO_GREAT: Script = &[&[
     (Step::Commit(Call::Tables), ""),
     (Step::Commit(Call::Database("Default", 1)), ""),
@@ -63,7 +63,8 @@ pub const TOO_GREAT: Script = &[&[
         Step::Commit(Call::Places(UNDER, 1, &[], &[(1, 1), (1, OVER)])),
         "Store",
     ),
-    (Step::Read(Read::Ident(OVER)), "Store"),
+    // No record has such a number.
+    (Step::Read(Read::Ident(OVER)), "none"),
     (Step::Rows(POSTINGS), ""),
     (
         Step::Rows("SELECT name, last FROM databases"),

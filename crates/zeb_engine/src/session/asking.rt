@@ -5,11 +5,10 @@ ghost use Rattle.sqlite.specs.Held.{state};
 ghost use Rattle.sqlite.specs.State.{HasCleanDisk, Survives};
 ghost use Rattle.zeb_register.specs.Calls.{ChangesNothing};
 ghost use Rattle.zeb_register.specs.Formats.{version_of};
+ghost use Rattle.zeb_engine.specs.Alone.{Alone, FindSays, ScanSays};
 ghost use Rattle.zeb_engine.specs.Conditions.{conditions};
-ghost use Rattle.zeb_engine.specs.Found.{LooksUp};
 ghost use Rattle.zeb_engine.specs.NameOf.{name_bytes};
 ghost use Rattle.zeb_engine.specs.Reading.{NoReadFault};
-ghost use Rattle.zeb_engine.specs.Scanned.{Scans};
 ghost use Rattle.zeb_engine.specs.Transactions.{Commanded};
 ghost use Rattle.zeb_engine.specs.Steps.{waited};
 ghost use Rattle.zeb_engine.specs.Works.{Always, Finds, ScansFrom, Serves};
@@ -42,9 +41,8 @@ impl<S: Alter, L: Layout> Session<S, L> {
             (state S.Store self.old.connection) (state S.Store self.new.connection) result }
         ensures unread { NoReadFault result }
         ensures alone { HasCleanDisk (state S.Store self.new.connection)
-            → LooksUp L.format self.old.profile
-            (name_bytes database.now) question.entry.query.now question.entry.first question.entry.count
-            (state S.Store self.old.connection) result }
+            → Alone L.format (FindSays self.old.profile question.entry.query.now question.entry.first question.entry.count)
+            (name_bytes database.now) (state S.Store self.old.connection) result }
     {
         check_ready::<S, L>(&mut self.connection, &self.profile)?;
         find::<S, L>(
@@ -70,8 +68,8 @@ impl<S: Alter, L: Layout> Session<S, L> {
             (state S.Store self.new.connection) result }
         ensures unread { NoReadFault result }
         ensures alone { HasCleanDisk (state S.Store self.new.connection)
-            → Scans L.format self.old.profile (name_bytes database.now) around.entry.query.now around.entry.number around.entry.position
-            (state S.Store self.old.connection) result }
+            → Alone L.format (ScanSays self.old.profile around.entry.query.now around.entry.number around.entry.position)
+            (name_bytes database.now) (state S.Store self.old.connection) result }
     {
         check_ready::<S, L>(&mut self.connection, &self.profile)?;
         scan::<S, L>(

@@ -1,30 +1,25 @@
 //! Statements on the tables `blocks` and `dict`, which hold packed registers.
 
-ghost use Rattle.std.specs.Prelude.{◌≡◌, IsTrue, OnOk, OnErr};
+ghost use Rattle.std.specs.Prelude.{◌≡◌};
 ghost use Rattle.sqlite.specs.Held.{state};
-ghost use Rattle.sqlite.specs.State.{HasCleanDisk, KeepsCommit, Survives};
 ghost use Rattle.zeb_register.specs.Sql.{Loses};
 ghost use Rattle.zeb_register.specs.Store.{blocks_tree, dict_tree, IsPostingIn};
-ghost use Rattle.zeb_register.specs.Calls.{Alters};
+ghost use Rattle.zeb_register.specs.Calls.{Alters, Inside};
 
 use sqlite::{Alter, Error, Transaction, params};
 
 pub(crate) fn blocks_clear<S: Alter>(tx: &mut Transaction<'_, S>, db: i64) -> Result<usize, Error>
     ensures same { tx.new.conn.ghost_name ≡ tx.old.conn.ghost_name }
-    ensures ok { HasCleanDisk (state S.Store tx.new.conn.now) → IsTrue (state S.Store tx.old.conn.now).in_transaction
-        → OnOk result (Alters blocks_tree (Loses (IsPostingIn db)) (state S.Store tx.old.conn.now) (state S.Store tx.new.conn.now)) }
-    ensures err { HasCleanDisk (state S.Store tx.new.conn.now) → IsTrue (state S.Store tx.old.conn.now).in_transaction → OnErr result (KeepsCommit (state S.Store tx.old.conn.now) (state S.Store tx.new.conn.now)) }
-    ensures crash { Survives (state S.Store tx.old.conn.now) (state S.Store tx.new.conn.now) (λ _. ⊥) }
+    ensures call { Inside (state S.Store tx.old.conn.now) (state S.Store tx.new.conn.now) result
+        (λ _. Alters blocks_tree (Loses (IsPostingIn db))) }
 {
     tx.execute("DELETE FROM blocks WHERE db = ?1", params![db])
 }
 
 pub(crate) fn dict_clear<S: Alter>(tx: &mut Transaction<'_, S>, db: i64) -> Result<usize, Error>
     ensures same { tx.new.conn.ghost_name ≡ tx.old.conn.ghost_name }
-    ensures ok { HasCleanDisk (state S.Store tx.new.conn.now) → IsTrue (state S.Store tx.old.conn.now).in_transaction
-        → OnOk result (Alters dict_tree (Loses (IsPostingIn db)) (state S.Store tx.old.conn.now) (state S.Store tx.new.conn.now)) }
-    ensures err { HasCleanDisk (state S.Store tx.new.conn.now) → IsTrue (state S.Store tx.old.conn.now).in_transaction → OnErr result (KeepsCommit (state S.Store tx.old.conn.now) (state S.Store tx.new.conn.now)) }
-    ensures crash { Survives (state S.Store tx.old.conn.now) (state S.Store tx.new.conn.now) (λ _. ⊥) }
+    ensures call { Inside (state S.Store tx.old.conn.now) (state S.Store tx.new.conn.now) result
+        (λ _. Alters dict_tree (Loses (IsPostingIn db))) }
 {
     tx.execute("DELETE FROM dict WHERE db = ?1", params![db])
 }

@@ -1,24 +1,26 @@
 //! Statements on the table `postings`: a row for each posting.
 
-ghost use Rattle.std.specs.Prelude.{◌≡◌, true, false, [], ◌∷◌, pos, IsTrue, OnOk, OnErr, IfOk};
+ghost use Rattle.std.specs.Prelude.{◌≡◌, true, false, [], ◌∷◌, pos, IfErr};
 ghost use Rattle.std.specs.Ordering.{is_lt, nat_cmp};
 ghost use Rattle.std.specs.Cmp.Lexicographic.{slice_cmp};
 ghost use Rattle.sqlite.specs.Held.{state};
-ghost use Rattle.sqlite.specs.State.{HasCleanDisk, IsUnchanged, KeepsCommit, Survives};
+ghost use Rattle.sqlite.specs.State.{HasCleanDisk, IsUnchanged};
 ghost use Rattle.sqlite.specs.declared.types.Value.TheVariants.{Int};
-ghost use Rattle.zeb_register.specs.Sql.{Loses, Gains};
-ghost use Rattle.zeb_register.specs.Store.{postings_tree, posting, key_of, place_key, IsPlaceOf, IsPostingIn, IsRest};
-ghost use Rattle.zeb_register.specs.Calls.{ChangesNothing, Alters, Lists, ListsInside};
-ghost use Rattle.zeb_register.specs.Terms.{HasTerm, ShowsLeast, ShowsGreatest, Reads};
+ghost use Rattle.zeb_register.specs.Sql.{Loses};
+ghost use Rattle.zeb_register.specs.RowStatements.{Gains, posting, place_key, IsPlaceOf, Lists, ListsInside};
+ghost use Rattle.zeb_register.specs.Store.{IsStore, postings_tree, key_of, IsPostingIn, IsRest};
+ghost use Rattle.zeb_register.specs.Calls.{Alters, Inside, Reading, MayRefuse};
+ghost use Rattle.zeb_register.specs.Faults.{fault_of};
+ghost use Rattle.zeb_register.specs.RowTerms.{HasTerm, ShowsLeast, ShowsGreatest, Reads};
 
+use crate::RegFault;
 use sqlite::{Alter, Connection, Error, Row, Transaction, params};
 
 /// Reads nothing. It is refused where the connection is closed.
 pub(crate) fn nothing_of<S: Alter>(conn: &mut Connection<S>) -> Result<(), Error>
-    ensures idle { conn.old.in_transaction ≡ false → conn.new.in_transaction ≡ false }
-    ensures ok { HasCleanDisk (state S.Store conn.new) → OnOk result (IsUnchanged (state S.Store conn.old) (state S.Store conn.new)) }
-    ensures same { HasCleanDisk (state S.Store conn.new) → conn.old.in_transaction ≡ false → ChangesNothing (state S.Store conn.old) (state S.Store conn.new) }
-    ensures crash { Survives (state S.Store conn.old) (state S.Store conn.new) (λ _. ⊥) }
+    ensures call { Reading (state S.Store conn.old) (state S.Store conn.new) result (λ _. IsUnchanged) }
+    ensures err { HasCleanDisk (state S.Store conn.new) → IsStore (state S.Store conn.old)
+        → IfErr result (λ e. fault_of e ≡ RegFault.Store → MayRefuse (state S.Store conn.old) (state S.Store conn.new)) }
 {
     // What is seen outside a transaction is what was committed.
     let _idle = conn.is_autocommit();
@@ -33,10 +35,8 @@ pub(crate) fn posting_rows<S: Alter>(
     reg: i64,
     term: &str,
 ) -> Result<Vec<Row>, Error>
-    ensures idle { conn.old.in_transaction ≡ false → conn.new.in_transaction ≡ false }
-    ensures ok { HasCleanDisk (state S.Store conn.new) → IfOk result (λ rows. Lists (IsRest postings_tree (key_of db (pos idx) reg term.now)) (state S.Store conn.old) (state S.Store conn.new) rows.items) }
-    ensures same { HasCleanDisk (state S.Store conn.new) → conn.old.in_transaction ≡ false → ChangesNothing (state S.Store conn.old) (state S.Store conn.new) }
-    ensures crash { Survives (state S.Store conn.old) (state S.Store conn.new) (λ _. ⊥) }
+    ensures call { Reading (state S.Store conn.old) (state S.Store conn.new) result
+        (λ rows a b. Lists (IsRest postings_tree (key_of db (pos idx) reg term.now)) a b rows.items) }
 {
     // What is seen outside a transaction is what was committed.
     let _idle = conn.is_autocommit();
@@ -55,10 +55,8 @@ pub(crate) fn place_rows<S: Alter>(
     sysno: i64,
 ) -> Result<Vec<Row>, Error>
     ensures same { tx.new.conn.ghost_name ≡ tx.old.conn.ghost_name }
-    ensures ok { HasCleanDisk (state S.Store tx.new.conn.now) → IsTrue (state S.Store tx.old.conn.now).in_transaction
-        → IfOk result (λ rows. ListsInside (IsRest postings_tree (place_key db (pos idx) reg term.now sysno)) (state S.Store tx.old.conn.now) (state S.Store tx.new.conn.now) rows.items) }
-    ensures err { HasCleanDisk (state S.Store tx.new.conn.now) → IsTrue (state S.Store tx.old.conn.now).in_transaction → OnErr result (KeepsCommit (state S.Store tx.old.conn.now) (state S.Store tx.new.conn.now)) }
-    ensures crash { Survives (state S.Store tx.old.conn.now) (state S.Store tx.new.conn.now) (λ _. ⊥) }
+    ensures call { Inside (state S.Store tx.old.conn.now) (state S.Store tx.new.conn.now) result
+        (λ rows a b. ListsInside (IsRest postings_tree (place_key db (pos idx) reg term.now sysno)) a b rows.items) }
 {
     tx.query_all(
         "SELECT seq, pos FROM postings WHERE db = ?1 AND idx = ?2 AND reg = ?3 AND term = ?4 AND sysno = ?5 ORDER BY seq, pos",
@@ -72,10 +70,8 @@ pub(crate) fn register_rows<S: Alter>(
     idx: u32,
     reg: i64,
 ) -> Result<Vec<Row>, Error>
-    ensures idle { conn.old.in_transaction ≡ false → conn.new.in_transaction ≡ false }
-    ensures ok { HasCleanDisk (state S.Store conn.new) → IfOk result (λ rows. Lists (IsRest postings_tree (Int db ∷ Int (pos idx) ∷ Int reg ∷ [])) (state S.Store conn.old) (state S.Store conn.new) rows.items) }
-    ensures same { HasCleanDisk (state S.Store conn.new) → conn.old.in_transaction ≡ false → ChangesNothing (state S.Store conn.old) (state S.Store conn.new) }
-    ensures crash { Survives (state S.Store conn.old) (state S.Store conn.new) (λ _. ⊥) }
+    ensures call { Reading (state S.Store conn.old) (state S.Store conn.new) result
+        (λ rows a b. Lists (IsRest postings_tree (Int db ∷ Int (pos idx) ∷ Int reg ∷ [])) a b rows.items) }
 {
     // What is seen outside a transaction is what was committed.
     let _idle = conn.is_autocommit();
@@ -94,10 +90,8 @@ pub(crate) fn places_lift<S: Alter>(
     sysno: i64,
 ) -> Result<usize, Error>
     ensures same { tx.new.conn.ghost_name ≡ tx.old.conn.ghost_name }
-    ensures ok { HasCleanDisk (state S.Store tx.new.conn.now) → IsTrue (state S.Store tx.old.conn.now).in_transaction
-        → OnOk result (Alters postings_tree (Loses (IsPlaceOf db (pos idx) reg term.now sysno)) (state S.Store tx.old.conn.now) (state S.Store tx.new.conn.now)) }
-    ensures err { HasCleanDisk (state S.Store tx.new.conn.now) → IsTrue (state S.Store tx.old.conn.now).in_transaction → OnErr result (KeepsCommit (state S.Store tx.old.conn.now) (state S.Store tx.new.conn.now)) }
-    ensures crash { Survives (state S.Store tx.old.conn.now) (state S.Store tx.new.conn.now) (λ _. ⊥) }
+    ensures call { Inside (state S.Store tx.old.conn.now) (state S.Store tx.new.conn.now) result
+        (λ _. Alters postings_tree (Loses (IsPlaceOf db (pos idx) reg term.now sysno))) }
 {
     tx.execute(
         "DELETE FROM postings WHERE db = ?1 AND idx = ?2 AND reg = ?3 AND term = ?4 AND sysno = ?5",
@@ -116,10 +110,8 @@ pub(crate) fn posting_put<S: Alter>(
     place: i64,
 ) -> Result<usize, Error>
     ensures same { tx.new.conn.ghost_name ≡ tx.old.conn.ghost_name }
-    ensures ok { HasCleanDisk (state S.Store tx.new.conn.now) → IsTrue (state S.Store tx.old.conn.now).in_transaction
-        → OnOk result (Alters postings_tree (Gains (posting db (pos idx) reg term.now sysno seq place)) (state S.Store tx.old.conn.now) (state S.Store tx.new.conn.now)) }
-    ensures err { HasCleanDisk (state S.Store tx.new.conn.now) → IsTrue (state S.Store tx.old.conn.now).in_transaction → OnErr result (KeepsCommit (state S.Store tx.old.conn.now) (state S.Store tx.new.conn.now)) }
-    ensures crash { Survives (state S.Store tx.old.conn.now) (state S.Store tx.new.conn.now) (λ _. ⊥) }
+    ensures call { Inside (state S.Store tx.old.conn.now) (state S.Store tx.new.conn.now) result
+        (λ _. Alters postings_tree (Gains (posting db (pos idx) reg term.now sysno seq place))) }
 {
     tx.execute(
         "INSERT INTO postings VALUES (?1, ?2, ?3, ?4, ?5, ?6, ?7)",
@@ -129,10 +121,8 @@ pub(crate) fn posting_put<S: Alter>(
 
 pub(crate) fn postings_clear<S: Alter>(tx: &mut Transaction<'_, S>, db: i64) -> Result<usize, Error>
     ensures same { tx.new.conn.ghost_name ≡ tx.old.conn.ghost_name }
-    ensures ok { HasCleanDisk (state S.Store tx.new.conn.now) → IsTrue (state S.Store tx.old.conn.now).in_transaction
-        → OnOk result (Alters postings_tree (Loses (IsPostingIn db)) (state S.Store tx.old.conn.now) (state S.Store tx.new.conn.now)) }
-    ensures err { HasCleanDisk (state S.Store tx.new.conn.now) → IsTrue (state S.Store tx.old.conn.now).in_transaction → OnErr result (KeepsCommit (state S.Store tx.old.conn.now) (state S.Store tx.new.conn.now)) }
-    ensures crash { Survives (state S.Store tx.old.conn.now) (state S.Store tx.new.conn.now) (λ _. ⊥) }
+    ensures call { Inside (state S.Store tx.old.conn.now) (state S.Store tx.new.conn.now) result
+        (λ _. Alters postings_tree (Loses (IsPostingIn db))) }
 {
     tx.execute("DELETE FROM postings WHERE db = ?1", params![db])
 }
@@ -145,10 +135,9 @@ pub(crate) fn rows_from<S: Alter>(
     reg: i64,
     start: &str,
 ) -> Result<Vec<Row>, Error>
-    ensures idle { conn.old.in_transaction ≡ false → conn.new.in_transaction ≡ false }
-    ensures ok { HasCleanDisk (state S.Store conn.new) → IfOk result (λ rows. Reads (λ trees. ShowsLeast (λ term. HasTerm trees db (pos idx) reg term × (is_lt (slice_cmp nat_cmp term start.now) ≡ false))) (state S.Store conn.old) (state S.Store conn.new) rows.items) }
-    ensures same { HasCleanDisk (state S.Store conn.new) → conn.old.in_transaction ≡ false → ChangesNothing (state S.Store conn.old) (state S.Store conn.new) }
-    ensures crash { Survives (state S.Store conn.old) (state S.Store conn.new) (λ _. ⊥) }
+    ensures call { Reading (state S.Store conn.old) (state S.Store conn.new) result
+        (λ rows a b. Reads (λ trees. ShowsLeast (λ term. HasTerm trees db (pos idx) reg term
+        × (is_lt (slice_cmp nat_cmp term start.now) ≡ false))) a b rows.items) }
 {
     // What is seen outside a transaction is what was committed.
     let _idle = conn.is_autocommit();
@@ -166,10 +155,9 @@ pub(crate) fn rows_before<S: Alter>(
     reg: i64,
     start: &str,
 ) -> Result<Vec<Row>, Error>
-    ensures idle { conn.old.in_transaction ≡ false → conn.new.in_transaction ≡ false }
-    ensures ok { HasCleanDisk (state S.Store conn.new) → IfOk result (λ rows. Reads (λ trees. ShowsGreatest (λ term. HasTerm trees db (pos idx) reg term × (is_lt (slice_cmp nat_cmp term start.now) ≡ true))) (state S.Store conn.old) (state S.Store conn.new) rows.items) }
-    ensures same { HasCleanDisk (state S.Store conn.new) → conn.old.in_transaction ≡ false → ChangesNothing (state S.Store conn.old) (state S.Store conn.new) }
-    ensures crash { Survives (state S.Store conn.old) (state S.Store conn.new) (λ _. ⊥) }
+    ensures call { Reading (state S.Store conn.old) (state S.Store conn.new) result
+        (λ rows a b. Reads (λ trees. ShowsGreatest (λ term. HasTerm trees db (pos idx) reg term
+        × (is_lt (slice_cmp nat_cmp term start.now) ≡ true))) a b rows.items) }
 {
     // What is seen outside a transaction is what was committed.
     let _idle = conn.is_autocommit();

@@ -1,13 +1,14 @@
 //! Statements on the table `records`.
 
-ghost use Rattle.std.specs.Prelude.{◌≡◌, false, [], ◌∷◌, IsTrue, OnOk, OnErr, IfOk, IfErr};
+ghost use Rattle.std.specs.Prelude.{◌≡◌, [], ◌∷◌, IfErr};
 ghost use Rattle.sqlite.specs.Held.{state};
-ghost use Rattle.sqlite.specs.State.{HasCleanDisk, KeepsCommit, Survives};
+ghost use Rattle.sqlite.specs.State.{HasCleanDisk};
 ghost use Rattle.sqlite.specs.declared.types.Value.TheVariants.{Int};
 ghost use Rattle.zeb_register.specs.Sql.{Loses, Replaces};
-ghost use Rattle.zeb_register.specs.Store.{IsStore, records_tree, record_row, HasNumber, SharesRecord, IsRecordIn, IsElderRow, IsIdentRow, IsRest};
+ghost use Rattle.zeb_register.specs.Store.{IsStore, records_tree, record_row, HasNumber, SharesRecord, IsRecordIn, IsRest};
+ghost use Rattle.zeb_register.specs.RowStatements.{IsElderRow, IsIdentRow, Lists, ListsInside};
 ghost use Rattle.zeb_register.specs.Faults.{fault_of};
-ghost use Rattle.zeb_register.specs.Calls.{ChangesNothing, Alters, Lists, ListsInside, MayRefuse};
+ghost use Rattle.zeb_register.specs.Calls.{Alters, Inside, Reading, MayRefuse};
 
 use crate::RegFault;
 use sqlite::{Alter, Connection, Error, Row, Transaction, params};
@@ -20,10 +21,8 @@ pub(crate) fn record_keep<S: Alter>(
     bytes: &[u8],
 ) -> Result<usize, Error>
     ensures same { tx.new.conn.ghost_name ≡ tx.old.conn.ghost_name }
-    ensures ok { HasCleanDisk (state S.Store tx.new.conn.now) → IsTrue (state S.Store tx.old.conn.now).in_transaction
-        → OnOk result (Alters records_tree (Replaces (SharesRecord db sysno ident.now) (record_row db sysno ident.now bytes.now)) (state S.Store tx.old.conn.now) (state S.Store tx.new.conn.now)) }
-    ensures err { HasCleanDisk (state S.Store tx.new.conn.now) → IsTrue (state S.Store tx.old.conn.now).in_transaction → OnErr result (KeepsCommit (state S.Store tx.old.conn.now) (state S.Store tx.new.conn.now)) }
-    ensures crash { Survives (state S.Store tx.old.conn.now) (state S.Store tx.new.conn.now) (λ _. ⊥) }
+    ensures call { Inside (state S.Store tx.old.conn.now) (state S.Store tx.new.conn.now) result
+        (λ _. Alters records_tree (Replaces (SharesRecord db sysno ident.now) (record_row db sysno ident.now bytes.now))) }
 {
     tx.execute(
         "INSERT OR REPLACE INTO records VALUES (?1, ?2, ?3, ?4)",
@@ -37,10 +36,8 @@ pub(crate) fn record_remove<S: Alter>(
     sysno: i64,
 ) -> Result<usize, Error>
     ensures same { tx.new.conn.ghost_name ≡ tx.old.conn.ghost_name }
-    ensures ok { HasCleanDisk (state S.Store tx.new.conn.now) → IsTrue (state S.Store tx.old.conn.now).in_transaction
-        → OnOk result (Alters records_tree (Loses (HasNumber db sysno)) (state S.Store tx.old.conn.now) (state S.Store tx.new.conn.now)) }
-    ensures err { HasCleanDisk (state S.Store tx.new.conn.now) → IsTrue (state S.Store tx.old.conn.now).in_transaction → OnErr result (KeepsCommit (state S.Store tx.old.conn.now) (state S.Store tx.new.conn.now)) }
-    ensures crash { Survives (state S.Store tx.old.conn.now) (state S.Store tx.new.conn.now) (λ _. ⊥) }
+    ensures call { Inside (state S.Store tx.old.conn.now) (state S.Store tx.new.conn.now) result
+        (λ _. Alters records_tree (Loses (HasNumber db sysno))) }
 {
     tx.execute(
         "DELETE FROM records WHERE db = ?1 AND sysno = ?2",
@@ -50,10 +47,8 @@ pub(crate) fn record_remove<S: Alter>(
 
 pub(crate) fn records_clear<S: Alter>(tx: &mut Transaction<'_, S>, db: i64) -> Result<usize, Error>
     ensures same { tx.new.conn.ghost_name ≡ tx.old.conn.ghost_name }
-    ensures ok { HasCleanDisk (state S.Store tx.new.conn.now) → IsTrue (state S.Store tx.old.conn.now).in_transaction
-        → OnOk result (Alters records_tree (Loses (IsRecordIn db)) (state S.Store tx.old.conn.now) (state S.Store tx.new.conn.now)) }
-    ensures err { HasCleanDisk (state S.Store tx.new.conn.now) → IsTrue (state S.Store tx.old.conn.now).in_transaction → OnErr result (KeepsCommit (state S.Store tx.old.conn.now) (state S.Store tx.new.conn.now)) }
-    ensures crash { Survives (state S.Store tx.old.conn.now) (state S.Store tx.new.conn.now) (λ _. ⊥) }
+    ensures call { Inside (state S.Store tx.old.conn.now) (state S.Store tx.new.conn.now) result
+        (λ _. Alters records_tree (Loses (IsRecordIn db))) }
 {
     tx.execute("DELETE FROM records WHERE db = ?1", params![db])
 }
@@ -64,10 +59,8 @@ pub(crate) fn elder_rows<S: Alter>(
     ident: &str,
 ) -> Result<Vec<Row>, Error>
     ensures same { tx.new.conn.ghost_name ≡ tx.old.conn.ghost_name }
-    ensures ok { HasCleanDisk (state S.Store tx.new.conn.now) → IsTrue (state S.Store tx.old.conn.now).in_transaction
-        → IfOk result (λ rows. ListsInside (IsElderRow db ident.now) (state S.Store tx.old.conn.now) (state S.Store tx.new.conn.now) rows.items) }
-    ensures err { HasCleanDisk (state S.Store tx.new.conn.now) → IsTrue (state S.Store tx.old.conn.now).in_transaction → OnErr result (KeepsCommit (state S.Store tx.old.conn.now) (state S.Store tx.new.conn.now)) }
-    ensures crash { Survives (state S.Store tx.old.conn.now) (state S.Store tx.new.conn.now) (λ _. ⊥) }
+    ensures call { Inside (state S.Store tx.old.conn.now) (state S.Store tx.new.conn.now) result
+        (λ rows a b. ListsInside (IsElderRow db ident.now) a b rows.items) }
 {
     tx.query_all(
         "SELECT sysno, bytes FROM records WHERE db = ?1 AND ident = ?2",
@@ -80,11 +73,10 @@ pub(crate) fn ident_rows<S: Alter>(
     db: i64,
     sysno: i64,
 ) -> Result<Vec<Row>, Error>
-    ensures idle { conn.old.in_transaction ≡ false → conn.new.in_transaction ≡ false }
-    ensures ok { HasCleanDisk (state S.Store conn.new) → IfOk result (λ rows. Lists (IsIdentRow db sysno) (state S.Store conn.old) (state S.Store conn.new) rows.items) }
-    ensures err { HasCleanDisk (state S.Store conn.new) → IsStore (state S.Store conn.old) → IfErr result (λ e. fault_of e ≡ RegFault.Store → MayRefuse (state S.Store conn.old) (state S.Store conn.new)) }
-    ensures same { HasCleanDisk (state S.Store conn.new) → conn.old.in_transaction ≡ false → ChangesNothing (state S.Store conn.old) (state S.Store conn.new) }
-    ensures crash { Survives (state S.Store conn.old) (state S.Store conn.new) (λ _. ⊥) }
+    ensures call { Reading (state S.Store conn.old) (state S.Store conn.new) result
+        (λ rows a b. Lists (IsIdentRow db sysno) a b rows.items) }
+    ensures err { HasCleanDisk (state S.Store conn.new) → IsStore (state S.Store conn.old)
+        → IfErr result (λ e. fault_of e ≡ RegFault.Store → MayRefuse (state S.Store conn.old) (state S.Store conn.new)) }
 {
     // What is seen outside a transaction is what was committed.
     let _idle = conn.is_autocommit();
@@ -95,11 +87,10 @@ pub(crate) fn ident_rows<S: Alter>(
 }
 
 pub(crate) fn record_rows<S: Alter>(conn: &mut Connection<S>, db: i64) -> Result<Vec<Row>, Error>
-    ensures idle { conn.old.in_transaction ≡ false → conn.new.in_transaction ≡ false }
-    ensures ok { HasCleanDisk (state S.Store conn.new) → IfOk result (λ rows. Lists (IsRest records_tree (Int db ∷ [])) (state S.Store conn.old) (state S.Store conn.new) rows.items) }
-    ensures err { HasCleanDisk (state S.Store conn.new) → IsStore (state S.Store conn.old) → IfErr result (λ e. fault_of e ≡ RegFault.Store → MayRefuse (state S.Store conn.old) (state S.Store conn.new)) }
-    ensures same { HasCleanDisk (state S.Store conn.new) → conn.old.in_transaction ≡ false → ChangesNothing (state S.Store conn.old) (state S.Store conn.new) }
-    ensures crash { Survives (state S.Store conn.old) (state S.Store conn.new) (λ _. ⊥) }
+    ensures call { Reading (state S.Store conn.old) (state S.Store conn.new) result
+        (λ rows a b. Lists (IsRest records_tree (Int db ∷ [])) a b rows.items) }
+    ensures err { HasCleanDisk (state S.Store conn.new) → IsStore (state S.Store conn.old)
+        → IfErr result (λ e. fault_of e ≡ RegFault.Store → MayRefuse (state S.Store conn.old) (state S.Store conn.new)) }
 {
     // What is seen outside a transaction is what was committed.
     let _idle = conn.is_autocommit();

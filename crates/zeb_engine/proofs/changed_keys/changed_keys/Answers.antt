@@ -3,8 +3,8 @@ use Rattle.zeb_engine.proofs.KeyChanges.{nothing_cut, all_cut, cut_run, noted_ru
 use Rattle.sqlite_rules.specs.Lists.{Has}
 use Rattle.zeb_extract.specs.declared.keys.Occurrence.{Occurrence}
 use Rattle.zeb_extract.specs.Order.{IsRising}
-use Rattle.zeb_engine.specs.KeyRuns.{AreOf, Stops}
-use Rattle.zeb_engine.specs.ChangedKeys.{IsNoted, place_in}
+use Rattle.zeb_engine.specs.PrivateKeyRuns.{AreOfKey, Stops}
+use Rattle.zeb_engine.specs.PrivateChangedKeys.{IsNoted, place_in}
 use Rattle.zeb_engine.proofs.changed_keys.changed_keys.Goals as goal
 
 pub loop-key-init : goal.loop-key-init
@@ -24,8 +24,8 @@ loop-key-preserved c =
     let rest_newer = c.split_at-in-Some.result.1.now in
     let cut_elder : elder ≡ run_elder ++ rest_elder = search rules in
     let cut_newer : newer ≡ run_newer ++ rest_newer = search rules in
-    let of_elder : AreOf key run_elder = rw c.split_at.ensures.front c.run_length.ensures.run in
-    let of_newer : AreOf key run_newer = rw c.split_at-in-Some.ensures.front c.run_length-in-Some.ensures.run in
+    let of_elder : AreOfKey key run_elder = rw c.split_at.ensures.front c.run_length.ensures.run in
+    let of_newer : AreOfKey key run_newer = rw c.split_at-in-Some.ensures.front c.run_length-in-Some.ensures.run in
     let stops_elder : Stops key rest_elder = rw c.split_at.ensures.back c.run_length.ensures.stops in
     let stops_newer : Stops key rest_newer = rw c.split_at-in-Some.ensures.back c.run_length-in-Some.ensures.stops in
     let low = c.in-Some.ensures.lesser in

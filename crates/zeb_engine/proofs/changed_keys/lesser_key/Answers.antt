@@ -2,7 +2,7 @@ use Rattle.std.proofs.Common.{◌≡◌, Less, Greater, inl, inr, sym, ◌∙◌
 use Rattle.std.specs.Ordering.{ordering_reverse}
 use Rattle.zeb_extract.specs.Order.{key_order}
 use Rattle.zeb_extract.proofs.Rising.{key_total, keys_apart}
-use Rattle.zeb_engine.specs.KeyRuns.{BeginsWith}
+use Rattle.zeb_engine.specs.PrivateKeyRuns.{BeginsWithKey}
 use Rattle.zeb_engine.proofs.KeyChanges.{at_least_itself, first_is}
 use Rattle.zeb_engine.proofs.changed_keys.lesser_key.Goals as goal
 
@@ -24,7 +24,7 @@ returns-in-Less c =
     let old = first_is c.args.old.now c.in-Some-Some.elder.now (search rules) in
     let new = first_is c.args.new.now c.in-Some-Some.newer.now (search rules) in
     record {
-      found = inl (subst (BeginsWith elder) (sym old.1) refl);
+      found = inl (subst (BeginsWithKey elder) (sym old.1) refl);
       lesser = (
         at_least_itself elder c.args.old.now c.in-Some-Some.elder.now old.0 old.1 (inr refl),
         at_least_itself elder c.args.new.now c.in-Some-Some.newer.now new.0 new.1 (elim c.in-Less.is [

@@ -6,7 +6,7 @@ use Rattle.zeb_register.specs.Store.{Changes, databases_tree}
 use Rattle.zeb_engine.specs.declared.refusals.Refusal.{Refusal}
 use Rattle.zeb_engine.specs.declared.refusals.Refusal.TheVariants.{ReadFault}
 use Rattle.zeb_engine.specs.declared.replies.Reply.TheVariants as reply
-use Rattle.zeb_engine.specs.Changing.{BeginsWith, last_of}
+use Rattle.zeb_engine.specs.PrivateChanging.{BeginsWith, last_of}
 use Rattle.zeb_engine.specs.Conditions.{AreSessions}
 use Rattle.zeb_engine.specs.Folding.{at_first, Progress}
 use Rattle.zeb_engine.specs.NameOf.{name_bytes}
@@ -38,7 +38,7 @@ returns-in_err-fold_files-clause-works g c = λ clean inside opened texts told f
     let fits = BeginsWith kind name change.found conditions in
     let result : c.from_residual-in_err-fold_files.result ≡ Err refusal = search rules in
     let first : HasCleanDisk mid = omega (arith, c.fold_files.ensures.crash.clean) in
-    let on = c.in_ok-database.ensures.ok first inside in
+    let on = c.in_ok-database.ensures.call.ok first inside in
     let kept : KeepsCommit old new = kept_then old mid new (goes_on old mid on) (c.in_err-fold_files.ensures.stays clean on.mode) in
     subst (Works fits outcome old new) (sym result) (
       kept,
@@ -68,11 +68,11 @@ returns-in_err-database_put-clause-works g c = λ clean inside opened texts told
     let outcome = turned conditions (changed_by_files conditions kind name (splits_of texts)) in
     let fits = BeginsWith kind name change.found conditions in
     let result : c.from_residual-in_err-database_put.result ≡ Err (register_refusal broken) = search rules in
-    let second : HasCleanDisk now = omega (arith, c.database_put-2.ensures.crash.clean) in
+    let second : HasCleanDisk now = omega (arith, c.database_put-2.ensures.call.crash.clean) in
     let first : HasCleanDisk mid = omega (arith, c.fold_files.ensures.crash.clean) in
-    let on = c.in_ok-database.ensures.ok first inside in
+    let on = c.in_ok-database.ensures.call.ok first inside in
     let further = c.in_ok-fold_files.ensures.stays second on.mode in
-    let kept : KeepsCommit old new = kept_then old mid new (goes_on old mid on) (kept_then mid now new further (c.in_err-database_put.ensures.err clean further.mode)) in
+    let kept : KeepsCommit old new = kept_then old mid new (goes_on old mid on) (kept_then mid now new further (c.in_err-database_put.ensures.call.err clean further.mode)) in
     subst (Works fits outcome old new) (sym result) (
       kept,
       λ before known sees.
@@ -99,11 +99,11 @@ returns-clause-works g c = λ clean inside opened texts told fine.
     let format = g.L.Layout.format in
     let session : AreSessions format conditions = record { version_is = refl; sound = c.is_of_some_text.ensures } in
     let fold = c.fold_files.new.fold in
-    let second : HasCleanDisk now = omega (arith, c.database_put-2.ensures.crash.clean) in
+    let second : HasCleanDisk now = omega (arith, c.database_put-2.ensures.call.crash.clean) in
     let first : HasCleanDisk mid = omega (arith, c.fold_files.ensures.crash.clean) in
-    let on = c.in_ok-database.ensures.ok first inside in
+    let on = c.in_ok-database.ensures.call.ok first inside in
     let further = c.in_ok-fold_files.ensures.stays second on.mode in
-    let last_on = c.in_ok-database_put.ensures.ok clean further.mode in
+    let last_on = c.in_ok-database_put.ensures.call.ok clean further.mode in
     let said : c.reply.result ≡ reply.Changed fold.tally.inserted fold.tally.updated fold.tally.deleted = c.reply.ensures in (
       record {
         was_open = on.was_open;

@@ -1,16 +1,16 @@
-use Rattle.std.proofs.Common.{rules, ◌≡◌, Option, Result, Err, IsTrue, refl, ap, subst}
+use Rattle.std.proofs.Common.{rules, ◌≡◌, Option, Result, Err, IsTrue, ap, subst}
 use Rattle.sqlite.specs.Held.{state}
 use Rattle.zeb_register.specs.declared.RegFault.{RegFault}
 use Rattle.zeb_register.specs.declared.RegFault.TheVariants as register
 use Rattle.zeb_register.specs.declared.catalog.Database.{Database}
 use Rattle.zeb_register.specs.Catalog.{IsDatabaseOf}
-use Rattle.zeb_engine.specs.Changing.{BeginsWith}
+use Rattle.zeb_engine.specs.PrivateChanging.{BeginsWith}
 use Rattle.zeb_engine.specs.Holdings.{Base, base_named}
 use Rattle.zeb_engine.specs.NameOf.{name_bytes}
 use Rattle.zeb_engine.specs.Outcomes.{register_refusal}
 use Rattle.zeb_engine.specs.Steps.{start_of}
 use Rattle.zeb_engine.proofs.ChangeBegins.{update_begins}
-use Rattle.zeb_engine.proofs.Listed.{counted, fault_meets}
+use Rattle.zeb_engine.proofs.ListedDatabases.{counted, fault_meets}
 use Rattle.zeb_engine.proofs.ReadyImages.{image_some}
 use Rattle.zeb_engine.proofs.changes.found_for.Goals as goal
 
@@ -33,6 +33,6 @@ returns-in_ok-database_of-in-Update-clause-begins g c = λ clean opened under be
     let name = name_bytes c.args.name.now in
     let found = c.in_ok-database_of-in-Update.field-0 in
     let at = keeps opened in
-    let still : IsTrue (state g.S.Store c.database_of.new.conn).is_open = (c.in_ok-database_of-in-Update.ensures.ok clean).0.is_open in
+    let still : IsTrue (state g.S.Store c.database_of.new.conn).is_open = (c.in_ok-database_of-in-Update.ensures.call.ok clean).0.is_open in
     let known = subst (λ n. IsDatabaseOf old.now.trees n found) c.as_str.ensures (c.in_ok-database_of-in-Update.ensures.value clean at.0.0) in
     rw c.in-Update.is (update_begins g.L.Layout.format under old before bases is at.0.1 name (IsTrue (state g.S.Store c.database_of.new.conn).is_open) still found known)

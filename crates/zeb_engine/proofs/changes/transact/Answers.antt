@@ -4,7 +4,7 @@ use Rattle.sqlite.specs.State.{HasCleanDisk, Survives}
 use Rattle.zeb_engine.specs.declared.refusals.Refusal.{Refusal}
 use Rattle.zeb_engine.specs.declared.refusals.Refusal.TheVariants.{ReadFault}
 use Rattle.zeb_engine.specs.declared.replies.Reply.{Reply}
-use Rattle.zeb_engine.specs.Changing.{BeginsWith}
+use Rattle.zeb_engine.specs.PrivateChanging.{BeginsWith}
 use Rattle.zeb_engine.specs.Conditions.{Conditions}
 use Rattle.zeb_engine.specs.Crashes.{Commits}
 use Rattle.zeb_engine.specs.NameOf.{name_bytes}

@@ -20,8 +20,8 @@ use Rattle.zeb_engine.specs.Steps.{dumped_by, dumped_in, ready}
 use Rattle.zeb_engine.specs.Works.{Always, Serves}
 use Rattle.zeb_engine.proofs.Commanding.{ready_met}
 use Rattle.zeb_engine.proofs.Dumps.{Dumps, all_readable, bytes_same, dump_fails, dump_told, dump_unknown, unready_dumps}
-use Rattle.zeb_engine.proofs.Finds.{looked_up}
-use Rattle.zeb_engine.proofs.Listed.{fault_fails}
+use Rattle.zeb_engine.proofs.Held.{looked_up}
+use Rattle.zeb_engine.proofs.ListedDatabases.{fault_fails}
 use Rattle.zeb_engine.proofs.Serving.{keeps_still}
 use Rattle.zeb_engine.proofs.Showing.{still_shows}
 use Rattle.zeb_engine.proofs.dump.dump.Goals as goal
@@ -62,7 +62,7 @@ returns-in_err-kept-clause-serves g c clean limits before fits keeps =
     let s1 = state g.S.Store c.check_ready.new.connection in
     let s2 = state g.S.Store c.existing_database.new.connection in
     let s3 = state g.S.Store c.records.new.conn in
-    let clean2 : HasCleanDisk s2 = omega (arith, c.records.ensures.crash.clean) in
+    let clean2 : HasCleanDisk s2 = omega (arith, c.records.ensures.call.crash.clean) in
     let clean1 : HasCleanDisk s1 = omega (arith, clean2, c.existing_database.ensures.crash.clean) in
     let met = ready_met {X = Unit {0}} (λ (bases : List Base) x. IsTrue s0.is_open × IsTrue s1.is_open) (ready k before) tt (c.in_ok-check_ready.ensures.ready clean1 limits before keeps) in
     let keeps1 = keeps_still before s0 s1 (c.check_ready.ensures.same clean1) keeps in
@@ -71,7 +71,7 @@ returns-in_err-kept-clause-serves g c clean limits before fits keeps =
     let base = looked_up g.L.Layout.format k (record { version_is = refl; sound = c.is_of_some_text.ensures }) s1 before met.0 name database (IsTrue s2.is_open) met.1 seen.1 (c.in_ok-database.ensures.exists clean2 met.2.1 k before met.0 met.1 keeps1) in
     let there = still_shows s1 s2 s1.now.trees (c.existing_database.ensures.same clean2) (λ _. (seen.0, refl)) base.3 in
     let readable = all_readable g.L.Layout.format c.args.profile.now s1.now.trees database.id.0 base.0 base.2 in
-    let nothing = nothing_then s0 s2 s3 (nothing_then s0 s1 s2 (c.check_ready.ensures.same clean1) (c.existing_database.ensures.same clean2)) (c.records.ensures.same clean c.existing_database.ensures.idle) in
+    let nothing = nothing_then s0 s2 s3 (nothing_then s0 s1 s2 (c.check_ready.ensures.same clean1) (c.existing_database.ensures.same clean2)) (c.records.ensures.call.same clean c.existing_database.ensures.idle) in
     let fault = c.in_err-kept.field-0.0 in
     let told : c.from_residual-in_err-kept.result ≡ Err (register_refusal fault) = search rules in
     subst (Dumps g.L.Layout.format k name s0 s3 nothing before met.0 met.1 keeps) (sym told) (dump_fails g.L.Layout.format k name s0 s3 nothing before met.0 met.1 keeps (Err (register_refusal fault))
@@ -85,7 +85,7 @@ returns-clause-serves g c clean limits before fits keeps =
     let s1 = state g.S.Store c.check_ready.new.connection in
     let s2 = state g.S.Store c.existing_database.new.connection in
     let s3 = state g.S.Store c.records.new.conn in
-    let clean2 : HasCleanDisk s2 = omega (arith, c.records.ensures.crash.clean) in
+    let clean2 : HasCleanDisk s2 = omega (arith, c.records.ensures.call.crash.clean) in
     let clean1 : HasCleanDisk s1 = omega (arith, clean2, c.existing_database.ensures.crash.clean) in
     let met = ready_met {X = Unit {0}} (λ (bases : List Base) x. IsTrue s0.is_open × IsTrue s1.is_open) (ready k before) tt (c.in_ok-check_ready.ensures.ready clean1 limits before keeps) in
     let keeps1 = keeps_still before s0 s1 (c.check_ready.ensures.same clean1) keeps in
@@ -96,7 +96,7 @@ returns-clause-serves g c clean limits before fits keeps =
     let kept = c.in_ok-kept.kept.items in
     let are = subst (λ (t : Trees). IsListOf (IsRest records_tree (Int database.id.0 ∷ []) t) (map record_shown kept)) there.1 (c.in_ok-kept.ensures.value clean there.0) in
     let same = bytes_same g.L.Layout.format c.args.profile.now s1.now.trees database.id.0 base.0 base.2 kept are in
-    let nothing = nothing_then s0 s2 s3 (nothing_then s0 s1 s2 (c.check_ready.ensures.same clean1) (c.existing_database.ensures.same clean2)) (c.records.ensures.same clean c.existing_database.ensures.idle) in
+    let nothing = nothing_then s0 s2 s3 (nothing_then s0 s1 s2 (c.check_ready.ensures.same clean1) (c.existing_database.ensures.same clean2)) (c.records.ensures.call.same clean c.existing_database.ensures.idle) in
     let bytes = c.in_ok-joined.field-0 in
     let told : bytes.items ≡ flat_map (λ (r : Record). r.bytes.items) kept = c.in_ok-joined.ensures ∙ ap (flat_map (λ (r : Record). r.bytes.items)) c.deref.ensures.value in
     dump_told g.L.Layout.format k name s0 s3 nothing before met.0 met.1 keeps (Ok (Dumped bytes)) (ap (dumped_in name) base.1 ∙ ap dumped (sym (told ∙ same)))

@@ -1,16 +1,22 @@
-use Rattle.std.proofs.Common.{rules, ◌≡◌, Option, Result, Err, String, arith, ap, get_or, refl, subst, subst₂, sym, take, pos, ◌+◌}
+use Rattle.std.proofs.Common.{rules, ◌≡◌, ◌<◌, ◌^◌, ◌∙◌, ◌++◌, ◌∷◌, [], ℕ, List, map, string_bytes, Option, Result, Err, String, arith, ap, get_or, refl, subst, sym, take, pos, ◌+◌}
 use Rattle.std.specs.declared.alloc.Global.{Global}
 use Rattle.sqlite.specs.Held.{state}
 use Rattle.sqlite.specs.State.{HasCleanDisk}
 use Rattle.zeb_register.specs.Kept.{IsIdentOf, AreReadableIdents}
 use Rattle.zeb_register.specs.declared.RegFault.{RegFault}
 use Rattle.zeb_register.specs.declared.RegFault.TheVariants as register
-use Rattle.zeb_engine.specs.Found.{AreShown}
+use Rattle.std.proofs.lemmas.List.{map-append}
+use Rattle.zeb_engine.specs.declared.replies.Hit.{Hit}
+use Rattle.zeb_engine.specs.Alone.{has_ident_in}
+use Rattle.zeb_engine.specs.Finding.{AreShown}
 use Rattle.zeb_engine.specs.Outcomes.{register_refusal}
 use Rattle.zeb_query.proofs.HoldingLemmas.{take_whole}
-use Rattle.zeb_engine.proofs.Listed.{fault_fails}
-use Rattle.zeb_engine.proofs.Showing.{still_shows, shown_more, each_kept, each_readable}
+use Rattle.zeb_engine.proofs.ListedDatabases.{fault_fails}
+use Rattle.zeb_engine.proofs.Showing.{still_shows, shown_more, ident_stored, each_kept, each_readable}
 use Rattle.zeb_engine.proofs.find.show.Goals as goal
+
+abbrev told : Hit → ℕ × List ℕ
+told hit = (hit.sysno, string_bytes hit.ident)
 
 pub loop-number-preserved : goal.loop-number-preserved
 loop-number-preserved g c =
@@ -24,30 +30,33 @@ loop-number-preserved g c =
       room = search rules;
       crash = search rules;
       same = search rules;
-      open_still = λ clean was. (c.in_ok-ident.ensures.ok clean).0.is_open;
+      open_still = λ clean was. (c.in_ok-ident.ensures.call.ok clean).0.is_open;
       shown = λ clean trees shows.
-          let first : HasCleanDisk now = omega (arith, c.ident_of.ensures.crash.clean) in
-          let opened = (c.in_ok-ident.ensures.ok clean).0.was_open in
+          let first : HasCleanDisk now = omega (arith, c.ident_of.ensures.call.crash.clean) in
+          let opened = (c.in_ok-ident.ensures.call.ok clean).0.was_open in
           let at = still_shows old now trees (c.loop-number.invariant.same first) shows opened in
-          let value = subst₂ (λ db found. IsIdentOf db c.args.database.0 (pos (get_or c.args.numbers.now index 0)) found) at.1 c.in-Some.is (c.in_ok-ident.ensures.value clean at.0) in
-          let more = shown_more trees c.args.database.0 c.args.numbers.now index (get_or c.args.numbers.now index 0) c.loop-number.shown.items c.in-Some.ident c.loop-number-test.true refl value (c.loop-number.invariant.shown first trees shows) in
-          subst (AreShown trees c.args.database.0 (take (index + 1) c.args.numbers.now)) (sym c.push_reserved.ensures.items) more;
+          let value = ident_stored trees c.args.database.0 (get_or c.args.numbers.now index 0) c.in_ok-ident.field-0 c.in-Some.ident
+          (λ less. subst (λ t. IsIdentOf t c.args.database.0 (pos (get_or c.args.numbers.now index 0)) c.in_ok-ident.field-0) at.1 (c.in_ok-ident.ensures.value clean at.0 less)) c.in_ok-ident.ensures.large c.in-Some.is in
+          let more = shown_more trees c.args.database.0 c.args.numbers.now index (get_or c.args.numbers.now index 0) (map told c.loop-number.shown.items) c.in-Some.ident c.loop-number-test.true refl value (c.loop-number.invariant.shown first trees shows) in
+          let all : map told c.push_reserved.new.self.items ≡ map told c.loop-number.shown.items ++ told (record { sysno = get_or c.args.numbers.now index 0; ident = c.in-Some.ident }) ∷ [] =
+          ap (map told) c.push_reserved.ensures.items ∙ map-append told c.loop-number.shown.items (record { sysno = get_or c.args.numbers.now index 0; ident = c.in-Some.ident } ∷ []) in
+          subst (AreShown (has_ident_in trees c.args.database.0) (take (index + 1) c.args.numbers.now)) (sym all) more;
     }
 
 pub returns-clause-shown : goal.returns-clause-shown
 returns-clause-shown g c clean trees shows =
     let whole = take_whole c.args.numbers.now c.loop-number.number-index (omega (arith, c.loop-number-test.false)) in
-    subst (λ numbers. AreShown trees c.args.database.0 numbers c.loop-number.shown.items) whole (c.loop-number.invariant.shown clean trees shows)
+    subst (λ numbers. AreShown (has_ident_in trees c.args.database.0) numbers (map told c.loop-number.shown.items)) whole (c.loop-number.invariant.shown clean trees shows)
 
 pub returns-in_default-clause-failed : goal.returns-in_default-clause-failed
 returns-in_default-clause-failed g c clean trees shows keeps =
     let old = state g.S.Store c.args.connection.now in
     let now = state g.S.Store c.loop-number.connection in
     let index = c.loop-number.number-index in
-    let first : HasCleanDisk now = omega (arith, c.ident_of.ensures.crash.clean) in
-    let opened = (c.in_ok-ident.ensures.ok clean).0.was_open in
+    let first : HasCleanDisk now = omega (arith, c.ident_of.ensures.call.crash.clean) in
+    let opened = (c.in_ok-ident.ensures.call.ok clean).0.was_open in
     let at = still_shows old now trees (c.loop-number.invariant.same first) shows opened in
-    let value = subst (λ db. IsIdentOf db c.args.database.0 (pos (get_or c.args.numbers.now index 0)) c.in_ok-ident.field-0) at.1 (c.in_ok-ident.ensures.value clean at.0) in
+    let value : get_or c.args.numbers.now index 0 < 2 ^ 63 → IsIdentOf trees c.args.database.0 (pos (get_or c.args.numbers.now index 0)) c.in_ok-ident.field-0 = λ less. subst (λ t. IsIdentOf t c.args.database.0 (pos (get_or c.args.numbers.now index 0)) c.in_ok-ident.field-0) at.1 (c.in_ok-ident.ensures.value clean at.0 less) in
     absurd (each_kept trees c.args.database.0 c.args.numbers.now index (get_or c.args.numbers.now index 0) c.in_ok-ident.field-0 c.loop-number-test.true refl keeps value c.in_default.is)
 
 pub returns-in_err-ident-clause-failed : goal.returns-in_err-ident-clause-failed
@@ -55,7 +64,7 @@ returns-in_err-ident-clause-failed g c clean trees shows keeps =
     let old = state g.S.Store c.args.connection.now in
     let now = state g.S.Store c.loop-number.connection in
     let index = c.loop-number.number-index in
-    let first : HasCleanDisk now = omega (arith, c.ident_of.ensures.crash.clean) in
+    let first : HasCleanDisk now = omega (arith, c.ident_of.ensures.call.crash.clean) in
     let fault = c.in_err-ident.field-0.0 in
     let told : c.from_residual-in_err-ident.result ≡ Err (register_refusal fault) = search rules in
     rw told (fault_fails fault (λ is.

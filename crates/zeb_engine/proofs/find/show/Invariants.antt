@@ -1,9 +1,11 @@
-use Rattle.std.proofs.Common.{◌≡◌, ◌≤◌, false, length, take, vec_capacity, IsTrue}
+use Rattle.std.proofs.Common.{◌≡◌, ◌≤◌, false, length, map, string_bytes, take, vec_capacity, IsTrue}
 use Rattle.sqlite.specs.Held.{state}
 use Rattle.sqlite.specs.State.{HasCleanDisk, Survives}
 use Rattle.sqlite.specs.Tree.{Trees}
 use Rattle.zeb_register.specs.Calls.{ChangesNothing}
-use Rattle.zeb_engine.specs.Found.{AreShown, ShowsStore}
+use Rattle.zeb_engine.specs.Alone.{has_ident_in}
+use Rattle.zeb_engine.specs.Finding.{AreShown}
+use Rattle.zeb_engine.specs.Works.{ShowsStore}
 use Rattle.zeb_engine.proofs.find.show.Given as goal
 
 abbrev pub invariant-loop-number : goal.invariant-loop-number
@@ -17,5 +19,6 @@ invariant-loop-number g l =
       crash : Survives old now (λ _. ⊥);
       open_still : HasCleanDisk now → IsTrue old.is_open → IsTrue now.is_open;
       same : HasCleanDisk now → ChangesNothing old now;
-      shown : HasCleanDisk now → (trees : Trees) → ShowsStore old trees → AreShown trees l.fn.database.0 (take l.number-index l.numbers) l.shown.items;
+      shown : HasCleanDisk now → (trees : Trees) → ShowsStore old trees → AreShown (has_ident_in trees l.fn.database.0) (take l.number-index l.numbers)
+          (map (λ hit. (hit.sysno, string_bytes hit.ident)) l.shown.items);
     }

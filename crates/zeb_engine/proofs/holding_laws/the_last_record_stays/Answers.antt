@@ -1,5 +1,5 @@
 use Rattle.zeb_engine.proofs.Lasting.{idents_last, bytes_last}
-use Rattle.zeb_engine.proofs.Leaving.{records_left}
+use Rattle.zeb_engine.proofs.DeletedRecords.{records_left}
 use Rattle.zeb_engine.proofs.holding_laws.the_last_record_stays.Goals as goal
 
 pub returns-clause-idents : goal.returns-clause-idents

@@ -12,7 +12,7 @@ use Rattle.zeb_engine.specs.Holdings.{Base}
 use Rattle.zeb_engine.specs.Outcomes.{register_refusal}
 use Rattle.zeb_engine.specs.Steps.{ready}
 use Rattle.zeb_engine.specs.Works.{Meets}
-use Rattle.zeb_engine.proofs.Listed.{fault_meets}
+use Rattle.zeb_engine.proofs.ListedDatabases.{fault_meets}
 use Rattle.zeb_engine.proofs.Ready.{version_in, profile_in, image_still, same_inside, told_version, told_profile, version_readable, profile_readable, texts_differ, texts_agree, ready_none, ready_old, ready_changed, ready_good}
 use Rattle.zeb_engine.proofs.readiness.check_ready.Goals as goal
 use Rattle.zeb_register.specs.Formats.{version_of}
@@ -32,7 +32,7 @@ pub returns-in_default-clause-ready : goal.returns-in_default-clause-ready
 returns-in_default-clause-ready g c clean limits before keeps =
     let k = conditions (version_of g.L.Layout.format) c.args.profile.now limits in
     let old = state g.S.Store c.args.connection.now in
-    let was = c.in_ok-version.ensures.ok clean in
+    let was = c.in_ok-version.ensures.call.ok clean in
     let at = keeps was.0.was_open in
     inr (ready_none k before (told_version g.L.Layout.format k old.now.trees before c.in_ok-version.field-0 at.0.1 (c.in_ok-version.ensures.value clean at.0.0) ∙ ap (option_map string_bytes) c.in_default.is))
 
@@ -40,7 +40,7 @@ pub returns-then-ne-clause-ready : goal.returns-then-ne-clause-ready
 returns-then-ne-clause-ready g c clean limits before keeps =
     let k = conditions (version_of g.L.Layout.format) c.args.profile.now limits in
     let old = state g.S.Store c.args.connection.now in
-    let was = c.in_ok-version.ensures.ok clean in
+    let was = c.in_ok-version.ensures.call.ok clean in
     let at = keeps was.0.was_open in
     let found = c.in-Some.version in
     let told : version_in before ≡ Some (string_bytes found) =
@@ -53,8 +53,8 @@ returns-in_err-text-clause-ready g c clean limits before keeps =
     let k = conditions (version_of g.L.Layout.format) c.args.profile.now limits in
     let old = state g.S.Store c.args.connection.now in
     let mid = state g.S.Store c.meta_of.new.conn in
-    let first : HasCleanDisk mid = omega (arith, c.meta_of-2.ensures.crash.clean) in
-    let was = c.in_ok-version.ensures.ok first in
+    let first : HasCleanDisk mid = omega (arith, c.meta_of-2.ensures.call.crash.clean) in
+    let was = c.in_ok-version.ensures.call.ok first in
     let at = image_still before old mid was.0.now_is (keeps was.0.was_open).0 in
     let fault = c.in_err-text.field-0.0 in
     let told : c.from_residual-in_err-text.result ≡ Err (register_refusal fault) = search rules in
@@ -67,8 +67,8 @@ returns-in_default-2-clause-ready g c clean limits before keeps =
     let k = conditions (version_of g.L.Layout.format) c.args.profile.now limits in
     let old = state g.S.Store c.args.connection.now in
     let mid = state g.S.Store c.meta_of.new.conn in
-    let first : HasCleanDisk mid = omega (arith, c.meta_of-2.ensures.crash.clean) in
-    let was = c.in_ok-version.ensures.ok first in
+    let first : HasCleanDisk mid = omega (arith, c.meta_of-2.ensures.call.crash.clean) in
+    let was = c.in_ok-version.ensures.call.ok first in
     let seen = (keeps was.0.was_open).0 in
     let at = image_still before old mid was.0.now_is seen in
     let found = c.in-Some.version in
@@ -84,8 +84,8 @@ returns-then-ne-2-clause-ready g c clean limits before keeps =
     let k = conditions (version_of g.L.Layout.format) c.args.profile.now limits in
     let old = state g.S.Store c.args.connection.now in
     let mid = state g.S.Store c.meta_of.new.conn in
-    let first : HasCleanDisk mid = omega (arith, c.meta_of-2.ensures.crash.clean) in
-    let was = c.in_ok-version.ensures.ok first in
+    let first : HasCleanDisk mid = omega (arith, c.meta_of-2.ensures.call.crash.clean) in
+    let was = c.in_ok-version.ensures.call.ok first in
     let seen = (keeps was.0.was_open).0 in
     let at = image_still before old mid was.0.now_is seen in
     let found = c.in-Some.version in
@@ -105,8 +105,8 @@ returns-clause-ready g c clean limits before keeps =
     let old = state g.S.Store c.args.connection.now in
     let mid = state g.S.Store c.meta_of.new.conn in
     let new = state g.S.Store c.meta_of-2.new.conn in
-    let first : HasCleanDisk mid = omega (arith, c.meta_of-2.ensures.crash.clean) in
-    let was = c.in_ok-version.ensures.ok first in
+    let first : HasCleanDisk mid = omega (arith, c.meta_of-2.ensures.call.crash.clean) in
+    let was = c.in_ok-version.ensures.call.ok first in
     let seen = (keeps was.0.was_open).0 in
     let at = image_still before old mid was.0.now_is seen in
     let found = c.in-Some.version in
@@ -119,5 +119,5 @@ returns-clause-ready g c clean limits before keeps =
     let tested2 : c.ne-2.result ≡ not (bytes_eq c.as_str-2.result.now c.text.result.now) = search rules in
     let as_said = texts_agree c.ne-2.result c.as_str-2.result.now c.text.result.now (string_bytes text) (canonical_text c.args.profile.now) tested2 c.if-ne-2.false (search rules) c.text.ensures in
     let good = ready_good k before (told ∙ ap Some same) (has ∙ ap Some as_said) in
-    let open_still : IsTrue new.is_open = (c.in_ok-text.ensures.ok clean).0.is_open in
+    let open_still : IsTrue new.is_open = (c.in_ok-text.ensures.call.ok clean).0.is_open in
     subst (λ said. Meets {X = Unit {0}} (λ (bases : List Base) x. IsTrue old.is_open × IsTrue new.is_open) said (Ok tt)) (sym good.1) (was.0.was_open, open_still)

@@ -1,4 +1,4 @@
-use Rattle.std.proofs.Common.{rules, ◌≡◌, ◌∙◌, ℕ, pos, Option, Some, None, Result, Ok, Err, string_bytes, refl, sym, ap, subst, inr, IsTrue}
+use Rattle.std.proofs.Common.{rules, ◌≡◌, ◌∙◌, ℕ, pos, Option, Some, None, Result, Ok, Err, string_bytes, sym, ap, subst, inr, IsTrue}
 use Rattle.sqlite.specs.Held.{state}
 use Rattle.zeb_register.specs.declared.RegFault.{RegFault}
 use Rattle.zeb_register.specs.declared.RegFault.TheVariants as register
@@ -11,7 +11,7 @@ use Rattle.zeb_engine.specs.NameOf.{name_bytes}
 use Rattle.zeb_engine.specs.Outcomes.{register_refusal}
 use Rattle.zeb_engine.specs.Steps.{found_or, existing}
 use Rattle.zeb_engine.specs.Works.{Meets}
-use Rattle.zeb_engine.proofs.Listed.{fault_meets, fault_fails_or, counted, row_named, none_named}
+use Rattle.zeb_engine.proofs.ListedDatabases.{fault_meets, fault_fails_or, counted, row_named, none_named}
 use Rattle.zeb_engine.proofs.ReadyImages.{image_some}
 use Rattle.zeb_engine.proofs.readiness.existing_database.Goals as goal
 
@@ -38,7 +38,7 @@ returns-in-Some-clause-exists g c clean opened under before bases is keeps =
     let there : IsDatabaseOf old.now.trees c.as_str.result.now (Some found) = subst (IsDatabaseOf old.now.trees c.as_str.result.now) c.in-Some.is value in
     let row : HasDatabase old.now.trees found.id.0 name (pos found.last) = subst (λ n. HasDatabase old.now.trees found.id.0 n (pos found.last)) c.as_str.ensures there in
     let base = row_named old.now.trees bases all.1.image.id_of all.1.image.listed all.0 all.1.are found.id.0 name found.last row in
-    let open_still : IsTrue new.is_open = (c.in_ok-database.ensures.ok clean).0.is_open in
+    let open_still : IsTrue new.is_open = (c.in_ok-database.ensures.call.ok clean).0.is_open in
     let named = subst (λ n. HasDatabase old.now.trees found.id.0 n (pos base.0.last)) base.3 (subst (λ (l : ℕ). HasDatabase old.now.trees found.id.0 name (pos l)) base.4 row) in
     subst (λ said. Meets (λ (b : Base) (d : Database). HasDatabase old.now.trees d.id.0 b.name (pos b.last) × (d.last ≡ b.last) × IsTrue new.is_open) said (Ok found)) (sym (ap (found_or name) base.1)) (named, base.4, open_still)
 

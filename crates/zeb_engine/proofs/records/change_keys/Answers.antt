@@ -9,8 +9,10 @@ use Rattle.zeb_register.specs.declared.faults.RegFault.TheVariants as register
 use Rattle.zeb_engine.specs.declared.refusals.Refusal.TheVariants.{Damaged}
 use Rattle.zeb_engine.specs.Outcomes.{register_refusal}
 use Rattle.zeb_register.proofs.ContentChanges.{changed_at, change_is}
-use Rattle.zeb_engine.specs.ChangedKeys.{AreChangedKeys, key_in}
-use Rattle.zeb_engine.proofs.Moved.{moved, moved_none, moved_more, moved_rises, moved_is, one_reposted, still_old, keeps_then, only_damaged}
+use Rattle.zeb_engine.specs.PrivateChangedKeys.{AreChangedKeys, key_in}
+use Rattle.zeb_engine.proofs.ChangeKeysContent.{moved, moved_none, moved_more, moved_rises, moved_storable, moved_is, one_reposted, still_old, keeps_then, only_damaged}
+use Rattle.sqlite_rules.proofs.ListLemmas.{contains_had}
+use Rattle.zeb_engine.proofs.Finds.{has_taken}
 use Rattle.zeb_engine.proofs.Idle.{none_changed}
 use Rattle.zeb_engine.proofs.records.change_keys.Goals as goal
 use Rattle.zeb_register.specs.Formats.{holds_in}
@@ -41,13 +43,13 @@ loop-changed-preserved g c =
       stays = search rules;
       place = c.loop-changed.invariant.place;
       store = λ clean mode store.
-          let was : HasCleanDisk now = omega (arith, c.key_change.ensures.crash.clean) in
+          let was : HasCleanDisk now = omega (arith, c.key_change.ensures.call.crash.clean) in
           let stays = c.loop-changed.invariant.stays was mode in
           let before = c.loop-changed.invariant.store was mode store in
           let change = c.in_ok-key_change.ensures.change clean stays.mode before.0 in
           (change.0, keeps_then (state g.S.Store c.args.tx.now.conn.now).now.trees now.now.trees next.now.trees before.1 change.1);
       held = λ clean mode store before up had.
-          let was : HasCleanDisk now = omega (arith, c.key_change.ensures.crash.clean) in
+          let was : HasCleanDisk now = omega (arith, c.key_change.ensures.call.crash.clean) in
           let stays = c.loop-changed.invariant.stays was mode in
           let kept = c.loop-changed.invariant.store was mode store in
           let change = c.in_ok-key_change.ensures.change clean stays.mode kept.0 in
@@ -82,14 +84,14 @@ returns-clause-moved g c = λ clean mode store up_elder up_newer.
     )
 
 pub returns-in_err-key_change-clause-honest : goal.returns-in_err-key_change-clause-honest
-returns-in_err-key_change-clause-honest g c = λ clean mode store up_elder up_newer told content had up was.
+returns-in_err-key_change-clause-honest g c = λ clean mode store up_elder up_newer told can content storable had up was.
     let now = state g.S.Store c.loop-changed.tx.conn.now in
     let db = c.args.progress.now.database.0 in
     let sysno = c.args.sysno in
     let items = c.deref-changed-items.result.now in
     let index = c.loop-changed.changed-index in
     let item = c.changed-item.result in
-    let clean_now : HasCleanDisk now = omega (arith, c.key_change.ensures.crash.clean) in
+    let clean_now : HasCleanDisk now = omega (arith, c.key_change.ensures.call.crash.clean) in
     let stays = c.loop-changed.invariant.stays clean_now mode in
     let kept = c.loop-changed.invariant.store clean_now mode store in
     let are = c.in_ok-changed_keys.ensures up_elder up_newer in
@@ -102,7 +104,8 @@ returns-in_err-key_change-clause-honest g c = λ clean mode store up_elder up_ne
     let given : c.from_residual-in_err-key_change.result ≡ Err (register_refusal c.in_err-key_change.field-0.0) = search rules in
     let is : register_refusal c.in_err-key_change.field-0.0 ≡ Damaged = cc in
     let fault : c.key_change.result ≡ Err register.Damaged = c.in_err-key_change.was ∙ ap Err (only_damaged c.in_err-key_change.field-0.0 is) in
-    c.key_change.ensures.damaged clean stays.mode kept.0 fault (subst (IsStrictlySortedBy place_cmp) (sym c.deref.ensures.value) rising) (moved db sysno (take index items) content) held
+    c.key_change.ensures.damaged clean stays.mode kept.0 fault (subst (IsStrictlySortedBy place_cmp) (sym c.deref.ensures.value) rising) (moved db sysno (take index items) content)
+    (moved_storable db sysno c.args.newer.now (take index items) content up can (λ d there. are_items.new d (contains_had items d (has_taken index items d there))) storable) held
     (subst₂ (λ d ps. ArePlacesOf sysno ps (moved db sysno (take index items) content d (key_in item))) (sym same_db) (sym c.deref.ensures.value) places)
 
 pub returns-clause-idle : goal.returns-clause-idle

@@ -4,7 +4,7 @@ use Rattle.sqlite.specs.State.{HasCleanDisk, KeepsCounts, Survives}
 use Rattle.zeb_register.specs.Content.{Content, IsRising}
 use Rattle.zeb_register.specs.Store.{IsStore, KeepsLists}
 use Rattle.zeb_engine.specs.Transactions.{Continues}
-use Rattle.zeb_engine.proofs.Moved.{moved}
+use Rattle.zeb_engine.proofs.ChangeKeysContent.{moved}
 use Rattle.zeb_engine.proofs.records.change_keys.Given as goal
 use Rattle.zeb_register.specs.Formats.{holds_in}
 

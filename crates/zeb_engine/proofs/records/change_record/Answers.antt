@@ -17,7 +17,7 @@ use Rattle.zeb_engine.specs.Answers.{Why, unknown}
 use Rattle.zeb_engine.specs.Folding.{Changed, changed_record, updated, deleted}
 use Rattle.zeb_engine.specs.Holdings.{kept_as}
 use Rattle.zeb_engine.specs.Outcomes.{register_refusal}
-use Rattle.zeb_engine.specs.Records.{IsNewer, IsElderAs}
+use Rattle.zeb_engine.specs.PrivateRecords.{IsNewer, IsElderAs}
 use Rattle.zeb_engine.specs.Works.{Meets, IsTaken, conditions_of}
 use Rattle.zeb_engine.proofs.BaseLemmas.{one_ident}
 use Rattle.zeb_engine.proofs.FoldLemmas.{named_record}
@@ -54,7 +54,7 @@ returns-in-Update-default-clause-taken g c clean mode version records_of base la
     let ident = c.as_str-in-Update-default.result.now in
     let items = c.in_ok-occurrences-in-Update-default.field-0.items in
     let clean_mid : HasCleanDisk mid = omega (arith, c.keep.ensures.crash.clean) in
-    let reads = c.in_ok-elder.ensures.ok clean_mid mode in
+    let reads = c.in_ok-elder.ensures.call.ok clean_mid mode in
     let same : c.as_str.result.now ≡ ident = c.as_str.ensures.value ∙ sym c.as_str-in-Update-default.ensures.value in
     let found = subst (λ (i : List _). IsElderOf old.now.trees id i c.in_ok-elder.elder) same (c.in_ok-elder.ensures.value clean_mid mode under.0) in
     let there = elder_is id records_of old.now.trees base under.1.kept ident (one_ident profile base under.2) c.in_ok-elder.elder found in
@@ -87,7 +87,7 @@ returns-in-Delete-Some-clause-taken g c clean mode version records_of base last 
     let ident = c.as_str.result.now in
     let absent : Result Changed Why = Err (unknown c.args.incoming.file c.args.incoming.nth) in
     let clean_mid : HasCleanDisk mid = omega (arith, c.withdraw.ensures.crash.clean) in
-    let reads = c.in_ok-elder.ensures.ok clean_mid mode in
+    let reads = c.in_ok-elder.ensures.call.ok clean_mid mode in
     let found = elder_is id records_of old.now.trees base under.1.kept ident (one_ident profile base under.2) c.in_ok-elder.elder (c.in_ok-elder.ensures.value clean_mid mode under.0) in
     let there = subst (λ (e : Option Elder). IsElderAs ident base e) c.in-Delete-Some.is-1 found in
     let named = c.in_ok-record.ensures.named ∙ ap Ok (sym c.as_str.ensures.value) in
@@ -109,7 +109,7 @@ returns-in-Adelete-Some-clause-taken g c clean mode version records_of base last
     let ident = c.as_str.result.now in
     let absent : Result Changed Why = Ok (base, PassedOver) in
     let clean_mid : HasCleanDisk mid = omega (arith, c.withdraw-in-Adelete-Some.ensures.crash.clean) in
-    let reads = c.in_ok-elder.ensures.ok clean_mid mode in
+    let reads = c.in_ok-elder.ensures.call.ok clean_mid mode in
     let found = elder_is id records_of old.now.trees base under.1.kept ident (one_ident profile base under.2) c.in_ok-elder.elder (c.in_ok-elder.ensures.value clean_mid mode under.0) in
     let there = subst (λ (e : Option Elder). IsElderAs ident base e) c.in-Adelete-Some.is-1 found in
     let named = c.in_ok-record.ensures.named ∙ ap Ok (sym c.as_str.ensures.value) in
@@ -144,7 +144,7 @@ returns-clause-taken g c clean mode version records_of base last under =
     let bytes = c.args.incoming.bytes.now in
     let ident = c.as_str.result.now in
     let absent : Result Changed Why = Ok (base, PassedOver) in
-    let reads = c.in_ok-elder.ensures.ok clean mode in
+    let reads = c.in_ok-elder.ensures.call.ok clean mode in
     let found = elder_is id records_of old.now.trees base under.1.kept ident (one_ident profile base under.2) c.in_ok-elder.elder (c.in_ok-elder.ensures.value clean mode under.0) in
     let none = subst (λ (e : Option Elder). IsElderAs ident base e) c.in-Adelete-None.is-1 found in
     let named = c.in_ok-record.ensures.named ∙ ap Ok (sym c.as_str.ensures.value) in
@@ -165,7 +165,7 @@ returns-in-Update-default-clause-idle g c clean mode update records_of base unde
     let ident = c.as_str-in-Update-default.result.now in
     let items = c.in_ok-occurrences-in-Update-default.field-0.items in
     let clean_mid : HasCleanDisk mid = omega (arith, c.keep.ensures.crash.clean) in
-    let reads = c.in_ok-elder.ensures.ok clean_mid mode in
+    let reads = c.in_ok-elder.ensures.call.ok clean_mid mode in
     let same : c.as_str.result.now ≡ ident = c.as_str.ensures.value ∙ sym c.as_str-in-Update-default.ensures.value in
     let found = subst (λ (i : List _). IsElderOf old.now.trees id i c.in_ok-elder.elder) same (c.in_ok-elder.ensures.value clean_mid mode under.0) in
     let there = elder_is id records_of old.now.trees base under.1.kept ident (one_ident profile base under.2) c.in_ok-elder.elder found in

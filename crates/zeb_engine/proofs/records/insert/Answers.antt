@@ -1,12 +1,13 @@
-use Rattle.std.proofs.Common.{◌≡◌, rules, arith, Err, inl, inr, ap, sym, subst}
+use Rattle.std.proofs.Common.{◌≡◌, ◌≤◌, rules, arith, Err, inl, inr, ap, sym, subst}
 use Rattle.sqlite.specs.State.{HasCleanDisk}
 use Rattle.sqlite.specs.Held.{state}
 use Rattle.zeb_engine.specs.Answers.{why_of, refused, IsFailure}
 use Rattle.zeb_engine.specs.Folding.{Changed, updated}
 use Rattle.zeb_engine.specs.Holdings.{kept_as}
-use Rattle.zeb_engine.specs.Records.{IsNewer}
+use Rattle.zeb_engine.specs.PrivateRecords.{IsNewer}
 use Rattle.zeb_engine.specs.Works.{IsTaken, conditions_of}
 use Rattle.zeb_engine.proofs.TransactionLemmas.{continues_then, goes_on}
+use Rattle.zeb_engine.proofs.TakenLemmas.{newer_storable}
 use Rattle.zeb_engine.proofs.TurnLemmas.{passed_on, none_rise, inserted_at, inserted}
 use Rattle.zeb_engine.proofs.records.insert.Goals as goal
 use Rattle.zeb_register.proofs.FormatLemmas.{registers_stay}
@@ -14,7 +15,7 @@ use Rattle.zeb_register.proofs.FormatLemmas.{registers_stay}
 pub returns-clause-stays : goal.returns-clause-stays
 returns-clause-stays g c clean mode =
     let was : HasCleanDisk (state g.S.Store c.record_put.new.tx.conn.now) = omega (arith, c.change_keys.ensures.crash.clean) in
-    let put = c.in_ok-record_put.ensures.ok was mode in
+    let put = c.in_ok-record_put.ensures.call.ok was mode in
     continues_then _ _ _ (goes_on _ _ put.on) (c.in_ok-change_keys.ensures.stays clean put.on.mode)
 
 pub returns-clause-taken : goal.returns-clause-taken
@@ -26,7 +27,7 @@ returns-clause-taken g c clean mode version is records_of base last under none =
     let ident = c.args.newer.now.ident.now in
     let bytes = c.args.newer.now.bytes.now in
     let clean_mid : HasCleanDisk mid = omega (arith, c.change_keys.ensures.crash.clean) in
-    let put = c.in_ok-record_put.ensures.ok clean_mid mode in
+    let put = c.in_ok-record_put.ensures.call.ok clean_mid mode in
     let rows = put.rows under.0 in
     let are = subst (IsNewer profile ident bytes) (sym c.deref.ensures.value) is in
     let moved = c.in_ok-change_keys.ensures.moved clean put.on.mode rows.layout none_rise are.found.rising in
@@ -43,14 +44,15 @@ returns-in_err-change_keys-clause-taken g c clean mode version is records_of bas
     let ident = c.args.newer.now.ident.now in
     let bytes = c.args.newer.now.bytes.now in
     let clean_mid : HasCleanDisk mid = omega (arith, c.change_keys.ensures.crash.clean) in
-    let put = c.in_ok-record_put.ensures.ok clean_mid mode in
+    let put = c.in_ok-record_put.ensures.call.ok clean_mid mode in
     let rows = put.rows under.0 in
     let are = subst (IsNewer profile ident bytes) (sym c.deref.ensures.value) is in
     let told : c.from_residual-in_err-change_keys.result ≡ Err c.in_err-change_keys.field-0.0 = search rules in
     let at = inserted_at g.L.Layout.format (registers_stay g.L.Layout.format) profile c.args.progress.now.database.0 records_of old mid base under ident bytes c.deref.result.now are
     c.args.progress.now.last last none rows in
     let failed : IsFailure (refused (why_of c.in_err-change_keys.field-0.0)) = elim c.in_err-change_keys.ensures.fails [
-      | inl damaged ↦ absurd (c.in_err-change_keys.ensures.honest clean put.on.mode rows.layout none_rise are.found.rising (ap Err damaged) at.content at.held at.rising at.found)
+      | inl damaged ↦ absurd (c.in_err-change_keys.ensures.honest clean put.on.mode rows.layout none_rise are.found.rising (ap Err damaged)
+          (newer_storable profile bytes c.deref.result.now are.found _ (omega arith, (let most : c.args.setting.now.limits.numbers ≤ 999999999 = search rules in omega (arith, most, c.if-progress-setting.false)))) at.content at.storable at.held at.rising at.found)
       | inr failed ↦ failed
     ] in
     passed_on {A = Changed} (IsTaken g.L.Layout.format profile c.args.progress.now.database.0 records_of old new c.change_keys.new.progress.last)

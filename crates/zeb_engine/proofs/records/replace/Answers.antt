@@ -6,7 +6,8 @@ use Rattle.zeb_engine.specs.Answers.{why_of, refused, IsFailure}
 use Rattle.zeb_engine.specs.Folding.{Changed, updated}
 use Rattle.zeb_engine.specs.Holdings.{kept_as}
 use Rattle.zeb_engine.specs.Works.{IsTaken, conditions_of}
-use Rattle.zeb_engine.specs.Records.{AreOccurrencesOf, IsNewer}
+use Rattle.zeb_engine.specs.PrivateRecords.{AreOccurrencesOf, IsNewer}
+use Rattle.zeb_engine.proofs.TakenLemmas.{elder_numbered, newer_storable}
 use Rattle.zeb_engine.proofs.TurnLemmas.{passed_on, elder_whole, replaced_at, replaced}
 use Rattle.zeb_engine.proofs.Idle.{one_analysis}
 use Rattle.zeb_engine.proofs.UnderWay.{registers_still}
@@ -30,7 +31,7 @@ returns-clause-taken g c clean mode version is records_of base last under there 
     let ident = c.args.newer.now.ident.now in
     let bytes = c.args.newer.now.bytes.now in
     let clean_mid : HasCleanDisk mid = omega (arith, c.change_keys.ensures.crash.clean) in
-    let put = c.in_ok-record_put.ensures.ok clean_mid mode in
+    let put = c.in_ok-record_put.ensures.call.ok clean_mid mode in
     let rows = put.rows under.0 in
     let was = subst (AreOccurrencesOf profile c.args.elder.now.bytes.items) (sym c.deref.ensures.value) c.in_ok-old.ensures.found in
     let are = subst (IsNewer profile ident bytes) (sym c.deref-2.ensures.value) is in
@@ -47,7 +48,7 @@ returns-in_err-change_keys-clause-taken g c clean mode version is records_of bas
     let ident = c.args.newer.now.ident.now in
     let bytes = c.args.newer.now.bytes.now in
     let clean_mid : HasCleanDisk mid = omega (arith, c.change_keys.ensures.crash.clean) in
-    let put = c.in_ok-record_put.ensures.ok clean_mid mode in
+    let put = c.in_ok-record_put.ensures.call.ok clean_mid mode in
     let rows = put.rows under.0 in
     let was = subst (AreOccurrencesOf profile c.args.elder.now.bytes.items) (sym c.deref.ensures.value) c.in_ok-old.ensures.found in
     let are = subst (IsNewer profile ident bytes) (sym c.deref-2.ensures.value) is in
@@ -55,7 +56,8 @@ returns-in_err-change_keys-clause-taken g c clean mode version is records_of bas
     let at = replaced_at g.L.Layout.format (registers_stay g.L.Layout.format) profile c.args.progress.now.database.0 records_of old mid base under ident bytes c.deref-2.result.now are
     c.args.elder.now there c.deref.result.now was rows in
     let failed : IsFailure (refused (why_of c.in_err-change_keys.field-0.0)) = elim c.in_err-change_keys.ensures.fails [
-      | inl damaged ↦ absurd (c.in_err-change_keys.ensures.honest clean put.on.mode rows.layout was.rising are.found.rising (ap Err damaged) at.content at.held at.rising at.found)
+      | inl damaged ↦ absurd (c.in_err-change_keys.ensures.honest clean put.on.mode rows.layout was.rising are.found.rising (ap Err damaged)
+          (newer_storable profile bytes c.deref-2.result.now are.found _ (elder_numbered profile ident base c.args.elder.now under.2 there)) at.content at.storable at.held at.rising at.found)
       | inr failed ↦ failed
     ] in
     passed_on {A = Changed} (IsTaken g.L.Layout.format profile c.args.progress.now.database.0 records_of old new c.change_keys.new.progress.last)
@@ -69,7 +71,7 @@ returns-clause-idle g c clean mode store is alike =
     let profile = c.args.setting.now.profile.now in
     let bytes = c.args.newer.now.bytes.now in
     let clean_mid : HasCleanDisk mid = omega (arith, c.change_keys.ensures.crash.clean) in
-    let put = c.in_ok-record_put.ensures.ok clean_mid mode in
+    let put = c.in_ok-record_put.ensures.call.ok clean_mid mode in
     let kept = registers_still old mid _ (put.rows store) in
     let was = subst (AreOccurrencesOf profile c.args.elder.now.bytes.items) (sym c.deref.ensures.value) c.in_ok-old.ensures.found in
     let are = subst (IsNewer profile c.args.newer.now.ident.now bytes) (sym c.deref-2.ensures.value) is in

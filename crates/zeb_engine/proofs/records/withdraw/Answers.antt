@@ -6,7 +6,8 @@ use Rattle.zeb_engine.specs.Answers.{why_of, refused, IsFailure}
 use Rattle.zeb_engine.specs.Folding.{Changed, deleted}
 use Rattle.zeb_engine.specs.Holdings.{kept_as}
 use Rattle.zeb_engine.specs.Works.{IsTaken}
-use Rattle.zeb_engine.specs.Records.{AreOccurrencesOf}
+use Rattle.zeb_engine.specs.PrivateRecords.{AreOccurrencesOf}
+use Rattle.zeb_engine.proofs.TakenLemmas.{none_storable}
 use Rattle.zeb_engine.proofs.TurnLemmas.{passed_on, elder_whole, none_rise, withdrawn_at, withdrawn}
 use Rattle.zeb_engine.proofs.records.withdraw.Goals as goal
 use Rattle.zeb_register.proofs.FormatLemmas.{registers_stay}
@@ -26,7 +27,7 @@ returns-clause-taken g c clean mode ident absent records_of base last under ther
     let new = state g.S.Store c.change_keys.new.tx.conn.now in
     let profile = c.args.setting.now.profile.now in
     let clean_mid : HasCleanDisk mid = omega (arith, c.change_keys.ensures.crash.clean) in
-    let take = c.in_ok-record_take.ensures.ok clean_mid mode in
+    let take = c.in_ok-record_take.ensures.call.ok clean_mid mode in
     let rows = take.rows under.0 in
     let was = subst (AreOccurrencesOf profile c.args.elder.now.bytes.items) (sym c.deref.ensures.value) c.in_ok-old.ensures.found in
     let moved = c.in_ok-change_keys.ensures.moved clean take.on.mode rows.layout was.rising none_rise in
@@ -40,13 +41,13 @@ returns-in_err-change_keys-clause-taken g c clean mode ident absent records_of b
     let new = state g.S.Store c.change_keys.new.tx.conn.now in
     let profile = c.args.setting.now.profile.now in
     let clean_mid : HasCleanDisk mid = omega (arith, c.change_keys.ensures.crash.clean) in
-    let take = c.in_ok-record_take.ensures.ok clean_mid mode in
+    let take = c.in_ok-record_take.ensures.call.ok clean_mid mode in
     let rows = take.rows under.0 in
     let was = subst (AreOccurrencesOf profile c.args.elder.now.bytes.items) (sym c.deref.ensures.value) c.in_ok-old.ensures.found in
     let told : c.from_residual-in_err-change_keys.result ≡ Err c.in_err-change_keys.field-0.0 = search rules in
     let at = withdrawn_at g.L.Layout.format (registers_stay g.L.Layout.format) profile c.args.progress.now.database.0 records_of old mid base under ident c.args.elder.now there c.deref.result.now was rows in
     let failed : IsFailure (refused (why_of c.in_err-change_keys.field-0.0)) = elim c.in_err-change_keys.ensures.fails [
-      | inl damaged ↦ absurd (c.in_err-change_keys.ensures.honest clean take.on.mode rows.layout was.rising none_rise (ap Err damaged) at.content at.held at.rising at.found)
+      | inl damaged ↦ absurd (c.in_err-change_keys.ensures.honest clean take.on.mode rows.layout was.rising none_rise (ap Err damaged) (none_storable _) at.content at.storable at.held at.rising at.found)
       | inr failed ↦ failed
     ] in
     passed_on {A = Changed} (IsTaken g.L.Layout.format profile c.args.progress.now.database.0 records_of old new c.change_keys.new.progress.last)

@@ -1,19 +1,21 @@
-use Rattle.std.proofs.Common.{rules, arith, ◌≡◌, ◌∙◌, pos, map, Result, Err, IsTrue, refl, sym, ap, subst, inr}
+use Rattle.std.proofs.Common.{rules, arith, ◌≡◌, pos, Result, Err, IsTrue, refl, sym, subst, inr}
 use Rattle.sqlite.specs.Held.{state}
 use Rattle.sqlite.specs.State.{HasCleanDisk}
 use Rattle.zeb_query.specs.Plans.{scan_value}
 use Rattle.zeb_query.specs.Queries.{query_value}
+use Rattle.zeb_register.specs.Content.{posted}
 use Rattle.zeb_register.specs.Store.{HasDatabase}
 use Rattle.zeb_register.specs.declared.catalog.Database.{Database}
 use Rattle.zeb_engine.specs.declared.replies.Reply.{Reply}
 use Rattle.zeb_engine.specs.declared.refusals.Refusal.{Refusal}
-use Rattle.zeb_engine.specs.Answers.{answer_of, scanned}
+use Rattle.zeb_engine.specs.Answers.{answer_of}
 use Rattle.zeb_engine.specs.Conditions.{conditions}
 use Rattle.zeb_engine.specs.NameOf.{name_bytes}
 use Rattle.zeb_engine.specs.Outcomes.{query_refusal}
-use Rattle.zeb_engine.specs.Scanning.{IsScanned}
-use Rattle.zeb_engine.proofs.Finds.{looked_up}
-use Rattle.zeb_engine.proofs.Scans.{Ends, existing_ends, plan_ends, scanned_ends, entry_of, around_mapped}
+use Rattle.zeb_engine.specs.Steps.{ScanAnswers}
+use Rattle.zeb_engine.proofs.Asked.{Ends, existing_ends}
+use Rattle.zeb_engine.proofs.Held.{looked_up}
+use Rattle.zeb_engine.proofs.Scans.{plan_ends, scanned_ends, terms_answered}
 use Rattle.zeb_engine.proofs.Showing.{still_shows}
 use Rattle.zeb_engine.proofs.scan.scan.Goals as goal
 use Rattle.zeb_register.specs.Formats.{holds_in, version_of}
@@ -23,7 +25,7 @@ returns-in_err-database-clause-scanned g c clean opened limits before bases is k
     let k = conditions (version_of g.L.Layout.format) c.args.profile.now limits in
     let name = name_bytes c.args.name.now in
     let query = c.args.around.query.now in
-    let says = IsScanned c.args.profile.now query c.args.around.number c.args.around.position in
+    let says = ScanAnswers c.args.profile.now query c.args.around.number c.args.around.position in
     let s0 = state g.S.Store c.args.connection.now in
     let s1 = state g.S.Store c.existing_database.new.connection in
     let refusal = c.in_err-database.field-0.0 in
@@ -36,7 +38,7 @@ returns-in_err-plan-clause-scanned g c clean opened limits before bases is keeps
     let k = conditions (version_of g.L.Layout.format) c.args.profile.now limits in
     let name = name_bytes c.args.name.now in
     let query = c.args.around.query.now in
-    let says = IsScanned c.args.profile.now query c.args.around.number c.args.around.position in
+    let says = ScanAnswers c.args.profile.now query c.args.around.number c.args.around.position in
     let s0 = state g.S.Store c.args.connection.now in
     let s1 = state g.S.Store c.existing_database.new.connection in
     let clean1 : HasCleanDisk s1 = clean in
@@ -46,14 +48,15 @@ returns-in_err-plan-clause-scanned g c clean opened limits before bases is keeps
     let fault = c.in_err-plan.field-0.0 in
     let told : c.from_residual-in_err-plan.result ≡ Err (query_refusal fault) = search rules in
     subst (λ (r : Result Reply Refusal). Ends says name query bases (answer_of r)) (sym told)
-    (plan_ends c.args.profile.now name query c.args.around.number c.args.around.position bases c.in_ok-query.ensures.sound base.0 base.1 (query_value c.in_ok-query.query) c.in_ok-query.ensures.spelled fault c.in_err-plan.ensures.planned)
+    (plan_ends g.L.Layout.format c.args.profile.now s0.now.trees database.id.0 base.0 base.2 name query c.args.around.number c.args.around.position bases c.in_ok-query.ensures.sound base.1
+    (query_value c.in_ok-query.query) c.in_ok-query.ensures.spelled fault c.in_err-plan.ensures.planned)
 
 pub returns-in_err-entries-clause-scanned : goal.returns-in_err-entries-clause-scanned
 returns-in_err-entries-clause-scanned g c clean opened limits before bases is keeps =
     let k = conditions (version_of g.L.Layout.format) c.args.profile.now limits in
     let name = name_bytes c.args.name.now in
     let query = c.args.around.query.now in
-    let says = IsScanned c.args.profile.now query c.args.around.number c.args.around.position in
+    let says = ScanAnswers c.args.profile.now query c.args.around.number c.args.around.position in
     let s0 = state g.S.Store c.args.connection.now in
     let s1 = state g.S.Store c.existing_database.new.connection in
     let clean1 : HasCleanDisk s1 = omega (arith, c.terms_around.ensures.crash.clean) in
@@ -65,7 +68,7 @@ returns-in_err-entries-clause-scanned g c clean opened limits before bases is ke
     let has = subst (λ db. holds_in g.L.Layout.format db held.content) (sym there.1) held.held in
     let refusal = c.in_err-entries.field-0.0 in
     let told : c.from_residual-in_err-entries.result ≡ Err refusal = search rules in
-    subst (λ (r : Result Reply Refusal). Ends says name query bases (answer_of r)) (sym told) (inr (c.in_err-entries.ensures.failed clean there.0 held.content held.texts has))
+    subst (λ (r : Result Reply Refusal). Ends says name query bases (answer_of r)) (sym told) (inr (c.in_err-entries.ensures.failed clean there.0 held.content held.storable has))
 
 pub returns-clause-scanned : goal.returns-clause-scanned
 returns-clause-scanned g c clean opened limits before bases is keeps =
@@ -82,8 +85,8 @@ returns-clause-scanned g c clean opened limits before bases is keeps =
     let held = base.2 in
     let has = subst (λ db. holds_in g.L.Layout.format db held.content) (sym there.1) held.held in
     let plan = scan_value c.in_ok-plan.plan in
-    scanned_ends c.args.profile.now name query c.args.around.number c.args.around.position bases c.in_ok-query.ensures.sound base.0 base.1 (query_value c.in_ok-query.query) c.in_ok-query.ensures.spelled
-    g.L.Layout.format s0.now.trees database.id.0 held plan c.in_ok-plan.ensures.planned c.in_ok-entries.entries.items (c.in_ok-entries.ensures.around clean there.0 held.content has)
+    scanned_ends g.L.Layout.format c.args.profile.now s0.now.trees database.id.0 base.0 held name query c.args.around.number c.args.around.position bases c.in_ok-query.ensures.sound base.1
+    (query_value c.in_ok-query.query) c.in_ok-query.ensures.spelled plan c.in_ok-plan.ensures.planned c.in_ok-entries.entries.items (c.in_ok-entries.ensures.around clean there.0 held.content has)
 
 pub returns-clause-alone : goal.returns-clause-alone
 returns-clause-alone g c clean store content format =
@@ -96,16 +99,13 @@ returns-clause-alone g c clean store content format =
     let there = still_shows s0 s1 s0.now.trees (c.existing_database.ensures.same clean1) (λ _. (store, refl)) (c.in_ok-entries.ensures.«open» clean).0 in
     let has = subst (λ db. holds_in g.L.Layout.format db content) (sym there.1) format in
     let plan = scan_value c.in_ok-plan.plan in
-    let around = c.in_ok-entries.ensures.around clean there.0 content has in
-    record {
-      id = database.id.0;
-      last_number = pos database.last;
-      base = c.in_ok-database.ensures.row clean1 store;
-      query = query_value c.in_ok-query.query;
-      spelled = c.in_ok-query.ensures.spelled;
-      plan = plan;
-      planned = c.in_ok-plan.ensures.planned;
-      all = around.all;
-      are = around.are;
-      answered = ap (scanned plan.register) (ap (map entry_of) around.is ∙ around_mapped number position plan.start around.all);
-    }
+    let value = query_value c.in_ok-query.query in (
+      database.id.0,
+      pos database.last,
+      c.in_ok-database.ensures.row clean1 store,
+      (
+        value,
+        c.in_ok-query.ensures.spelled,
+        terms_answered (posted content database.id.0) c.args.profile.now value number position plan c.in_ok-plan.ensures.planned c.in_ok-entries.entries.items (c.in_ok-entries.ensures.around clean there.0 content has),
+      ),
+    )

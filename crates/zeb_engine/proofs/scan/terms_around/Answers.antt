@@ -3,9 +3,10 @@ use Rattle.sqlite.specs.Effect.{Database}
 use Rattle.sqlite.specs.Held.{state}
 use Rattle.sqlite.specs.State.{HasCleanDisk}
 use Rattle.zeb_query.specs.Plans.{scan_value}
+use Rattle.zeb_register.specs.Content.{posted}
 use Rattle.zeb_register.proofs.Calls.{store_same}
 use Rattle.zeb_engine.specs.Outcomes.{register_refusal}
-use Rattle.zeb_engine.proofs.Listed.{fault_fails}
+use Rattle.zeb_engine.proofs.ListedDatabases.{fault_fails}
 use Rattle.zeb_engine.proofs.Scans.{around_lists}
 use Rattle.zeb_engine.proofs.scan.terms_around.Goals as goal
 use Rattle.zeb_register.specs.Formats.{holds_in}
@@ -14,8 +15,8 @@ pub returns-in_err-rest-clause-failed : goal.returns-in_err-rest-clause-failed
 returns-in_err-rest-clause-failed g c clean store content texts format =
     let old = state g.S.Store c.args.connection.now in
     let mid = state g.S.Store c.terms_before.new.conn in
-    let clean1 : HasCleanDisk mid = omega (arith, c.terms_from.ensures.crash.clean) in
-    let same = c.terms_before.ensures.same clean1 c.requires.idle (c.in_ok-first.ensures.ok clean1).0.is_open in
+    let clean1 : HasCleanDisk mid = omega (arith, c.terms_from.ensures.call.crash.clean) in
+    let same = c.terms_before.ensures.call.same clean1 c.requires.idle (c.in_ok-first.ensures.call.ok clean1).0.is_open in
     let there = store_same old mid same.1 store in
     let held = subst (λ (d : Database). holds_in g.L.Layout.format d.trees content) (sym same.1) format in
     let fault = c.in_err-rest.field-0.0 in
@@ -26,8 +27,8 @@ pub returns-clause-around : goal.returns-clause-around
 returns-clause-around g c clean store content format =
     let old = state g.S.Store c.args.connection.now in
     let mid = state g.S.Store c.terms_before.new.conn in
-    let clean1 : HasCleanDisk mid = omega (arith, c.terms_from.ensures.crash.clean) in
-    let same = c.terms_before.ensures.same clean1 c.requires.idle (c.in_ok-first.ensures.ok clean1).0.is_open in
+    let clean1 : HasCleanDisk mid = omega (arith, c.terms_from.ensures.call.crash.clean) in
+    let same = c.terms_before.ensures.call.same clean1 c.requires.idle (c.in_ok-first.ensures.call.ok clean1).0.is_open in
     let there = store_same old mid same.1 store in
     let held = subst (λ (d : Database). holds_in g.L.Layout.format d.trees content) (sym same.1) format in
     let number = c.args.around.now.number in
@@ -36,5 +37,5 @@ returns-clause-around g c clean store content format =
     let from : c.saturating_sub-from.result ≡ number + 1 - position = search rules in
     let front = c.in_ok-first.ensures.value clean1 store content format in
     let back = c.in_ok-rest.ensures.value clean there content held in
-    around_lists content c.args.database.0 (scan_value c.args.plan.now) number position c.as_str-start.result.now c.saturating_sub-below.result c.saturating_sub-from.result
+    around_lists (posted content c.args.database.0) (scan_value c.args.plan.now) number position c.as_str-start.result.now c.saturating_sub-below.result c.saturating_sub-from.result
     c.in_ok-first.first.items c.in_ok-rest.rest.items c.in_ok-joined.field-0.items c.as_str-start.ensures.value below from front back c.in_ok-joined.ensures

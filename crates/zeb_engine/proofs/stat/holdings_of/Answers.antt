@@ -1,19 +1,26 @@
-use Rattle.std.proofs.Common.{rules, ◌≡◌, ◌++◌, ◌∷◌, [], List, Err, arith, ap, get_or, subst, sym, take}
+use Rattle.std.proofs.Common.{rules, ◌≡◌, ◌++◌, ◌∷◌, [], ℕ, List, Err, arith, ap, get_or, subst, sym, take}
 use Rattle.sqlite.specs.Held.{state}
 use Rattle.sqlite.specs.State.{HasCleanDisk}
 use Rattle.sqlite.specs.Tree.{Trees}
 use Rattle.zeb_profile.specs.declared.registers.Register.TheVariants.{Word}
-use Rattle.zeb_register.specs.Terms.{AreTotals}
+use Rattle.zeb_extract.specs.declared.keys.Occurrence.{Occurrence}
+use Rattle.zeb_profile.specs.declared.directives.Directive.{Directive}
+use Rattle.zeb_register.specs.Content.{posted}
+use Rattle.zeb_register.specs.Occurring.{AreTotals}
 use Rattle.zeb_query.proofs.HoldingLemmas.{take_whole}
-use Rattle.zeb_engine.specs.Counted.{IsHolding}
-use Rattle.zeb_engine.specs.Counting.{Paired, Target}
+use Rattle.zeb_engine.specs.declared.replies.Holding.{Holding}
+use Rattle.zeb_engine.specs.Answers.{extent_of}
+use Rattle.zeb_engine.specs.Counting.{IsExtent, Paired, Target}
 use Rattle.zeb_engine.specs.Outcomes.{register_refusal}
 use Rattle.std.proofs.lemmas.List.{take_more}
-use Rattle.zeb_engine.proofs.Listed.{fault_fails}
+use Rattle.zeb_engine.proofs.ListedDatabases.{fault_fails}
 use Rattle.zeb_engine.proofs.Showing.{still_shows}
 use Rattle.zeb_engine.proofs.Stats.{paired_more}
 use Rattle.zeb_engine.proofs.stat.holdings_of.Goals as goal
 use Rattle.zeb_register.specs.Formats.{holds_in}
+
+abbrev Fits : (ℕ → Occurrence → Type 0) → List Directive → Target → Holding → Type 0
+Fits O profile target holding = IsExtent O profile target (extent_of holding)
 
 pub loop-target-preserved : goal.loop-target-preserved
 loop-target-preserved g c =
@@ -26,34 +33,34 @@ loop-target-preserved g c =
       room = search rules;
       crash = search rules;
       same = search rules;
-      open_still = λ clean was. (c.in_ok-totals.ensures.ok clean).0.is_open;
+      open_still = λ clean was. (c.in_ok-totals.ensures.call.ok clean).0.is_open;
       held = λ clean trees shows was content has.
-          let first : HasCleanDisk now = omega (arith, c.totals.ensures.crash.clean) in
-          let at = still_shows old now trees (c.loop-target.invariant.same first) shows (c.in_ok-totals.ensures.ok clean).0.was_open in
+          let first : HasCleanDisk now = omega (arith, c.totals.ensures.call.crash.clean) in
+          let at = still_shows old now trees (c.loop-target.invariant.same first) shows (c.in_ok-totals.ensures.call.ok clean).0.was_open in
           let value = c.in_ok-totals.ensures.value clean at.0 content (subst (λ (t : Trees). holds_in g.L.Layout.format t content) (sym at.1) has) in
           let target : Target = get_or c.args.targets.now index (0, Word) in
           let holding = c.in_ok-holding_of.field-0 in
-          let is : IsHolding c.args.profile.now content c.args.database.0 target holding = record {
+          let is : Fits (posted content c.args.database.0) c.args.profile.now target holding = record {
             name = c.in_ok-holding_of.ensures.name;
             register = c.in_ok-holding_of.ensures.register;
-            totals = subst (AreTotals content c.args.database.0 target.0 target.1) (sym c.in_ok-holding_of.ensures.totals) value;
+            totals = subst (AreTotals (posted content c.args.database.0) target.0 target.1) (sym c.in_ok-holding_of.ensures.totals) value;
           } in
-          let more = paired_more (IsHolding c.args.profile.now content c.args.database.0) (take index c.args.targets.now) c.loop-target.holdings.items target holding (c.loop-target.invariant.held first trees shows was content has) is in
-          subst (λ (l : List Target). Paired (IsHolding c.args.profile.now content c.args.database.0) l c.push_reserved.new.self.items) (sym (take_more c.args.targets.now index (0, Word) c.loop-target-test.true))
-          (subst (Paired (IsHolding c.args.profile.now content c.args.database.0) (take index c.args.targets.now ++ target ∷ [])) (sym c.push_reserved.ensures.items) more);
+          let more = paired_more (Fits (posted content c.args.database.0) c.args.profile.now) (take index c.args.targets.now) c.loop-target.holdings.items target holding (c.loop-target.invariant.held first trees shows was content has) is in
+          subst (λ (l : List Target). Paired (Fits (posted content c.args.database.0) c.args.profile.now) l c.push_reserved.new.self.items) (sym (take_more c.args.targets.now index (0, Word) c.loop-target-test.true))
+          (subst (Paired (Fits (posted content c.args.database.0) c.args.profile.now) (take index c.args.targets.now ++ target ∷ [])) (sym c.push_reserved.ensures.items) more);
     }
 
 pub returns-clause-held : goal.returns-clause-held
 returns-clause-held g c clean trees shows was content has =
     let whole = take_whole c.args.targets.now c.loop-target.target-index (omega (arith, c.loop-target-test.false)) in
-    subst (λ (l : List Target). Paired (IsHolding c.args.profile.now content c.args.database.0) l c.loop-target.holdings.items) whole (c.loop-target.invariant.held clean trees shows was content has)
+    subst (λ (l : List Target). Paired (Fits (posted content c.args.database.0) c.args.profile.now) l c.loop-target.holdings.items) whole (c.loop-target.invariant.held clean trees shows was content has)
 
 pub returns-in_err-totals-clause-failed : goal.returns-in_err-totals-clause-failed
-returns-in_err-totals-clause-failed g c clean trees shows was content texts has =
+returns-in_err-totals-clause-failed g c clean trees shows was content storable has =
     let old = state g.S.Store c.args.connection.now in
     let now = state g.S.Store c.loop-target.connection in
-    let first : HasCleanDisk now = omega (arith, c.totals.ensures.crash.clean) in
+    let first : HasCleanDisk now = omega (arith, c.totals.ensures.call.crash.clean) in
     let at = still_shows old now trees (c.loop-target.invariant.same first) shows (c.loop-target.invariant.open_still first was) in
     let fault = c.in_err-totals.field-0.0 in
     let told : c.from_residual-in_err-totals.result ≡ Err (register_refusal fault) = search rules in
-    rw told (fault_fails fault (λ is. c.in_err-totals.ensures.honest clean at.0 (ap Err is) content texts (subst (λ (t : Trees). holds_in g.L.Layout.format t content) (sym at.1) has)))
+    rw told (fault_fails fault (λ is. c.in_err-totals.ensures.honest clean at.0 (ap Err is) content storable (subst (λ (t : Trees). holds_in g.L.Layout.format t content) (sym at.1) has)))

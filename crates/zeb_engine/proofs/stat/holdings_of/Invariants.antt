@@ -3,10 +3,10 @@ use Rattle.sqlite.specs.Held.{state}
 use Rattle.sqlite.specs.State.{HasCleanDisk, Survives}
 use Rattle.sqlite.specs.Tree.{Trees}
 use Rattle.zeb_register.specs.Calls.{ChangesNothing}
-use Rattle.zeb_register.specs.Content.{Content}
-use Rattle.zeb_engine.specs.Counted.{IsHolding}
-use Rattle.zeb_engine.specs.Counting.{Paired}
-use Rattle.zeb_engine.specs.Found.{ShowsStore}
+use Rattle.zeb_register.specs.Content.{Content, posted}
+use Rattle.zeb_engine.specs.Answers.{extent_of}
+use Rattle.zeb_engine.specs.Counting.{IsExtent, Paired}
+use Rattle.zeb_engine.specs.Works.{ShowsStore}
 use Rattle.zeb_engine.proofs.stat.holdings_of.Given as goal
 use Rattle.zeb_register.specs.Formats.{holds_in}
 
@@ -22,5 +22,5 @@ invariant-loop-target g l =
       open_still : HasCleanDisk now → IsTrue old.is_open → IsTrue now.is_open;
       same : HasCleanDisk now → ChangesNothing old now;
       held : HasCleanDisk now → (trees : Trees) → ShowsStore old trees → IsTrue old.is_open → (content : Content) → holds_in g.L.Layout.format trees content
-          → Paired (IsHolding l.fn.profile content l.fn.database.0) (take l.target-index l.targets) l.holdings.items;
+          → Paired (λ target holding. IsExtent (posted content l.fn.database.0) l.fn.profile target (extent_of holding)) (take l.target-index l.targets) l.holdings.items;
     }

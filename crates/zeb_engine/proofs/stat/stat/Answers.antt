@@ -1,9 +1,11 @@
 use Rattle.std.proofs.Common.{rules, ◌≡◌, ◌∙◌, ◌∷◌, [], ℕ, pos, List, length, map, Err, Ok, IsTrue, arith, refl, sym, ap, ap₂, subst}
 use Rattle.sqlite.specs.declared.types.Value.TheVariants.{Int}
+use Rattle.std.proofs.lemmas.List.{length-map}
 use Rattle.sqlite.specs.Held.{state}
 use Rattle.sqlite.specs.State.{HasCleanDisk}
 use Rattle.sqlite.specs.Tree.{Trees}
 use Rattle.zeb_register.proofs.Calls.{nothing_then}
+use Rattle.zeb_register.specs.Content.{posted}
 use Rattle.zeb_register.specs.Kept.{AreReadable, record_shown}
 use Rattle.zeb_register.specs.Sql.{IsListOf}
 use Rattle.zeb_register.specs.Store.{HasDatabase, IsRest, records_tree}
@@ -11,19 +13,19 @@ use Rattle.zeb_register.specs.declared.catalog.Database.{Database}
 use Rattle.zeb_engine.specs.declared.replies.Reply.TheVariants.{Counted}
 use Rattle.zeb_engine.specs.Answers.{counted, extent_of}
 use Rattle.zeb_engine.specs.Conditions.{conditions}
-use Rattle.zeb_engine.specs.Counted.{IsHolding}
-use Rattle.zeb_engine.specs.Counting.{Paired, Target}
+use Rattle.zeb_engine.specs.Counting.{IsExtent, Paired, Target}
+use Rattle.zeb_engine.specs.Finding.{occurs}
 use Rattle.zeb_engine.specs.Holdings.{Base}
 use Rattle.zeb_engine.specs.NameOf.{name_bytes}
 use Rattle.zeb_engine.specs.Outcomes.{register_refusal}
 use Rattle.zeb_engine.specs.Steps.{ready}
 use Rattle.zeb_engine.proofs.Commanding.{ready_met}
 use Rattle.zeb_engine.proofs.Dumps.{all_readable, as_many}
-use Rattle.zeb_engine.proofs.Finds.{looked_up}
-use Rattle.zeb_engine.proofs.Listed.{fault_fails}
+use Rattle.zeb_engine.proofs.Held.{looked_up}
+use Rattle.zeb_engine.proofs.ListedDatabases.{fault_fails}
 use Rattle.zeb_engine.proofs.Serving.{keeps_still}
 use Rattle.zeb_engine.proofs.Showing.{still_shows}
-use Rattle.zeb_engine.proofs.Stats.{Counts, count_fails, count_known, count_unknown, extents_are, last_named, unready_counts}
+use Rattle.zeb_engine.proofs.Stats.{Counts, count_fails, count_known, count_unknown, extents_as, last_named, unready_counts}
 use Rattle.zeb_engine.proofs.stat.stat.Goals as goal
 use Rattle.zeb_register.specs.Formats.{version_of}
 
@@ -36,8 +38,8 @@ returns-in_err-check_ready-clause-serves g c clean limits before keeps =
     let refusal = c.in_err-check_ready.field-0.0 in
     let told : c.from_residual.result ≡ Err refusal = search rules in
     let nothing = c.check_ready.ensures.same clean in
-    subst (Counts g.L.Layout.format k name s0 s1 nothing before) (sym told)
-    (unready_counts g.L.Layout.format k name s0 s1 nothing refusal (λ before keeps. c.in_err-check_ready.ensures.ready clean limits before keeps) before keeps)
+    subst (Counts k name s0 s1 nothing before) (sym told)
+    (unready_counts k name s0 s1 nothing refusal (λ before keeps. c.in_err-check_ready.ensures.ready clean limits before keeps) before keeps)
 
 pub returns-in_err-database-clause-serves : goal.returns-in_err-database-clause-serves
 returns-in_err-database-clause-serves g c clean limits before keeps =
@@ -52,8 +54,8 @@ returns-in_err-database-clause-serves g c clean limits before keeps =
     let refusal = c.in_err-database.field-0.0 in
     let told : c.from_residual-in_err-database.result ≡ Err refusal = search rules in
     let nothing = nothing_then s0 s1 s2 (c.check_ready.ensures.same clean1) (c.existing_database.ensures.same clean) in
-    subst (Counts g.L.Layout.format k name s0 s2 nothing before) (sym told)
-    (count_unknown g.L.Layout.format k name s0 s2 nothing before met.0 met.1 keeps
+    subst (Counts k name s0 s2 nothing before) (sym told)
+    (count_unknown k name s0 s2 nothing before met.0 met.1 keeps
     {X = Database} (λ base d. HasDatabase s1.now.trees d.id.0 base.name (pos base.last) × (d.last ≡ base.last) × IsTrue s2.is_open) refusal (c.in_err-database.ensures.exists clean met.2.1 k before met.0 met.1 keeps1))
 
 pub returns-in_err-kept-clause-serves : goal.returns-in_err-kept-clause-serves
@@ -64,7 +66,7 @@ returns-in_err-kept-clause-serves g c clean limits before keeps =
     let s1 = state g.S.Store c.check_ready.new.connection in
     let s2 = state g.S.Store c.existing_database.new.connection in
     let s3 = state g.S.Store c.records.new.conn in
-    let clean2 : HasCleanDisk s2 = omega (arith, c.records.ensures.crash.clean) in
+    let clean2 : HasCleanDisk s2 = omega (arith, c.records.ensures.call.crash.clean) in
     let clean1 : HasCleanDisk s1 = omega (arith, clean2, c.existing_database.ensures.crash.clean) in
     let met = ready_met {X = Unit {0}} (λ (bases : List Base) x. IsTrue s0.is_open × IsTrue s1.is_open) (ready k before) tt (c.in_ok-check_ready.ensures.ready clean1 limits before keeps) in
     let keeps1 = keeps_still before s0 s1 (c.check_ready.ensures.same clean1) keeps in
@@ -73,10 +75,10 @@ returns-in_err-kept-clause-serves g c clean limits before keeps =
     let base = looked_up g.L.Layout.format k (record { version_is = refl; sound = c.is_of_some_text.ensures }) s1 before met.0 name database (IsTrue s2.is_open) met.1 seen.1 (c.in_ok-database.ensures.exists clean2 met.2.1 k before met.0 met.1 keeps1) in
     let there = still_shows s1 s2 s1.now.trees (c.existing_database.ensures.same clean2) (λ _. (seen.0, refl)) base.3 in
     let readable = all_readable g.L.Layout.format c.args.profile.now s1.now.trees database.id.0 base.0 base.2 in
-    let nothing = nothing_then s0 s2 s3 (nothing_then s0 s1 s2 (c.check_ready.ensures.same clean1) (c.existing_database.ensures.same clean2)) (c.records.ensures.same clean c.existing_database.ensures.idle) in
+    let nothing = nothing_then s0 s2 s3 (nothing_then s0 s1 s2 (c.check_ready.ensures.same clean1) (c.existing_database.ensures.same clean2)) (c.records.ensures.call.same clean c.existing_database.ensures.idle) in
     let fault = c.in_err-kept.field-0.0 in
     let told : c.from_residual-in_err-kept.result ≡ Err (register_refusal fault) = search rules in
-    subst (Counts g.L.Layout.format k name s0 s3 nothing before) (sym told) (count_fails g.L.Layout.format k name s0 s3 nothing before met.0 met.1 keeps (Err (register_refusal fault))
+    subst (Counts k name s0 s3 nothing before) (sym told) (count_fails k name s0 s3 nothing before met.0 met.1 keeps (Err (register_refusal fault))
     (fault_fails fault (λ is_damaged. c.in_err-kept.ensures.honest clean there.0 (ap Err is_damaged) (subst (λ (t : Trees). AreReadable t database.id.0) (sym there.1) readable))))
 
 pub returns-in_err-holdings-clause-serves : goal.returns-in_err-holdings-clause-serves
@@ -89,7 +91,7 @@ returns-in_err-holdings-clause-serves g c clean limits before keeps =
     let s3 = state g.S.Store c.records.new.conn in
     let s4 = state g.S.Store c.holdings_of.new.connection in
     let clean3 : HasCleanDisk s3 = omega (arith, c.holdings_of.ensures.crash.clean) in
-    let clean2 : HasCleanDisk s2 = omega (arith, clean3, c.records.ensures.crash.clean) in
+    let clean2 : HasCleanDisk s2 = omega (arith, clean3, c.records.ensures.call.crash.clean) in
     let clean1 : HasCleanDisk s1 = omega (arith, clean2, c.existing_database.ensures.crash.clean) in
     let met = ready_met {X = Unit {0}} (λ (bases : List Base) x. IsTrue s0.is_open × IsTrue s1.is_open) (ready k before) tt (c.in_ok-check_ready.ensures.ready clean1 limits before keeps) in
     let keeps1 = keeps_still before s0 s1 (c.check_ready.ensures.same clean1) keeps in
@@ -97,15 +99,15 @@ returns-in_err-holdings-clause-serves g c clean limits before keeps =
     let seen = (keeps1 met.2.1).0 in
     let base = looked_up g.L.Layout.format k (record { version_is = refl; sound = c.is_of_some_text.ensures }) s1 before met.0 name database (IsTrue s2.is_open) met.1 seen.1 (c.in_ok-database.ensures.exists clean2 met.2.1 k before met.0 met.1 keeps1) in
     let held = base.2 in
-    let records_same = c.records.ensures.same clean3 c.existing_database.ensures.idle in
+    let records_same = c.records.ensures.call.same clean3 c.existing_database.ensures.idle in
     let at2 = still_shows s1 s2 s1.now.trees (c.existing_database.ensures.same clean2) (λ _. (seen.0, refl)) in
     let at3 = still_shows s2 s3 s1.now.trees records_same at2 in
     let nothing = nothing_then s0 s3 s4 (nothing_then s0 s2 s3 (nothing_then s0 s1 s2 (c.check_ready.ensures.same clean1) (c.existing_database.ensures.same clean2)) records_same) (c.holdings_of.ensures.same clean) in
-    let opened = (c.in_ok-kept.ensures.ok clean3).0.is_open in
+    let opened = (c.in_ok-kept.ensures.call.ok clean3).0.is_open in
     let refusal = c.in_err-holdings.field-0.0 in
     let told : c.from_residual-in_err-holdings.result ≡ Err refusal = search rules in
-    subst (Counts g.L.Layout.format k name s0 s4 nothing before) (sym told) (count_fails g.L.Layout.format k name s0 s4 nothing before met.0 met.1 keeps (Err refusal)
-    (c.in_err-holdings.ensures.failed clean s1.now.trees at3 opened held.content held.texts held.held))
+    subst (Counts k name s0 s4 nothing before) (sym told) (count_fails k name s0 s4 nothing before met.0 met.1 keeps (Err refusal)
+    (c.in_err-holdings.ensures.failed clean s1.now.trees at3 opened held.content held.storable held.held))
 
 pub returns-clause-serves : goal.returns-clause-serves
 returns-clause-serves g c clean limits before keeps =
@@ -117,7 +119,7 @@ returns-clause-serves g c clean limits before keeps =
     let s3 = state g.S.Store c.records.new.conn in
     let s4 = state g.S.Store c.holdings_of.new.connection in
     let clean3 : HasCleanDisk s3 = omega (arith, c.holdings_of.ensures.crash.clean) in
-    let clean2 : HasCleanDisk s2 = omega (arith, clean3, c.records.ensures.crash.clean) in
+    let clean2 : HasCleanDisk s2 = omega (arith, clean3, c.records.ensures.call.crash.clean) in
     let clean1 : HasCleanDisk s1 = omega (arith, clean2, c.existing_database.ensures.crash.clean) in
     let met = ready_met {X = Unit {0}} (λ (bases : List Base) x. IsTrue s0.is_open × IsTrue s1.is_open) (ready k before) tt (c.in_ok-check_ready.ensures.ready clean1 limits before keeps) in
     let keeps1 = keeps_still before s0 s1 (c.check_ready.ensures.same clean1) keeps in
@@ -126,11 +128,11 @@ returns-clause-serves g c clean limits before keeps =
     let said = c.in_ok-database.ensures.exists clean2 met.2.1 k before met.0 met.1 keeps1 in
     let base = looked_up g.L.Layout.format k (record { version_is = refl; sound = c.is_of_some_text.ensures }) s1 before met.0 name database (IsTrue s2.is_open) met.1 seen.1 said in
     let held = base.2 in
-    let records_same = c.records.ensures.same clean3 c.existing_database.ensures.idle in
+    let records_same = c.records.ensures.call.same clean3 c.existing_database.ensures.idle in
     let at2 = still_shows s1 s2 s1.now.trees (c.existing_database.ensures.same clean2) (λ _. (seen.0, refl)) in
     let at3 = still_shows s2 s3 s1.now.trees records_same at2 in
     let nothing = nothing_then s0 s3 s4 (nothing_then s0 s2 s3 (nothing_then s0 s1 s2 (c.check_ready.ensures.same clean1) (c.existing_database.ensures.same clean2)) records_same) (c.holdings_of.ensures.same clean) in
-    let opened = (c.in_ok-kept.ensures.ok clean3).0.is_open in
+    let opened = (c.in_ok-kept.ensures.call.ok clean3).0.is_open in
     let kept = c.in_ok-kept.kept.items in
     let there = at2 base.3 in
     let are = subst (λ (t : Trees). IsListOf (IsRest records_tree (Int database.id.0 ∷ []) t) (map record_shown kept)) there.1 (c.in_ok-kept.ensures.value clean3 there.0) in
@@ -138,10 +140,50 @@ returns-clause-serves g c clean limits before keeps =
     let last = last_named name met.0 database s1.now.trees (IsTrue s2.is_open) said base.0 base.1 in
     let holdings = c.in_ok-holdings.holdings in
     let targets = c.deref.ensures.value ∙ c.in_ok-targets.ensures in
-    let paired = subst (λ (l : List Target). Paired (IsHolding c.args.profile.now held.content database.id.0) l holdings.items) targets (c.in_ok-holdings.ensures.held clean s1.now.trees at3 opened held.content held.held) in
+    let paired = subst (λ (l : List Target). Paired (λ target holding. IsExtent (posted held.content database.id.0) c.args.profile.now target (extent_of holding)) l holdings.items) targets (c.in_ok-holdings.ensures.held clean s1.now.trees at3 opened held.content held.held) in
     let counted_are : c.len.result ≡ length kept = search rules in
-    count_known g.L.Layout.format k name s0 s4 nothing before met.0 met.1 keeps base.0 base.1 (Ok (Counted c.len.result database.last holdings)) (
+    count_known k name s0 s4 nothing before met.0 met.1 keeps base.0 base.1 (Ok (Counted c.len.result database.last holdings)) (
       map extent_of holdings.items,
-      extents_are g.L.Layout.format c.args.profile.now s1.now.trees database.id.0 base.0 held _ holdings.items paired,
+      extents_as (posted held.content database.id.0) (occurs c.args.profile.now base.0.records) held.occurring c.args.profile.now _ holdings.items paired,
       ap₂ (λ (m n : ℕ). counted m n (map extent_of holdings.items)) (counted_are ∙ many) last,
+    )
+
+pub returns-clause-alone : goal.returns-clause-alone
+returns-clause-alone g c clean store content has =
+    let profile = c.args.profile.now in
+    let s0 = state g.S.Store c.args.connection.now in
+    let s1 = state g.S.Store c.check_ready.new.connection in
+    let s2 = state g.S.Store c.existing_database.new.connection in
+    let s3 = state g.S.Store c.records.new.conn in
+    let clean3 : HasCleanDisk s3 = omega (arith, c.holdings_of.ensures.crash.clean) in
+    let clean2 : HasCleanDisk s2 = omega (arith, clean3, c.records.ensures.call.crash.clean) in
+    let clean1 : HasCleanDisk s1 = omega (arith, clean2, c.existing_database.ensures.crash.clean) in
+    let at1 = still_shows s0 s1 s0.now.trees (c.check_ready.ensures.same clean1) (λ _. (store, refl)) in
+    let at2 = still_shows s1 s2 s0.now.trees (c.existing_database.ensures.same clean2) at1 in
+    let at3 = still_shows s2 s3 s0.now.trees (c.records.ensures.call.same clean3 c.existing_database.ensures.idle) at2 in
+    let first = at1 (c.in_ok-database.ensures.found clean2) in
+    let read = (c.in_ok-kept.ensures.call.ok clean3).0 in
+    let second = at2 read.was_open in
+    let database = c.in_ok-database.database in
+    let row = subst (λ (t : Trees). HasDatabase t database.id.0 (name_bytes c.args.name.now) (pos database.last)) first.1 (c.in_ok-database.ensures.row clean2 first.0) in
+    let kept = c.in_ok-kept.kept.items in
+    let are = subst (λ (t : Trees). IsListOf (IsRest records_tree (Int database.id.0 ∷ []) t) (map record_shown kept)) second.1 (c.in_ok-kept.ensures.value clean3 second.0) in
+    let holdings = c.in_ok-holdings.holdings in
+    let targets = c.deref.ensures.value ∙ c.in_ok-targets.ensures in
+    let paired = subst (λ (l : List Target). Paired (λ target holding. IsExtent (posted content database.id.0) profile target (extent_of holding)) l holdings.items) targets (c.in_ok-holdings.ensures.held clean s0.now.trees at3 read.is_open content has) in
+    let counted_are : c.len.result ≡ length kept = search rules in (
+      database.id.0,
+      pos database.last,
+      row,
+      (
+        map record_shown kept,
+        database.last,
+        are,
+        refl,
+        (
+          map extent_of holdings.items,
+          extents_as (posted content database.id.0) (posted content database.id.0) (λ n o. (λ h. h, λ h. h)) profile _ holdings.items paired,
+          ap (λ (m : ℕ). counted m database.last (map extent_of holdings.items)) (counted_are ∙ sym (length-map kept record_shown)),
+        ),
+      ),
     )

@@ -14,10 +14,10 @@ returns-in_err-commit-clause-survives g c =
     let end = c.commit.new.self.0 in
     let same : end ≡ c.connection-2-1.given.0 = search rules in
     subst (λ h. Survives (state g.S.Store old) (state g.S.Store h) (CommitsTables (state g.S.Store old))) same
-    (commit_survives g.S.Store old inside mid (state g.S.Store end) (CommitsTables (state g.S.Store old)) begun c.make_tables.ensures.crash c.commit.ensures.survives (λ clean db is.
+    (commit_survives g.S.Store old inside mid (state g.S.Store end) (CommitsTables (state g.S.Store old)) begun c.make_tables.ensures.call.crash c.commit.ensures.survives (λ clean db is.
     let first : HasCleanDisk mid = omega (arith, c.commit.ensures.survives.clean) in
     let did = c.in_ok-make_tables.ensures in
-    tables_commit g.S.Store old inside mid begun (did.ok first (rw begun refl)) (did.there first (rw begun refl)) (did.made first (rw begun refl)) db is))
+    tables_commit g.S.Store old inside mid begun (did.call.ok first (rw begun refl)) (did.there first (rw begun refl)) (did.made first (rw begun refl)) db is))
 
 pub returns-clause-survives : goal.returns-clause-survives
 returns-clause-survives g c =
@@ -28,7 +28,7 @@ returns-clause-survives g c =
     let end = c.commit.new.self.0 in
     let same : end ≡ c.connection-2-1.given.0 = search rules in
     subst (λ h. Survives (state g.S.Store old) (state g.S.Store h) (CommitsTables (state g.S.Store old))) same
-    (commit_survives g.S.Store old inside mid (state g.S.Store end) (CommitsTables (state g.S.Store old)) begun c.make_tables.ensures.crash c.commit.ensures.survives (λ clean db is.
+    (commit_survives g.S.Store old inside mid (state g.S.Store end) (CommitsTables (state g.S.Store old)) begun c.make_tables.ensures.call.crash c.commit.ensures.survives (λ clean db is.
     let first : HasCleanDisk mid = omega (arith, c.commit.ensures.survives.clean) in
     let did = c.in_ok-make_tables.ensures in
-    tables_commit g.S.Store old inside mid begun (did.ok first (rw begun refl)) (did.there first (rw begun refl)) (did.made first (rw begun refl)) db is))
+    tables_commit g.S.Store old inside mid begun (did.call.ok first (rw begun refl)) (did.there first (rw begun refl)) (did.made first (rw begun refl)) db is))

@@ -4,7 +4,7 @@ use Rattle.zeb_register.specs.Store.{IsStore}
 use Rattle.zeb_engine.specs.Conditions.{Conditions}
 use Rattle.zeb_engine.specs.Image.{IsImage}
 use Rattle.zeb_engine.specs.Steps.{holding}
-use Rattle.zeb_engine.specs.Writing.{AreOf}
+use Rattle.zeb_engine.specs.PrivateWriting.{AreOf}
 use Rattle.zeb_engine.proofs.WriteSteps.{init_works, begun_so, nothing_so}
 use Rattle.zeb_engine.proofs.writes.apply.Goals as goal
 use Rattle.zeb_register.specs.Formats.{version_of}

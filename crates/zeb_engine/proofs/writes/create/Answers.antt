@@ -12,7 +12,7 @@ returns-clause-works g c clean inside opened k =
     let new = state g.S.Store c.database_put.new.tx.conn.now in
     let name = name_bytes c.args.name.now in
     let id = c.in_ok-database_put.field-0.0 in (
-      c.in_ok-database_put.ensures.ok clean inside,
+      c.in_ok-database_put.ensures.call.ok clean inside,
       λ before free store image.
           let put = subst (λ n. Changes databases_tree (PutsDatabase id n (pos 0)) old new) c.as_str.ensures (c.in_ok-database_put.ensures.put clean inside store) in
           create_leads k old new name before image id c.args.name.now.named free put,

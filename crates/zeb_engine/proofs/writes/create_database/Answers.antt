@@ -1,4 +1,4 @@
-use Rattle.std.proofs.Common.{◌≡◌, Option, None, Result, Err, rules, arith, refl, sym, ap, subst, inl, inr}
+use Rattle.std.proofs.Common.{◌≡◌, Option, None, Result, Err, rules, arith, sym, ap, subst, inl, inr}
 use Rattle.sqlite.specs.State.{HasCleanDisk}
 use Rattle.sqlite.specs.Held.{state}
 use Rattle.zeb_register.specs.declared.RegFault.{RegFault}
@@ -11,7 +11,7 @@ use Rattle.zeb_engine.specs.Outcomes.{register_refusal}
 use Rattle.zeb_engine.specs.Steps.{turned, created}
 use Rattle.zeb_engine.specs.Works.{IsReady, Serves}
 use Rattle.zeb_engine.proofs.Crashing.{survives_after}
-use Rattle.zeb_engine.proofs.Listed.{fault_fails, counted, row_named, none_named, row_found}
+use Rattle.zeb_engine.proofs.ListedDatabases.{fault_fails, counted, row_named, none_named, row_found}
 use Rattle.zeb_engine.proofs.Serving.{keeps_still, early_serves}
 use Rattle.zeb_engine.proofs.Turns.{step_exists}
 use Rattle.zeb_engine.proofs.ReadyImages.{image_some}
@@ -25,7 +25,7 @@ returns-in_err-found-clause-serves g c clean k =
     let fault = c.in_err-found.field-0.0 in
     let told : c.from_residual.result ≡ Err (register_refusal fault) = search rules in
     subst (Serves (IsReady k) (turned k turn) old new) (sym told)
-    (early_serves (turned k turn) (IsReady k) old new (register_refusal fault) (c.database_of.ensures.same clean c.requires.idle) (λ before fits keeps.
+    (early_serves (turned k turn) (IsReady k) old new (register_refusal fault) (c.database_of.ensures.call.same clean c.requires.idle) (λ before fits keeps.
     inl (fault_fails fault (λ is.
     let damaged : ◌≡◌ {A = Result (Option Database) RegFault} (Err fault) (Err register.Damaged) = ap Err is in
     let opened = c.in_err-found.ensures.opened clean damaged in
@@ -39,8 +39,8 @@ returns-in-Some-clause-serves g c clean k =
     let old = state g.S.Store c.args.connection.now in
     let new = state g.S.Store c.database_of.new.conn in
     let name = name_bytes c.args.name.now in
-    early_serves (turned k (created name)) (IsReady k) old new Exists (c.database_of.ensures.same clean c.requires.idle) (λ before fits keeps.
-    let opened = (c.in_ok-found.ensures.ok clean).0.was_open in
+    early_serves (turned k (created name)) (IsReady k) old new Exists (c.database_of.ensures.call.same clean c.requires.idle) (λ before fits keeps.
+    let opened = (c.in_ok-found.ensures.call.ok clean).0.was_open in
     let at = keeps opened in
     let ready = fits opened in
     let all = image_some k old.now.trees before ready.0 ready.1 at.0.1 in
@@ -54,14 +54,14 @@ returns-in-None-clause-serves g c clean k before fits keeps =
     let mid = state g.S.Store c.database_of.new.conn in
     let name = name_bytes c.args.name.now in
     let first : HasCleanDisk mid = omega (arith, c.transact.ensures.survives.clean) in
-    let still = c.in_ok-found.ensures.ok first in
+    let still = c.in_ok-found.ensures.call.ok first in
     let at = keeps still.0.was_open in
     let ready = fits still.0.was_open in
     let all = image_some k old.now.trees before ready.0 ready.1 at.0.1 in
     let value = c.in_ok-found.ensures.value first at.0.0 in
     let there : IsDatabaseOf old.now.trees name None = subst (λ n. IsDatabaseOf old.now.trees n None) c.as_str.ensures (subst (IsDatabaseOf old.now.trees c.as_str.result.now) c.in-None.is value) in
     let none = none_named old.now.trees ready.0 all.1.image.id_of all.1.image.listed name there in
-    c.transact.ensures.serves clean k still.0.is_open before (λ _. (ready.0, ready.1, none)) (keeps_still before old mid (c.database_of.ensures.same first c.requires.idle) keeps)
+    c.transact.ensures.serves clean k still.0.is_open before (λ _. (ready.0, ready.1, none)) (keeps_still before old mid (c.database_of.ensures.call.same first c.requires.idle) keeps)
 
 pub returns-in-None-clause-survives : goal.returns-in-None-clause-survives
 returns-in-None-clause-survives g c =
@@ -69,13 +69,13 @@ returns-in-None-clause-survives g c =
     let mid = state g.S.Store c.database_of.new.conn in
     let new = state g.S.Store c.transact.new.connection in
     let name = name_bytes c.args.name.now in
-    survives_after old mid new _ _ c.database_of.ensures.crash c.transact.ensures.survives (λ clean db made k before fits keeps.
+    survives_after old mid new _ _ c.database_of.ensures.call.crash c.transact.ensures.survives (λ clean db made k before fits keeps.
     let first : HasCleanDisk mid = omega (arith, c.transact.ensures.survives.clean) in
-    let still = c.in_ok-found.ensures.ok first in
+    let still = c.in_ok-found.ensures.call.ok first in
     let at = keeps still.0.was_open in
     let ready = fits still.0.was_open in
     let all = image_some k old.now.trees before ready.0 ready.1 at.0.1 in
     let value = c.in_ok-found.ensures.value first at.0.0 in
     let there : IsDatabaseOf old.now.trees name None = subst (λ n. IsDatabaseOf old.now.trees n None) c.as_str.ensures (subst (IsDatabaseOf old.now.trees c.as_str.result.now) c.in-None.is value) in
     let none = none_named old.now.trees ready.0 all.1.image.id_of all.1.image.listed name there in
-    made k still.0.is_open before (λ _. (ready.0, ready.1, none)) (keeps_still before old mid (c.database_of.ensures.same first c.requires.idle) keeps))
+    made k still.0.is_open before (λ _. (ready.0, ready.1, none)) (keeps_still before old mid (c.database_of.ensures.call.same first c.requires.idle) keeps))

@@ -2,7 +2,7 @@ use Rattle.std.proofs.Common.{arith, refl, subst}
 use Rattle.sqlite.specs.Held.{state}
 use Rattle.sqlite.specs.State.{HasCleanDisk}
 use Rattle.zeb_profile.specs.Canonical.{canonical_text}
-use Rattle.zeb_engine.specs.Writing.{PutsTexts}
+use Rattle.zeb_engine.specs.PrivateWriting.{PutsTexts}
 use Rattle.zeb_engine.proofs.Beginning.{begun_image}
 use Rattle.zeb_engine.proofs.writes.init.Goals as goal
 use Rattle.zeb_register.specs.Formats.{version_of}
@@ -14,7 +14,7 @@ returns-clause-begun g c clean inside store =
     let profile = c.args.profile.now in
     let pattern = c.args.pattern.now in
     let first : HasCleanDisk mid = omega (arith, c.put_texts.ensures.crash.clean) in
-    let wiped = c.in_ok-wipe.ensures.ok first inside in
+    let wiped = c.in_ok-wipe.ensures.call.ok first inside in
     let empty = wiped.1 store in
     let put = c.in_ok-put_texts.ensures.put clean wiped.0.mode empty.0 empty.2.0 in
     let said = subst (λ v. PutsTexts v (canonical_text profile) pattern mid new) c.version.ensures (subst (λ t. PutsTexts c.version.result.now t pattern mid new) c.text.ensures put) in

@@ -8,7 +8,7 @@ use Rattle.zeb_engine.specs.declared.commands.Limits.{Limits}
 use Rattle.zeb_engine.specs.Conditions.{Conditions, conditions}
 use Rattle.zeb_engine.specs.Image.{IsImage}
 use Rattle.zeb_engine.specs.Steps.{holding}
-use Rattle.zeb_engine.specs.Writing.{AreOf}
+use Rattle.zeb_engine.specs.PrivateWriting.{AreOf}
 use Rattle.zeb_engine.proofs.Crashing.{survives_as}
 use Rattle.zeb_engine.proofs.Serving.{on_ok}
 use Rattle.zeb_engine.proofs.writes.init_register.Goals as goal

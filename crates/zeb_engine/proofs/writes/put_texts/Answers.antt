@@ -10,11 +10,11 @@ returns-clause-put g c clean inside store none =
     let second = state g.S.Store c.meta_put.new.tx.conn.now in
     let third = state g.S.Store c.meta_put-2.new.tx.conn.now in
     let last = state g.S.Store c.meta_put-3.new.tx.conn.now in
-    let clean3 : HasCleanDisk third = omega (arith, c.meta_put-3.ensures.crash.clean) in
-    let clean2 : HasCleanDisk second = omega (arith, c.meta_put-3.ensures.crash.clean, c.meta_put-2.ensures.crash.clean) in
-    let one = c.in_ok-meta_put.ensures.ok clean2 inside in
-    let two = c.in_ok-meta_put-2.ensures.ok clean3 one.on.mode in
-    let three = c.in_ok-meta_put-3.ensures.ok clean two.on.mode in
+    let clean3 : HasCleanDisk third = omega (arith, c.meta_put-3.ensures.call.crash.clean) in
+    let clean2 : HasCleanDisk second = omega (arith, c.meta_put-3.ensures.call.crash.clean, c.meta_put-2.ensures.call.crash.clean) in
+    let one = c.in_ok-meta_put.ensures.call.ok clean2 inside in
+    let two = c.in_ok-meta_put-2.ensures.call.ok clean3 one.on.mode in
+    let three = c.in_ok-meta_put-3.ensures.call.ok clean two.on.mode in
     let rows1 = one.rows store in
     let rows2 = two.rows rows1.layout in
     texts_put first second third last c.args.version.now c.args.text.now c.args.pattern.now (c.utf8.version, c.utf8.text, c.utf8.pattern) none rows1 rows2 (three.rows rows2.layout)

@@ -4,7 +4,7 @@ use Rattle.sqlite.specs.Held.{state}
 use Rattle.zeb_engine.specs.Crashes.{Commits}
 use Rattle.zeb_engine.specs.Conditions.{Conditions}
 use Rattle.zeb_engine.specs.Works.{Serves}
-use Rattle.zeb_engine.specs.Writing.{Begins, Fits, IsReached, written}
+use Rattle.zeb_engine.specs.PrivateWriting.{Begins, Fits, IsReached, written}
 use Rattle.zeb_engine.proofs.Crashing.{write_survives}
 use Rattle.zeb_engine.proofs.Serving.{begins_over, refusal_serves, reply_serves, reached_inside}
 use Rattle.zeb_engine.proofs.writes.transact.Goals as goal

@@ -2,11 +2,12 @@ use Rattle.std.proofs.Common.{rules, arith, ◌≡◌, ◌∙◌, sym, ap, subst
 use Rattle.std.proofs.Math.Facts.{to_z-of_z}
 use Rattle.std.specs.Option.{option_copied}
 use Rattle.sqlite.specs.Held.{state}
-use Rattle.zeb_register.specs.Store.{Changes, databases_tree, SetsLast, AddsDatabase}
+use Rattle.zeb_register.specs.Store.{Changes, databases_tree}
+use Rattle.zeb_register.specs.RowStatements.{SetsLast, AddsDatabase}
 use Rattle.zeb_register.specs.Catalog.{PutsDatabase}
 use Rattle.zeb_register.proofs.DatabaseStatements.{puts_set, puts_added}
 use Rattle.zeb_register.proofs.Calls.{store_same, changes_after, changes_so}
-use Rattle.zeb_register.proofs.Found.{id_there, id_readable, no_database}
+use Rattle.zeb_register.proofs.LookUps.{id_there, id_readable, no_database}
 use Rattle.zeb_register.proofs.catalog.database_put.Goals as goal
 
 pub returns-in-Some-clause-put : goal.returns-in-Some-clause-put
@@ -15,10 +16,10 @@ returns-in-Some-clause-put g c clean inside store =
     let new = state g.S.Store c.last_set.new.tx.conn.now in
     let name = c.args.name.now in
     let id = c.in_ok-id-in-Some.id in
-    let rows = c.in_ok-rows.ensures.ok (omega (arith, c.last_set.ensures.crash.clean)) inside in
+    let rows = c.in_ok-rows.ensures.call.ok (omega (arith, c.last_set.ensures.call.crash.clean)) inside in
     let got : slice_get c.in_ok-rows.rows.items 0 ≡ Some c.in-Some.row.now = sym (c.first.ensures.value ∙ ap (λ l. slice_get l 0) c.deref.ensures.value) ∙ ap option_copied c.in-Some.is in
     let there = id_there old.now.trees name c.in_ok-rows.rows.items c.in-Some.row.now id (rows.1 store) got c.in_ok-id-in-Some.ensures.ok.0 in
-    let done = changes_after _ _ _ _ _ rows.0 inside ((c.in_ok-last_set-in-Some.ensures.ok clean rows.0.mode).rows (store_same _ _ rows.0.now_is store)) in
+    let done = changes_after _ _ _ _ _ rows.0 inside ((c.in_ok-last_set-in-Some.ensures.call.ok clean rows.0.mode).rows (store_same _ _ rows.0.now_is store)) in
     let same : to_z w64 (of_z w64 id) ≡ id = to_z-of_z {w = w64} {z = id} c.in_ok-id-in-Some.ensures.ok.1 in
     let last : to_z w64 (of_z w64 c.in_ok-last.last) ≡ pos c.args.last = to_z-of_z {w = w64} {z = c.in_ok-last.last} c.in_ok-last.ensures.ok.1 ∙ c.in_ok-last.ensures.ok.0 in
     let fixed = subst (λ l. Changes databases_tree (SetsLast id l) old new) last (subst (λ i. Changes databases_tree (SetsLast i (to_z w64 (of_z w64 c.in_ok-last.last))) old new) same done) in
@@ -32,10 +33,10 @@ returns-clause-put g c clean inside store =
     let new = state g.S.Store c.database_add.new.tx.conn.now in
     let name = c.args.name.now in
     let id = c.last_insert_rowid.result in
-    let rows = c.in_ok-rows.ensures.ok (omega (arith, c.database_add.ensures.crash.clean)) inside in
+    let rows = c.in_ok-rows.ensures.call.ok (omega (arith, c.database_add.ensures.call.crash.clean)) inside in
     let got : slice_get c.in_ok-rows.rows.items 0 ≡ None = sym (c.first.ensures.value ∙ ap (λ l. slice_get l 0) c.deref.ensures.value) ∙ ap option_copied c.in-None.is in
     let none = no_database old.now.trees name c.in_ok-rows.rows.items (rows.1 store) got in
-    let done = changes_after _ _ _ _ _ rows.0 inside ((c.in_ok-database_add-in-None.ensures.ok clean rows.0.mode).rows (store_same _ _ rows.0.now_is store)) in
+    let done = changes_after _ _ _ _ _ rows.0 inside ((c.in_ok-database_add-in-None.ensures.call.ok clean rows.0.mode).rows (store_same _ _ rows.0.now_is store)) in
     let same : to_z w64 (of_z w64 id) ≡ id = to_z-of_z {w = w64} {z = id} (record { sfits = c.last_insert_rowid.type_inv }) in
     let last : to_z w64 (of_z w64 c.in_ok-last.last) ≡ pos c.args.last = to_z-of_z {w = w64} {z = c.in_ok-last.last} c.in_ok-last.ensures.ok.1 ∙ c.in_ok-last.ensures.ok.0 in
     let fixed = subst (λ l. Changes databases_tree (AddsDatabase id name l) old new) last
@@ -47,5 +48,5 @@ returns-clause-put g c clean inside store =
 pub returns-in_err-id-in-Some-clause-honest : goal.returns-in_err-id-in-Some-clause-honest
 returns-in_err-id-in-Some-clause-honest g c clean inside store is =
     let got : slice_get c.in_ok-rows.rows.items 0 ≡ Some c.in-Some.row.now = sym (c.first.ensures.value ∙ ap (λ l. slice_get l 0) c.deref.ensures.value) ∙ ap option_copied c.in-Some.is in
-    let able = id_readable (state g.S.Store c.args.tx.now.conn.now).now.trees c.args.name.now c.in_ok-rows.rows.items c.in-Some.row.now ((c.in_ok-rows.ensures.ok clean inside).1 store) got in
+    let able = id_readable (state g.S.Store c.args.tx.now.conn.now).now.trees c.args.name.now c.in_ok-rows.rows.items c.in-Some.row.now ((c.in_ok-rows.ensures.call.ok clean inside).1 store) got in
     c.in_err-id-in-Some.ensures.honest (search rules) able.0 able.1

@@ -4,7 +4,7 @@ use Rattle.sqlite.specs.Held.{state}
 use Rattle.zeb_register.specs.Store.{records_tree, IsRest}
 use Rattle.zeb_register.proofs.ContentLemmas.{one_list}
 use Rattle.zeb_register.proofs.DatabaseStatements.{one_name}
-use Rattle.zeb_register.proofs.Singles.{one_text, one_last, one_number, one_ident}
+use Rattle.zeb_register.proofs.RowsAreLists.{one_text, one_last, one_number, one_ident}
 use Rattle.zeb_register.proofs.lists.rows_are_lists.Goals as goal
 
 pub returns-clause-texts : goal.returns-clause-texts

@@ -1,5 +1,5 @@
 use Rattle.std.proofs.Common.{◌≡◌, map, take, length}
-use Rattle.zeb_register.specs.Content.{first_two, place_row}
+use Rattle.zeb_register.specs.RowPlaces.{first_two, place_row}
 use Rattle.zeb_register.proofs.plain.are_places.Given as goal
 
 abbrev pub invariant-loop-at : goal.invariant-loop-at

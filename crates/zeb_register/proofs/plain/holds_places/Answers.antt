@@ -3,8 +3,11 @@ use Rattle.std.proofs.Math.Facts.{to_z-of_z}
 use Rattle.sqlite.specs.Held.{state}
 use Rattle.sqlite_rules.specs.Lists.{Has}
 use Rattle.zeb_register.specs.Sql.{IsListOf}
-use Rattle.zeb_register.specs.Store.{IsRest, postings_tree, place_key}
-use Rattle.zeb_register.specs.Content.{code_of_register, place_front, first_two}
+use Rattle.zeb_register.specs.Store.{IsRest, postings_tree}
+use Rattle.zeb_register.specs.RowStatements.{place_key}
+use Rattle.zeb_register.specs.PlainRows.{code_of_register}
+use Rattle.zeb_register.specs.RowPlaces.{first_two}
+use Rattle.zeb_register.proofs.PlaceLemmas.{place_front}
 use Rattle.zeb_register.proofs.PlaceLemmas.{places_held, places_lost, two_numbers}
 use Rattle.zeb_register.proofs.plain.holds_places.Goals as goal
 
@@ -21,7 +24,7 @@ returns-clause-found g c clean inside store content holds is =
     subst (λ s. P c.args.db.0 (pos (code_of_register key.register)) key.term s) number
     (subst (λ t. P c.args.db.0 (pos (code_of_register key.register)) t (to_z w64 (of_z w64 c.in_ok-sysno.sysno))) c.as_str.ensures
     (subst (λ r. P c.args.db.0 r c.as_str.result.now (to_z w64 (of_z w64 c.in_ok-sysno.sysno))) code
-    (subst (λ d. P d (to_z w64 (of_z w64 c.code_of-register.result)) c.as_str.result.now (to_z w64 (of_z w64 c.in_ok-sysno.sysno))) db ((c.in_ok-rows.ensures.ok clean inside).1 store)))) in
+    (subst (λ d. P d (to_z w64 (of_z w64 c.code_of-register.result)) c.as_str.result.now (to_z w64 (of_z w64 c.in_ok-sysno.sysno))) db ((c.in_ok-rows.ensures.call.ok clean inside).1 store)))) in
     places_held trees content c.args.db.0 key c.args.sysno holds items c.args.places.now held (sym (ap (map first_two) c.deref.ensures.value) ∙ c.are_places.ensures.same is)
 
 pub returns-clause-lost : goal.returns-clause-lost
@@ -37,7 +40,7 @@ returns-clause-lost g c clean inside store content holds rises is =
     subst (λ s. P c.args.db.0 (pos (code_of_register key.register)) key.term s) number
     (subst (λ t. P c.args.db.0 (pos (code_of_register key.register)) t (to_z w64 (of_z w64 c.in_ok-sysno.sysno))) c.as_str.ensures
     (subst (λ r. P c.args.db.0 r c.as_str.result.now (to_z w64 (of_z w64 c.in_ok-sysno.sysno))) code
-    (subst (λ d. P d (to_z w64 (of_z w64 c.code_of-register.result)) c.as_str.result.now (to_z w64 (of_z w64 c.in_ok-sysno.sysno))) db ((c.in_ok-rows.ensures.ok clean inside).1 store)))) in
+    (subst (λ d. P d (to_z w64 (of_z w64 c.code_of-register.result)) c.as_str.result.now (to_z w64 (of_z w64 c.in_ok-sysno.sysno))) db ((c.in_ok-rows.ensures.call.ok clean inside).1 store)))) in
     places_lost trees content c.args.db.0 key c.args.sysno holds items c.args.places.now held rises (λ same. c.are_places.ensures.other is (ap (map first_two) c.deref.ensures.value ∙ same))
 
 pub returns-clause-honest : goal.returns-clause-honest
@@ -53,7 +56,7 @@ returns-clause-honest g c clean inside store content holds is =
     subst (λ s. P c.args.db.0 (pos (code_of_register key.register)) key.term s) number
     (subst (λ t. P c.args.db.0 (pos (code_of_register key.register)) t (to_z w64 (of_z w64 c.in_ok-sysno.sysno))) c.as_str.ensures
     (subst (λ r. P c.args.db.0 r c.as_str.result.now (to_z w64 (of_z w64 c.in_ok-sysno.sysno))) code
-    (subst (λ d. P d (to_z w64 (of_z w64 c.code_of-register.result)) c.as_str.result.now (to_z w64 (of_z w64 c.in_ok-sysno.sysno))) db ((c.in_ok-rows.ensures.ok clean inside).1 store)))) in
+    (subst (λ d. P d (to_z w64 (of_z w64 c.code_of-register.result)) c.as_str.result.now (to_z w64 (of_z w64 c.in_ok-sysno.sysno))) db ((c.in_ok-rows.ensures.call.ok clean inside).1 store)))) in
     c.are_places.ensures.honest is (λ row here. two_numbers trees content c.args.db.0 key c.args.sysno holds items held row (subst (λ l. Has l row) c.deref.ensures.value here))
 
 pub returns-clause-text : goal.returns-clause-text

@@ -2,8 +2,8 @@ use Rattle.std.proofs.Common.{◌≡◌, IsTrue, take}
 use Rattle.sqlite.specs.Held.{state}
 use Rattle.sqlite.specs.State.{HasCleanDisk, Survives}
 use Rattle.zeb_register.specs.Store.{IsStore}
-use Rattle.zeb_register.specs.Content.{Puts}
-use Rattle.zeb_register.specs.Calls.{Stays}
+use Rattle.zeb_register.specs.RowPlaces.{Puts}
+use Rattle.zeb_register.proofs.Calls.{Stays}
 use Rattle.zeb_register.proofs.plain.places_put.Given as goal
 
 abbrev pub invariant-loop-place : goal.invariant-loop-place

@@ -5,8 +5,9 @@ use Rattle.sqlite.specs.Held.{state}
 use Rattle.sqlite_rules.specs.Lists.{Has}
 use Rattle.zeb_register.specs.Sql.{IsListOf}
 use Rattle.zeb_register.specs.Store.{IsRest, postings_tree, key_of}
-use Rattle.zeb_register.specs.Content.{code_of_register, key_row, first_three}
-use Rattle.zeb_register.specs.Terms.{key_in}
+use Rattle.zeb_register.specs.PlainRows.{code_of_register, key_row}
+use Rattle.zeb_register.specs.RowPlaces.{first_three}
+use Rattle.zeb_register.specs.Occurring.{key_in}
 use Rattle.zeb_register.proofs.ContentLemmas.{list_read, rows_numbered}
 use Rattle.zeb_register.proofs.plain.postings_under.Goals as goal
 
@@ -17,7 +18,7 @@ returns-clause-value g c clean store =
     let key = key_in c.args.index c.args.register c.args.term.now in
     let known : to_z w64 (of_z w64 c.column.result) ≡ c.args.db.0 = to_z-of_z {w = w64} {z = c.column.result} c.column.ensures.fits ∙ c.column.ensures.value in
     let code : to_z w64 (of_z w64 c.code_of.result) ≡ pos (code_of_register c.args.register) = to_z-of_z {w = w64} {z = c.code_of.result} c.code_of.ensures.fits ∙ c.code_of.ensures.value in
-    let raw = (c.in_ok-rows.ensures.ok clean).1 store in
+    let raw = (c.in_ok-rows.ensures.call.ok clean).1 store in
     let held : IsListOf (IsRest postings_tree (key_row c.args.db.0 key) trees) items =
     subst (λ r. IsListOf (IsRest postings_tree (key_of c.args.db.0 (pos c.args.index) r c.args.term.now) trees) items) code
     (subst (λ d. IsListOf (IsRest postings_tree (key_of d (pos c.args.index) (to_z w64 (of_z w64 c.code_of.result)) c.args.term.now) trees) items) known raw) in
@@ -30,7 +31,7 @@ returns-clause-honest g c clean store is content holds =
     let key = key_in c.args.index c.args.register c.args.term.now in
     let known : to_z w64 (of_z w64 c.column.result) ≡ c.args.db.0 = to_z-of_z {w = w64} {z = c.column.result} c.column.ensures.fits ∙ c.column.ensures.value in
     let code : to_z w64 (of_z w64 c.code_of.result) ≡ pos (code_of_register c.args.register) = to_z-of_z {w = w64} {z = c.code_of.result} c.code_of.ensures.fits ∙ c.code_of.ensures.value in
-    let raw = (c.in_ok-rows.ensures.ok clean).1 store in
+    let raw = (c.in_ok-rows.ensures.call.ok clean).1 store in
     let held : IsListOf (IsRest postings_tree (key_row c.args.db.0 key) trees) items =
     subst (λ r. IsListOf (IsRest postings_tree (key_of c.args.db.0 (pos c.args.index) r c.args.term.now) trees) items) code
     (subst (λ d. IsListOf (IsRest postings_tree (key_of d (pos c.args.index) (to_z w64 (of_z w64 c.code_of.result)) c.args.term.now) trees) items) known raw) in

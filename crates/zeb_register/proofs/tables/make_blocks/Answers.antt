@@ -1,10 +1,10 @@
-use Rattle.std.proofs.Common.{arith}
-use Rattle.zeb_register.proofs.Makes.{blocks_made, blocks_there}
-use Rattle.zeb_register.proofs.Chains.{still_unchanged, quiet_then}
-use Rattle.zeb_register.proofs.Chains.{inside_keeps}
+use Rattle.std.proofs.Common.{rules, arith}
+use Rattle.zeb_register.proofs.TableStatements.{blocks_made, blocks_there}
+use Rattle.zeb_register.proofs.CallsInTurn.{still_unchanged, quiet_then}
+use Rattle.zeb_register.proofs.CallsInTurn.{inside_keeps}
 use Rattle.zeb_register.proofs.Calls.{goes_then, goes_keeps, on_err}
-use Rattle.zeb_register.proofs.Makes.{blocks_creates}
-use Rattle.zeb_register.proofs.Creating.{create_keeps, keeps_then}
+use Rattle.zeb_register.proofs.TableStatements.{blocks_creates}
+use Rattle.zeb_register.proofs.CreateKeepsTables.{create_keeps, keeps_then}
 use Rattle.zeb_register.proofs.tables.make_blocks.Goals as goal
 
 pub returns-clause-made : goal.returns-clause-made
@@ -16,22 +16,22 @@ returns-clause-there g c clean inside has =
     let was = c.in_ok-make_postings.ensures.there (omega (arith, c.execute.ensures.survives.clean)) inside has in
     still_unchanged _ _ _ inside has was (λ again mode. blocks_there _ _ _ (c.in_ok-execute.ensures.runs clean mode).0 again)
 
-pub returns-clause-crash : goal.returns-clause-crash
-returns-clause-crash g c = quiet_then _ _ _ c.make_postings.ensures.crash c.execute.ensures.survives
+pub returns-clause-call : goal.returns-clause-call
+returns-clause-call g c = record {
+  ok = λ clean inside. let was = c.in_ok-make_postings.ensures.call.ok (omega (arith, c.execute.ensures.survives.clean)) inside in goes_then _ _ _ was (c.in_ok-execute.ensures.runs clean was.mode).1;
+  err = search rules;
+  crash = quiet_then _ _ _ c.make_postings.ensures.call.crash c.execute.ensures.survives;
+}
 
-pub returns-in_err-execute-clause-crash : goal.returns-in_err-execute-clause-crash
-returns-in_err-execute-clause-crash g c = quiet_then _ _ _ c.make_postings.ensures.crash c.execute.ensures.survives
-
-pub returns-clause-ok : goal.returns-clause-ok
-returns-clause-ok g c clean inside =
-    let was = c.in_ok-make_postings.ensures.ok (omega (arith, c.execute.ensures.survives.clean)) inside in goes_then _ _ _ was (c.in_ok-execute.ensures.runs clean was.mode).1
-
-pub returns-in_err-execute-clause-err : goal.returns-in_err-execute-clause-err
-returns-in_err-execute-clause-err g c clean inside =
-    let was = c.in_ok-make_postings.ensures.ok (omega (arith, c.execute.ensures.survives.clean)) inside in on_err _ _ (goes_keeps _ _ _ was (inside_keeps _ _ _ _ _ (c.execute.ensures.runs clean was.mode)))
+pub returns-in_err-execute-clause-call : goal.returns-in_err-execute-clause-call
+returns-in_err-execute-clause-call g c = record {
+  ok = search rules;
+  err = λ clean inside. let was = c.in_ok-make_postings.ensures.call.ok (omega (arith, c.execute.ensures.survives.clean)) inside in on_err _ _ (goes_keeps _ _ _ was (inside_keeps _ _ _ _ _ (c.execute.ensures.runs clean was.mode)));
+  crash = quiet_then _ _ _ c.make_postings.ensures.call.crash c.execute.ensures.survives;
+}
 
 pub returns-clause-kept : goal.returns-clause-kept
 returns-clause-kept g c clean inside =
-    let was = c.in_ok-make_postings.ensures.ok (omega (arith, c.execute.ensures.survives.clean)) inside in
+    let was = c.in_ok-make_postings.ensures.call.ok (omega (arith, c.execute.ensures.survives.clean)) inside in
     let first = c.in_ok-make_postings.ensures.kept (omega (arith, c.execute.ensures.survives.clean)) inside in
     keeps_then _ _ _ first (create_keeps _ blocks_creates _ _ _ (c.in_ok-execute.ensures.runs clean was.mode).0)

@@ -1,7 +1,8 @@
-use Rattle.zeb_register.proofs.Makes.{meta_made, meta_there}
-use Rattle.zeb_register.proofs.Makes.{meta_creates}
-use Rattle.zeb_register.proofs.Creating.{create_keeps}
-use Rattle.zeb_register.proofs.Chains.{inside_keeps}
+use Rattle.std.proofs.Common.{rules}
+use Rattle.zeb_register.proofs.TableStatements.{meta_made, meta_there}
+use Rattle.zeb_register.proofs.TableStatements.{meta_creates}
+use Rattle.zeb_register.proofs.CreateKeepsTables.{create_keeps}
+use Rattle.zeb_register.proofs.CallsInTurn.{inside_keeps}
 use Rattle.zeb_register.proofs.Calls.{on_err}
 use Rattle.zeb_register.proofs.tables.make_meta.Goals as goal
 
@@ -11,8 +12,12 @@ returns-clause-made g c clean inside has = meta_made _ _ _ (c.in_ok-execute.ensu
 pub returns-clause-there : goal.returns-clause-there
 returns-clause-there g c clean inside has = meta_there _ _ _ (c.in_ok-execute.ensures.runs clean inside).0 has
 
-pub returns-in_err-execute-clause-err : goal.returns-in_err-execute-clause-err
-returns-in_err-execute-clause-err g c clean inside = on_err _ _ (inside_keeps _ _ _ _ _ (c.execute.ensures.runs clean inside))
+pub returns-in_err-execute-clause-call : goal.returns-in_err-execute-clause-call
+returns-in_err-execute-clause-call g c = record {
+  ok = search rules;
+  err = λ clean inside. on_err _ _ (inside_keeps _ _ _ _ _ (c.execute.ensures.runs clean inside));
+  crash = search rules;
+}
 
 pub returns-clause-kept : goal.returns-clause-kept
 returns-clause-kept g c clean inside = create_keeps _ meta_creates _ _ _ (c.in_ok-execute.ensures.runs clean inside).0

@@ -1,4 +1,4 @@
-use Rattle.zeb_register.proofs.Chains.{made_store}
+use Rattle.zeb_register.proofs.CallsInTurn.{made_store}
 use Rattle.zeb_register.proofs.tables.make_tables.Goals as goal
 
 pub returns-clause-made : goal.returns-clause-made

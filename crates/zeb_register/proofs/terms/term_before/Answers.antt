@@ -5,8 +5,8 @@ use Rattle.std.specs.Ordering.{is_lt, nat_cmp}
 use Rattle.std.specs.Cmp.Lexicographic.{slice_cmp}
 use Rattle.sqlite.specs.Held.{state}
 use Rattle.sqlite_rules.specs.Lists.{Has}
-use Rattle.zeb_register.specs.Content.{code_of_register}
-use Rattle.zeb_register.specs.Terms.{HasTerm, ShowsGreatest, ShowsTerm}
+use Rattle.zeb_register.specs.PlainRows.{code_of_register}
+use Rattle.zeb_register.specs.RowTerms.{HasTerm, ShowsGreatest, ShowsTerm}
 use Rattle.zeb_register.proofs.TermRows.{greatest_shown, greatest_readable}
 use Rattle.zeb_register.proofs.terms.term_before.Goals as goal
 
@@ -16,7 +16,7 @@ returns-clause-value g c clean store =
     let items = c.in_ok-rows.rows.items in
     let known : to_z w64 (of_z w64 c.column.result) ≡ c.args.db.0 = to_z-of_z {w = w64} {z = c.column.result} c.column.ensures.fits ∙ c.column.ensures.value in
     let code : to_z w64 (of_z w64 c.code_of.result) ≡ pos (code_of_register c.args.register) = to_z-of_z {w = w64} {z = c.code_of.result} c.code_of.ensures.fits ∙ c.code_of.ensures.value in
-    let raw = (c.in_ok-rows.ensures.ok clean).1 store in
+    let raw = (c.in_ok-rows.ensures.call.ok clean).1 store in
     let shown : ShowsGreatest (λ t. HasTerm trees c.args.db.0 (pos c.args.index) (pos (code_of_register c.args.register)) t × (is_lt (slice_cmp nat_cmp t c.args.start.now) ≡ true)) items =
     subst (λ r. ShowsGreatest (λ t. HasTerm trees c.args.db.0 (pos c.args.index) r t × (is_lt (slice_cmp nat_cmp t c.args.start.now) ≡ true)) items) code
     (subst (λ d. ShowsGreatest (λ t. HasTerm trees d (pos c.args.index) (to_z w64 (of_z w64 c.code_of.result)) t × (is_lt (slice_cmp nat_cmp t c.args.start.now) ≡ true)) items) known raw) in
@@ -28,7 +28,7 @@ returns-clause-honest g c clean store is content texts holds =
     let items = c.in_ok-rows.rows.items in
     let known : to_z w64 (of_z w64 c.column.result) ≡ c.args.db.0 = to_z-of_z {w = w64} {z = c.column.result} c.column.ensures.fits ∙ c.column.ensures.value in
     let code : to_z w64 (of_z w64 c.code_of.result) ≡ pos (code_of_register c.args.register) = to_z-of_z {w = w64} {z = c.code_of.result} c.code_of.ensures.fits ∙ c.code_of.ensures.value in
-    let raw = (c.in_ok-rows.ensures.ok clean).1 store in
+    let raw = (c.in_ok-rows.ensures.call.ok clean).1 store in
     let shown : ShowsGreatest (λ t. HasTerm trees c.args.db.0 (pos c.args.index) (pos (code_of_register c.args.register)) t × (is_lt (slice_cmp nat_cmp t c.args.start.now) ≡ true)) items =
     subst (λ r. ShowsGreatest (λ t. HasTerm trees c.args.db.0 (pos c.args.index) r t × (is_lt (slice_cmp nat_cmp t c.args.start.now) ≡ true)) items) code
     (subst (λ d. ShowsGreatest (λ t. HasTerm trees d (pos c.args.index) (to_z w64 (of_z w64 c.code_of.result)) t × (is_lt (slice_cmp nat_cmp t c.args.start.now) ≡ true)) items) known raw) in

@@ -1,7 +1,10 @@
 use Rattle.std.proofs.Common.{rules, ◌≡◌, ◌∙◌, sym, subst, string_bytes}
 use Rattle.std.specs.List.Sorted.{IsStrictlySortedBy}
-use Rattle.zeb_register.specs.Content.{posting_cmp}
-use Rattle.zeb_register.specs.Terms.{IsCount, IsInRecord, key_in}
+use Rattle.zeb_register.specs.Content.{posted, posting_cmp}
+use Rattle.zeb_register.specs.Occurring.{HasKey, IsCount, key_in}
+use Rattle.zeb_register.specs.RowTerms.{IsInRecord}
+use Rattle.zeb_register.proofs.CountLemmas.{count_so}
+use Rattle.zeb_register.proofs.OccurringLemmas.{key_posted}
 use Rattle.zeb_register.proofs.terms.term_count.Goals as goal
 
 pub returns-in_err-list-clause-honest : goal.returns-in_err-list-clause-honest
@@ -12,4 +15,6 @@ returns-clause-value g c clean store content holds =
     let key = key_in c.args.index c.args.register (string_bytes c.args.term) in
     let read : c.in_ok-list.list.items ≡ content c.args.db.0 key = subst (λ t. c.in_ok-list.list.items ≡ content c.args.db.0 (key_in c.args.index c.args.register t)) c.as_str.ensures.value (c.in_ok-list.ensures.value clean store content holds) in
     let same : c.deref.result.now ≡ content c.args.db.0 key = c.deref.ensures.value ∙ read in
-    (c.new.ensures, subst (λ l. IsCount (IsInRecord l) c.records_in-records.result) same (c.records_in-records.ensures (subst (IsStrictlySortedBy posting_cmp) (sym same) (holds.rising c.args.db.0 key))))
+    let counted : IsCount (IsInRecord (content c.args.db.0 key)) c.records_in-records.result =
+    subst (λ l. IsCount (IsInRecord l) c.records_in-records.result) same (c.records_in-records.ensures (subst (IsStrictlySortedBy posting_cmp) (sym same) (holds.rising c.args.db.0 key))) in
+    (c.new.ensures, count_so (IsInRecord (content c.args.db.0 key)) (HasKey (posted content c.args.db.0) key) c.records_in-records.result (λ n. ((key_posted content c.args.db.0 key n).1, (key_posted content c.args.db.0 key n).0)) counted)

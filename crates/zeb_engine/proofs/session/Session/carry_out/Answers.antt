@@ -1,19 +1,17 @@
-use Rattle.std.proofs.Common.{◌≡◌, ◌∙◌, [], ap, inl, map, refl, rules, string_bytes, subst, sym}
+use Rattle.std.proofs.Common.{◌≡◌, ◌∙◌, [], ap, inl, map, refl, rules, string_bytes, subst}
 use Rattle.sqlite.specs.Held.{state}
 use Rattle.sqlite.specs.State.{Survives}
 use Rattle.zeb_register.specs.Store.{IsStore}
-use Rattle.zeb_engine.specs.declared.commands.Command.{Command}
 use Rattle.zeb_engine.specs.declared.commands.Limits.{Limits}
-use Rattle.zeb_engine.specs.declared.commands.Command.TheVariants.{Init, Create, Drop, Change, Find, Scan, Dump}
+use Rattle.zeb_engine.specs.Alone.{Alone, StatSays}
 use Rattle.zeb_engine.specs.Conditions.{conditions}
 use Rattle.zeb_engine.specs.Crashes.{Commits, CommitsBy}
 use Rattle.zeb_engine.specs.Image.{IsImage}
 use Rattle.zeb_engine.specs.NameOf.{name_bytes}
 use Rattle.zeb_engine.specs.Steps.{OnlyAsks, turned, TakesFiles, created, dropped, dumped_by, holding, waited, Step, initialised, ready, CountedFrom}
 use Rattle.zeb_engine.specs.Works.{Always, Asks, Serves, ServesBy}
-use Rattle.zeb_engine.proofs.Commanding.{asks_serve, ends_serve, find_serves, looks_same}
+use Rattle.zeb_engine.proofs.Commanding.{asks_serve, ends_serve, find_alone, find_serves, scan_alone, scan_serves}
 use Rattle.zeb_engine.proofs.Crashing.{ends_commit, none_commits, survives_as}
-use Rattle.zeb_engine.proofs.ScanCommand.{scan_serves, scans_same}
 use Rattle.zeb_engine.proofs.Serving.{on_ok}
 use Rattle.zeb_engine.proofs.session.Session.carry_out.Goals as goal
 use Rattle.zeb_register.specs.Formats.{version_of}
@@ -110,8 +108,8 @@ returns-in-Scan-clause-serves g c clean =
     rw c.in-Scan.is (scan_serves k old new c.scan.result c.in-Scan.database c.in-Scan.query c.in-Scan.number c.in-Scan.position (name_bytes of) c.as_str-in-Scan.result.now many at
     (ap name_bytes same_name) (c.as_str-in-Scan.ensures.value ∙ ap string_bytes same_query) same_number same_position (c.scan.ensures.serves clean))
 
-pub returns-in-Scan-clause-scans : goal.returns-in-Scan-clause-scans
-returns-in-Scan-clause-scans g c clean name query number position is =
+pub returns-in-Scan-clause-alone : goal.returns-in-Scan-clause-alone
+returns-in-Scan-clause-alone g c clean =
     let old = state g.S.Store c.args.self.now.connection in
     let of = c.in-Scan.database-in-Scan-1-own.given.0.0 in
     let many = c.in-Scan.number-1-own.given.0.1.1.0 in
@@ -120,13 +118,8 @@ returns-in-Scan-clause-scans g c clean name query number position is =
     let same_query : c.in-Scan.query-in-Scan-1-own.given.0.1.0 ≡ c.in-Scan.query = search rules in
     let same_number : many ≡ c.in-Scan.number = search rules in
     let same_position : at ≡ c.in-Scan.position = search rules in
-    let both : ◌≡◌ {A = Command} (Scan c.in-Scan.database c.in-Scan.query c.in-Scan.number c.in-Scan.position) (Scan name query number position) = sym c.in-Scan.is ∙ is in
-    let is_name : c.in-Scan.database ≡ name = cc in
-    let is_query : c.in-Scan.query ≡ query = cc in
-    let is_number : c.in-Scan.number ≡ number = cc in
-    let is_position : c.in-Scan.position ≡ position = cc in
-    scans_same g.L.Layout.format c.args.self.now.profile old c.scan.result (name_bytes of) (name_bytes name) c.as_str-in-Scan.result.now (string_bytes query) many number at position
-    (ap name_bytes (same_name ∙ is_name)) (c.as_str-in-Scan.ensures.value ∙ ap string_bytes (same_query ∙ is_query)) (same_number ∙ is_number) (same_position ∙ is_position) (c.scan.ensures.alone clean)
+    rw c.in-Scan.is (scan_alone g.L.Layout.format c.args.self.now.profile old c.scan.result c.in-Scan.database c.in-Scan.query c.in-Scan.number c.in-Scan.position (name_bytes of) c.as_str-in-Scan.result.now many at
+    (ap name_bytes same_name) (c.as_str-in-Scan.ensures.value ∙ ap string_bytes same_query) same_number same_position (c.scan.ensures.alone clean))
 
 pub returns-in-Init-clause-begun : goal.returns-in-Init-clause-begun
 returns-in-Init-clause-begun g c clean is =
@@ -138,7 +131,7 @@ returns-in-Init-clause-begun g c clean is =
     (λ did store. did store c.args.self.now.limits) (c.init_register.ensures.begun clean)
 
 pub returns-in-Find-clause-alone : goal.returns-in-Find-clause-alone
-returns-in-Find-clause-alone g c clean name query first count is =
+returns-in-Find-clause-alone g c clean =
     let old = state g.S.Store c.args.self.now.connection in
     let of = c.in-Find.database-in-Find-1-own.given.0.0 in
     let from = c.in-Find.first-1-own.given.0.1.1.0 in
@@ -147,13 +140,35 @@ returns-in-Find-clause-alone g c clean name query first count is =
     let same_query : c.in-Find.query-1-own.given.0.1.0 ≡ c.in-Find.query = search rules in
     let same_first : from ≡ c.in-Find.first = search rules in
     let same_count : many ≡ c.in-Find.count = search rules in
-    let both : ◌≡◌ {A = Command} (Find c.in-Find.database c.in-Find.query c.in-Find.first c.in-Find.count) (Find name query first count) = sym c.in-Find.is ∙ is in
-    let is_name : c.in-Find.database ≡ name = cc in
-    let is_query : c.in-Find.query ≡ query = cc in
-    let is_first : c.in-Find.first ≡ first = cc in
-    let is_count : c.in-Find.count ≡ count = cc in
-    looks_same g.L.Layout.format c.args.self.now.profile old c.find.result (name_bytes of) (name_bytes name) c.as_str.result.now (string_bytes query) from first many count
-    (ap name_bytes (same_name ∙ is_name)) (c.as_str.ensures.value ∙ ap string_bytes (same_query ∙ is_query)) (same_first ∙ is_first) (same_count ∙ is_count) (c.find.ensures.alone clean)
+    rw c.in-Find.is (find_alone g.L.Layout.format c.args.self.now.profile old c.find.result c.in-Find.database c.in-Find.query c.in-Find.first c.in-Find.count (name_bytes of) c.as_str.result.now from many
+    (ap name_bytes same_name) (c.as_str.ensures.value ∙ ap string_bytes same_query) same_first same_count (c.find.ensures.alone clean))
+
+pub returns-in-Init-clause-alone : goal.returns-in-Init-clause-alone
+returns-in-Init-clause-alone g c clean = rw c.in-Init.is tt
+
+pub returns-in-Create-clause-alone : goal.returns-in-Create-clause-alone
+returns-in-Create-clause-alone g c clean = rw c.in-Create.is tt
+
+pub returns-in-Drop-clause-alone : goal.returns-in-Drop-clause-alone
+returns-in-Drop-clause-alone g c clean = rw c.in-Drop.is tt
+
+pub returns-in-Change-clause-alone : goal.returns-in-Change-clause-alone
+returns-in-Change-clause-alone g c clean = rw c.in-Change.is tt
+
+pub returns-in-Check-clause-alone : goal.returns-in-Check-clause-alone
+returns-in-Check-clause-alone g c clean = rw c.in-Check.is tt
+
+pub returns-in-Stat-clause-alone : goal.returns-in-Stat-clause-alone
+returns-in-Stat-clause-alone g c clean =
+    let old = state g.S.Store c.args.self.now.connection in
+    let alone : Alone g.L.Layout.format (StatSays c.args.self.now.profile) (name_bytes c.in-Stat.name) old c.stat.result = c.stat.ensures.alone clean in
+    rw c.in-Stat.is alone
+
+pub returns-in-Dump-clause-alone : goal.returns-in-Dump-clause-alone
+returns-in-Dump-clause-alone g c clean = rw c.in-Dump.is tt
+
+pub returns-in-Analyse-clause-alone : goal.returns-in-Analyse-clause-alone
+returns-in-Analyse-clause-alone g c clean = rw c.in-Analyse.is tt
 
 pub returns-in-Init-clause-survives : goal.returns-in-Init-clause-survives
 returns-in-Init-clause-survives g c =

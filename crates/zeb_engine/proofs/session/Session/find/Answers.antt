@@ -9,7 +9,10 @@ use Rattle.zeb_engine.specs.Image.{Keeps}
 use Rattle.zeb_engine.specs.NameOf.{name_bytes}
 use Rattle.zeb_engine.specs.Steps.{ready}
 use Rattle.zeb_engine.specs.Works.{Finds}
-use Rattle.zeb_engine.proofs.Commanding.{looks_after, ready_met, ready_finds, unready_finds}
+use Rattle.zeb_engine.specs.Alone.{FindSays}
+use Rattle.zeb_engine.specs.Steps.{FindAnswers}
+use Rattle.zeb_engine.proofs.Asked.{alone_after, ready_asked, unready_asked}
+use Rattle.zeb_engine.proofs.Commanding.{ready_met}
 use Rattle.zeb_engine.proofs.Serving.{keeps_still}
 use Rattle.zeb_engine.proofs.session.Session.find.Goals as goal
 use Rattle.zeb_register.specs.Formats.{version_of}
@@ -27,7 +30,7 @@ returns-in_err-check_ready-clause-serves g c clean =
     let refusal = c.in_err-check_ready.field-0.0 in
     let told : c.from_residual.result ≡ Err refusal = search rules in
     subst (Finds k name query first count old new) (sym told)
-    (unready_finds g.L.Layout.format k old new refusal (c.check_ready.ensures.same clean) (λ before keeps. c.in_err-check_ready.ensures.ready clean limits before keeps) name query first count)
+    (unready_asked k old new refusal (c.check_ready.ensures.same clean) (λ before keeps. c.in_err-check_ready.ensures.ready clean limits before keeps) (FindAnswers k.profile query first count) name query)
 
 pub returns-clause-serves : goal.returns-clause-serves
 returns-clause-serves g c clean before keeps =
@@ -41,7 +44,7 @@ returns-clause-serves g c clean before keeps =
     let clean1 : HasCleanDisk mid = omega (arith, c.find.ensures.crash.clean) in
     let met = ready_met {X = Unit {0}} (λ (bases : List Base) x. IsTrue old.is_open × IsTrue mid.is_open) (ready k before) tt (c.in_ok-check_ready.ensures.ready clean1 limits before keeps) in
     let still = keeps_still before old mid (c.check_ready.ensures.same clean1) keeps in
-    ready_finds k before met.0 name query c.args.question.first c.args.question.count (answer_of c.find.result) (Keeps new before) met.1
+    ready_asked k before met.0 (FindAnswers k.profile query c.args.question.first c.args.question.count) name query (answer_of c.find.result) (Keeps new before) met.1
     (keeps_still before mid new (c.find.ensures.same clean) still) (c.find.ensures.found clean met.2.1 limits before met.0 met.1 still)
 
 pub returns-clause-alone : goal.returns-clause-alone
@@ -50,7 +53,7 @@ returns-clause-alone g c clean =
     let mid = state g.S.Store c.check_ready.new.connection in
     let new = state g.S.Store c.find.new.connection in
     let clean1 : HasCleanDisk mid = omega (arith, c.find.ensures.crash.clean) in
-    looks_after g.L.Layout.format c.args.self.now.profile old mid new (name_bytes c.args.database.now) c.args.question.query.now c.args.question.first c.args.question.count c.find.result
+    alone_after g.L.Layout.format (FindSays c.args.self.now.profile c.args.question.query.now c.args.question.first c.args.question.count) (name_bytes c.args.database.now) old mid new c.find.result
     (c.check_ready.ensures.same clean1) (c.find.ensures.open clean) (c.find.ensures.alone clean)
 
 pub returns-clause-reads : goal.returns-clause-reads

@@ -7,11 +7,12 @@ use Rattle.zeb_engine.specs.Conditions.{conditions}
 use Rattle.zeb_engine.specs.Holdings.{Base}
 use Rattle.zeb_engine.specs.Image.{Keeps}
 use Rattle.zeb_engine.specs.NameOf.{name_bytes}
-use Rattle.zeb_engine.specs.Scanning.{IsScanned}
+use Rattle.zeb_engine.specs.Alone.{ScanSays}
+use Rattle.zeb_engine.specs.Steps.{ScanAnswers}
 use Rattle.zeb_engine.specs.Steps.{ready}
 use Rattle.zeb_engine.specs.Works.{ScansFrom}
 use Rattle.zeb_engine.proofs.Commanding.{ready_met}
-use Rattle.zeb_engine.proofs.ScanCommand.{ready_asked, scans_after, unready_asked}
+use Rattle.zeb_engine.proofs.Asked.{alone_after, ready_asked, unready_asked}
 use Rattle.zeb_engine.proofs.Serving.{keeps_still}
 use Rattle.zeb_engine.proofs.session.Session.scan.Goals as goal
 use Rattle.zeb_register.specs.Formats.{version_of}
@@ -29,7 +30,7 @@ returns-in_err-check_ready-clause-serves g c clean =
     let refusal = c.in_err-check_ready.field-0.0 in
     let told : c.from_residual.result ≡ Err refusal = search rules in
     subst (ScansFrom k name query number position old new) (sym told)
-    (unready_asked g.L.Layout.format k old new refusal (c.check_ready.ensures.same clean) (λ before keeps. c.in_err-check_ready.ensures.ready clean limits before keeps) (IsScanned k.profile query number position) name query)
+    (unready_asked k old new refusal (c.check_ready.ensures.same clean) (λ before keeps. c.in_err-check_ready.ensures.ready clean limits before keeps) (ScanAnswers k.profile query number position) name query)
 
 pub returns-clause-serves : goal.returns-clause-serves
 returns-clause-serves g c clean before keeps =
@@ -43,7 +44,7 @@ returns-clause-serves g c clean before keeps =
     let clean1 : HasCleanDisk mid = omega (arith, c.scan.ensures.crash.clean) in
     let met = ready_met {X = Unit {0}} (λ (bases : List Base) x. IsTrue old.is_open × IsTrue mid.is_open) (ready k before) tt (c.in_ok-check_ready.ensures.ready clean1 limits before keeps) in
     let still = keeps_still before old mid (c.check_ready.ensures.same clean1) keeps in
-    ready_asked k before met.0 (IsScanned k.profile query c.args.around.number c.args.around.position) name query (answer_of c.scan.result) (Keeps new before) met.1
+    ready_asked k before met.0 (ScanAnswers k.profile query c.args.around.number c.args.around.position) name query (answer_of c.scan.result) (Keeps new before) met.1
     (keeps_still before mid new (c.scan.ensures.same clean) still) (c.scan.ensures.scanned clean met.2.1 limits before met.0 met.1 still)
 
 pub returns-clause-alone : goal.returns-clause-alone
@@ -52,7 +53,7 @@ returns-clause-alone g c clean =
     let mid = state g.S.Store c.check_ready.new.connection in
     let new = state g.S.Store c.scan.new.connection in
     let clean1 : HasCleanDisk mid = omega (arith, c.scan.ensures.crash.clean) in
-    scans_after g.L.Layout.format c.args.self.now.profile old mid new (name_bytes c.args.database.now) c.args.around.query.now c.args.around.number c.args.around.position c.scan.result
+    alone_after g.L.Layout.format (ScanSays c.args.self.now.profile c.args.around.query.now c.args.around.number c.args.around.position) (name_bytes c.args.database.now) old mid new c.scan.result
     (c.check_ready.ensures.same clean1) (c.scan.ensures.«open» clean) (c.scan.ensures.alone clean)
 
 pub returns-clause-reads : goal.returns-clause-reads

@@ -1,25 +1,6 @@
-use Rattle.std.proofs.Common.{arith}
 use Rattle.std.proofs.lemmas.Result.{IfOk-weaker}
-use Rattle.sqlite.specs.Held.{state}
-use Rattle.sqlite.specs.State.{HasCleanDisk}
-use Rattle.zeb_register.proofs.PlaceLemmas.{taken_whole, rows_without}
+use Rattle.zeb_register.specs.Formats.{plain_rows}
 use Rattle.zeb_register.proofs.plain.RowsLayout.database_take.Goals as goal
 
 pub returns-clause-taken : goal.returns-clause-taken
-returns-clause-taken g c clean inside store =
-    let db = c.args.db.0 in
-    let first = state g.S.Store c.args.tx.now.conn.now in
-    let second = state g.S.Store c.registers_drop.new.tx.conn.now in
-    let third = state g.S.Store c.records_drop.new.tx.conn.now in
-    let last = state g.S.Store c.database_drop.new.tx.conn.now in
-    let clean2 : HasCleanDisk third = omega (arith, c.database_drop.ensures.crash.clean) in
-    let clean1 : HasCleanDisk second = omega (arith, c.database_drop.ensures.crash.clean, c.records_drop.ensures.crash.clean) in
-    let done1 = c.in_ok-registers_drop.ensures.ok clean1 inside in
-    let one = done1.1 store in
-    let done2 = c.in_ok-records_drop.ensures.ok clean2 done1.0.mode in
-    let two = done2.rows one.store in
-    IfOk-weaker c.database_drop.result _ _ (λ _ done3.
-    let three = done3.rows two.layout in (
-      taken_whole db first second third last one two three,
-      λ before after holds without. rows_without db first second third last one two three before after holds without,
-    )) (c.database_drop.ensures.ok clean done2.on.mode)
+returns-clause-taken g c clean inside store = IfOk-weaker c.database_drop_whole.result _ _ (λ _ done. (done.0, done.1 plain_rows)) (c.database_drop_whole.ensures.taken clean inside store)

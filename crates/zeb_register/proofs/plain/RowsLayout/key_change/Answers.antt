@@ -11,10 +11,10 @@ returns-clause-change g c clean inside store =
     let first = (state g.S.Store c.args.tx.now.conn.now).now.trees in
     let second = (state g.S.Store c.places_take.new.tx.conn.now).now.trees in
     let third = (state g.S.Store c.places_put.new.tx.conn.now).now.trees in
-    let clean2 : HasCleanDisk (state g.S.Store c.places_take.new.tx.conn.now) = omega (arith, c.places_put.ensures.crash.clean) in
-    let clean1 : HasCleanDisk (state g.S.Store c.holds_places.new.tx.conn.now) = omega (arith, c.places_put.ensures.crash.clean, c.places_take.ensures.crash.clean) in
-    let reads = c.in_ok-holds_places.ensures.ok clean1 inside in
-    let taken = c.in_ok-places_take.ensures.ok clean2 reads.mode in
+    let clean2 : HasCleanDisk (state g.S.Store c.places_take.new.tx.conn.now) = omega (arith, c.places_put.ensures.call.crash.clean) in
+    let clean1 : HasCleanDisk (state g.S.Store c.holds_places.new.tx.conn.now) = omega (arith, c.places_put.ensures.call.crash.clean, c.places_take.ensures.call.crash.clean) in
+    let reads = c.in_ok-holds_places.ensures.call.ok clean1 inside in
+    let taken = c.in_ok-places_take.ensures.call.ok clean2 reads.mode in
     let done = changes_after _ _ _ _ _ reads inside (taken.rows (store_same _ _ reads.now_is store)) in
     let left = beside first second done.others in
     IfOk-weaker c.places_put.result _ _ (λ _ put'. (
@@ -24,4 +24,4 @@ returns-clause-change g c clean inside store =
     )) (c.places_put.ensures.put clean taken.on.mode done.layout)
 
 pub returns-in_err-holds_places-clause-damaged : goal.returns-in_err-holds_places-clause-damaged
-returns-in_err-holds_places-clause-damaged g c clean inside store is rises content holds = absurd (c.in_err-holds_places.ensures.honest clean inside store content holds (search rules))
+returns-in_err-holds_places-clause-damaged g c clean inside store is rises content storable holds = absurd (c.in_err-holds_places.ensures.honest clean inside store content holds (search rules))

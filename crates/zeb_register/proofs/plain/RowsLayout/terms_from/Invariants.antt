@@ -4,8 +4,9 @@ use Rattle.sqlite.specs.State.{HasCleanDisk, IsUnchanged, Survives}
 use Rattle.zeb_register.specs.Calls.{ChangesNothing}
 use Rattle.zeb_register.specs.declared.registers.TermCount.{TermCount}
 use Rattle.zeb_register.specs.Store.{IsStore}
-use Rattle.zeb_register.specs.Content.{Content, HoldsRows}
-use Rattle.zeb_register.specs.Terms.{AreTermsOf, is_from}
+use Rattle.zeb_register.specs.Content.{Content, posted}
+use Rattle.zeb_register.specs.PlainRows.{HoldsRows}
+use Rattle.zeb_register.specs.Occurring.{AreTermsOf, is_from}
 use Rattle.zeb_register.proofs.plain.RowsLayout.terms_from.Given as goal
 
 abbrev pub invariant-loop-done : goal.invariant-loop-done
@@ -18,6 +19,6 @@ invariant-loop-done g l =
       same : HasCleanDisk now → l.fn.conn.in_transaction ≡ false → ChangesNothing old now;
       crash : Survives old now (λ _. ⊥);
       long : length l.counts.items ≡ l._done;
-      rest : HasCleanDisk now → IsStore old → (content : Content) → HoldsRows old.now.trees content → (all : List TermCount) → AreTermsOf content l.db.0 l.index l.register all
+      rest : HasCleanDisk now → IsStore old → (content : Content) → HoldsRows old.now.trees content → (all : List TermCount) → AreTermsOf (posted content l.db.0) l.index l.register all
           → filter (is_from l.start) all ≡ l.counts.items ++ filter (is_from (string_bytes l.next)) all;
     }

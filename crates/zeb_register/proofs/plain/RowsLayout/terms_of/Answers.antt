@@ -9,8 +9,9 @@ use Rattle.std.proofs.Common.{[], ◌∷◌}
 use Rattle.sqlite_rules.specs.Lists.{Has}
 use Rattle.zeb_register.specs.Sql.{IsListOf}
 use Rattle.zeb_register.specs.Store.{IsRest, postings_tree}
-use Rattle.zeb_register.specs.Content.{code_of_register}
-use Rattle.zeb_register.specs.Terms.{AreCounts, IsShown}
+use Rattle.zeb_register.specs.PlainRows.{code_of_register}
+use Rattle.zeb_register.specs.Occurring.{AreCounts}
+use Rattle.zeb_register.specs.RowTerms.{IsShown}
 use Rattle.zeb_register.proofs.TermRows.{counts_are, rows_readable, register_front}
 use Rattle.zeb_register.proofs.plain.RowsLayout.terms_of.Goals as goal
 
@@ -20,7 +21,7 @@ returns-clause-value g c clean store =
     let items = c.in_ok-rows.rows.items in
     let known : to_z w64 (of_z w64 c.column.result) ≡ c.args.db.0 = to_z-of_z {w = w64} {z = c.column.result} c.column.ensures.fits ∙ c.column.ensures.value in
     let code : to_z w64 (of_z w64 c.code_of.result) ≡ pos (code_of_register c.args.register) = to_z-of_z {w = w64} {z = c.code_of.result} c.code_of.ensures.fits ∙ c.code_of.ensures.value in
-    let raw = (c.in_ok-rows.ensures.ok clean).1 store in
+    let raw = (c.in_ok-rows.ensures.call.ok clean).1 store in
     let held : IsListOf (IsRest postings_tree (register_front c.args.db.0 c.args.index c.args.register) trees) items =
     subst (λ r. IsListOf (IsRest postings_tree (Int c.args.db.0 ∷ Int (pos c.args.index) ∷ Int r ∷ []) trees) items) code
     (subst (λ d. IsListOf (IsRest postings_tree (Int d ∷ Int (pos c.args.index) ∷ Int (to_z w64 (of_z w64 c.code_of.result)) ∷ []) trees) items) known raw) in
@@ -33,7 +34,7 @@ returns-clause-honest g c clean store is content texts holds =
     let items = c.in_ok-rows.rows.items in
     let known : to_z w64 (of_z w64 c.column.result) ≡ c.args.db.0 = to_z-of_z {w = w64} {z = c.column.result} c.column.ensures.fits ∙ c.column.ensures.value in
     let code : to_z w64 (of_z w64 c.code_of.result) ≡ pos (code_of_register c.args.register) = to_z-of_z {w = w64} {z = c.code_of.result} c.code_of.ensures.fits ∙ c.code_of.ensures.value in
-    let raw = (c.in_ok-rows.ensures.ok clean).1 store in
+    let raw = (c.in_ok-rows.ensures.call.ok clean).1 store in
     let held : IsListOf (IsRest postings_tree (register_front c.args.db.0 c.args.index c.args.register) trees) items =
     subst (λ r. IsListOf (IsRest postings_tree (Int c.args.db.0 ∷ Int (pos c.args.index) ∷ Int r ∷ []) trees) items) code
     (subst (λ d. IsListOf (IsRest postings_tree (Int d ∷ Int (pos c.args.index) ∷ Int (to_z w64 (of_z w64 c.code_of.result)) ∷ []) trees) items) known raw) in

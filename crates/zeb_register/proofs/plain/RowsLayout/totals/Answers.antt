@@ -1,5 +1,6 @@
-use Rattle.std.proofs.Common.{rules, ◌≡◌, ◌∙◌, pos, sym, subst, arith, w64, to_z, of_z}
+use Rattle.std.proofs.Common.{rules, ◌≡◌, ◌∙◌, map, pos, sym, subst, arith, w64, to_z, of_z}
 use Rattle.std.proofs.Math.Facts.{to_z-of_z}
+use Rattle.std.proofs.lemmas.List.{length-map}
 use Rattle.std.specs.List.Sorted.{IsStrictlySortedBy}
 use Rattle.sqlite.specs.Held.{state}
 use Rattle.sqlite.specs.Order.{row_cmp}
@@ -8,9 +9,10 @@ use Rattle.std.proofs.Common.{[], ◌∷◌}
 use Rattle.sqlite_rules.specs.Lists.{Has}
 use Rattle.zeb_register.specs.Sql.{IsListOf}
 use Rattle.zeb_register.specs.Store.{IsRest, postings_tree}
-use Rattle.zeb_register.specs.Content.{code_of_register}
-use Rattle.zeb_register.specs.Terms.{AreCounts, IsShown}
-use Rattle.zeb_register.proofs.TermRows.{counts_are, rows_readable, rows_long, register_front}
+use Rattle.zeb_register.specs.PlainRows.{code_of_register}
+use Rattle.zeb_register.specs.Occurring.{AreCounts}
+use Rattle.zeb_register.specs.RowTerms.{IsShown}
+use Rattle.zeb_register.proofs.TermRows.{counts_are, rows_readable, spot_at, spots_are, register_front}
 use Rattle.zeb_register.proofs.plain.RowsLayout.totals.Goals as goal
 
 pub returns-in_err-counts-clause-honest : goal.returns-in_err-counts-clause-honest
@@ -19,7 +21,7 @@ returns-in_err-counts-clause-honest g c clean store is content texts holds =
     let items = c.in_ok-rows.rows.items in
     let known : to_z w64 (of_z w64 c.column.result) ≡ c.args.db.0 = to_z-of_z {w = w64} {z = c.column.result} c.column.ensures.fits ∙ c.column.ensures.value in
     let code : to_z w64 (of_z w64 c.code_of.result) ≡ pos (code_of_register c.args.register) = to_z-of_z {w = w64} {z = c.code_of.result} c.code_of.ensures.fits ∙ c.code_of.ensures.value in
-    let raw = (c.in_ok-rows.ensures.ok clean).1 store in
+    let raw = (c.in_ok-rows.ensures.call.ok clean).1 store in
     let held : IsListOf (IsRest postings_tree (register_front c.args.db.0 c.args.index c.args.register) trees) items =
     subst (λ r. IsListOf (IsRest postings_tree (Int c.args.db.0 ∷ Int (pos c.args.index) ∷ Int r ∷ []) trees) items) code
     (subst (λ d. IsListOf (IsRest postings_tree (Int d ∷ Int (pos c.args.index) ∷ Int (to_z w64 (of_z w64 c.code_of.result)) ∷ []) trees) items) known raw) in
@@ -31,17 +33,19 @@ returns-clause-value g c clean store content holds =
     let items = c.in_ok-rows.rows.items in
     let known : to_z w64 (of_z w64 c.column.result) ≡ c.args.db.0 = to_z-of_z {w = w64} {z = c.column.result} c.column.ensures.fits ∙ c.column.ensures.value in
     let code : to_z w64 (of_z w64 c.code_of.result) ≡ pos (code_of_register c.args.register) = to_z-of_z {w = w64} {z = c.code_of.result} c.code_of.ensures.fits ∙ c.code_of.ensures.value in
-    let raw = (c.in_ok-rows.ensures.ok clean).1 store in
+    let raw = (c.in_ok-rows.ensures.call.ok clean).1 store in
     let held : IsListOf (IsRest postings_tree (register_front c.args.db.0 c.args.index c.args.register) trees) items =
     subst (λ r. IsListOf (IsRest postings_tree (Int c.args.db.0 ∷ Int (pos c.args.index) ∷ Int r ∷ []) trees) items) code
     (subst (λ d. IsListOf (IsRest postings_tree (Int d ∷ Int (pos c.args.index) ∷ Int (to_z w64 (of_z w64 c.code_of.result)) ∷ []) trees) items) known raw) in
     let rising : IsStrictlySortedBy row_cmp c.deref.result.now = subst (IsStrictlySortedBy row_cmp) (sym c.deref.ensures.value) held.rising in
     let terms = c.in_ok-counts.counts.items in
     let are = counts_are trees content c.args.db.0 c.args.index c.args.register holds items held terms (subst (λ l. AreCounts (IsShown l) terms) c.deref.ensures.value (c.in_ok-counts.ensures.ok rising)) in
-    let long = rows_long trees content c.args.db.0 c.args.index c.args.register holds items held terms are in
+    let spots = spots_are trees content c.args.db.0 c.args.index c.args.register holds items held in
     record {
       all = terms;
       are = are;
       terms = omega (arith, c.len.ensures, c.in_ok-counts.counts.ok.0);
-      occurrences = omega (arith, c.len-2.ensures, c.in_ok-rows.rows.ok.0, long);
+      spots = map spot_at items;
+      stand = spots;
+      occurrences = omega (arith, c.len-2.ensures, c.in_ok-rows.rows.ok.0, length-map items spot_at);
     }

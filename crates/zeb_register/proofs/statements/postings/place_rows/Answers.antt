@@ -1,13 +1,15 @@
 use Rattle.std.proofs.Math.Facts.{to_z-of_z}
 use Rattle.zeb_register.proofs.Calls.{lists_inside, query_keeps}
 use Rattle.zeb_register.proofs.PostingStatements.{lists_spots, spot_silent}
-use Rattle.std.proofs.Common.{pos}
-use Rattle.zeb_register.specs.Store.{IsRest, postings_tree, place_key}
+use Rattle.std.proofs.Common.{rules, pos}
+use Rattle.zeb_register.specs.Store.{IsRest, postings_tree}
+use Rattle.zeb_register.specs.RowStatements.{place_key}
 use Rattle.zeb_register.proofs.statements.postings.place_rows.Goals as goal
 
-pub returns-clause-ok : goal.returns-clause-ok
-returns-clause-ok g c clean = lists_inside (λ rows. rows.items) (IsRest postings_tree (place_key c.args.db (pos c.args.idx) c.args.reg c.args.term.now c.args.sysno)) _ _ _ _ c.query_all.result spot_silent (c.query_all.ensures.ok clean)
-    (λ rows store shown. lists_spots c.args.db (pos c.args.idx) c.args.reg c.args.term.now c.args.sysno _ _ rows store (simp (c.params-to_sql.ensures, c.params-to_sql-2.ensures, c.params-to_sql-3.ensures, c.params-to_sql-4.ensures, c.params-to_sql-5.ensures, to_z-of_z, c.ranges.db, c.ranges.reg, c.ranges.sysno) at shown))
-
-pub returns-clause-err : goal.returns-clause-err
-returns-clause-err g c clean inside = query_keeps _ _ _ _ c.query_all.result spot_silent (c.query_all.ensures.err clean)
+pub returns-clause-call : goal.returns-clause-call
+returns-clause-call g c = record {
+  ok = λ clean. lists_inside (λ rows. rows.items) (IsRest postings_tree (place_key c.args.db (pos c.args.idx) c.args.reg c.args.term.now c.args.sysno)) _ _ _ _ c.query_all.result spot_silent (c.query_all.ensures.ok clean)
+      (λ rows store shown. lists_spots c.args.db (pos c.args.idx) c.args.reg c.args.term.now c.args.sysno _ _ rows store (simp (c.params-to_sql.ensures, c.params-to_sql-2.ensures, c.params-to_sql-3.ensures, c.params-to_sql-4.ensures, c.params-to_sql-5.ensures, to_z-of_z, c.ranges.db, c.ranges.reg, c.ranges.sysno) at shown));
+  err = λ clean inside. query_keeps _ _ _ _ c.query_all.result spot_silent (c.query_all.ensures.err clean);
+  crash = search rules;
+}

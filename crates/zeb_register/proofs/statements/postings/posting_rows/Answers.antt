@@ -1,16 +1,17 @@
 use Rattle.std.proofs.Math.Facts.{to_z-of_z}
 use Rattle.zeb_register.proofs.Calls.{lists, nothing, quiet}
 use Rattle.zeb_register.proofs.PostingStatements.{lists_key, key_silent}
-use Rattle.std.proofs.Common.{pos}
+use Rattle.std.proofs.Common.{rules, pos}
 use Rattle.zeb_register.specs.Store.{IsRest, postings_tree, key_of}
 use Rattle.zeb_register.proofs.statements.postings.posting_rows.Goals as goal
 
-pub returns-clause-ok : goal.returns-clause-ok
-returns-clause-ok g c clean = lists (λ rows. rows.items) (IsRest postings_tree (key_of c.args.db (pos c.args.idx) c.args.reg c.args.term.now)) _ _ _ _ c.query_all.result key_silent (c.query_all.ensures.ok clean)
-    (λ rows store shown. lists_key c.args.db (pos c.args.idx) c.args.reg c.args.term.now _ _ rows store (simp (c.params-to_sql.ensures, c.params-to_sql-2.ensures, c.params-to_sql-3.ensures, c.params-to_sql-4.ensures, to_z-of_z, c.ranges.db, c.ranges.reg) at shown))
-
-pub returns-clause-same : goal.returns-clause-same
-returns-clause-same g c clean = nothing (λ rows. rows.items) _ _ _ _ c.query_all.result _ key_silent c.is_autocommit-idle.ensures.value c.is_autocommit-idle.ensures.settled (c.query_all.ensures.ok clean) (c.query_all.ensures.err clean)
-
-pub returns-clause-crash : goal.returns-clause-crash
-returns-clause-crash g c = quiet _ _ _ _ key_silent c.query_all.ensures.survives
+pub returns : goal.returns
+returns g c = record {
+  call = record {
+    idle = search rules;
+    ok = λ clean. lists (λ rows. rows.items) (IsRest postings_tree (key_of c.args.db (pos c.args.idx) c.args.reg c.args.term.now)) _ _ _ _ c.query_all.result key_silent (c.query_all.ensures.ok clean)
+        (λ rows store shown. lists_key c.args.db (pos c.args.idx) c.args.reg c.args.term.now _ _ rows store (simp (c.params-to_sql.ensures, c.params-to_sql-2.ensures, c.params-to_sql-3.ensures, c.params-to_sql-4.ensures, to_z-of_z, c.ranges.db, c.ranges.reg) at shown));
+    same = λ clean. nothing (λ rows. rows.items) _ _ _ _ c.query_all.result _ key_silent c.is_autocommit-idle.ensures.value c.is_autocommit-idle.ensures.settled (c.query_all.ensures.ok clean) (c.query_all.ensures.err clean);
+    crash = quiet _ _ _ _ key_silent c.query_all.ensures.survives;
+  };
+}

@@ -1,17 +1,18 @@
 use Rattle.std.proofs.Math.Facts.{to_z-of_z}
 use Rattle.zeb_register.proofs.Calls.{lists, nothing, quiet}
 use Rattle.zeb_register.proofs.PostingStatements.{lists_register, register_silent}
-use Rattle.std.proofs.Common.{pos, [], ◌∷◌}
+use Rattle.std.proofs.Common.{rules, pos, [], ◌∷◌}
 use Rattle.sqlite.specs.declared.types.Value.TheVariants.{Int}
 use Rattle.zeb_register.specs.Store.{IsRest, postings_tree}
 use Rattle.zeb_register.proofs.statements.postings.register_rows.Goals as goal
 
-pub returns-clause-ok : goal.returns-clause-ok
-returns-clause-ok g c clean = lists (λ rows. rows.items) (IsRest postings_tree (Int c.args.db ∷ Int (pos c.args.idx) ∷ Int c.args.reg ∷ [])) _ _ _ _ c.query_all.result register_silent (c.query_all.ensures.ok clean)
-    (λ rows store shown. lists_register c.args.db (pos c.args.idx) c.args.reg _ _ rows store (simp (c.params-to_sql.ensures, c.params-to_sql-2.ensures, c.params-to_sql-3.ensures, to_z-of_z, c.ranges.db, c.ranges.reg) at shown))
-
-pub returns-clause-same : goal.returns-clause-same
-returns-clause-same g c clean = nothing (λ rows. rows.items) _ _ _ _ c.query_all.result _ register_silent c.is_autocommit-idle.ensures.value c.is_autocommit-idle.ensures.settled (c.query_all.ensures.ok clean) (c.query_all.ensures.err clean)
-
-pub returns-clause-crash : goal.returns-clause-crash
-returns-clause-crash g c = quiet _ _ _ _ register_silent c.query_all.ensures.survives
+pub returns : goal.returns
+returns g c = record {
+  call = record {
+    idle = search rules;
+    ok = λ clean. lists (λ rows. rows.items) (IsRest postings_tree (Int c.args.db ∷ Int (pos c.args.idx) ∷ Int c.args.reg ∷ [])) _ _ _ _ c.query_all.result register_silent (c.query_all.ensures.ok clean)
+        (λ rows store shown. lists_register c.args.db (pos c.args.idx) c.args.reg _ _ rows store (simp (c.params-to_sql.ensures, c.params-to_sql-2.ensures, c.params-to_sql-3.ensures, to_z-of_z, c.ranges.db, c.ranges.reg) at shown));
+    same = λ clean. nothing (λ rows. rows.items) _ _ _ _ c.query_all.result _ register_silent c.is_autocommit-idle.ensures.value c.is_autocommit-idle.ensures.settled (c.query_all.ensures.ok clean) (c.query_all.ensures.err clean);
+    crash = quiet _ _ _ _ register_silent c.query_all.ensures.survives;
+  };
+}

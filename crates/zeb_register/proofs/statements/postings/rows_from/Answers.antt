@@ -1,18 +1,19 @@
-use Rattle.std.proofs.Common.{◌≡◌, pos, false}
+use Rattle.std.proofs.Common.{rules, ◌≡◌, pos, false}
 use Rattle.std.proofs.Math.Facts.{to_z-of_z}
 use Rattle.std.specs.Ordering.{is_lt, nat_cmp}
 use Rattle.std.specs.Cmp.Lexicographic.{slice_cmp}
-use Rattle.zeb_register.specs.Terms.{HasTerm, ShowsLeast}
+use Rattle.zeb_register.specs.RowTerms.{HasTerm, ShowsLeast}
 use Rattle.zeb_register.proofs.Calls.{read_so, nothing, quiet}
 use Rattle.zeb_register.proofs.TermStatements.{from_silent, shows_least}
 use Rattle.zeb_register.proofs.statements.postings.rows_from.Goals as goal
 
-pub returns-clause-ok : goal.returns-clause-ok
-returns-clause-ok g c clean = read_so (λ rows. rows.items) (λ trees. ShowsLeast (λ term. HasTerm trees c.args.db (pos c.args.idx) c.args.reg term × (is_lt (slice_cmp nat_cmp term c.args.start.now) ≡ false))) _ _ _ _ c.query_all.result from_silent (c.query_all.ensures.ok clean)
-    (λ rows store shown. shows_least _ store c.args.db (pos c.args.idx) c.args.reg c.args.start.now _ rows (simp (c.params-to_sql.ensures, c.params-to_sql-2.ensures, c.params-to_sql-3.ensures, c.params-to_sql-4.ensures, to_z-of_z, c.ranges.db, c.ranges.reg) at shown))
-
-pub returns-clause-same : goal.returns-clause-same
-returns-clause-same g c clean = nothing (λ rows. rows.items) _ _ _ _ c.query_all.result _ from_silent c.is_autocommit-idle.ensures.value c.is_autocommit-idle.ensures.settled (c.query_all.ensures.ok clean) (c.query_all.ensures.err clean)
-
-pub returns-clause-crash : goal.returns-clause-crash
-returns-clause-crash g c = quiet _ _ _ _ from_silent c.query_all.ensures.survives
+pub returns : goal.returns
+returns g c = record {
+  call = record {
+    idle = search rules;
+    ok = λ clean. read_so (λ rows. rows.items) (λ trees. ShowsLeast (λ term. HasTerm trees c.args.db (pos c.args.idx) c.args.reg term × (is_lt (slice_cmp nat_cmp term c.args.start.now) ≡ false))) _ _ _ _ c.query_all.result from_silent (c.query_all.ensures.ok clean)
+        (λ rows store shown. shows_least _ store c.args.db (pos c.args.idx) c.args.reg c.args.start.now _ rows (simp (c.params-to_sql.ensures, c.params-to_sql-2.ensures, c.params-to_sql-3.ensures, c.params-to_sql-4.ensures, to_z-of_z, c.ranges.db, c.ranges.reg) at shown));
+    same = λ clean. nothing (λ rows. rows.items) _ _ _ _ c.query_all.result _ from_silent c.is_autocommit-idle.ensures.value c.is_autocommit-idle.ensures.settled (c.query_all.ensures.ok clean) (c.query_all.ensures.err clean);
+    crash = quiet _ _ _ _ from_silent c.query_all.ensures.survives;
+  };
+}

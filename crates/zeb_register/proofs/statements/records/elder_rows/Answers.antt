@@ -1,12 +1,14 @@
+use Rattle.std.proofs.Common.{rules}
 use Rattle.std.proofs.Math.Facts.{to_z-of_z}
 use Rattle.zeb_register.proofs.Calls.{lists_inside, query_keeps}
 use Rattle.zeb_register.proofs.RecordStatements.{lists_elder, elder_silent}
-use Rattle.zeb_register.specs.Store.{IsElderRow}
+use Rattle.zeb_register.specs.RowStatements.{IsElderRow}
 use Rattle.zeb_register.proofs.statements.records.elder_rows.Goals as goal
 
-pub returns-clause-ok : goal.returns-clause-ok
-returns-clause-ok g c clean = lists_inside (λ rows. rows.items) (IsElderRow c.args.db c.args.ident.now) _ _ _ _ c.query_all.result elder_silent (c.query_all.ensures.ok clean)
-    (λ rows store shown. lists_elder c.args.db c.args.ident.now _ _ rows store (simp (c.params-to_sql.ensures, c.params-to_sql-2.ensures, to_z-of_z, c.ranges.db) at shown))
-
-pub returns-clause-err : goal.returns-clause-err
-returns-clause-err g c clean inside = query_keeps _ _ _ _ c.query_all.result elder_silent (c.query_all.ensures.err clean)
+pub returns-clause-call : goal.returns-clause-call
+returns-clause-call g c = record {
+  ok = λ clean. lists_inside (λ rows. rows.items) (IsElderRow c.args.db c.args.ident.now) _ _ _ _ c.query_all.result elder_silent (c.query_all.ensures.ok clean)
+      (λ rows store shown. lists_elder c.args.db c.args.ident.now _ _ rows store (simp (c.params-to_sql.ensures, c.params-to_sql-2.ensures, to_z-of_z, c.ranges.db) at shown));
+  err = λ clean inside. query_keeps _ _ _ _ c.query_all.result elder_silent (c.query_all.ensures.err clean);
+  crash = search rules;
+}

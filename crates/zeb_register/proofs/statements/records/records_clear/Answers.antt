@@ -1,10 +1,12 @@
+use Rattle.std.proofs.Common.{rules}
 use Rattle.std.proofs.Math.Facts.{to_z-of_z}
 use Rattle.zeb_register.proofs.Calls.{alters, refused_keeps}
 use Rattle.zeb_register.proofs.RecordStatements.{clears}
 use Rattle.zeb_register.proofs.statements.records.records_clear.Goals as goal
 
-pub returns-clause-ok : goal.returns-clause-ok
-returns-clause-ok g c clean inside = alters _ _ _ _ _ _ c.execute.result (c.execute.ensures.runs clean inside) (λ count store ran. clears c.args.db _ _ count store (simp (c.params-to_sql.ensures, to_z-of_z, c.ranges.db) at ran))
-
-pub returns-clause-err : goal.returns-clause-err
-returns-clause-err g c clean inside = refused_keeps _ _ _ _ c.execute.result (c.execute.ensures.runs clean inside)
+pub returns-clause-call : goal.returns-clause-call
+returns-clause-call g c = record {
+  ok = λ clean inside. alters _ _ _ _ _ _ c.execute.result (c.execute.ensures.runs clean inside) (λ count store ran. clears c.args.db _ _ count store (simp (c.params-to_sql.ensures, to_z-of_z, c.ranges.db) at ran));
+  err = λ clean inside. refused_keeps _ _ _ _ c.execute.result (c.execute.ensures.runs clean inside);
+  crash = search rules;
+}

@@ -1,9 +1,11 @@
+use Rattle.std.proofs.Common.{rules}
 use Rattle.zeb_register.proofs.Calls.{alters, refused_keeps}
 use Rattle.zeb_register.proofs.TextStatements.{sets}
 use Rattle.zeb_register.proofs.statements.texts.text_set.Goals as goal
 
-pub returns-clause-ok : goal.returns-clause-ok
-returns-clause-ok g c clean inside = alters _ _ _ _ _ _ c.execute.result (c.execute.ensures.runs clean inside) (λ count store ran. sets c.args.name.now c.args.value.now _ _ count store (simp (c.params-to_sql.ensures, c.params-to_sql-2.ensures) at ran))
-
-pub returns-clause-err : goal.returns-clause-err
-returns-clause-err g c clean inside = refused_keeps _ _ _ _ c.execute.result (c.execute.ensures.runs clean inside)
+pub returns-clause-call : goal.returns-clause-call
+returns-clause-call g c = record {
+  ok = λ clean inside. alters _ _ _ _ _ _ c.execute.result (c.execute.ensures.runs clean inside) (λ count store ran. sets c.args.name.now c.args.value.now _ _ count store (simp (c.params-to_sql.ensures, c.params-to_sql-2.ensures) at ran));
+  err = λ clean inside. refused_keeps _ _ _ _ c.execute.result (c.execute.ensures.runs clean inside);
+  crash = search rules;
+}

@@ -1,9 +1,11 @@
+use Rattle.std.proofs.Common.{rules}
 use Rattle.zeb_register.proofs.Calls.{alters, refused_keeps}
 use Rattle.zeb_register.proofs.WipeStatements.{databases_emptied}
 use Rattle.zeb_register.proofs.statements.wipes.databases_wipe.Goals as goal
 
-pub returns-clause-ok : goal.returns-clause-ok
-returns-clause-ok g c clean inside = alters _ _ _ _ _ _ c.execute.result (c.execute.ensures.runs clean inside) (λ count store ran. databases_emptied _ _ count store ran)
-
-pub returns-clause-err : goal.returns-clause-err
-returns-clause-err g c clean inside = refused_keeps _ _ _ _ c.execute.result (c.execute.ensures.runs clean inside)
+pub returns-clause-call : goal.returns-clause-call
+returns-clause-call g c = record {
+  ok = λ clean inside. alters _ _ _ _ _ _ c.execute.result (c.execute.ensures.runs clean inside) (λ count store ran. databases_emptied _ _ count store ran);
+  err = λ clean inside. refused_keeps _ _ _ _ c.execute.result (c.execute.ensures.runs clean inside);
+  crash = search rules;
+}

@@ -1,3 +1,4 @@
+-- What only the contracts of private functions speak of; no public clause reaches it.
 -- A change of one database by the records of files: what was found out before it began.
 use Rattle.std.specs.Prelude.{◌≡◌, ℕ, pos, List, Option, Some, None, Ok}
 use Rattle.sqlite.specs.Tree.{Trees}

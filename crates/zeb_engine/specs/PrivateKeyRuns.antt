@@ -1,3 +1,4 @@
+-- What only the contracts of private functions speak of; no public clause reaches it.
 -- Runs of one key at the head of a list of occurrences.
 use Rattle.std.specs.Prelude.{◌≡◌, ◌≢◌, ◌⊎◌, ⊤, List, [], ◌∷◌}
 use Rattle.std.specs.List.{AllByRecursion}
@@ -6,13 +7,13 @@ use Rattle.zeb_extract.specs.declared.keys.Key.{Key}
 use Rattle.zeb_extract.specs.declared.keys.Occurrence.{Occurrence}
 use Rattle.zeb_extract.specs.Order.{key_order}
 
-abbrev pub BeginsWith : Key → List Occurrence → Type 0
-BeginsWith key [] = ⊥
-BeginsWith key (first ∷ rest) = first.key ≡ key
+abbrev pub BeginsWithKey : Key → List Occurrence → Type 0
+BeginsWithKey key [] = ⊥
+BeginsWithKey key (first ∷ rest) = first.key ≡ key
 
 -- all of one key
-abbrev pub AreOf : Key → List Occurrence → Type 0
-AreOf key = AllByRecursion (λ o. o.key ≡ key)
+abbrev pub AreOfKey : Key → List Occurrence → Type 0
+AreOfKey key = AllByRecursion (λ o. o.key ≡ key)
 
 -- the first is of another key
 abbrev pub Stops : Key → List Occurrence → Type 0

@@ -12,7 +12,7 @@ use Rattle.sqlite.specs.Source.TheVariants.{Values}
 use Rattle.sqlite_schema.specs.declared.schema.Column.{Column}
 use Rattle.sqlite_schema.specs.declared.command.Conflict.TheVariants.{Replace}
 use Rattle.sqlite_schema.specs.Names.{is_key}
-use Rattle.zeb_register.specs.Kinds.{keeps, keeps_all, fills, is_stored}
+use Rattle.zeb_register.proofs.ValueKinds.{keeps, keeps_all, fills, is_stored}
 use Rattle.sqlite.specs.Order.{Row}
 use Rattle.sqlite.specs.Tree.{Trees}
 use Rattle.sqlite.specs.Table.{Table}

@@ -1,24 +1,19 @@
 -- The rows of databases, and the databases that they are the image of.
-use Rattle.std.proofs.Common.{◌≡◌, ◌⊎◌, ℕ, ℤ, pos, List, Option, Some, None, Result, Ok, Err, refl, sym, subst, inl, inr}
+use Rattle.std.proofs.Common.{◌≡◌, ◌⊎◌, ℕ, ℤ, pos, List, Option, Some, None, Result, Err, refl, sym, subst, inl, inr}
 use Rattle.sqlite.specs.Tree.{Trees}
 use Rattle.sqlite_rules.proofs.ListLemmas.{has_contained, contains_had}
 use Rattle.zeb_profile.specs.declared.directives.Directive.{Directive}
-use Rattle.zeb_register.specs.Content.{Content}
 use Rattle.zeb_register.specs.Store.{HasDatabase}
 use Rattle.zeb_register.specs.Catalog.{AreCountedDatabases, IsDatabaseOf}
 use Rattle.zeb_register.specs.declared.catalog.Database.{Database}
 use Rattle.zeb_register.specs.declared.RegFault.{RegFault}
 use Rattle.zeb_register.specs.declared.RegFault.TheVariants as register
 use Rattle.zeb_engine.specs.Answers.{Why, IsFailure, refused, why_of}
-use Rattle.zeb_engine.specs.Conditions.{Conditions}
-use Rattle.zeb_engine.specs.Holdings.{Holdings, Base, base_named}
-use Rattle.zeb_engine.specs.Image.{IsImage, AreBases, AreListed}
+use Rattle.zeb_engine.specs.Holdings.{Base, base_named}
+use Rattle.zeb_engine.specs.Image.{AreBases, AreListed}
 use Rattle.zeb_engine.specs.Outcomes.{register_refusal}
-use Rattle.zeb_engine.specs.Steps.{ready, holding}
 use Rattle.zeb_engine.specs.Works.{Meets}
 use Rattle.zeb_engine.proofs.Bases.{named_found, named_there}
-use Rattle.zeb_engine.proofs.Ready.{ready_is}
-use Rattle.zeb_register.specs.Formats.{Format}
 
 -- a fault of the tables that is no damage is a failure
 pub fault_meets : {A X : Type 0} (Good : A → X → Type 0) (said : Result A Why) (fault : RegFault) → (fault ≡ register.Damaged → ⊥) → Meets Good said (Err (register_refusal fault))

@@ -1,3 +1,4 @@
+-- What only the contracts of private functions speak of; no public clause reaches it.
 -- The commands that write without reading records: what each makes of what is held, and what was found out before it began.
 use Rattle.std.specs.Prelude.{◌≡◌, ℕ, ℤ, pos, List, [], Some, None, Ok, IsTrue}
 use Rattle.std.specs.Option.{option_map}

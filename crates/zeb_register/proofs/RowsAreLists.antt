@@ -13,7 +13,7 @@ use Rattle.sqlite_rules.proofs.ListLemmas.{has_got}
 use Rattle.sqlite_rules.proofs.PlaceLemmas.{tied_same}
 use Rattle.sqlite_value.proofs.OrderLemmas.{value_cmp_total}
 use Rattle.std.proofs.lemmas.Cmp.{tied_itself}
-use Rattle.zeb_register.specs.Kinds.{IsPlainTable, HasKeys, SharesKey}
+use Rattle.zeb_register.proofs.ValueKinds.{IsPlainTable, HasKeys, SharesKey}
 use Rattle.zeb_register.specs.Sql.{HasRow}
 use Rattle.zeb_register.specs.Store.{IsStore, meta_tree, entry, HasDatabase, HasRecord}
 use Rattle.zeb_register.specs.Tables.{store_schema, meta_table}

@@ -17,7 +17,7 @@ use Rattle.sqlite_schema.specs.declared.schema.Keys.TheVariants.{Enforced}
 use Rattle.sqlite_rules.specs.Action.{works}
 use Rattle.sqlite_schema.specs.Names.{is_key}
 use Rattle.sqlite_schema.specs.Rules.{kind_of, kind_code, agree}
-use Rattle.zeb_register.specs.Sql.{Condition, equals, at_least, less_than}
+use Rattle.zeb_register.proofs.StatementForms.{Condition, equals, at_least, less_than}
 
 -- 0 NULL, 1 an integer, 2 a float, 3 a text, 4 a blob
 abbrev pub code : Value → ℕ

@@ -6,7 +6,8 @@ use Rattle.sqlite.specs.Tree.{Trees}
 use Rattle.sqlite_rules.specs.Lists.{Has}
 use Rattle.sqlite_rules.proofs.ListLemmas.{has_got}
 use Rattle.zeb_register.specs.Sql.{IsListOf}
-use Rattle.zeb_register.specs.Store.{IsValueRow, AreReadableTexts, IsDatabaseRow, HasDatabase, IsElderRow, IsIdentRow, HasRecord}
+use Rattle.zeb_register.specs.Store.{AreReadableTexts, HasDatabase, HasRecord}
+use Rattle.zeb_register.specs.RowStatements.{IsValueRow, IsDatabaseRow, IsElderRow, IsIdentRow}
 use Rattle.zeb_register.specs.Catalog.{AreCountedDatabases}
 use Rattle.zeb_register.specs.Kept.{AreNumbered, AreReadableIdents}
 

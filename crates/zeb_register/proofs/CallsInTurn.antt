@@ -7,9 +7,9 @@ use Rattle.sqlite.specs.State.{State, IsUnchanged, Survives, KeepsCommit, Execut
 use Rattle.sqlite.proofs.StateLemmas.{survives_then}
 use Rattle.sqlite.proofs.Callers.{unchanged_then}
 use Rattle.zeb_register.specs.Tables.{store_schema}
-use Rattle.zeb_register.specs.Sql.{IsMade}
+use Rattle.zeb_register.specs.RowStatements.{IsMade}
 use Rattle.zeb_register.specs.Store.{IsEmptyStore}
-use Rattle.zeb_register.proofs.Creates.{made_layout}
+use Rattle.zeb_register.proofs.CreateTable.{made_layout}
 
 pub quiet_then : (a b c : State) → Survives a b (λ _. ⊥) → Survives b c (λ _. ⊥) → Survives a c (λ _. ⊥)
 quiet_then a b c p q = survives_then a b c (λ _. ⊥) (λ _. ⊥) (λ _. ⊥) (λ _ db none. none) (λ _ db none. none) p q

@@ -27,7 +27,7 @@ use Rattle.sqlite_rules.specs.Lists.{Has}
 use Rattle.sqlite_rules.proofs.ListLemmas.{all_has, has_left}
 use Rattle.zeb_register.specs.Sql.{KeepsTables}
 use Rattle.zeb_register.proofs.Calls.{got}
-use Rattle.zeb_register.proofs.Parts.{went, same_value}
+use Rattle.zeb_register.proofs.WrittenRows.{went, same_value}
 
 abbrev is_create : Statement → Bool
 is_create (written.CreateTable def) = true

@@ -11,9 +11,9 @@ use Rattle.sqlite.specs.Listing.{understood}
 use Rattle.sqlite.specs.State.{State, Executes, IsUnchanged}
 use Rattle.sqlite.proofs.Callers.{IsPlain, command_of, statement_of}
 use Rattle.zeb_register.specs.Tables.{no_schema, with_meta, with_databases, with_records, with_postings, with_blocks, store_schema, meta_table, databases_table, records_table, postings_table, blocks_table, dict_table}
-use Rattle.zeb_register.specs.Sql.{IsMade}
-use Rattle.zeb_register.proofs.Creates.{creates, spares}
-use Rattle.zeb_register.proofs.Creating.{IsCreate}
+use Rattle.zeb_register.specs.RowStatements.{IsMade}
+use Rattle.zeb_register.proofs.CreateTable.{creates, spares}
+use Rattle.zeb_register.proofs.CreateKeepsTables.{IsCreate}
 
 -- what the text makes of a schema, and that it does nothing where the tables are there
 record Makes (before : Schema) (table : Table) (sql : List ℕ) : Type 0 where

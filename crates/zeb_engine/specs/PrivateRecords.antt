@@ -1,7 +1,7 @@
+-- What only the contracts of private functions speak of; no public clause reaches it.
 -- One record of a change, beside what a database keeps.
 use Rattle.std.specs.Prelude.{◌≡◌, ◌↔◌, ℕ, ℤ, List, Option, Some, None, Result, Ok, IsUtf8}
 use Rattle.std.specs.List.{Contains}
-use Rattle.sqlite.specs.Tree.{Trees}
 use Rattle.sqlite.specs.State.{State}
 use Rattle.zeb_marc.specs.Records.{first_fault, fields_of}
 use Rattle.zeb_marc.specs.Contents.{units_of}
@@ -11,7 +11,6 @@ use Rattle.zeb_extract.specs.declared.keys.Occurrence.{Occurrence}
 use Rattle.zeb_extract.specs.Occurrences.{IsOccurrence}
 use Rattle.zeb_extract.specs.Order.{IsRising}
 use Rattle.zeb_register.specs.declared.kept.Elder.{Elder}
-use Rattle.zeb_register.specs.Content.{Content}
 use Rattle.zeb_register.specs.Store.{KeepsRegisters}
 use Rattle.zeb_engine.specs.declared.refusals.Refusal.{Refusal}
 use Rattle.zeb_engine.specs.declared.tally.Fate.{Fate}

@@ -1,0 +1,78 @@
+-- Steps of private functions, which no public clause speaks of: the rows that single statements show, and what they write.
+use Rattle.std.specs.Prelude.{◌≡◌, ◌≢◌, ◌↔◌, ◌⊎◌, ℕ, ℤ, pos, List, [], ◌∷◌, IsTrue, IsUtf8}
+use Rattle.std.specs.List.{AllByRecursion}
+use Rattle.sqlite.specs.declared.types.Value.TheVariants.{Int, Text, Blob}
+use Rattle.sqlite.specs.Effect.{IsDatabase}
+use Rattle.sqlite.specs.Order.{Row, column}
+use Rattle.sqlite.specs.Schema.{Schema}
+use Rattle.sqlite.specs.State.{State, IsUnchanged}
+use Rattle.sqlite.specs.Tree.{Trees}
+use Rattle.zeb_register.specs.Calls.{OnlyReads}
+use Rattle.zeb_register.specs.Sql.{HasRow, IsListOf}
+use Rattle.zeb_register.specs.Store.{HasDatabase, HasRecord, IsStore, entry, meta_tree}
+
+-- the table has one row more
+abbrev pub Gains : Row → ℕ → Trees → Trees → Type 0
+Gains row tree old new = (columns : Row) → HasRow new tree columns ↔ (HasRow old tree columns ⊎ (columns ≡ row))
+
+-- the tables of the schema are there, with no row, and the transaction goes on
+pub record IsMade (schema : Schema) (s : State) : Type 0 where
+  pub is : s.now.schema ≡ schema
+  pub sound : IsDatabase s.now
+  pub empty : AllByRecursion (λ t. s.now.trees t.tree ≡ []) schema.tables
+  pub inside : IsTrue s.in_transaction
+
+-- rows are read outside a transaction: just those that are P of the tables, rising
+abbrev pub Lists : (Trees → Row → Type 0) → State → State → List Row → Type 0
+Lists P old new rows = IsUnchanged old new × (IsStore old → IsListOf (P old.now.trees) rows)
+
+-- the same inside a transaction
+abbrev pub ListsInside : (Trees → Row → Type 0) → State → State → List Row → Type 0
+ListsInside P old new rows = OnlyReads old new × (IsStore old → IsListOf (P old.now.trees) rows)
+
+abbrev pub posting : ℤ → ℤ → ℤ → List ℕ → ℤ → ℤ → ℤ → Row
+posting db idx reg term sysno seq place = Int db ∷ Int idx ∷ Int reg ∷ Text term ∷ Int sysno ∷ Int seq ∷ Int place ∷ []
+
+-- a row that shows a value of the name
+abbrev pub IsValueRow : Trees → List ℕ → Row → Type 0
+IsValueRow trees name row = (value : List ℕ) × (row ≡ Text value ∷ []) × HasRow trees meta_tree (entry name value)
+
+-- there is one database more, with an id that none had
+abbrev pub AddsDatabase : ℤ → List ℕ → ℤ → ℕ → Trees → Trees → Type 0
+AddsDatabase id name last tree old new =
+    ((i : ℤ) (n : List ℕ) (l : ℤ) → HasDatabase new i n l ↔ (HasDatabase old i n l ⊎ ((i ≡ id) × (n ≡ name) × (l ≡ last))))
+    × ((n : List ℕ) (l : ℤ) → ¬ HasDatabase old id n l)
+
+-- the database with the id has this last number, and keeps its name, and each other is as it was
+abbrev pub SetsLast : ℤ → ℤ → ℕ → Trees → Trees → Type 0
+SetsLast id last tree old new =
+    (i : ℤ) (name : List ℕ) (n : ℤ) → HasDatabase new i name n
+    ↔ (((i ≢ id) × HasDatabase old i name n) ⊎ ((i ≡ id) × (n ≡ last) × ((before : ℤ) × HasDatabase old i name before)))
+
+-- a row that shows the id and the last number of the database of this name
+abbrev pub IsDatabaseRow : Trees → List ℕ → Row → Type 0
+IsDatabaseRow trees name row = (id : ℤ) × (last : ℤ) × (row ≡ Int id ∷ Int last ∷ []) × HasDatabase trees id name last
+
+-- no row is left
+abbrev pub Empties : ℕ → Trees → Trees → Type 0
+Empties tree old new = new tree ≡ []
+
+-- a row that shows the number and the bytes of the record with this identifier
+abbrev pub IsElderRow : ℤ → List ℕ → Trees → Row → Type 0
+IsElderRow db ident trees row = (sysno : ℤ) × (bytes : List ℕ) × (row ≡ Int sysno ∷ Blob bytes ∷ []) × HasRecord trees db sysno ident bytes
+
+-- a row that shows the identifier of the record with this number
+abbrev pub IsIdentRow : ℤ → ℤ → Trees → Row → Type 0
+IsIdentRow db sysno trees row = (ident : List ℕ) × (bytes : List ℕ) × (row ≡ Text ident ∷ []) × HasRecord trees db sysno ident bytes
+
+abbrev pub place_key : ℤ → ℤ → ℤ → List ℕ → ℤ → Row
+place_key db idx reg term sysno = Int db ∷ Int idx ∷ Int reg ∷ Text term ∷ Int sysno ∷ []
+
+-- a posting of the key in the record
+abbrev pub IsPlaceOf : ℤ → ℤ → ℤ → List ℕ → ℤ → Row → Type 0
+IsPlaceOf db idx reg term sysno columns =
+    (column columns 0 ≡ Int db) × (column columns 1 ≡ Int idx) × (column columns 2 ≡ Int reg) × (column columns 3 ≡ Text term) × (column columns 4 ≡ Int sysno)
+
+-- a row that shows a record
+abbrev pub IsRecordShown : Row → Type 0
+IsRecordShown row = (n : ℕ) × (t : List ℕ) × (b : List ℕ) × (row ≡ Int (pos n) ∷ Text t ∷ Blob b ∷ []) × IsUtf8 t

@@ -1,0 +1,49 @@
+//! A database is taken out, in whichever format the registers are kept.
+
+ghost use Rattle.std.specs.Prelude.{◌≡◌, ◌≢◌, IsTrue, OnOk};
+ghost use Rattle.sqlite.specs.Held.{state};
+ghost use Rattle.sqlite.specs.State.{HasCleanDisk};
+ghost use Rattle.zeb_register.specs.Calls.{GoesOn, Inside};
+ghost use Rattle.zeb_register.specs.Content.{Content, IsWithout, TakesWhole};
+ghost use Rattle.zeb_register.specs.Formats.{Format, holds_in};
+ghost use Rattle.zeb_register.specs.RowPlaces.{DropsRegisters};
+ghost use Rattle.zeb_register.specs.Store.{IsStore};
+
+use crate::catalog::database_drop;
+use crate::kept::records_drop;
+use crate::statements::packed::{blocks_clear, dict_clear};
+use crate::statements::postings::postings_clear;
+use crate::{DatabaseId, RegFault};
+use sqlite::{Alter, Transaction};
+
+/// Takes a database out, with its records and its rows in every table of the registers.
+pub(crate) fn database_drop_whole<S: Alter>(
+    tx: &mut Transaction<'_, S>,
+    db: DatabaseId,
+) -> Result<(), RegFault>
+    ensures same { tx.new.conn.ghost_name ≡ tx.old.conn.ghost_name }
+    ensures call { Inside (state S.Store tx.old.conn.now) (state S.Store tx.new.conn.now) result (λ _. GoesOn) }
+    ensures taken { HasCleanDisk (state S.Store tx.new.conn.now) → IsTrue (state S.Store tx.old.conn.now).in_transaction
+        → IsStore (state S.Store tx.old.conn.now)
+        → OnOk result (TakesWhole db.0 (state S.Store tx.old.conn.now) (state S.Store tx.new.conn.now)
+        × ((format : Format) (before after : Content) → holds_in format (state S.Store tx.old.conn.now).now.trees before
+        → IsWithout db.0 before after → holds_in format (state S.Store tx.new.conn.now).now.trees after)) }
+    ensures honest { result ≢ Err RegFault.Damaged }
+{
+    registers_drop(tx, db)?;
+    records_drop(tx, db)?;
+    database_drop(tx, db)
+}
+
+/// Takes the rows of the database out of each table of the registers.
+fn registers_drop<S: Alter>(tx: &mut Transaction<'_, S>, db: DatabaseId) -> Result<(), RegFault>
+    ensures same { tx.new.conn.ghost_name ≡ tx.old.conn.ghost_name }
+    ensures call { Inside (state S.Store tx.old.conn.now) (state S.Store tx.new.conn.now) result
+        (λ _ a b. GoesOn a b × (IsStore a → DropsRegisters db.0 a b)) }
+    ensures honest { result ≢ Err RegFault.Damaged }
+{
+    postings_clear(tx, db.column())?;
+    blocks_clear(tx, db.column())?;
+    dict_clear(tx, db.column())?;
+    Ok(())
+}
