@@ -20,6 +20,7 @@ mod refused_memory;
 mod scans;
 mod streams;
 mod together;
+mod versions;
 
 /// Titles by their words, records named by their control number.
 pub const TITLES: &str = "store books.db\nidentifier 001\natt 4 Title\nmelm 245 Title\n";

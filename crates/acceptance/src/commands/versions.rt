@@ -1,0 +1,65 @@
+//! A register of a version that this program does not write.
+
+use super::{Row, Step, TITLES, run};
+use crate::samples::{DOCK, MOBY};
+use sqlite::{Alter, Connection};
+use std::test::Fail;
+use zeb_engine::Limits;
+use zeb_register::{Layout, RegFault, Rows, meta_put};
+
+const FOUND: Row<'static> = (Step::Find("@attr 1=4 moby"), "hits 1\n1 a1\n");
+
+const BEGUN: &[Row<'static>] = &[
+    (Step::Init, "ok\n"),
+    (Step::Update(&[&[MOBY]]), "inserted 1 updated 0 deleted 0\n"),
+    FOUND,
+];
+
+const ANOTHER: &str = "zebraidx: register has another format";
+
+const REFUSED: &[Row<'static>] = &[
+    (Step::Create("b"), ANOTHER),
+    (Step::Drop("Default"), ANOTHER),
+    (Step::Update(&[&[DOCK]]), ANOTHER),
+    (Step::Delete(&[&[MOBY]]), ANOTHER),
+    (Step::Find("@attr 1=4 moby"), ANOTHER),
+    (Step::Scan("Default", 1, 1, "@attr 1=4 moby"), ANOTHER),
+    (Step::Stat("Default"), ANOTHER),
+    (Step::Dump("Default"), ANOTHER),
+];
+
+const BEGUN_ANEW: &[Row<'static>] = &[
+    (Step::Init, "ok\n"),
+    (
+        Step::Stat("Default"),
+        "zebraidx: diagnostic 235 at 0: Default",
+    ),
+];
+
+fn put_version<S: Alter>(connection: &mut Connection<S>, version: &str) -> Result<(), RegFault> {
+    if !connection.is_autocommit() {
+        return Err(RegFault::Store);
+    }
+    let mut tx = connection.transaction();
+    meta_put(&mut tx, "version", version)?;
+    tx.commit()?;
+    Ok(())
+}
+
+/// Nothing was changed: under its own version the register answers as before. `init` begins it anew under either.
+#[test]
+fn a_register_of_another_version_is_refused(rt: HostRuntime) -> Result<(), Fail> {
+    let own = Rows::version();
+    let new = Connection::open_in_memory(rt.alloc())?;
+    let mut connection = run(&rt, new, Limits::GREATEST, TITLES, BEGUN)?;
+    for (version, rows) in [
+        ("2", REFUSED),
+        ("", REFUSED),
+        (own, &[FOUND]),
+        ("2", BEGUN_ANEW),
+    ] {
+        put_version(&mut connection, version)?;
+        connection = run(&rt, connection, Limits::GREATEST, TITLES, rows)?;
+    }
+    Ok(())
+}
