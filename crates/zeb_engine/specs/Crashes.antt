@@ -63,7 +63,7 @@ CommitsBy Told old db = (before : Holdings) → Keeps old before → (answer : A
 abbrev pub CommitsCommand : Conditions → Command → State → Trees → Type 0
 CommitsCommand c command = CommitsBy (Step c command)
 
--- what some of the first of these commands leave
+-- what a run of the first so many of these commands leaves, of which each took its step or failed
 abbrev pub CommitsSome : Conditions → List Command → State → Trees → Type 0
 CommitsSome c commands old db =
     (before : Holdings) → Keeps old before → (count : ℕ) × (answers : List Answer) × (mid : Holdings) × Run c before (take count commands) answers mid × Stands db mid

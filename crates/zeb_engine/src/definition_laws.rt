@@ -83,7 +83,7 @@ pub fn counts_add_up()
 /// Numbers stay. After an update each record that was kept is kept still, under the number and the identifier that it had,
 /// whatever bytes it has now. After any change each kept record either was kept before, under the same number and
 /// identifier, or has a number greater than any given before. So a number that a reader has noted never comes to mean
-/// another identifier.
+/// another identifier, until the database is dropped or the register begun anew.
 pub fn numbers_stay()
     ensures elders { (c : Conditions) (files : List Split) (base : Base) (p : Progress) → FoldsTo c Kind.Update files base p
         → (kept : Kept) → Contains base.records kept → HasNamesake p.base.records kept }
