@@ -1,5 +1,6 @@
 pub mod Bases
 pub mod Ready
+pub mod ReadyTexts
 pub mod ListedDatabases
 pub mod ReadyImages
 pub mod Ids

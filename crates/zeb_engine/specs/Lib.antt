@@ -18,6 +18,8 @@ pub mod Steps
 pub mod Alone
 pub mod Image
 pub mod Works
+pub mod Readiness
+pub mod PrivateReadiness
 pub mod PrivateWriting
 pub mod PrivateChanging
 pub mod PrivateChangedKeys

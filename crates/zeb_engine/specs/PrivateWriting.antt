@@ -1,6 +1,6 @@
 -- What only the contracts of private functions speak of; no public clause reaches it.
 -- The commands that write without reading records: what each makes of what is held, and what was found out before it began.
-use Rattle.std.specs.Prelude.{◌≡◌, ℕ, ℤ, pos, List, [], Some, None, Ok, IsTrue}
+use Rattle.std.specs.Prelude.{◌≡◌, ℕ, ℤ, pos, List, [], Some, None, Result, Ok, IfErr, IsTrue}
 use Rattle.std.specs.Option.{option_map}
 use Rattle.sqlite.specs.Tree.{Trees}
 use Rattle.sqlite.specs.State.{State}
@@ -11,6 +11,9 @@ use Rattle.zeb_profile.specs.Laws.{IsProfile}
 use Rattle.zeb_register.specs.Store.{IsStore, HasDatabase}
 use Rattle.zeb_engine.specs.declared.writes.Write.{Write}
 use Rattle.zeb_engine.specs.declared.writes.Write.TheVariants as write
+use Rattle.zeb_engine.specs.declared.refusals.Refusal.{Refusal}
+use Rattle.zeb_engine.specs.declared.replies.Reply.{Reply}
+use Rattle.zeb_engine.specs.Answers.{IsFailure, refused, why_of}
 use Rattle.zeb_engine.specs.Conditions.{Conditions}
 use Rattle.zeb_engine.specs.Holdings.{Holdings, Base, base_named}
 use Rattle.zeb_engine.specs.Image.{HasTexts, IsImage}
@@ -64,3 +67,9 @@ abbrev pub Begins : List ℕ → Write → State → State → Type 0
 Begins version (write.Init profile pattern) old new = IsStore old → IsStore new × ((c : Conditions) → AreOf version profile.now pattern.now c → IsImage new.now.trees (holding c []))
 Begins version (write.Create name) old new = Unit {0}
 Begins version (write.Drop name id) old new = Unit {0}
+
+-- only a failure refuses an `init`
+abbrev pub FailsAlone : Write → Result Reply Refusal → Type 0
+FailsAlone (write.Init profile pattern) result = IfErr result (λ refusal. IsFailure (refused (why_of refusal)))
+FailsAlone (write.Create name) result = Unit {0}
+FailsAlone (write.Drop name id) result = Unit {0}

@@ -13,6 +13,7 @@ ghost use Rattle.zeb_engine.specs.Folding.{Progress as FoldProgress, folded, fil
 ghost use Rattle.zeb_engine.specs.Holdings.{Base, Holdings, Kept, base_named};
 ghost use Rattle.zeb_engine.specs.Image.{Keeps};
 ghost use Rattle.zeb_engine.specs.NameOf.{name_bytes};
+ghost use Rattle.zeb_engine.specs.PrivateReadiness.{NeverUnready};
 ghost use Rattle.zeb_engine.specs.Reading.{HasFailedAt, NamesFailed, NoneFailed, NoReadFault, ReadsNext};
 ghost use Rattle.zeb_engine.specs.Steps.{changed_by_files, ready, splits_of, start_of, turned};
 ghost use Rattle.zeb_engine.specs.Transactions.{Commanded, Stays};
@@ -40,6 +41,7 @@ fn read_record<R: Source>(
         → ReadsNext file nth (next_of text) result buffer.new (R.remaining reader.new) }
     ensures failed { R.has_failed reader.new ≡ true → result ≡ Err (Refusal.ReadFault file) }
     ensures fault { (other : ℕ) → result ≡ Err (Refusal.ReadFault other) → (other ≡ file) × (R.has_failed reader.new ≡ true) }
+    ensures ready { NeverUnready result }
 {
     if reader.has_failed() {
         return Err(Refusal::ReadFault { file });
@@ -92,6 +94,7 @@ fn take_record<S: Alter, L: Layout>(
         (folded (conditions_of version setting.now) setting.now.kind incoming.entry.file incoming.entry.nth incoming.entry.bytes.now p)
         result }
     ensures unread { NoReadFault result }
+    ensures ready { NeverUnready result }
     ensures crash { Survives (state S.Store tx.old.conn.now) (state S.Store tx.new.conn.now) (λ _. ⊥) }
 {
     if fold.tally.records >= setting.limits.records {
@@ -124,6 +127,7 @@ fn fold_file<S: Alter, L: Layout, R: Source>(
         (file_folded (conditions_of version setting.now) setting.now.kind file (split_of text) p) result }
     ensures failed { R.has_failed reader.new ≡ true → result ≡ Err (Refusal.ReadFault file) }
     ensures fault { (other : ℕ) → result ≡ Err (Refusal.ReadFault other) → (other ≡ file) × (R.has_failed reader.new ≡ true) }
+    ensures ready { NeverUnready result }
     ensures crash { Survives (state S.Store tx.old.conn.now) (state S.Store tx.new.conn.now) (λ _. ⊥) }
 {
     for nth in 1..u64::MAX {
@@ -162,6 +166,7 @@ fn fold_files<S: Alter, L: Layout, R: Source>(
     ensures failed { NoneFailed R.has_failed readers.old → (file : ℕ) → HasFailedAt R.has_failed readers.new file
         → result ≡ Err (Refusal.ReadFault file) }
     ensures fault { (file : ℕ) → result ≡ Err (Refusal.ReadFault file) → HasFailedAt R.has_failed readers.new file }
+    ensures ready { NeverUnready result }
     ensures crash { Survives (state S.Store tx.old.conn.now) (state S.Store tx.new.conn.now) (λ _. ⊥) }
 {
     for (index, reader) in readers.iter_mut().enumerate() {
@@ -211,6 +216,7 @@ fn apply<S: Alter, L: Layout, R: Source>(
     ensures failed { NoneFailed R.has_failed readers.old → (file : ℕ) → HasFailedAt R.has_failed readers.new file
         → result ≡ Err (Refusal.ReadFault file) }
     ensures fault { (file : ℕ) → result ≡ Err (Refusal.ReadFault file) → HasFailedAt R.has_failed readers.new file }
+    ensures ready { NeverUnready result }
     ensures crash { Survives (state S.Store tx.old.conn.now) (state S.Store tx.new.conn.now) (λ _. ⊥) }
 {
     // Its profile is some text's.
@@ -263,6 +269,7 @@ fn transact<S: Alter, L: Layout, R: Source>(
     ensures failed { NoneFailed R.has_failed readers.old → (file : ℕ) → HasFailedAt R.has_failed readers.new file
         → result ≡ Err (Refusal.ReadFault file) }
     ensures fault { (file : ℕ) → result ≡ Err (Refusal.ReadFault file) → HasFailedAt R.has_failed readers.new file }
+    ensures ready { NeverUnready result }
 {
     let _settled = connection.is_autocommit();
     let mut tx = connection.transaction();
@@ -287,6 +294,7 @@ fn found_for<S: Alter, L: Layout>(
         × IsTrue (state S.Store connection.new).is_open)
         (start_of setting.now.kind (name_bytes name.now) (base_named (name_bytes name.now) bases)) result }
     ensures unread { NoReadFault result }
+    ensures ready { NeverUnready result }
     ensures crash { Survives (state S.Store connection.old) (state S.Store connection.new) (λ _. ⊥) }
 {
     match setting.kind {
@@ -326,6 +334,7 @@ pub(crate) fn change_database<S: Alter, L: Layout, R: Source>(
     ensures failed { NoneFailed R.has_failed readers.old → (file : ℕ) → HasFailedAt R.has_failed readers.new file
         → result ≡ Err (Refusal.ReadFault file) }
     ensures fault { (file : ℕ) → result ≡ Err (Refusal.ReadFault file) → HasFailedAt R.has_failed readers.new file }
+    ensures ready { NeverUnready result }
 {
     let found = found_for::<S, L>(connection, &setting, name)?;
     let mut buffer = RecordBuf::new(setting.alloc)?;

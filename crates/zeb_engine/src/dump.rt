@@ -10,6 +10,7 @@ ghost use Rattle.zeb_engine.specs.Adopting.{StaysOpen};
 ghost use Rattle.zeb_engine.specs.Conditions.{conditions};
 ghost use Rattle.zeb_engine.specs.declared.commands.Limits.{Limits};
 ghost use Rattle.zeb_engine.specs.NameOf.{name_bytes};
+ghost use Rattle.zeb_engine.specs.Readiness.{GoesByTexts};
 ghost use Rattle.zeb_engine.specs.Reading.{NoReadFault};
 ghost use Rattle.zeb_engine.specs.Steps.{dumped_by};
 ghost use Rattle.zeb_engine.specs.Works.{Always, Serves};
@@ -52,6 +53,8 @@ pub(crate) fn dump<S: Alter, L: Layout>(
         (state S.Store connection.old) (state S.Store connection.new) result }
     ensures crash { Survives (state S.Store connection.old) (state S.Store connection.new) (λ _. ⊥) }
     ensures unread { NoReadFault result }
+    ensures ready { HasCleanDisk (state S.Store connection.new)
+        → GoesByTexts (version_of L.format) profile.now (state S.Store connection.old) result }
 {
     // Its profile is some text's.
     profile.is_of_some_text();

@@ -20,6 +20,7 @@ ghost use Rattle.zeb_engine.specs.Finding.{AreNumbers, AreShown, asked_of, plain
 ghost use Rattle.zeb_engine.specs.Holdings.{Holdings, Base};
 ghost use Rattle.zeb_engine.specs.Image.{Keeps};
 ghost use Rattle.zeb_engine.specs.NameOf.{name_bytes};
+ghost use Rattle.zeb_engine.specs.PrivateReadiness.{NeverUnready};
 ghost use Rattle.zeb_engine.specs.Reading.{NoReadFault};
 ghost use Rattle.zeb_engine.specs.Steps.{ready, AskedAmong, FindAnswers};
 ghost use Rattle.zeb_engine.specs.Works.{key_or, KeepsEach, Meets, ShowsStore};
@@ -51,6 +52,7 @@ pub(crate) struct Question<'a> {
 fn key_of_word(alloc: Global, index: u32, patterns: &[Pattern]) -> Result<Key, Refusal>
     ensures key { Meets (λ wanted key. key ≡ wanted) (key_or (plain_word index patterns.now false)) result }
     ensures unread { NoReadFault result }
+    ensures ready { NeverUnready result }
 {
     let [pattern] = patterns else {
         return Err(Refusal::Unsupported);
@@ -69,6 +71,7 @@ fn key_of_word(alloc: Global, index: u32, patterns: &[Pattern]) -> Result<Key, R
 fn key_of_plan(alloc: Global, plan: &Plan) -> Result<Key, Refusal>
     ensures key { Meets (λ wanted key. key ≡ wanted) (key_or (plan_key (plan_value plan.now))) result }
     ensures unread { NoReadFault result }
+    ensures ready { NeverUnready result }
 {
     match plan {
         Plan::Term(
@@ -112,6 +115,7 @@ fn show<S: Alter>(
         → IfErr result (λ refusal. IsFailure (refused (why_of refusal))) }
     ensures crash { Survives (state S.Store connection.old) (state S.Store connection.new) (λ _. ⊥) }
     ensures unread { NoReadFault result }
+    ensures ready { NeverUnready result }
 {
     let mut shown = Vec::with_capacity(alloc, numbers.len())?;
     for number in numbers {
@@ -134,6 +138,7 @@ fn asked_for<'a>(
 ) -> Result<&'a [u64], Refusal>
     ensures asked { Meets (λ wanted asked. asked.now ≡ wanted) (asked_of hits.now question.now.first question.now.count) result }
     ensures unread { NoReadFault result }
+    ensures ready { NeverUnready result }
 {
     let first = question.first as usize;
     if first > 1 && first > hits.len() {
@@ -171,6 +176,7 @@ pub(crate) fn find<S: Alter, L: Layout>(
         ⊎ IsFailure (answer_of result) }
     ensures crash { Survives (state S.Store connection.old) (state S.Store connection.new) (λ _. ⊥) }
     ensures unread { NoReadFault result }
+    ensures ready { NeverUnready result }
     // The hits are read from the registers, on any tables that hold a content.
     ensures alone { HasCleanDisk (state S.Store connection.new)
         → Alone L.format (FindSays profile.now question.entry.query.now question.entry.first question.entry.count) (name_bytes name.now)

@@ -12,6 +12,8 @@ ghost use Rattle.zeb_engine.specs.declared.commands.Limits.{Limits};
 ghost use Rattle.zeb_engine.specs.Holdings.{Holdings, Base};
 ghost use Rattle.zeb_engine.specs.Image.{Keeps};
 ghost use Rattle.zeb_engine.specs.NameOf.{name_bytes};
+ghost use Rattle.zeb_engine.specs.PrivateReadiness.{NeverUnready};
+ghost use Rattle.zeb_engine.specs.Readiness.{GoesByTexts};
 ghost use Rattle.zeb_engine.specs.Reading.{NoReadFault};
 ghost use Rattle.zeb_engine.specs.Steps.{ready, existing};
 ghost use Rattle.zeb_engine.specs.Works.{Meets};
@@ -48,6 +50,8 @@ pub(crate) fn check_ready<S: Alter, L: Layout>(
         → Keeps (state S.Store connection.old) before
         → Meets (λ bases _. IsTrue (state S.Store connection.old).is_open
         × IsTrue (state S.Store connection.new).is_open) (ready (conditions (version_of L.format) profile.now limits) before) result }
+    ensures texts { HasCleanDisk (state S.Store connection.new)
+        → GoesByTexts (version_of L.format) profile.now (state S.Store connection.old) result }
     ensures unread { NoReadFault result }
     ensures crash { Survives (state S.Store connection.old) (state S.Store connection.new) (λ _. ⊥) }
 {
@@ -85,6 +89,7 @@ pub(crate) fn existing_database<S: Alter, L: Layout>(
     ensures opened { HasCleanDisk (state S.Store connection.new)
         → IfErr result (λ refusal. IsFailure (refused (why_of refusal)) ⊎ IsTrue (state S.Store connection.old).is_open) }
     ensures unread { NoReadFault result }
+    ensures ready { NeverUnready result }
     ensures crash { Survives (state S.Store connection.old) (state S.Store connection.new) (λ _. ⊥) }
     ensures row { HasCleanDisk (state S.Store connection.new) → IsStore (state S.Store connection.old)
         → IfOk result (λ found. HasDatabase (state S.Store connection.old).now.trees found.id.0 (name_bytes name.now) (pos found.last)) }

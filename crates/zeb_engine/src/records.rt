@@ -13,6 +13,7 @@ ghost use Rattle.zeb_engine.specs.PrivateChangedKeys.{ArePostingsOf, AreTheSame,
 ghost use Rattle.zeb_engine.specs.Answers.{Why, why_of, refused, IsFailure};
 ghost use Rattle.zeb_engine.specs.Folding.{Changed, changed_record, updated, deleted, ident_in};
 ghost use Rattle.zeb_engine.specs.Holdings.{Base, Kept, kept_as};
+ghost use Rattle.zeb_engine.specs.PrivateReadiness.{NeverUnready};
 ghost use Rattle.zeb_engine.specs.Reading.{NoReadFault};
 ghost use Rattle.zeb_engine.specs.PrivateRecords.{AreOccurrencesOf, IsElderAs, IsIdle, IsNewer, Takes};
 ghost use Rattle.zeb_engine.specs.Transactions.{Stays};
@@ -115,6 +116,7 @@ fn kept_occurrences(setting: &Setting<'_>, elder: &Elder) -> Result<Vec<Occurren
     ensures found { IfOk result (λ found. AreOccurrencesOf setting.now.profile.now elder.now.bytes.items found.items) }
     ensures fails { IfErr result (λ refusal. first_fault elder.now.bytes.items ≡ None → refusal ≡ Refusal.Memory) }
     ensures unread { NoReadFault result }
+    ensures ready { NeverUnready result }
 {
     match Marc::read(&elder.bytes) {
         Ok(record) => Ok(occurrences(setting.alloc, &record, setting.profile)?),
@@ -140,6 +142,7 @@ fn insert<S: Alter, L: Layout>(
         (λ base. IsElderAs newer.now.ident.now base None) (λ base. updated
         (conditions_of version setting.now) newer.now.ident.now newer.now.bytes.now base (kept_as newer.now.ident.now base)) result }
     ensures unread { NoReadFault result }
+    ensures ready { NeverUnready result }
     ensures crash { Survives (state S.Store tx.old.conn.now) (state S.Store tx.new.conn.now) (λ _. ⊥) }
 {
     if progress.last >= setting.limits.numbers {
@@ -172,6 +175,7 @@ fn replace<S: Alter, L: Layout>(
         (λ base. updated (conditions_of version setting.now) newer.now.ident.now newer.now.bytes.now base
         (kept_as newer.now.ident.now base)) result }
     ensures unread { NoReadFault result }
+    ensures ready { NeverUnready result }
     ensures crash { Survives (state S.Store tx.old.conn.now) (state S.Store tx.new.conn.now) (λ _. ⊥) }
     ensures idle { HasCleanDisk (state S.Store tx.new.conn.now) → IsTrue (state S.Store tx.old.conn.now).in_transaction
         → IsStore (state S.Store tx.old.conn.now)
@@ -204,6 +208,7 @@ fn withdraw<S: Alter, L: Layout>(
         (state S.Store tx.new.conn.now) progress.old.last progress.new.last
         (λ base. IsElderAs ident base (Some elder.now)) (λ base. deleted absent ident base (kept_as ident base)) result }
     ensures unread { NoReadFault result }
+    ensures ready { NeverUnready result }
     ensures crash { Survives (state S.Store tx.old.conn.now) (state S.Store tx.new.conn.now) (λ _. ⊥) }
 {
     let old = kept_occurrences(setting, elder)?;
@@ -232,6 +237,7 @@ fn keep<S: Alter, L: Layout>(
         (λ base. IsElderAs newer.now.ident.now base elder) (λ base. updated
         (conditions_of version setting.now) newer.now.ident.now newer.now.bytes.now base (kept_as newer.now.ident.now base)) result }
     ensures unread { NoReadFault result }
+    ensures ready { NeverUnready result }
     ensures crash { Survives (state S.Store tx.old.conn.now) (state S.Store tx.new.conn.now) (λ _. ⊥) }
     ensures idle { HasCleanDisk (state S.Store tx.new.conn.now) → IsTrue (state S.Store tx.old.conn.now).in_transaction
         → IsStore (state S.Store tx.old.conn.now)
@@ -258,6 +264,7 @@ fn sound_record<'a>(
         (conditions_of version setting.now) kind incoming.entry.file incoming.entry.nth incoming.entry.bytes.now base ≡ Err
         (why_of refusal))) }
     ensures unread { NoReadFault result }
+    ensures ready { NeverUnready result }
 {
     let Incoming { bytes, file, nth } = incoming;
     let record = match Marc::read(bytes) {
@@ -289,6 +296,7 @@ pub(crate) fn change_record<S: Alter, L: Layout>(
         (changed_record
         (conditions_of version setting.now) setting.now.kind incoming.entry.file incoming.entry.nth incoming.entry.bytes.now base) result }
     ensures unread { NoReadFault result }
+    ensures ready { NeverUnready result }
     ensures crash { Survives (state S.Store tx.old.conn.now) (state S.Store tx.new.conn.now) (λ _. ⊥) }
     ensures idle { HasCleanDisk (state S.Store tx.new.conn.now) → IsTrue (state S.Store tx.old.conn.now).in_transaction
         → setting.now.kind ≡ Kind.Update

@@ -16,6 +16,7 @@ ghost use Rattle.zeb_engine.specs.Conditions.{conditions};
 ghost use Rattle.zeb_engine.specs.Holdings.{Holdings, Base};
 ghost use Rattle.zeb_engine.specs.Image.{Keeps};
 ghost use Rattle.zeb_engine.specs.NameOf.{name_bytes};
+ghost use Rattle.zeb_engine.specs.PrivateReadiness.{NeverUnready};
 ghost use Rattle.zeb_engine.specs.Reading.{NoReadFault};
 ghost use Rattle.zeb_engine.specs.Alone.{Alone, ScanSays};
 ghost use Rattle.zeb_engine.specs.Scanning.{AreAround};
@@ -73,6 +74,7 @@ fn terms_around<S: Alter, L: Layout>(
         → IfErr result (λ refusal. IsFailure (refused (why_of refusal))) }
     ensures crash { Survives (state S.Store connection.old) (state S.Store connection.new) (λ _. ⊥) }
     ensures unread { NoReadFault result }
+    ensures ready { NeverUnready result }
 {
     let below = (around.position as u64).saturating_sub(1);
     let from = (around.number as u64 + 1).saturating_sub(around.position as u64);
@@ -110,6 +112,7 @@ pub(crate) fn scan<S: Alter, L: Layout>(
         ⊎ IsFailure (answer_of result) }
     ensures crash { Survives (state S.Store connection.old) (state S.Store connection.new) (λ _. ⊥) }
     ensures unread { NoReadFault result }
+    ensures ready { NeverUnready result }
     // The terms are read from the registers, on any tables that hold a content.
     ensures alone { HasCleanDisk (state S.Store connection.new)
         → Alone L.format (ScanSays profile.now around.entry.query.now around.entry.number around.entry.position) (name_bytes name.now)

@@ -6,9 +6,10 @@ ghost use Rattle.std.specs.Result.{IsErr};
 ghost use Rattle.sqlite.specs.Held.{state};
 ghost use Rattle.sqlite.specs.State.{HasCleanDisk, IsLive, Opens, Survives};
 ghost use Rattle.zeb_engine.specs.Alone.{AnswersAlone};
-ghost use Rattle.zeb_engine.specs.Answers.{answer_of};
+ghost use Rattle.zeb_engine.specs.Answers.{IsFailure, answer_of, refused, why_of};
 ghost use Rattle.zeb_engine.specs.Conditions.{conditions};
 ghost use Rattle.zeb_engine.specs.NameOf.{name_bytes};
+ghost use Rattle.zeb_engine.specs.Readiness.{GoesByTexts, LooksFirst};
 ghost use Rattle.zeb_engine.specs.Reading.{HasFailedAt, NamesFailed, NoneFailed, NoReadFault};
 ghost use Rattle.zeb_engine.specs.Steps.{Step, TakesFiles, created, dropped, holding, OnlyAsks, turned};
 ghost use Rattle.zeb_engine.specs.Transactions.{Commanded, EnduresRefusal, IsDurable};
@@ -178,6 +179,11 @@ impl<S: Alter, L: Layout> Session<S, L> {
         ensures begun { HasCleanDisk (state S.Store self.new.connection) → command.now ≡ Command.Init
             → OnOk result (IsStore (state S.Store self.old.connection)
             → Keeps (state S.Store self.new.connection) (holding (conditions (version_of L.format) self.old.profile self.old.limits) [])) }
+        // Only a failure refuses an `init`, whatever the tables hold.
+        ensures failed { command.now ≡ Command.Init → IfErr result (λ refusal. IsFailure (refused (why_of refusal))) }
+        // Of another command the texts of the store tell whether its register was ready, on any tables.
+        ensures ready { HasCleanDisk (state S.Store self.new.connection) → LooksFirst command.now
+            → GoesByTexts (version_of L.format) self.old.profile (state S.Store self.old.connection) result }
         // A find, a scan and a stat are answered by the registers, on any tables that hold a content.
         ensures alone { HasCleanDisk (state S.Store self.new.connection)
             → AnswersAlone L.format self.old.profile command.now (state S.Store self.old.connection) result }
@@ -209,6 +215,9 @@ impl<S: Alter, L: Layout> Session<S, L> {
             → IsStore (state S.Store self.new.connection)
             × IsImage (state S.Store self.new.connection).now.trees
             (holding (conditions (version_of L.format) self.old.profile self.old.limits) [])) }
+        ensures ready { HasCleanDisk (state S.Store self.new.connection) → LooksFirst command.now
+            → GoesByTexts (version_of L.format) self.old.profile (state S.Store self.old.connection) result }
+        ensures failed { command.now ≡ Command.Init → IfErr result (λ refusal. IsFailure (refused (why_of refusal))) }
         ensures alone { HasCleanDisk (state S.Store self.new.connection)
             → AnswersAlone L.format self.old.profile command.now (state S.Store self.old.connection) result }
         ensures reads { HasCleanDisk (state S.Store self.new.connection) → OnlyAsks command.now
@@ -278,6 +287,8 @@ impl<S: Alter, L: Layout> Session<S, L> {
             → Serves Always (turned (conditions (version_of L.format) self.old.profile self.old.limits) (created (name_bytes name.now)))
             (state S.Store self.old.connection) (state S.Store self.new.connection) result }
         ensures unread { NoReadFault result }
+        ensures ready { HasCleanDisk (state S.Store self.new.connection)
+            → GoesByTexts (version_of L.format) self.old.profile (state S.Store self.old.connection) result }
     {
         check_ready::<S, L>(&mut self.connection, &self.profile)?;
         create_database::<S, L>(&mut self.connection, name)
@@ -294,6 +305,8 @@ impl<S: Alter, L: Layout> Session<S, L> {
             → Serves Always (turned (conditions (version_of L.format) self.old.profile self.old.limits) (dropped (name_bytes name.now)))
             (state S.Store self.old.connection) (state S.Store self.new.connection) result }
         ensures unread { NoReadFault result }
+        ensures ready { HasCleanDisk (state S.Store self.new.connection)
+            → GoesByTexts (version_of L.format) self.old.profile (state S.Store self.old.connection) result }
     {
         check_ready::<S, L>(&mut self.connection, &self.profile)?;
         drop_database::<S, L>(self.alloc, &mut self.connection, name)
@@ -310,6 +323,8 @@ impl<S: Alter, L: Layout> Session<S, L> {
             → ServesBy (TakesFiles (conditions (version_of L.format) self.old.profile self.old.limits) kind (name_bytes database.now)
             (map (λ file. file.items) files.now)) (state S.Store self.old.connection) (state S.Store self.new.connection) result }
         ensures unread { NoReadFault result }
+        ensures ready { HasCleanDisk (state S.Store self.new.connection)
+            → GoesByTexts (version_of L.format) self.old.profile (state S.Store self.old.connection) result }
     {
         let mut readers = Vec::with_capacity(self.alloc, files.len())?;
         for file in files {
@@ -342,6 +357,9 @@ impl<S: Alter, L: Layout> Session<S, L> {
             → map R.remaining readers.old ≡ map Some texts → NoneFailed R.has_failed readers.new
             → ServesBy (TakesFiles (conditions (version_of L.format) self.old.profile self.old.limits) kind
             (name_bytes database.now) texts) (state S.Store self.old.connection) (state S.Store self.new.connection) result }
+        // The texts of the store tell whether its register was ready, on any tables.
+        ensures ready { HasCleanDisk (state S.Store self.new.connection)
+            → GoesByTexts (version_of L.format) self.old.profile (state S.Store self.old.connection) result }
         // A reader that has failed, also before the call, is named, whatever else would be refused.
         ensures sound { NoneFailed R.has_failed readers.new ⊎ IsErrAnd result (NamesFailed R.has_failed readers.new) }
         ensures fault { (file : ℕ) → result ≡ Err (Refusal.ReadFault file) → HasFailedAt R.has_failed readers.new file }
@@ -375,6 +393,8 @@ impl<S: Alter, L: Layout> Session<S, L> {
             (name_bytes database.now) texts) (state S.Store self.old.connection) (state S.Store self.new.connection) result }
         ensures sound { NoneFailed R.has_failed readers.new ⊎ IsErrAnd result (NamesFailed R.has_failed readers.new) }
         ensures fault { (file : ℕ) → result ≡ Err (Refusal.ReadFault file) → HasFailedAt R.has_failed readers.new file }
+        ensures ready { HasCleanDisk (state S.Store self.new.connection)
+            → GoesByTexts (version_of L.format) self.old.profile (state S.Store self.old.connection) result }
     {
         self.work = Work::default();
         check_readers(readers)?;

@@ -15,6 +15,8 @@ ghost use Rattle.zeb_engine.specs.Counting.{IsExtent, Paired, name_of_index, tar
 ghost use Rattle.zeb_engine.specs.declared.commands.Limits.{Limits};
 ghost use Rattle.zeb_engine.specs.Holdings.{Holdings};
 ghost use Rattle.zeb_engine.specs.NameOf.{name_bytes};
+ghost use Rattle.zeb_engine.specs.PrivateReadiness.{NeverUnready};
+ghost use Rattle.zeb_engine.specs.Readiness.{GoesByTexts};
 ghost use Rattle.zeb_engine.specs.Reading.{NoReadFault};
 ghost use Rattle.zeb_engine.specs.Steps.{CountedFrom, ready};
 ghost use Rattle.zeb_engine.specs.Works.{Asks, ShowsStore};
@@ -103,6 +105,7 @@ fn holdings_of<S: Alter, L: Layout>(
         → IfErr result (λ refusal. IsFailure (refused (why_of refusal))) }
     ensures crash { Survives (state S.Store connection.old) (state S.Store connection.new) (λ _. ⊥) }
     ensures unread { NoReadFault result }
+    ensures ready { NeverUnready result }
 {
     let mut holdings = Vec::with_capacity(alloc, targets.len())?;
     for target in targets {
@@ -133,6 +136,8 @@ pub(crate) fn stat<S: Alter, L: Layout>(
         (state S.Store connection.old) (state S.Store connection.new) result }
     ensures crash { Survives (state S.Store connection.old) (state S.Store connection.new) (λ _. ⊥) }
     ensures unread { NoReadFault result }
+    ensures ready { HasCleanDisk (state S.Store connection.new)
+        → GoesByTexts (version_of L.format) profile.now (state S.Store connection.old) result }
     // The terms and occurrences are counted in the registers, on any tables that hold a content.
     ensures alone { HasCleanDisk (state S.Store connection.new)
         → Alone L.format (StatSays profile.now) (name_bytes name.now) (state S.Store connection.old) result }

@@ -12,11 +12,12 @@ ghost use Rattle.zeb_engine.specs.Conditions.{Conditions, conditions};
 ghost use Rattle.zeb_engine.specs.Crashes.{Commits};
 ghost use Rattle.zeb_engine.specs.Image.{IsImage};
 ghost use Rattle.zeb_engine.specs.NameOf.{name_bytes};
+ghost use Rattle.zeb_engine.specs.PrivateReadiness.{NeverUnready};
 ghost use Rattle.zeb_engine.specs.Reading.{NoReadFault};
 ghost use Rattle.zeb_engine.specs.Steps.{holding, initialised, turned, created, dropped};
 ghost use Rattle.zeb_engine.specs.Transactions.{Commanded, Stays};
 ghost use Rattle.zeb_engine.specs.Works.{Always, IsReady, Serves, Works};
-ghost use Rattle.zeb_engine.specs.PrivateWriting.{AreOf, Begins, IsFree, IsKnown, Fits, IsReached, PutsTexts, written};
+ghost use Rattle.zeb_engine.specs.PrivateWriting.{AreOf, Begins, IsFree, IsKnown, FailsAlone, Fits, IsReached, PutsTexts, written};
 
 use crate::names::DbName;
 use crate::readiness::{IDENTIFIER, PROFILE, VERSION, existing_database};
@@ -59,6 +60,7 @@ fn put_texts<S: Alter>(
     ensures failed { IfErr result (λ refusal. IsFailure (refused (why_of refusal))) }
     ensures crash { Survives (state S.Store tx.old.conn.now) (state S.Store tx.new.conn.now) (λ _. ⊥) }
     ensures unread { NoReadFault result }
+    ensures ready { NeverUnready result }
 {
     meta_put(tx, VERSION, version)?;
     meta_put(tx, PROFILE, text)?;
@@ -85,6 +87,7 @@ fn init<S: Alter, L: Layout>(
     ensures failed { IfErr result (λ refusal. IsFailure (refused (why_of refusal))) }
     ensures crash { Survives (state S.Store tx.old.conn.now) (state S.Store tx.new.conn.now) (λ _. ⊥) }
     ensures unread { NoReadFault result }
+    ensures ready { NeverUnready result }
 {
     wipe(tx)?;
     put_texts(tx, L::version(), profile.text(), pattern)?;
@@ -102,6 +105,7 @@ fn create<S: Alter, L: Layout>(tx: &mut Transaction<'_, S>, name: &DbName) -> Re
         (state S.Store tx.new.conn.now) result }
     ensures crash { Survives (state S.Store tx.old.conn.now) (state S.Store tx.new.conn.now) (λ _. ⊥) }
     ensures unread { NoReadFault result }
+    ensures ready { NeverUnready result }
 {
     database_put(tx, name.as_str(), 0)?;
     Ok(Reply::Done)
@@ -122,6 +126,7 @@ fn take<S: Alter, L: Layout>(
         (state S.Store tx.new.conn.now) result }
     ensures crash { Survives (state S.Store tx.old.conn.now) (state S.Store tx.new.conn.now) (λ _. ⊥) }
     ensures unread { NoReadFault result }
+    ensures ready { NeverUnready result }
 {
     L::database_take(tx, id)?;
     Ok(Reply::Done)
@@ -140,8 +145,10 @@ fn apply<S: Alter, L: Layout>(
         (state S.Store tx.new.conn.now) result }
     ensures begun { HasCleanDisk (state S.Store tx.new.conn.now) → IsTrue (state S.Store tx.old.conn.now).in_transaction
         → OnOk result (Begins (version_of L.format) write.now (state S.Store tx.old.conn.now) (state S.Store tx.new.conn.now)) }
+    ensures failed { FailsAlone write.now result }
     ensures crash { Survives (state S.Store tx.old.conn.now) (state S.Store tx.new.conn.now) (λ _. ⊥) }
     ensures unread { NoReadFault result }
+    ensures ready { NeverUnready result }
 {
     match write {
         Write::Init { profile, pattern } => init::<S, L>(tx, profile, pattern),
@@ -163,10 +170,12 @@ fn transact<S: Alter, L: Layout>(
         → Commits (Fits (version_of L.format) c write.now) (written c write.now) (state S.Store connection.old) db) }
     ensures begun { HasCleanDisk (state S.Store connection.new)
         → OnOk result (Begins (version_of L.format) write.now (state S.Store connection.old) (state S.Store connection.new)) }
+    ensures failed { FailsAlone write.now result }
     ensures serves { HasCleanDisk (state S.Store connection.new) → (c : Conditions) → IsReached write.now (state S.Store connection.old)
         → Serves (Fits (version_of L.format) c write.now) (written c write.now) (state S.Store connection.old)
         (state S.Store connection.new) result }
     ensures unread { NoReadFault result }
+    ensures ready { NeverUnready result }
 {
     let _settled = connection.is_autocommit();
     let mut tx = connection.transaction();
@@ -189,6 +198,7 @@ pub(crate) fn init_register<S: Alter, L: Layout>(
     ensures begun { HasCleanDisk (state S.Store connection.new) → OnOk result (IsStore (state S.Store connection.old) → (limits : Limits)
         → IsStore (state S.Store connection.new)
         × IsImage (state S.Store connection.new).now.trees (holding (conditions (version_of L.format) profile.now limits) [])) }
+    ensures failed { IfErr result (λ refusal. IsFailure (refused (why_of refusal))) }
     ensures serves { HasCleanDisk (state S.Store connection.new) → (limits : Limits)
         → Serves (λ _ _. Unit {0}) (initialised (conditions (version_of L.format) profile.now limits)) (state S.Store connection.old)
         (state S.Store connection.new) result }
@@ -220,6 +230,7 @@ pub(crate) fn create_database<S: Alter, L: Layout>(
         → Serves (IsReady c) (turned c (created (name_bytes name.now))) (state S.Store connection.old)
         (state S.Store connection.new) result }
     ensures unread { NoReadFault result }
+    ensures ready { NeverUnready result }
 {
     let found = database_of(connection, name.as_str())?;
     match found {
@@ -244,6 +255,7 @@ pub(crate) fn drop_database<S: Alter, L: Layout>(
         → Serves (IsReady c) (turned c (dropped (name_bytes name.now))) (state S.Store connection.old)
         (state S.Store connection.new) result }
     ensures unread { NoReadFault result }
+    ensures ready { NeverUnready result }
 {
     let database = existing_database::<S, L>(alloc, connection, name)?;
     transact::<S, L>(connection, &Write::Drop(name, database.id))

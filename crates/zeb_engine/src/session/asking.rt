@@ -8,6 +8,7 @@ ghost use Rattle.zeb_register.specs.Formats.{version_of};
 ghost use Rattle.zeb_engine.specs.Alone.{Alone, FindSays, ScanSays};
 ghost use Rattle.zeb_engine.specs.Conditions.{conditions};
 ghost use Rattle.zeb_engine.specs.NameOf.{name_bytes};
+ghost use Rattle.zeb_engine.specs.Readiness.{GoesByTexts};
 ghost use Rattle.zeb_engine.specs.Reading.{NoReadFault};
 ghost use Rattle.zeb_engine.specs.Transactions.{Commanded};
 ghost use Rattle.zeb_engine.specs.Steps.{waited};
@@ -40,6 +41,8 @@ impl<S: Alter, L: Layout> Session<S, L> {
             (name_bytes database.now) question.entry.query.now question.entry.first question.entry.count
             (state S.Store self.old.connection) (state S.Store self.new.connection) result }
         ensures unread { NoReadFault result }
+        ensures ready { HasCleanDisk (state S.Store self.new.connection)
+            → GoesByTexts (version_of L.format) self.old.profile (state S.Store self.old.connection) result }
         ensures alone { HasCleanDisk (state S.Store self.new.connection)
             → Alone L.format (FindSays self.old.profile question.entry.query.now question.entry.first question.entry.count)
             (name_bytes database.now) (state S.Store self.old.connection) result }
@@ -67,6 +70,8 @@ impl<S: Alter, L: Layout> Session<S, L> {
             (name_bytes database.now) around.entry.query.now around.entry.number around.entry.position (state S.Store self.old.connection)
             (state S.Store self.new.connection) result }
         ensures unread { NoReadFault result }
+        ensures ready { HasCleanDisk (state S.Store self.new.connection)
+            → GoesByTexts (version_of L.format) self.old.profile (state S.Store self.old.connection) result }
         ensures alone { HasCleanDisk (state S.Store self.new.connection)
             → Alone L.format (ScanSays self.old.profile around.entry.query.now around.entry.number around.entry.position)
             (name_bytes database.now) (state S.Store self.old.connection) result }
@@ -93,6 +98,8 @@ impl<S: Alter, L: Layout> Session<S, L> {
             → Serves Always (waited (conditions (version_of L.format) self.old.profile self.old.limits))
             (state S.Store self.old.connection) (state S.Store self.new.connection) result }
         ensures unread { NoReadFault result }
+        ensures ready { HasCleanDisk (state S.Store self.new.connection)
+            → GoesByTexts (version_of L.format) self.old.profile (state S.Store self.old.connection) result }
     {
         check_ready::<S, L>(&mut self.connection, &self.profile)?;
         Err(Refusal::Unsupported)

@@ -26,6 +26,7 @@ use Rattle.zeb_engine.proofs.Serving.{keeps_still}
 use Rattle.zeb_engine.proofs.Showing.{still_shows}
 use Rattle.zeb_engine.proofs.dump.dump.Goals as goal
 use Rattle.zeb_register.specs.Formats.{version_of}
+use Rattle.zeb_engine.proofs.ReadyTexts.{fault_texts, ready_then}
 
 pub returns-in_err-check_ready-clause-serves : goal.returns-in_err-check_ready-clause-serves
 returns-in_err-check_ready-clause-serves g c clean limits =
@@ -100,3 +101,25 @@ returns-clause-serves g c clean limits before fits keeps =
     let bytes = c.in_ok-joined.field-0 in
     let told : bytes.items ≡ flat_map (λ (r : Record). r.bytes.items) kept = c.in_ok-joined.ensures ∙ ap (flat_map (λ (r : Record). r.bytes.items)) c.deref.ensures.value in
     dump_told g.L.Layout.format k name s0 s3 nothing before met.0 met.1 keeps (Ok (Dumped bytes)) (ap (dumped_in name) base.1 ∙ ap dumped (sym (told ∙ same)))
+
+pub returns-in_err-check_ready-clause-ready : goal.returns-in_err-check_ready-clause-ready
+returns-in_err-check_ready-clause-ready g c clean =
+    let told : c.from_residual.result ≡ Err c.in_err-check_ready.field-0.0 = search rules in
+    rw told (c.in_err-check_ready.ensures.texts clean)
+
+pub returns-in_err-database-clause-ready : goal.returns-in_err-database-clause-ready
+returns-in_err-database-clause-ready g c clean =
+    let first : HasCleanDisk (state g.S.Store c.check_ready.new.connection) = omega (arith, c.existing_database.ensures.crash.clean) in
+    let told : c.from_residual-in_err-database.result ≡ Err c.in_err-database.field-0.0 = search rules in
+    rw told (ready_then (version_of g.L.Layout.format) c.args.profile.now {X = Unit {0}} (state g.S.Store c.args.connection.now) tt (c.in_ok-check_ready.ensures.texts first) (Err c.in_err-database.field-0.0) c.in_err-database.ensures.ready)
+
+pub returns-in_err-kept-clause-ready : goal.returns-in_err-kept-clause-ready
+returns-in_err-kept-clause-ready g c clean =
+    let told : c.from_residual-in_err-kept.result ≡ Err (register_refusal c.in_err-kept.field-0.0) = search rules in
+    rw told (λ store. fault_texts (version_of g.L.Layout.format) c.args.profile.now (state g.S.Store c.args.connection.now).now.trees c.in_err-kept.field-0.0)
+
+pub returns-clause-ready : goal.returns-clause-ready
+returns-clause-ready g c clean =
+    let clean2 : HasCleanDisk (state g.S.Store c.existing_database.new.connection) = omega (arith, c.records.ensures.call.crash.clean) in
+    let clean1 : HasCleanDisk (state g.S.Store c.check_ready.new.connection) = omega (arith, clean2, c.existing_database.ensures.crash.clean) in
+    c.in_ok-check_ready.ensures.texts clean1

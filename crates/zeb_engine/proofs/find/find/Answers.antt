@@ -25,6 +25,7 @@ use Rattle.zeb_engine.proofs.ListedDatabases.{fault_fails}
 use Rattle.zeb_engine.proofs.Showing.{still_shows}
 use Rattle.zeb_engine.proofs.find.find.Goals as goal
 use Rattle.zeb_register.specs.Formats.{holds_in, version_of}
+use Rattle.zeb_engine.proofs.ReadyTexts.{fault_never}
 
 pub returns-in_err-database-clause-found : goal.returns-in_err-database-clause-found
 returns-in_err-database-clause-found g c clean opened limits before bases is keeps =
@@ -259,3 +260,9 @@ returns-clause-alone g c clean store content held =
       hits_answered (posted content database.id.0) (has_ident_in s0.now.trees database.id.0) c.args.profile.now query first count (query_value c.in_ok-query.query) c.in_ok-query.ensures.spelled
           plan c.in_ok-plan.ensures.planned key sought numbers hits asked.now said (map (λ hit. (hit.sysno, string_bytes hit.ident)) c.in_ok-shown.shown.items) shown,
     )
+
+pub returns-in_err-postings-clause-ready : goal.returns-in_err-postings-clause-ready
+returns-in_err-postings-clause-ready g c =
+    let fault = c.in_err-postings.field-0.0 in
+    let told : c.from_residual-in_err-postings.result ≡ Err (register_refusal fault) = search rules in
+    rw told (fault_never {T = Reply} fault)

@@ -1,4 +1,4 @@
-use Rattle.std.proofs.Common.{rules, ◌≡◌, ◌∙◌, not, List, Option, Some, None, Result, Ok, Err, String, string_bytes, sym, ap, subst, inr, arith, IsTrue}
+use Rattle.std.proofs.Common.{rules, ◌≡◌, ◌∙◌, not, List, Option, Some, None, Result, Ok, Err, String, codes, string_bytes, sym, ap, subst, inr, arith, IsTrue}
 use Rattle.std.specs.declared.alloc.Global.{Global}
 use Rattle.std.specs.Option.{option_map}
 use Rattle.std.specs.Str.{bytes_eq}
@@ -16,6 +16,11 @@ use Rattle.zeb_engine.proofs.ListedDatabases.{fault_meets}
 use Rattle.zeb_engine.proofs.Ready.{version_in, profile_in, image_still, same_inside, told_version, told_profile, version_readable, profile_readable, texts_differ, texts_agree, ready_none, ready_old, ready_changed, ready_good}
 use Rattle.zeb_engine.proofs.readiness.check_ready.Goals as goal
 use Rattle.zeb_register.specs.Formats.{version_of}
+use Rattle.sqlite.specs.Effect.{Database}
+use Rattle.zeb_register.specs.Store.{IsValueOf}
+use Rattle.zeb_register.proofs.Calls.{store_same}
+use Rattle.zeb_engine.specs.Readiness.{KeepsText}
+use Rattle.zeb_engine.proofs.ReadyTexts.{fault_texts, other_text, text_found, text_missing}
 
 pub returns-in_err-version-clause-ready : goal.returns-in_err-version-clause-ready
 returns-in_err-version-clause-ready g c clean limits before keeps =
@@ -121,3 +126,84 @@ returns-clause-ready g c clean limits before keeps =
     let good = ready_good k before (told ∙ ap Some same) (has ∙ ap Some as_said) in
     let open_still : IsTrue new.is_open = (c.in_ok-text.ensures.call.ok clean).0.is_open in
     subst (λ said. Meets {X = Unit {0}} (λ (bases : List Base) x. IsTrue old.is_open × IsTrue new.is_open) said (Ok tt)) (sym good.1) (was.0.was_open, open_still)
+
+pub returns-in_err-version-clause-texts : goal.returns-in_err-version-clause-texts
+returns-in_err-version-clause-texts g c clean store =
+    let fault = c.in_err-version.field-0.0 in
+    let told : c.from_residual.result ≡ Err (register_refusal fault) = search rules in
+    rw told (fault_texts (version_of g.L.Layout.format) c.args.profile.now (state g.S.Store c.args.connection.now).now.trees fault)
+
+pub returns-in_default-clause-texts : goal.returns-in_default-clause-texts
+returns-in_default-clause-texts g c clean store =
+    text_missing (state g.S.Store c.args.connection.now).now.trees (codes "version") c.in_ok-version.field-0 c.in_default.is (c.in_ok-version.ensures.value clean store)
+
+pub returns-then-ne-clause-texts : goal.returns-then-ne-clause-texts
+returns-then-ne-clause-texts g c clean store =
+    let old = state g.S.Store c.args.connection.now in
+    let found = c.in-Some.version in
+    let version = version_of g.L.Layout.format in
+    let kept = text_found old.now.trees (codes "version") c.in_ok-version.field-0 found c.in-Some.is (c.in_ok-version.ensures.value clean store) in
+    let tested : c.ne.result ≡ not (bytes_eq c.as_str.result.now c.version.result.now) = search rules in
+    let differs = texts_differ c.ne.result c.as_str.result.now c.version.result.now (string_bytes found) version tested c.if-ne.true (search rules) c.version.ensures in
+    ((string_bytes found, kept), other_text old store (codes "version") (string_bytes found) version kept differs)
+
+pub returns-in_err-text-clause-texts : goal.returns-in_err-text-clause-texts
+returns-in_err-text-clause-texts g c clean store =
+    let fault = c.in_err-text.field-0.0 in
+    let told : c.from_residual-in_err-text.result ≡ Err (register_refusal fault) = search rules in
+    rw told (fault_texts (version_of g.L.Layout.format) c.args.profile.now (state g.S.Store c.args.connection.now).now.trees fault)
+
+pub returns-in_default-2-clause-texts : goal.returns-in_default-2-clause-texts
+returns-in_default-2-clause-texts g c clean store =
+    let old = state g.S.Store c.args.connection.now in
+    let mid = state g.S.Store c.meta_of.new.conn in
+    let first : HasCleanDisk mid = omega (arith, c.meta_of-2.ensures.call.crash.clean) in
+    let same = (c.in_ok-version.ensures.call.ok first).0.now_is in
+    let found = c.in-Some.version in
+    let version = version_of g.L.Layout.format in
+    let kept = text_found old.now.trees (codes "version") c.in_ok-version.field-0 found c.in-Some.is (c.in_ok-version.ensures.value first store) in
+    let tested : c.ne.result ≡ not (bytes_eq c.as_str.result.now c.version.result.now) = search rules in
+    let agrees = texts_agree c.ne.result c.as_str.result.now c.version.result.now (string_bytes found) version tested c.if-ne.false (search rules) c.version.ensures in
+    let value = subst (λ (d : Database). IsValueOf d.trees (codes "profile") c.in_ok-text.field-0) same (c.in_ok-text.ensures.value clean (store_same old mid same store)) in
+    (subst (KeepsText old.now.trees (codes "version")) agrees kept, text_missing old.now.trees (codes "profile") c.in_ok-text.field-0 c.in_default-2.is value (canonical_text c.args.profile.now))
+
+pub returns-then-ne-2-clause-texts : goal.returns-then-ne-2-clause-texts
+returns-then-ne-2-clause-texts g c clean store =
+    let old = state g.S.Store c.args.connection.now in
+    let mid = state g.S.Store c.meta_of.new.conn in
+    let first : HasCleanDisk mid = omega (arith, c.meta_of-2.ensures.call.crash.clean) in
+    let same = (c.in_ok-version.ensures.call.ok first).0.now_is in
+    let found = c.in-Some.version in
+    let text = c.in-Some-2.text in
+    let version = version_of g.L.Layout.format in
+    let profile = canonical_text c.args.profile.now in
+    let kept = text_found old.now.trees (codes "version") c.in_ok-version.field-0 found c.in-Some.is (c.in_ok-version.ensures.value first store) in
+    let tested : c.ne.result ≡ not (bytes_eq c.as_str.result.now c.version.result.now) = search rules in
+    let agrees = texts_agree c.ne.result c.as_str.result.now c.version.result.now (string_bytes found) version tested c.if-ne.false (search rules) c.version.ensures in
+    let value = subst (λ (d : Database). IsValueOf d.trees (codes "profile") c.in_ok-text.field-0) same (c.in_ok-text.ensures.value clean (store_same old mid same store)) in
+    let there = text_found old.now.trees (codes "profile") c.in_ok-text.field-0 text c.in-Some-2.is value in
+    let tested2 : c.ne-2.result ≡ not (bytes_eq c.as_str-2.result.now c.text.result.now) = search rules in
+    let differs = texts_differ c.ne-2.result c.as_str-2.result.now c.text.result.now (string_bytes text) profile tested2 c.if-ne-2.true (search rules) c.text.ensures in
+    (subst (KeepsText old.now.trees (codes "version")) agrees kept, other_text old store (codes "profile") (string_bytes text) profile there differs)
+
+pub returns-clause-texts : goal.returns-clause-texts
+returns-clause-texts g c clean store =
+    let old = state g.S.Store c.args.connection.now in
+    let mid = state g.S.Store c.meta_of.new.conn in
+    let first : HasCleanDisk mid = omega (arith, c.meta_of-2.ensures.call.crash.clean) in
+    let same = (c.in_ok-version.ensures.call.ok first).0.now_is in
+    let found = c.in-Some.version in
+    let text = c.in-Some-2.text in
+    let version = version_of g.L.Layout.format in
+    let profile = canonical_text c.args.profile.now in
+    let kept = text_found old.now.trees (codes "version") c.in_ok-version.field-0 found c.in-Some.is (c.in_ok-version.ensures.value first store) in
+    let tested : c.ne.result ≡ not (bytes_eq c.as_str.result.now c.version.result.now) = search rules in
+    let agrees = texts_agree c.ne.result c.as_str.result.now c.version.result.now (string_bytes found) version tested c.if-ne.false (search rules) c.version.ensures in
+    let value = subst (λ (d : Database). IsValueOf d.trees (codes "profile") c.in_ok-text.field-0) same (c.in_ok-text.ensures.value clean (store_same old mid same store)) in
+    let there = text_found old.now.trees (codes "profile") c.in_ok-text.field-0 text c.in-Some-2.is value in
+    let tested2 : c.ne-2.result ≡ not (bytes_eq c.as_str-2.result.now c.text.result.now) = search rules in
+    let as_said = texts_agree c.ne-2.result c.as_str-2.result.now c.text.result.now (string_bytes text) profile tested2 c.if-ne-2.false (search rules) c.text.ensures in
+    record {
+      has_version = subst (KeepsText old.now.trees (codes "version")) agrees kept;
+      has_profile = subst (KeepsText old.now.trees (codes "profile")) as_said there;
+    }

@@ -28,6 +28,7 @@ use Rattle.zeb_engine.proofs.Showing.{still_shows}
 use Rattle.zeb_engine.proofs.Stats.{Counts, count_fails, count_known, count_unknown, extents_as, last_named, unready_counts}
 use Rattle.zeb_engine.proofs.stat.stat.Goals as goal
 use Rattle.zeb_register.specs.Formats.{version_of}
+use Rattle.zeb_engine.proofs.ReadyTexts.{fault_texts, ready_then}
 
 pub returns-in_err-check_ready-clause-serves : goal.returns-in_err-check_ready-clause-serves
 returns-in_err-check_ready-clause-serves g c clean limits before keeps =
@@ -187,3 +188,34 @@ returns-clause-alone g c clean store content has =
         ),
       ),
     )
+
+pub returns-in_err-check_ready-clause-ready : goal.returns-in_err-check_ready-clause-ready
+returns-in_err-check_ready-clause-ready g c clean =
+    let told : c.from_residual.result ≡ Err c.in_err-check_ready.field-0.0 = search rules in
+    rw told (c.in_err-check_ready.ensures.texts clean)
+
+pub returns-in_err-database-clause-ready : goal.returns-in_err-database-clause-ready
+returns-in_err-database-clause-ready g c clean =
+    let first : HasCleanDisk (state g.S.Store c.check_ready.new.connection) = omega (arith, c.existing_database.ensures.crash.clean) in
+    let told : c.from_residual-in_err-database.result ≡ Err c.in_err-database.field-0.0 = search rules in
+    rw told (ready_then (version_of g.L.Layout.format) c.args.profile.now {X = Unit {0}} (state g.S.Store c.args.connection.now) tt (c.in_ok-check_ready.ensures.texts first) (Err c.in_err-database.field-0.0) c.in_err-database.ensures.ready)
+
+pub returns-in_err-kept-clause-ready : goal.returns-in_err-kept-clause-ready
+returns-in_err-kept-clause-ready g c clean =
+    let told : c.from_residual-in_err-kept.result ≡ Err (register_refusal c.in_err-kept.field-0.0) = search rules in
+    rw told (λ store. fault_texts (version_of g.L.Layout.format) c.args.profile.now (state g.S.Store c.args.connection.now).now.trees c.in_err-kept.field-0.0)
+
+pub returns-in_err-holdings-clause-ready : goal.returns-in_err-holdings-clause-ready
+returns-in_err-holdings-clause-ready g c clean =
+    let clean3 : HasCleanDisk (state g.S.Store c.records.new.conn) = omega (arith, c.holdings_of.ensures.crash.clean) in
+    let clean2 : HasCleanDisk (state g.S.Store c.existing_database.new.connection) = omega (arith, clean3, c.records.ensures.call.crash.clean) in
+    let clean1 : HasCleanDisk (state g.S.Store c.check_ready.new.connection) = omega (arith, clean2, c.existing_database.ensures.crash.clean) in
+    let told : c.from_residual-in_err-holdings.result ≡ Err c.in_err-holdings.field-0.0 = search rules in
+    rw told (ready_then (version_of g.L.Layout.format) c.args.profile.now {X = Unit {0}} (state g.S.Store c.args.connection.now) tt (c.in_ok-check_ready.ensures.texts clean1) (Err c.in_err-holdings.field-0.0) c.in_err-holdings.ensures.ready)
+
+pub returns-clause-ready : goal.returns-clause-ready
+returns-clause-ready g c clean =
+    let clean3 : HasCleanDisk (state g.S.Store c.records.new.conn) = omega (arith, c.holdings_of.ensures.crash.clean) in
+    let clean2 : HasCleanDisk (state g.S.Store c.existing_database.new.connection) = omega (arith, clean3, c.records.ensures.call.crash.clean) in
+    let clean1 : HasCleanDisk (state g.S.Store c.check_ready.new.connection) = omega (arith, clean2, c.existing_database.ensures.crash.clean) in
+    c.in_ok-check_ready.ensures.texts clean1

@@ -9,6 +9,7 @@ use Rattle.zeb_engine.specs.Crashes.{Commits, CommitsBy}
 use Rattle.zeb_engine.specs.Image.{IsImage}
 use Rattle.zeb_engine.specs.NameOf.{name_bytes}
 use Rattle.zeb_engine.specs.Steps.{OnlyAsks, turned, TakesFiles, created, dropped, dumped_by, holding, waited, Step, initialised, ready, CountedFrom}
+use Rattle.zeb_engine.specs.Readiness.{LooksFirst}
 use Rattle.zeb_engine.specs.Works.{Always, Asks, Serves, ServesBy}
 use Rattle.zeb_engine.proofs.Commanding.{asks_serve, ends_serve, find_alone, find_serves, scan_alone, scan_serves}
 use Rattle.zeb_engine.proofs.Crashing.{ends_commit, none_commits, survives_as}
@@ -255,3 +256,9 @@ pub returns-in-Analyse-clause-survives : goal.returns-in-Analyse-clause-survives
 returns-in-Analyse-clause-survives g c =
     let k = conditions (version_of g.L.Layout.format) c.args.self.now.profile c.args.self.now.limits in
     none_commits (Step k c.args.command.now) (state g.S.Store c.args.self.now.connection) (state g.S.Store c.args.self.now.connection) (search rules)
+
+pub returns-in-Init-clause-ready : goal.returns-in-Init-clause-ready
+returns-in-Init-clause-ready g c clean looks = absurd (subst LooksFirst c.in-Init.is looks)
+
+pub returns-in-Analyse-clause-ready : goal.returns-in-Analyse-clause-ready
+returns-in-Analyse-clause-ready g c clean looks = absurd (subst LooksFirst c.in-Analyse.is looks)

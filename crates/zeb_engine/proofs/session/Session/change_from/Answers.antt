@@ -4,6 +4,7 @@ use Rattle.sqlite.specs.State.{HasCleanDisk}
 use Rattle.zeb_engine.specs.Conditions.{conditions}
 use Rattle.zeb_engine.specs.Holdings.{Base}
 use Rattle.zeb_engine.specs.NameOf.{name_bytes}
+use Rattle.zeb_engine.specs.Readiness.{IsRefusedOver}
 use Rattle.zeb_engine.specs.Reading.{NamesFailed}
 use Rattle.zeb_engine.specs.Steps.{TakesFiles, changed_by_files, ready, splits_of, turned}
 use Rattle.zeb_engine.specs.Works.{ServesBy}
@@ -13,6 +14,7 @@ use Rattle.zeb_engine.proofs.Readers.{no_file_failed, named_or_none}
 use Rattle.zeb_engine.proofs.Serving.{keeps_still}
 use Rattle.zeb_engine.proofs.session.Session.change_from.Goals as goal
 use Rattle.zeb_register.specs.Formats.{version_of}
+use Rattle.zeb_engine.proofs.ReadyTexts.{ready_then}
 
 pub returns-in_err-check_ready-clause-serves : goal.returns-in_err-check_ready-clause-serves
 returns-in_err-check_ready-clause-serves g c = λ clean texts told fine.
@@ -65,3 +67,20 @@ returns-in_err-check_readers-clause-sound g c =
 
 pub returns-clause-sound : goal.returns-clause-sound
 returns-clause-sound g c = named_or_none g.R.Source.has_failed c.change_database.new.readers c.change_database.result (c.change_database.ensures.failed c.in_ok-check_readers.ensures.none)
+
+pub returns-in_err-check_ready-clause-ready : goal.returns-in_err-check_ready-clause-ready
+returns-in_err-check_ready-clause-ready g c clean =
+    let told : c.from_residual-in_err-check_ready.result ≡ Err c.in_err-check_ready.field-0.0 = search rules in
+    rw told (c.in_err-check_ready.ensures.texts clean)
+
+pub returns-clause-ready : goal.returns-clause-ready
+returns-clause-ready g c clean =
+    let first : HasCleanDisk (state g.S.Store c.check_ready.new.connection) = omega (arith, c.change_database.ensures.survives.clean) in
+    ready_then (version_of g.L.Layout.format) c.args.self.now.profile {X = Unit {0}} (state g.S.Store c.args.self.now.connection) tt (c.in_ok-check_ready.ensures.texts first) c.change_database.result c.change_database.ensures.ready
+
+pub returns-in_err-check_readers-clause-ready : goal.returns-in_err-check_readers-clause-ready
+returns-in_err-check_readers-clause-ready g c clean store =
+    let trees = (state g.S.Store c.args.self.now.connection).now.trees in
+    let version = version_of g.L.Layout.format in
+    let result : c.from_residual.result ≡ Err c.in_err-check_readers.field-0.0 = search rules in
+    rw result (subst (IsRefusedOver version c.args.self.now.profile trees) (sym c.in_err-check_readers.ensures.named.2) tt)

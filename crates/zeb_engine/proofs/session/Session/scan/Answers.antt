@@ -16,6 +16,7 @@ use Rattle.zeb_engine.proofs.Asked.{alone_after, ready_asked, unready_asked}
 use Rattle.zeb_engine.proofs.Serving.{keeps_still}
 use Rattle.zeb_engine.proofs.session.Session.scan.Goals as goal
 use Rattle.zeb_register.specs.Formats.{version_of}
+use Rattle.zeb_engine.proofs.ReadyTexts.{ready_then}
 
 pub returns-in_err-check_ready-clause-serves : goal.returns-in_err-check_ready-clause-serves
 returns-in_err-check_ready-clause-serves g c clean =
@@ -62,3 +63,13 @@ returns-clause-reads g c clean =
     let mid = state g.S.Store c.check_ready.new.connection in
     let clean1 : HasCleanDisk mid = omega (arith, c.scan.ensures.crash.clean) in
     nothing_then old mid (state g.S.Store c.scan.new.connection) (c.check_ready.ensures.same clean1) (c.scan.ensures.same clean)
+
+pub returns-in_err-check_ready-clause-ready : goal.returns-in_err-check_ready-clause-ready
+returns-in_err-check_ready-clause-ready g c clean =
+    let told : c.from_residual.result ≡ Err c.in_err-check_ready.field-0.0 = search rules in
+    rw told (c.in_err-check_ready.ensures.texts clean)
+
+pub returns-clause-ready : goal.returns-clause-ready
+returns-clause-ready g c clean =
+    let first : HasCleanDisk (state g.S.Store c.check_ready.new.connection) = omega (arith, c.scan.ensures.crash.clean) in
+    ready_then (version_of g.L.Layout.format) c.args.self.now.profile {X = Unit {0}} (state g.S.Store c.args.self.now.connection) tt (c.in_ok-check_ready.ensures.texts first) c.scan.result c.scan.ensures.ready

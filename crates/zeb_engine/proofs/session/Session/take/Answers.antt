@@ -11,6 +11,7 @@ use Rattle.zeb_engine.proofs.Crashing.{survives_after}
 use Rattle.zeb_engine.proofs.Serving.{keeps_still}
 use Rattle.zeb_engine.proofs.session.Session.take.Goals as goal
 use Rattle.zeb_register.specs.Formats.{version_of}
+use Rattle.zeb_engine.proofs.ReadyTexts.{ready_then}
 
 pub returns-in_err-check_ready-clause-serves : goal.returns-in_err-check_ready-clause-serves
 returns-in_err-check_ready-clause-serves g c clean =
@@ -45,3 +46,13 @@ returns-clause-survives g c =
     let first : HasCleanDisk mid = omega (arith, c.drop_database.ensures.survives.clean) in
     let met = ready_met {X = Unit {0}} (λ (bases : List Base) x. IsTrue old.is_open × IsTrue mid.is_open) (ready k before) tt (c.in_ok-check_ready.ensures.ready first limits before keeps) in
     made k refl before (λ _. (met.0, met.1)) (keeps_still before old mid (c.check_ready.ensures.same first) keeps))
+
+pub returns-in_err-check_ready-clause-ready : goal.returns-in_err-check_ready-clause-ready
+returns-in_err-check_ready-clause-ready g c clean =
+    let told : c.from_residual.result ≡ Err c.in_err-check_ready.field-0.0 = search rules in
+    rw told (c.in_err-check_ready.ensures.texts clean)
+
+pub returns-clause-ready : goal.returns-clause-ready
+returns-clause-ready g c clean =
+    let first : HasCleanDisk (state g.S.Store c.check_ready.new.connection) = omega (arith, c.drop_database.ensures.survives.clean) in
+    ready_then (version_of g.L.Layout.format) c.args.self.now.profile {X = Unit {0}} (state g.S.Store c.args.self.now.connection) tt (c.in_ok-check_ready.ensures.texts first) c.drop_database.result c.drop_database.ensures.ready

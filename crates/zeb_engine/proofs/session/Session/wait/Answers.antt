@@ -17,3 +17,11 @@ returns-in_err-check_ready-clause-serves g c clean =
     let told : c.from_residual.result ≡ Err refusal = search rules in
     subst (Serves Always (waited k) old new) (sym told)
     (unready_waits g.L.Layout.format k old new refusal (c.check_ready.ensures.same clean) (λ before keeps. c.in_err-check_ready.ensures.ready clean limits before keeps))
+
+pub returns-in_err-check_ready-clause-ready : goal.returns-in_err-check_ready-clause-ready
+returns-in_err-check_ready-clause-ready g c clean =
+    let told : c.from_residual.result ≡ Err c.in_err-check_ready.field-0.0 = search rules in
+    rw told (c.in_err-check_ready.ensures.texts clean)
+
+pub returns-clause-ready : goal.returns-clause-ready
+returns-clause-ready g c clean = c.in_ok-check_ready.ensures.texts clean

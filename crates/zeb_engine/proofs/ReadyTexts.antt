@@ -1,0 +1,64 @@
+-- What a look at the texts of a store tells, and what is said of them after a command.
+use Rattle.std.proofs.Common.{◌≡◌, ◌≢◌, ℕ, List, Option, Some, None, Result, Ok, Err, String, string_bytes, refl, subst}
+use Rattle.std.specs.declared.alloc.Global.{Global}
+use Rattle.sqlite.specs.Tree.{Trees}
+use Rattle.sqlite.specs.State.{State}
+use Rattle.zeb_profile.specs.declared.directives.Directive.{Directive}
+use Rattle.zeb_register.specs.declared.RegFault.{RegFault}
+use Rattle.zeb_register.specs.declared.RegFault.TheVariants as register
+use Rattle.zeb_register.specs.Store.{IsStore, IsValueOf}
+use Rattle.zeb_register.proofs.RowsAreLists.{one_text}
+use Rattle.zeb_engine.specs.declared.refusals.Refusal.{Refusal}
+use Rattle.zeb_engine.specs.declared.refusals.Refusal.TheVariants as refusal
+use Rattle.zeb_engine.specs.Outcomes.{register_refusal}
+use Rattle.zeb_engine.specs.PrivateReadiness.{NeverUnready}
+use Rattle.zeb_engine.specs.Readiness.{GoesByTexts, IsReadyFor, IsRefusedOver, KeepsText}
+
+-- ---- one text
+
+pub text_found : (trees : Trees) (name : List ℕ) (o : Option (String Global)) (found : String Global) → o ≡ Some found → IsValueOf trees name o → KeepsText trees name (string_bytes found)
+text_found trees name o found is value = subst (IsValueOf trees name) is value
+
+pub text_missing : (trees : Trees) (name : List ℕ) (o : Option (String Global)) → o ≡ None → IsValueOf trees name o → (text : List ℕ) → ¬ KeepsText trees name text
+text_missing trees name o is value = subst (IsValueOf trees name) is value
+
+-- a name has one text, so no other is kept under it
+pub other_text : (s : State) → IsStore s → (name found other : List ℕ) → KeepsText s.now.trees name found → found ≢ other → ¬ KeepsText s.now.trees name other
+other_text s store name found other kept differs there = differs (one_text s store name found other kept there)
+
+module _ (version : List ℕ) (profile : List Directive) where
+  -- a fault of the tables says nothing of the texts
+  pub fault_texts : (trees : Trees) (fault : RegFault) → IsRefusedOver version profile trees (register_refusal fault)
+  fault_texts trees register.Damaged = tt
+  fault_texts trees register.Store = tt
+  fault_texts trees register.Memory = tt
+
+  -- ---- after a look at the register
+
+  other_texts : {T : Type 0} (trees : Trees) (it : Refusal) → IsReadyFor version profile trees → NeverUnready {T = T} (Err it) → IsRefusedOver version profile trees it
+  other_texts trees refusal.NotInitialised is never = absurd (never.0 refl)
+  other_texts trees refusal.OldFormat is never = absurd (never.1 refl)
+  other_texts trees refusal.ProfileChanged is never = absurd (never.2 refl)
+  other_texts trees (refusal.Diagnostic number place addinfo) is never = is
+  other_texts trees refusal.Exists is never = is
+  other_texts trees (refusal.Record file nth fault) is never = is
+  other_texts trees (refusal.Unknown file nth) is never = is
+  other_texts trees refusal.DatabaseFull is never = is
+  other_texts trees refusal.TooManyRecords is never = is
+  other_texts trees refusal.Damaged is never = tt
+  other_texts trees refusal.IdentifierRuleChanged is never = is
+  other_texts trees (refusal.ReadFault file) is never = tt
+  other_texts trees refusal.Store is never = tt
+  other_texts trees refusal.Memory is never = tt
+  other_texts trees refusal.Unsupported is never = is
+
+  -- the work of a command on a register that is ready
+  pub ready_then : {T X : Type 0} (s : State) (x : X) → GoesByTexts version profile s (Ok x) → (result : Result T Refusal) → NeverUnready result → GoesByTexts version profile s result
+  ready_then s x is (Ok reply) never = is
+  ready_then s x is (Err it) never = λ store. other_texts s.now.trees it (is store) never
+
+-- a fault of the tables is no such refusal
+pub fault_never : {T : Type 0} (fault : RegFault) → NeverUnready {T = T} (Err (register_refusal fault))
+fault_never register.Damaged = (λ is. cc, λ is. cc, λ is. cc)
+fault_never register.Store = (λ is. cc, λ is. cc, λ is. cc)
+fault_never register.Memory = (λ is. cc, λ is. cc, λ is. cc)

@@ -1,0 +1,51 @@
+-- Whether a register is ready for a session, by the texts that the store keeps of it, whatever its other tables hold.
+use Rattle.std.specs.Prelude.{ℕ, List, MatchResult, Result, codes}
+use Rattle.sqlite.specs.Tree.{Trees}
+use Rattle.sqlite.specs.State.{State}
+use Rattle.zeb_profile.specs.declared.directives.Directive.{Directive}
+use Rattle.zeb_profile.specs.Canonical.{canonical_text}
+use Rattle.zeb_register.specs.Sql.{HasRow}
+use Rattle.zeb_register.specs.Store.{IsStore, entry, meta_tree}
+use Rattle.zeb_engine.specs.declared.commands.Command.{Command}
+use Rattle.zeb_engine.specs.declared.commands.Command.TheVariants.{Init, Check, Create, Drop, Stat, Dump, Change, Find, Scan, Analyse}
+use Rattle.zeb_engine.specs.declared.refusals.Refusal.{Refusal}
+use Rattle.zeb_engine.specs.declared.refusals.Refusal.TheVariants.{NotInitialised, OldFormat, ProfileChanged, Damaged, ReadFault, Store, Memory}
+
+-- this text is kept under this name
+abbrev pub KeepsText : Trees → List ℕ → List ℕ → Type 0
+KeepsText trees name text = HasRow trees meta_tree (entry name text)
+
+-- the register has this version, and was initialised under this profile
+pub record IsReadyFor (version : List ℕ) (profile : List Directive) (trees : Trees) : Type 0 where
+  pub has_version : KeepsText trees (codes "version") version
+  pub has_profile : KeepsText trees (codes "profile") (canonical_text profile)
+
+-- Over which texts a command is refused so: no version is kept; one is, and not this one; this one is, and not this profile. Damage, and
+-- a failure of the store, of memory or of a reader, tell nothing of them; with any other refusal the register is ready.
+abbrev pub IsRefusedOver : List ℕ → List Directive → Trees → Refusal → Type 0
+IsRefusedOver version profile trees NotInitialised = (text : List ℕ) → ¬ KeepsText trees (codes "version") text
+IsRefusedOver version profile trees OldFormat = ((text : List ℕ) × KeepsText trees (codes "version") text) × ¬ KeepsText trees (codes "version") version
+IsRefusedOver version profile trees ProfileChanged = KeepsText trees (codes "version") version × ¬ KeepsText trees (codes "profile") (canonical_text profile)
+IsRefusedOver version profile trees Damaged = Unit {0}
+IsRefusedOver version profile trees (ReadFault file) = Unit {0}
+IsRefusedOver version profile trees Store = Unit {0}
+IsRefusedOver version profile trees Memory = Unit {0}
+IsRefusedOver version profile trees other = IsReadyFor version profile trees
+
+-- On the tables of a store: accepted, the register is ready.
+abbrev pub GoesByTexts : {T : Type 0} → List ℕ → List Directive → State → Result T Refusal → Type 0
+GoesByTexts version profile s result =
+    IsStore s → MatchResult result (λ _. IsReadyFor version profile s.now.trees) (IsRefusedOver version profile s.now.trees)
+
+-- the commands that look first whether the register is ready
+abbrev pub LooksFirst : Command → Type 0
+LooksFirst Init = ⊥
+LooksFirst (Create name) = Unit {0}
+LooksFirst (Drop name) = Unit {0}
+LooksFirst (Change kind name files) = Unit {0}
+LooksFirst (Find name query first count) = Unit {0}
+LooksFirst Check = Unit {0}
+LooksFirst (Stat name) = Unit {0}
+LooksFirst (Dump name) = Unit {0}
+LooksFirst (Scan name query number position) = Unit {0}
+LooksFirst (Analyse files) = ⊥
