@@ -1,5 +1,5 @@
 -- What a crash leaves, by what a transaction was given to commit.
-use Rattle.std.proofs.Common.{◌≡◌, ◌⊎◌, ◌∙◌, ℕ, true, List, [], ◌∷◌, ◌++◌, ◌+◌, take, Result, Ok, Err, IfErr, OnOk, inl, inr, arith, refl, sym, ap, subst, IsTrue}
+use Rattle.std.proofs.Common.{◌≡◌, ◌⊎◌, ◌∙◌, ℕ, true, List, Result, Ok, Err, IfErr, OnOk, inl, inr, arith, refl, sym, ap, subst, IsTrue}
 use Rattle.sqlite.specs.Tree.{Trees}
 use Rattle.sqlite.specs.Store.{Ghosts}
 use Rattle.sqlite.specs.Effect.{Database, IsDatabase}
@@ -12,7 +12,6 @@ use Rattle.sqlite.proofs.StateLemmas.{survives_then}
 use Rattle.zeb_register.specs.Calls.{ChangesNothing, GoesOn}
 use Rattle.zeb_register.specs.Store.{IsStore, IsEmptyStore}
 use Rattle.zeb_register.specs.Tables.{no_schema, store_schema}
-use Rattle.zeb_engine.specs.declared.commands.Command.{Command}
 use Rattle.zeb_engine.specs.declared.replies.Reply.{Reply}
 use Rattle.zeb_engine.specs.declared.replies.Reply.TheVariants as reply
 use Rattle.zeb_engine.specs.declared.refusals.Refusal.{Refusal}
@@ -20,15 +19,14 @@ use Rattle.zeb_engine.specs.declared.refusals.Refusal.TheVariants as refusal
 use Rattle.zeb_engine.specs.Adopting.{StaysOpen}
 use Rattle.zeb_engine.specs.Answers.{Answer, reply_answer, IsFailure}
 use Rattle.zeb_engine.specs.Conditions.{Conditions}
-use Rattle.zeb_engine.specs.Crashes.{Accepts, Bears, KeepsDisk, IsEmptyDisk, IsStoreDisk, Stands, Leaves, Commits, CommitsBy, CommitsCommand, CommitsAdopted, CommitsSome, CommitsTables, Endures}
+use Rattle.zeb_engine.specs.Crashes.{Accepts, Bears, KeepsDisk, IsEmptyDisk, IsStoreDisk, Stands, Leaves, Commits, CommitsBy, CommitsAdopted, CommitsTables, Endures}
 use Rattle.zeb_engine.specs.Holdings.{Holdings}
 use Rattle.zeb_engine.specs.Image.{IsImage, Keeps}
 use Rattle.zeb_engine.specs.Steps.{Ends, Outcome}
 use Rattle.zeb_engine.specs.Transactions.{EnduresRefusal, IsDurable}
 use Rattle.zeb_engine.specs.declared.writes.Write.{Write}
 use Rattle.zeb_engine.specs.PrivateWriting.{Fits, IsReached, written}
-use Rattle.zeb_engine.specs.Works.{Always, Works, Runs, ServesBy}
-use Rattle.zeb_engine.proofs.RunLemmas.{run_more}
+use Rattle.zeb_engine.specs.Works.{Always, Works, ServesBy}
 use Rattle.zeb_engine.proofs.Serving.{keeps_still, reached_inside}
 use Rattle.zeb_register.specs.Formats.{Format}
 
@@ -192,17 +190,3 @@ adopted_commits old db commits before (inr none) =
 
 pub adopted_keeps : (old new : State) → HasCleanDisk new → Survives old new (CommitsAdopted old) → KeepsDisk old new
 adopted_keeps old new clean survives before bears leaves db left = elim (survives.crash clean db left) [ inl was ↦ leaves db was | inr made ↦ made before bears ]
-
--- ---- a list of commands
-
-pub commits_more : (c : Conditions) (old now : State) (all : List Command) (index : ℕ) (answers : List Answer) (command : Command) → Runs c (take index all) answers old now
-    → take (index + 1) all ≡ take index all ++ command ∷ [] → (db : Trees) → CommitsCommand c command now db → CommitsSome c all old db
-commits_more c old now all index answers command runs more db commits before keeps =
-    let so_far = runs before keeps in
-    let made = commits so_far.0 so_far.2 in (
-      index + 1,
-      answers ++ made.0 ∷ [],
-      made.1,
-      rw more (run_more c (take index all) answers before so_far.0 made.1 command made.0 so_far.1 (made.1, inl made.2, refl)),
-      made.4,
-    )

@@ -68,3 +68,4 @@ pub mod Folds
 pub mod Lasting
 pub mod DeletedRecords
 pub mod OneCount
+pub mod RunCommits

@@ -53,7 +53,7 @@ left_failed c (first ∷ commands) (one ∷ answers) before mid later command an
 left_failed c [] (one ∷ answers) before mid later command answer told run is step = absurd run
 left_failed c (first ∷ commands) [] before mid later command answer told run is step = absurd run
 
-is_store : (why : Refusal) → (why ≡ refusal.Store) ⊎ (why ≢ refusal.Store)
+pub is_store : (why : Refusal) → (why ≡ refusal.Store) ⊎ (why ≢ refusal.Store)
 is_store refusal.NotInitialised = inr (λ is. cc)
 is_store refusal.OldFormat = inr (λ is. cc)
 is_store refusal.ProfileChanged = inr (λ is. cc)

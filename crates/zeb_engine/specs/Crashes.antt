@@ -1,5 +1,5 @@
 -- What a crash leaves on the disk, as an open finds it.
-use Rattle.std.specs.Prelude.{◌≡◌, ◌≢◌, ◌⊎◌, ℕ, List, [], ◌∷◌, take, Result, Ok, Err, IsTrue}
+use Rattle.std.specs.Prelude.{◌≡◌, ◌≢◌, ◌⊎◌, List, [], ◌∷◌, Result, Ok, Err, IsTrue}
 use Rattle.std.specs.List.{AllByRecursion}
 use Rattle.sqlite.specs.Tree.{Trees}
 use Rattle.sqlite.specs.Effect.{IsDatabase}
@@ -15,7 +15,7 @@ use Rattle.zeb_engine.specs.Answers.{Answer, Why, refused, reply_answer, store_f
 use Rattle.zeb_engine.specs.Conditions.{Conditions}
 use Rattle.zeb_engine.specs.Holdings.{Holdings, nothing_yet}
 use Rattle.zeb_engine.specs.Image.{IsImage, Keeps}
-use Rattle.zeb_engine.specs.Steps.{Answered, Outcome, Run, Step}
+use Rattle.zeb_engine.specs.Steps.{Answered, Outcome, Step}
 
 -- ---- what a disk stands for
 
@@ -63,10 +63,21 @@ CommitsBy Told old db = (before : Holdings) → Keeps old before → (answer : A
 abbrev pub CommitsCommand : Conditions → Command → State → Trees → Type 0
 CommitsCommand c command = CommitsBy (Step c command)
 
--- what a run of the first so many of these commands leaves, of which each took its step or failed
-abbrev pub CommitsSome : Conditions → List Command → State → Trees → Type 0
-CommitsSome c commands old db =
-    (before : Holdings) → Keeps old before → (count : ℕ) × (answers : List Answer) × (mid : Holdings) × Run c before (take count commands) answers mid × Stands db mid
+-- what is held after an accepted step of a command: it was answered so, or its store failed
+abbrev pub IsCarriedOut : Conditions → Command → Holdings → Answer → Trees → Type 0
+IsCarriedOut c command before answer db =
+    (told : Answer) × (later : Holdings) × Step c command before told later × Accepts told × Stands db later × ((answer ≡ told) ⊎ (answer ≡ refused store_failed))
+
+-- one of these commands was carried out, on what a run by the answers that were given leaves before it
+abbrev pub LeavesOne : Conditions → Holdings → List Command → List Answer → Trees → Type 0
+LeavesOne c before [] answers db = ⊥
+LeavesOne c before (command ∷ commands) [] db = ⊥
+LeavesOne c before (command ∷ commands) (answer ∷ answers) db =
+    IsCarriedOut c command before answer db
+    ⊎ ((later : Holdings) × Answered (Step c command) before answer later × LeavesOne c later commands answers db)
+
+abbrev pub CommitsOne : Conditions → List Command → List Answer → State → Trees → Type 0
+CommitsOne c commands answers old db = (before : Holdings) → Keeps old before → LeavesOne c before commands answers db
 
 -- the tables of the store, without a row
 abbrev pub IsEmptyDisk : Trees → Type 0

@@ -1,6 +1,6 @@
 //! A register that commands are given to.
 
-ghost use Rattle.std.specs.Prelude.{◌≡◌, ◌⊎◌, ℕ, List, [], map, Some, Err, false, IsTrue, IfOk, IfErr, IsErrAnd, OnOk, length};
+ghost use Rattle.std.specs.Prelude.{◌≡◌, ◌⊎◌, ℕ, List, [], map, Some, Err, false, IsTrue, IfOk, IfErr, IsOkAnd, IsErrAnd, OnOk, length};
 ghost use Rattle.std.specs.List.{AllByRecursion};
 ghost use Rattle.std.specs.Result.{IsErr};
 ghost use Rattle.sqlite.specs.Held.{state};
@@ -65,7 +65,7 @@ impl<S: Alter + Drop, L: Layout> Drop for Session<S, L> {
 
 impl<S: Alter, L: Layout> Session<S, L> {
     ghost use Rattle.zeb_engine.specs.Works.{Always, FindOpen, Serves, ServesBy, ServesCommand};
-    ghost use Rattle.zeb_engine.specs.Crashes.{Bears, Commits, CommitsBy, CommitsCommand, CommitsAdopted, CommitsSome, Endures, EnduresRun, KeepsDisk, Stands};
+    ghost use Rattle.zeb_engine.specs.Crashes.{Bears, Commits, CommitsBy, CommitsCommand, CommitsAdopted, CommitsOne, Endures, EnduresRun, KeepsDisk, Stands};
     ghost use Rattle.zeb_engine.specs.Headline.{Headline};
     ghost use Rattle.zeb_engine.specs.Adopting.{StaysOpen};
     ghost use Rattle.zeb_engine.specs.Holdings.{Holdings};
@@ -425,8 +425,8 @@ impl<S: Alter, L: Layout> Session<S, L> {
         ensures memory { IfErr result (λ refusal. (refusal ≡ Refusal.Memory) × (self.new.connection ≡ self.old.connection)) }
         ensures under { (self.new.profile ≡ self.old.profile) × (self.new.limits ≡ self.old.limits) }
         ensures survives { Survives (state S.Store self.old.connection) (state S.Store self.new.connection)
-            (CommitsSome (conditions (version_of L.format) self.old.profile self.old.limits) commands.now
-            (state S.Store self.old.connection)) }
+            (λ db. IsOkAnd result (λ answers. CommitsOne (conditions (version_of L.format) self.old.profile self.old.limits) commands.now
+            (map answer_of answers.items) (state S.Store self.old.connection) db)) }
         // A crash then leaves what the run left, but that a command whose store failed may have been carried out.
         ensures crash { HasCleanDisk (state S.Store self.new.connection)
             → IfOk result (λ answers. EnduresRun (conditions (version_of L.format) self.old.profile self.old.limits) commands.now

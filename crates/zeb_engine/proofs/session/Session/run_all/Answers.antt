@@ -8,9 +8,9 @@ use Rattle.sqlite.proofs.StateLemmas.{survives_then}
 use Rattle.zeb_query.proofs.HoldingLemmas.{take_whole}
 use Rattle.zeb_engine.specs.Answers.{answer_of}
 use Rattle.zeb_engine.specs.Conditions.{conditions}
-use Rattle.zeb_engine.specs.Crashes.{CommitsCommand, CommitsSome, EnduresRun}
+use Rattle.zeb_engine.specs.Crashes.{CommitsCommand, CommitsOne, EnduresRun}
 use Rattle.zeb_engine.specs.Works.{FindOpen, Runs, ServesCommand}
-use Rattle.zeb_engine.proofs.Crashing.{commits_more}
+use Rattle.zeb_engine.proofs.RunCommits.{carries, commits_earlier, commits_latest}
 use Rattle.zeb_engine.proofs.RunCrashes.{crash_more}
 use Rattle.zeb_engine.proofs.RunLemmas.{open_before, open_more, refused_more, runs_more}
 use Rattle.zeb_engine.proofs.session.Session.run_all.Goals as goal
@@ -33,10 +33,13 @@ loop-command-preserved g c =
       count = search rules;
       room = search rules;
       under = (c.command.ensures.under.0 ∙ same.0, c.command.ensures.under.1 ∙ same.1);
-      survives = survives_then old now next (CommitsSome k all old) (CommitsCommand (of c.loop-command.self.profile c.loop-command.self.limits) item now) (CommitsSome k all old) (λ _ db made. made)
-          (λ clean db made. commits_more k old now all index answers item (c.loop-command.invariant.run (omega (arith, c.command.ensures.survives.clean))) last db
-          (subst₂ (λ p l. CommitsCommand (of p l) item now db) same.0 same.1 made))
-          c.loop-command.invariant.survives c.command.ensures.survives;
+      survives =
+          let served = λ (clean : HasCleanDisk next). subst₂ (λ p l. ServesCommand (of p l) item now next c.command.result) same.0 same.1 (c.command.ensures.serves clean) in
+          let took = subst₂ (λ p l. Survives now next (CommitsCommand (of p l) item now)) same.0 same.1 c.command.ensures.survives in
+          subst₂ (λ commands told. Survives old next (CommitsOne k commands told old)) (sym last) (sym (ap (map answer_of) c.push_reserved.ensures.items ∙ map-append answer_of _ _))
+          (survives_then old now next _ _ _ (λ _. commits_earlier k old now (take index all) answers item c.command.result)
+          (λ clean db. commits_latest k old now (take index all) answers item c.command.result db (c.loop-command.invariant.run (omega (arith, c.command.ensures.survives.clean))))
+          c.loop-command.invariant.survives (carries k item now next c.command.result served c.command.ensures.call.endures took));
       refused = λ clean all.
           let was = c.loop-command.invariant.refused (omega (arith, c.command.ensures.survives.clean)) in
           refused_more old now next c.loop-command.answers.items c.command.result was (c.command.ensures.call.refused clean) (subst (AllByRecursion IsErr) c.push_reserved.ensures.items all);
@@ -75,3 +78,10 @@ returns-clause-crash g c clean =
     let whole : take c.loop-command.command-index c.args.commands.now ≡ c.args.commands.now = take_whole c.args.commands.now c.loop-command.command-index (omega arith) in
     subst (λ commands. EnduresRun k commands (map answer_of c.loop-command.answers.items) (state g.S.Store c.args.self.now.connection) (state g.S.Store c.loop-command.self.connection)) whole
     (c.loop-command.invariant.crash clean)
+
+pub returns-clause-survives : goal.returns-clause-survives
+returns-clause-survives g c =
+    let k = conditions (version_of g.L.Layout.format) c.args.self.now.profile c.args.self.now.limits in
+    let old = state g.S.Store c.args.self.now.connection in
+    let whole : take c.loop-command.command-index c.args.commands.now ≡ c.args.commands.now = take_whole c.args.commands.now c.loop-command.command-index (omega arith) in
+    subst (λ commands. Survives old (state g.S.Store c.loop-command.self.connection) (CommitsOne k commands (map answer_of c.loop-command.answers.items) old)) whole c.loop-command.invariant.survives

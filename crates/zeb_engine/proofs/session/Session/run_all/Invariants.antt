@@ -6,7 +6,7 @@ use Rattle.sqlite.specs.State.{HasCleanDisk, Survives}
 use Rattle.zeb_register.specs.Calls.{ChangesNothing}
 use Rattle.zeb_engine.specs.Answers.{answer_of}
 use Rattle.zeb_engine.specs.Conditions.{conditions}
-use Rattle.zeb_engine.specs.Crashes.{CommitsSome, EnduresRun}
+use Rattle.zeb_engine.specs.Crashes.{CommitsOne, EnduresRun}
 use Rattle.zeb_engine.specs.Works.{FindOpen, Runs}
 use Rattle.zeb_engine.proofs.session.Session.run_all.Given as goal
 use Rattle.zeb_register.specs.Formats.{version_of}
@@ -19,7 +19,8 @@ invariant-loop-command g l =
       count : length l.answers.items ≡ l.command-index;
       room : length l.commands ≤ vec_capacity l.answers;
       under : (l.self.profile ≡ l.fn.self.profile) × (l.self.limits ≡ l.fn.self.limits);
-      survives : Survives old now (CommitsSome (conditions (version_of g.L.Layout.format) l.fn.self.profile l.fn.self.limits) l.commands old);
+      survives : Survives old now
+          (CommitsOne (conditions (version_of g.L.Layout.format) l.fn.self.profile l.fn.self.limits) (take l.command-index l.commands) (map answer_of l.answers.items) old);
       refused : HasCleanDisk now → AllByRecursion IsErr l.answers.items → ChangesNothing old now;
       was_open : HasCleanDisk now → IsTrue now.is_open → IsTrue old.is_open;
       «open» : HasCleanDisk now → FindOpen l.answers.items old now;
