@@ -1,8 +1,7 @@
 //! Queries, scans and their faults, from the tables of the manuals and worked by hand.
 
-use crate::{QueryFault, plan, plan_scan, read_pqf};
-use std::alloc::{AllocError, AllocGlobal, Global};
-use std::process::Abort;
+use crate::{Plan, QueryFault, ScanPlan, plan, plan_scan, read_pqf};
+use std::alloc::{AllocError, Global};
 use std::test::Fail;
 use zeb_profile::Profile;
 
@@ -15,7 +14,7 @@ mod plans;
 mod scans;
 mod texts;
 
-/// A query, and what it comes to.
+/// A text, and what it comes to, where these don't stand well on a line.
 type Row = (&'static str, &'static str);
 
 /// A profile with an index of each register.
@@ -27,6 +26,19 @@ const WITHOUT_ANY: &str = "store books.db\nidentifier 001\natt 4 Title\nmelm 245
 
 /// A profile whose one index has all registers.
 const WHOLE: &str = "store books.db\nidentifier 001\natt 1016 All\nmelm 245 All:w,All:p,All:n\n";
+
+/// What is asked of a text.
+#[derive(Clone, Copy)]
+enum Asked {
+    /// Whether it is a query; no profile is looked at.
+    Reading,
+    /// Whether it has a plan.
+    Finding,
+    /// What its plan is.
+    Planning,
+    /// Where a scan begins.
+    Scanning,
+}
 
 /// A fault as one line.
 fn line_of(alloc: Global, fault: &QueryFault) -> Result<String, AllocError> {
@@ -54,71 +66,133 @@ fn diagnostic_line(
     }
 }
 
-/// What the reading of a text comes to: `query`, or the fault.
-fn read_line(alloc: Global, text: &str) -> Result<String, AllocError> {
-    match read_pqf(alloc, text) {
-        Ok(_) => String::from_str(alloc, "query"),
+/// A word for whatever is answered, or the fault.
+fn word_or_fault<T: Drop>(
+    alloc: Global,
+    answer: Result<T, QueryFault>,
+    word: &str,
+) -> Result<String, AllocError> {
+    match answer {
+        Ok(_) => String::from_str(alloc, word),
         Err(fault) => line_of(alloc, &fault),
     }
 }
 
-/// What a text comes to over a profile: `plan`, or the fault.
-fn plan_line(alloc: Global, text: &str, profile: &Profile) -> Result<String, AllocError> {
-    let query = match read_pqf(alloc, text) {
-        Ok(query) => query,
-        Err(fault) => return line_of(alloc, &fault),
-    };
-    match plan(alloc, &query, profile) {
-        Ok(_) => String::from_str(alloc, "plan"),
-        Err(fault) => line_of(alloc, &fault),
-    }
+/// The plan of a text.
+fn plan_of(alloc: Global, text: &str, profile: &Profile) -> Result<Plan, QueryFault> {
+    let query = read_pqf(alloc, text)?;
+    plan(alloc, &query, profile)
 }
 
-/// What a scan that begins at a text comes to over a profile: the entry that it begins with, or the fault.
-fn scan_line(alloc: Global, text: &str, profile: &Profile) -> Result<String, AllocError> {
-    let query = match read_pqf(alloc, text) {
-        Ok(query) => query,
-        Err(fault) => return line_of(alloc, &fault),
-    };
-    match plan_scan(alloc, &query, profile) {
+/// The plan of a scan that begins at a text.
+fn scan_of(alloc: Global, text: &str, profile: &Profile) -> Result<ScanPlan, QueryFault> {
+    let query = read_pqf(alloc, text)?;
+    plan_scan(alloc, &query, profile)
+}
+
+/// The entry that a scan begins with, or the fault.
+fn scan_line(alloc: Global, answer: &Result<ScanPlan, QueryFault>) -> Result<String, AllocError> {
+    match answer {
         Ok(scan) => {
             let index = scan.index;
             let register = scan.register;
-            let start = scan.start;
+            let start = scan.start.as_str();
             format!(in alloc; "{index} {register} {start}")
         }
-        Err(fault) => line_of(alloc, &fault),
+        Err(fault) => line_of(alloc, fault),
     }
 }
 
-/// A text `count` times, and then another.
-fn repeated(alloc: Global, text: &str, count: u32, last: &str) -> Result<String, AllocError> {
-    let mut all = String::new(alloc);
-    for _ in 0..count {
-        all.push_str(text)?;
+/// What a text comes to over a profile.
+fn line(alloc: Global, asked: Asked, profile: &Profile, text: &str) -> Result<String, AllocError> {
+    match asked {
+        Asked::Reading => word_or_fault(alloc, read_pqf(alloc, text), "query"),
+        Asked::Finding => word_or_fault(alloc, plan_of(alloc, text, profile), "plan"),
+        Asked::Planning => plans::plan_line(alloc, &plan_of(alloc, text, profile)),
+        Asked::Scanning => scan_line(alloc, &scan_of(alloc, text, profile)),
     }
-    all.push_str(last)?;
-    Ok(all)
 }
 
-/// Each text is a query or has the fault that its row says.
-fn texts_are(rt: &(impl Abort + AllocGlobal), rows: &[Row]) -> Result<(), Fail> {
+/// Notes a text that comes to something else than it should.
+fn compare(
+    alloc: Global,
+    asked: Asked,
+    profile: &Profile,
+    text: &str,
+    answer: &str,
+    wrong: &mut String,
+) -> Result<(), AllocError> {
+    let found = line(alloc, asked, profile, text)?;
+    if found.as_str() == answer {
+        return Ok(());
+    }
+    let front = text.get(..100).unwrap_or(text);
+    let note = [found.as_str(), " in place of ", answer, " at ", front, "\n"].concat(alloc)?;
+    wrong.push_str(note.as_str())
+}
+
+/// The rows whose text comes to something else, a line for each.
+fn wrong_rows(
+    alloc: Global,
+    asked: Asked,
+    profile: &Profile,
+    rows: &[Row],
+) -> Result<String, AllocError> {
+    let mut wrong = String::new(alloc);
     for (text, answer) in rows {
-        assert_eq!(rt;
-            read_line(rt.alloc(), text)?.as_str(),
-            *answer,
-            "at {text:?}"
-        );
+        compare(alloc, asked, profile, text, answer, &mut wrong)?;
     }
-    Ok(())
+    Ok(wrong)
 }
 
-/// Each query has a plan over the profile, or the diagnostic that its row says.
-fn plans_are(rt: &(impl Abort + AllocGlobal), profile: &str, rows: &[Row]) -> Result<(), Fail> {
-    let profile = Profile::read(rt.alloc(), profile)?;
-    for (text, answer) in rows {
-        let line = plan_line(rt.alloc(), text, &profile)?;
-        assert_eq!(rt; line.as_str(), *answer, "at {text:?}");
+/// Notes the text of a line that comes to something else than the line says.
+fn compare_line(
+    alloc: Global,
+    asked: Asked,
+    profile: &Profile,
+    line: &str,
+    wrong: &mut String,
+) -> Result<(), AllocError> {
+    let (text, answer) = halves_of(line);
+    compare(alloc, asked, profile, text, answer, wrong)
+}
+
+/// What stands before the arrow of a line and behind it.
+fn halves_of(line: &str) -> (&str, &str) {
+    line.split_once(" -> ").unwrap_or((line, "no arrow"))
+}
+
+/// The lines whose text comes to something else, a line for each.
+fn wrong_lines(
+    alloc: Global,
+    asked: Asked,
+    profile: &Profile,
+    lines: &str,
+) -> Result<String, AllocError> {
+    let mut wrong = String::new(alloc);
+    for line in lines.lines() {
+        compare_line(alloc, asked, profile, line, &mut wrong)?;
     }
-    Ok(())
+    Ok(wrong)
+}
+
+/// Fails where something is wrong.
+fn nothing_wrong(wrong: String) -> Result<(), Fail> {
+    if wrong.is_empty() {
+        Ok(())
+    } else {
+        Err(Fail::new(wrong))
+    }
+}
+
+/// Each text comes to what its row says.
+fn rows_hold(alloc: Global, asked: Asked, profile: &str, rows: &[Row]) -> Result<(), Fail> {
+    let profile = Profile::read(alloc, profile)?;
+    nothing_wrong(wrong_rows(alloc, asked, &profile, rows)?)
+}
+
+/// Each text comes to what its line says: a text, and behind an arrow what it comes to.
+fn lines_hold(alloc: Global, asked: Asked, profile: &str, lines: &str) -> Result<(), Fail> {
+    let profile = Profile::read(alloc, profile)?;
+    nothing_wrong(wrong_lines(alloc, asked, &profile, lines)?)
 }

@@ -1,145 +1,323 @@
-//! The values of attributes (Bib-1, types 2 to 6): which are kept, and which go together.
+//! The values of attributes (Bib-1, types 1 to 6): which are kept, and which go together.
 
-use super::{WHOLE, plan_line, scan_line};
+use super::{Asked, WHOLE, lines_hold};
 use std::test::Fail;
-use zeb_profile::Profile;
-
-/// An attribute type, its values that are kept, others, and the diagnostic of these.
-const VALUES: [(&str, &str, &str, u32); 6] = [
-    ("1", "1016 All all ALL", "4 1015 Al Alle", 114),
-    ("2", "1 2 3 4 5 103", "0 6 10 102 104 1003 x", 117),
-    ("3", "1 2 3", "0 4 31 x", 119),
-    ("4", "1 2 6 105 107 109", "0 3 4 5 7 104 106 108 110 x", 118),
-    ("5", "1 2 3 100 101", "0 4 99 102 103 104 x", 120),
-    ("6", "1 2 3", "0 4 23 x", 122),
-];
-
-/// An attribute, those that it isn't kept together with, and those that it is. Each pair of values stands once.
-const PAIRS: [(&str, &str, &str); 20] = [
-    (
-        "4=107",
-        "2=1 2=2 2=4 2=5 2=103 3=1 3=2 5=1 5=2 5=3 5=101 6=2 6=3",
-        "2=3 3=3 5=100 6=1",
-    ),
-    (
-        "4=109",
-        "3=1 3=2 5=1 5=2 5=3 5=101 6=2 6=3",
-        "2=1 2=2 2=3 2=4 2=5 2=103 3=3 5=100 6=1",
-    ),
-    (
-        "4=6",
-        "2=1 2=2 2=4 2=5 3=1 3=2 6=2 6=3",
-        "2=3 2=103 3=3 5=1 5=2 5=3 5=100 5=101 6=1",
-    ),
-    (
-        "4=105",
-        "2=1 2=2 2=4 2=5 3=1 3=2 6=2 6=3",
-        "2=3 2=103 3=3 5=1 5=2 5=3 5=100 5=101 6=1",
-    ),
-    (
-        "4=1",
-        "",
-        "2=1 2=2 2=3 2=4 2=5 2=103 3=1 3=2 3=3 5=1 5=2 5=3 5=100 5=101 6=1 6=2 6=3",
-    ),
-    (
-        "4=2",
-        "",
-        "2=1 2=2 2=3 2=4 2=5 2=103 3=1 3=2 3=3 5=1 5=2 5=3 5=100 5=101 6=1 6=2 6=3",
-    ),
-    ("2=1", "3=1 3=2 5=1 5=2 5=3 5=101", "3=3 5=100 6=1 6=2 6=3"),
-    ("2=2", "3=1 3=2 5=1 5=2 5=3 5=101", "3=3 5=100 6=1 6=2 6=3"),
-    ("2=3", "", "3=1 3=2 3=3 5=1 5=2 5=3 5=100 5=101 6=1 6=2 6=3"),
-    ("2=4", "3=1 3=2 5=1 5=2 5=3 5=101", "3=3 5=100 6=1 6=2 6=3"),
-    ("2=5", "3=1 3=2 5=1 5=2 5=3 5=101", "3=3 5=100 6=1 6=2 6=3"),
-    (
-        "2=103",
-        "",
-        "3=1 3=2 3=3 5=1 5=2 5=3 5=100 5=101 6=1 6=2 6=3",
-    ),
-    ("3=1", "", "5=1 5=2 5=3 5=100 5=101 6=1 6=2 6=3"),
-    ("3=2", "", "5=1 5=2 5=3 5=100 5=101 6=1 6=2 6=3"),
-    ("3=3", "", "5=1 5=2 5=3 5=100 5=101 6=1 6=2 6=3"),
-    ("5=1", "", "6=1 6=2 6=3"),
-    ("5=2", "", "6=1 6=2 6=3"),
-    ("5=3", "", "6=1 6=2 6=3"),
-    ("5=100", "", "6=1 6=2 6=3"),
-    ("5=101", "", "6=1 6=2 6=3"),
-];
-
-/// The attributes that a scan takes, with the register and the start of a scan that begins at `7`, and those that it
-/// doesn't.
-const TAKEN: [(&str, &str); 10] = [
-    ("2=3", "0 w 7"),
-    ("3=3", "0 w 7"),
-    ("4=1", "0 w 7"),
-    ("4=2", "0 w 7"),
-    ("4=109", "0 n 000000000000000007"),
-    ("5=100", "0 w 7"),
-    ("6=1", "0 w 7"),
-    ("6=2", "0 p 7"),
-    ("6=3", "0 p 7"),
-    ("1=All", "0 w 7"),
-];
-
-const NOT_TAKEN: &str = "2=1 2=2 2=4 2=5 2=103 3=1 3=2 4=6 4=105 4=107 5=1 5=2 5=3 5=101";
 
 #[test]
 fn values_that_are_kept(rt: HostRuntime) -> Result<(), Fail> {
-    let profile = Profile::read(rt.alloc(), WHOLE)?;
-    for (kind, kept, others, number) in VALUES {
-        for value in kept.split_whitespace() {
-            let text = format!(in rt.alloc(); "@attr {kind}={value} 7")?;
-            let line = plan_line(rt.alloc(), text.as_str(), &profile)?;
-            assert_eq!(rt; line.as_str(), "plan", "at {text}");
-        }
-        for value in others.split_whitespace() {
-            let front = format!(in rt.alloc(); "@attr {kind}={value} ")?;
-            let place = front.len();
-            let text = format!(in rt.alloc(); "{front}7")?;
-            let answer = format!(in rt.alloc(); "{number} at {place}: {value}")?;
-            let line = plan_line(rt.alloc(), text.as_str(), &profile)?;
-            assert_eq!(rt; line.as_str(), answer.as_str(), "at {text}");
-        }
-    }
-    Ok(())
+    lines_hold(rt.alloc(), Asked::Finding, WHOLE, VALUES)
 }
 
 #[test]
 fn values_that_go_together(rt: HostRuntime) -> Result<(), Fail> {
-    let profile = Profile::read(rt.alloc(), WHOLE)?;
-    for (attribute, clashing, together) in PAIRS {
-        for other in clashing.split_whitespace() {
-            let front = format!(in rt.alloc(); "@attr {attribute} @attr {other} ")?;
-            let place = front.len();
-            let text = format!(in rt.alloc(); "{front}7")?;
-            let answer = format!(in rt.alloc(); "123 at {place}")?;
-            let line = plan_line(rt.alloc(), text.as_str(), &profile)?;
-            assert_eq!(rt; line.as_str(), answer.as_str(), "at {text}");
-        }
-        for other in together.split_whitespace() {
-            let text = format!(in rt.alloc(); "@attr {attribute} @attr {other} 7")?;
-            let line = plan_line(rt.alloc(), text.as_str(), &profile)?;
-            assert_eq!(rt; line.as_str(), "plan", "at {text}");
-        }
-    }
-    Ok(())
+    lines_hold(rt.alloc(), Asked::Finding, WHOLE, PAIRS)
 }
 
 #[test]
 fn values_in_a_scan(rt: HostRuntime) -> Result<(), Fail> {
-    let profile = Profile::read(rt.alloc(), WHOLE)?;
-    for (attribute, answer) in TAKEN {
-        let text = format!(in rt.alloc(); "@attr {attribute} 7")?;
-        let line = scan_line(rt.alloc(), text.as_str(), &profile)?;
-        assert_eq!(rt; line.as_str(), answer, "at {text}");
-    }
-    for attribute in NOT_TAKEN.split_whitespace() {
-        let front = format!(in rt.alloc(); "@attr {attribute} ")?;
-        let place = front.len();
-        let text = format!(in rt.alloc(); "{front}7")?;
-        let answer = format!(in rt.alloc(); "123 at {place}")?;
-        let line = scan_line(rt.alloc(), text.as_str(), &profile)?;
-        assert_eq!(rt; line.as_str(), answer.as_str(), "at {text}");
-    }
-    Ok(())
+    lines_hold(rt.alloc(), Asked::Scanning, WHOLE, SCANNED)
 }
+
+/// Values that are kept, and others, of which each type has its diagnostic.
+const VALUES: &str = r"@attr 1=1016 7 -> plan
+@attr 1=All 7 -> plan
+@attr 1=all 7 -> plan
+@attr 1=ALL 7 -> plan
+@attr 1=4 7 -> 114 at 10: 4
+@attr 1=1015 7 -> 114 at 13: 1015
+@attr 1=Al 7 -> 114 at 11: Al
+@attr 1=Alle 7 -> 114 at 13: Alle
+@attr 2=1 7 -> plan
+@attr 2=2 7 -> plan
+@attr 2=3 7 -> plan
+@attr 2=4 7 -> plan
+@attr 2=5 7 -> plan
+@attr 2=103 7 -> plan
+@attr 2=0 7 -> 117 at 10: 0
+@attr 2=6 7 -> 117 at 10: 6
+@attr 2=10 7 -> 117 at 11: 10
+@attr 2=102 7 -> 117 at 12: 102
+@attr 2=104 7 -> 117 at 12: 104
+@attr 2=1003 7 -> 117 at 13: 1003
+@attr 2=x 7 -> 117 at 10: x
+@attr 3=1 7 -> plan
+@attr 3=2 7 -> plan
+@attr 3=3 7 -> plan
+@attr 3=0 7 -> 119 at 10: 0
+@attr 3=4 7 -> 119 at 10: 4
+@attr 3=31 7 -> 119 at 11: 31
+@attr 3=x 7 -> 119 at 10: x
+@attr 4=1 7 -> plan
+@attr 4=2 7 -> plan
+@attr 4=6 7 -> plan
+@attr 4=105 7 -> plan
+@attr 4=107 7 -> plan
+@attr 4=109 7 -> plan
+@attr 4=0 7 -> 118 at 10: 0
+@attr 4=3 7 -> 118 at 10: 3
+@attr 4=4 7 -> 118 at 10: 4
+@attr 4=5 7 -> 118 at 10: 5
+@attr 4=7 7 -> 118 at 10: 7
+@attr 4=104 7 -> 118 at 12: 104
+@attr 4=106 7 -> 118 at 12: 106
+@attr 4=108 7 -> 118 at 12: 108
+@attr 4=110 7 -> 118 at 12: 110
+@attr 4=x 7 -> 118 at 10: x
+@attr 5=1 7 -> plan
+@attr 5=2 7 -> plan
+@attr 5=3 7 -> plan
+@attr 5=100 7 -> plan
+@attr 5=101 7 -> plan
+@attr 5=0 7 -> 120 at 10: 0
+@attr 5=4 7 -> 120 at 10: 4
+@attr 5=99 7 -> 120 at 11: 99
+@attr 5=102 7 -> 120 at 12: 102
+@attr 5=103 7 -> 120 at 12: 103
+@attr 5=104 7 -> 120 at 12: 104
+@attr 5=x 7 -> 120 at 10: x
+@attr 6=1 7 -> plan
+@attr 6=2 7 -> plan
+@attr 6=3 7 -> plan
+@attr 6=0 7 -> 122 at 10: 0
+@attr 6=4 7 -> 122 at 10: 4
+@attr 6=23 7 -> 122 at 11: 23
+@attr 6=x 7 -> 122 at 10: x
+";
+
+/// Each two values that are kept, of two types, once: those that aren't kept together have 123.
+const PAIRS: &str = r"@attr 4=107 @attr 2=1 7 -> 123 at 22
+@attr 4=107 @attr 2=2 7 -> 123 at 22
+@attr 4=107 @attr 2=4 7 -> 123 at 22
+@attr 4=107 @attr 2=5 7 -> 123 at 22
+@attr 4=107 @attr 2=103 7 -> 123 at 24
+@attr 4=107 @attr 3=1 7 -> 123 at 22
+@attr 4=107 @attr 3=2 7 -> 123 at 22
+@attr 4=107 @attr 5=1 7 -> 123 at 22
+@attr 4=107 @attr 5=2 7 -> 123 at 22
+@attr 4=107 @attr 5=3 7 -> 123 at 22
+@attr 4=107 @attr 5=101 7 -> 123 at 24
+@attr 4=107 @attr 6=2 7 -> 123 at 22
+@attr 4=107 @attr 6=3 7 -> 123 at 22
+@attr 4=107 @attr 2=3 7 -> plan
+@attr 4=107 @attr 3=3 7 -> plan
+@attr 4=107 @attr 5=100 7 -> plan
+@attr 4=107 @attr 6=1 7 -> plan
+@attr 4=109 @attr 3=1 7 -> 123 at 22
+@attr 4=109 @attr 3=2 7 -> 123 at 22
+@attr 4=109 @attr 5=1 7 -> 123 at 22
+@attr 4=109 @attr 5=2 7 -> 123 at 22
+@attr 4=109 @attr 5=3 7 -> 123 at 22
+@attr 4=109 @attr 5=101 7 -> 123 at 24
+@attr 4=109 @attr 6=2 7 -> 123 at 22
+@attr 4=109 @attr 6=3 7 -> 123 at 22
+@attr 4=109 @attr 2=1 7 -> plan
+@attr 4=109 @attr 2=2 7 -> plan
+@attr 4=109 @attr 2=3 7 -> plan
+@attr 4=109 @attr 2=4 7 -> plan
+@attr 4=109 @attr 2=5 7 -> plan
+@attr 4=109 @attr 2=103 7 -> plan
+@attr 4=109 @attr 3=3 7 -> plan
+@attr 4=109 @attr 5=100 7 -> plan
+@attr 4=109 @attr 6=1 7 -> plan
+@attr 4=6 @attr 2=1 7 -> 123 at 20
+@attr 4=6 @attr 2=2 7 -> 123 at 20
+@attr 4=6 @attr 2=4 7 -> 123 at 20
+@attr 4=6 @attr 2=5 7 -> 123 at 20
+@attr 4=6 @attr 3=1 7 -> 123 at 20
+@attr 4=6 @attr 3=2 7 -> 123 at 20
+@attr 4=6 @attr 6=2 7 -> 123 at 20
+@attr 4=6 @attr 6=3 7 -> 123 at 20
+@attr 4=6 @attr 2=3 7 -> plan
+@attr 4=6 @attr 2=103 7 -> plan
+@attr 4=6 @attr 3=3 7 -> plan
+@attr 4=6 @attr 5=1 7 -> plan
+@attr 4=6 @attr 5=2 7 -> plan
+@attr 4=6 @attr 5=3 7 -> plan
+@attr 4=6 @attr 5=100 7 -> plan
+@attr 4=6 @attr 5=101 7 -> plan
+@attr 4=6 @attr 6=1 7 -> plan
+@attr 4=105 @attr 2=1 7 -> 123 at 22
+@attr 4=105 @attr 2=2 7 -> 123 at 22
+@attr 4=105 @attr 2=4 7 -> 123 at 22
+@attr 4=105 @attr 2=5 7 -> 123 at 22
+@attr 4=105 @attr 3=1 7 -> 123 at 22
+@attr 4=105 @attr 3=2 7 -> 123 at 22
+@attr 4=105 @attr 6=2 7 -> 123 at 22
+@attr 4=105 @attr 6=3 7 -> 123 at 22
+@attr 4=105 @attr 2=3 7 -> plan
+@attr 4=105 @attr 2=103 7 -> plan
+@attr 4=105 @attr 3=3 7 -> plan
+@attr 4=105 @attr 5=1 7 -> plan
+@attr 4=105 @attr 5=2 7 -> plan
+@attr 4=105 @attr 5=3 7 -> plan
+@attr 4=105 @attr 5=100 7 -> plan
+@attr 4=105 @attr 5=101 7 -> plan
+@attr 4=105 @attr 6=1 7 -> plan
+@attr 4=1 @attr 2=1 7 -> plan
+@attr 4=1 @attr 2=2 7 -> plan
+@attr 4=1 @attr 2=3 7 -> plan
+@attr 4=1 @attr 2=4 7 -> plan
+@attr 4=1 @attr 2=5 7 -> plan
+@attr 4=1 @attr 2=103 7 -> plan
+@attr 4=1 @attr 3=1 7 -> plan
+@attr 4=1 @attr 3=2 7 -> plan
+@attr 4=1 @attr 3=3 7 -> plan
+@attr 4=1 @attr 5=1 7 -> plan
+@attr 4=1 @attr 5=2 7 -> plan
+@attr 4=1 @attr 5=3 7 -> plan
+@attr 4=1 @attr 5=100 7 -> plan
+@attr 4=1 @attr 5=101 7 -> plan
+@attr 4=1 @attr 6=1 7 -> plan
+@attr 4=1 @attr 6=2 7 -> plan
+@attr 4=1 @attr 6=3 7 -> plan
+@attr 4=2 @attr 2=1 7 -> plan
+@attr 4=2 @attr 2=2 7 -> plan
+@attr 4=2 @attr 2=3 7 -> plan
+@attr 4=2 @attr 2=4 7 -> plan
+@attr 4=2 @attr 2=5 7 -> plan
+@attr 4=2 @attr 2=103 7 -> plan
+@attr 4=2 @attr 3=1 7 -> plan
+@attr 4=2 @attr 3=2 7 -> plan
+@attr 4=2 @attr 3=3 7 -> plan
+@attr 4=2 @attr 5=1 7 -> plan
+@attr 4=2 @attr 5=2 7 -> plan
+@attr 4=2 @attr 5=3 7 -> plan
+@attr 4=2 @attr 5=100 7 -> plan
+@attr 4=2 @attr 5=101 7 -> plan
+@attr 4=2 @attr 6=1 7 -> plan
+@attr 4=2 @attr 6=2 7 -> plan
+@attr 4=2 @attr 6=3 7 -> plan
+@attr 2=1 @attr 3=1 7 -> 123 at 20
+@attr 2=1 @attr 3=2 7 -> 123 at 20
+@attr 2=1 @attr 5=1 7 -> 123 at 20
+@attr 2=1 @attr 5=2 7 -> 123 at 20
+@attr 2=1 @attr 5=3 7 -> 123 at 20
+@attr 2=1 @attr 5=101 7 -> 123 at 22
+@attr 2=1 @attr 3=3 7 -> plan
+@attr 2=1 @attr 5=100 7 -> plan
+@attr 2=1 @attr 6=1 7 -> plan
+@attr 2=1 @attr 6=2 7 -> plan
+@attr 2=1 @attr 6=3 7 -> plan
+@attr 2=2 @attr 3=1 7 -> 123 at 20
+@attr 2=2 @attr 3=2 7 -> 123 at 20
+@attr 2=2 @attr 5=1 7 -> 123 at 20
+@attr 2=2 @attr 5=2 7 -> 123 at 20
+@attr 2=2 @attr 5=3 7 -> 123 at 20
+@attr 2=2 @attr 5=101 7 -> 123 at 22
+@attr 2=2 @attr 3=3 7 -> plan
+@attr 2=2 @attr 5=100 7 -> plan
+@attr 2=2 @attr 6=1 7 -> plan
+@attr 2=2 @attr 6=2 7 -> plan
+@attr 2=2 @attr 6=3 7 -> plan
+@attr 2=3 @attr 3=1 7 -> plan
+@attr 2=3 @attr 3=2 7 -> plan
+@attr 2=3 @attr 3=3 7 -> plan
+@attr 2=3 @attr 5=1 7 -> plan
+@attr 2=3 @attr 5=2 7 -> plan
+@attr 2=3 @attr 5=3 7 -> plan
+@attr 2=3 @attr 5=100 7 -> plan
+@attr 2=3 @attr 5=101 7 -> plan
+@attr 2=3 @attr 6=1 7 -> plan
+@attr 2=3 @attr 6=2 7 -> plan
+@attr 2=3 @attr 6=3 7 -> plan
+@attr 2=4 @attr 3=1 7 -> 123 at 20
+@attr 2=4 @attr 3=2 7 -> 123 at 20
+@attr 2=4 @attr 5=1 7 -> 123 at 20
+@attr 2=4 @attr 5=2 7 -> 123 at 20
+@attr 2=4 @attr 5=3 7 -> 123 at 20
+@attr 2=4 @attr 5=101 7 -> 123 at 22
+@attr 2=4 @attr 3=3 7 -> plan
+@attr 2=4 @attr 5=100 7 -> plan
+@attr 2=4 @attr 6=1 7 -> plan
+@attr 2=4 @attr 6=2 7 -> plan
+@attr 2=4 @attr 6=3 7 -> plan
+@attr 2=5 @attr 3=1 7 -> 123 at 20
+@attr 2=5 @attr 3=2 7 -> 123 at 20
+@attr 2=5 @attr 5=1 7 -> 123 at 20
+@attr 2=5 @attr 5=2 7 -> 123 at 20
+@attr 2=5 @attr 5=3 7 -> 123 at 20
+@attr 2=5 @attr 5=101 7 -> 123 at 22
+@attr 2=5 @attr 3=3 7 -> plan
+@attr 2=5 @attr 5=100 7 -> plan
+@attr 2=5 @attr 6=1 7 -> plan
+@attr 2=5 @attr 6=2 7 -> plan
+@attr 2=5 @attr 6=3 7 -> plan
+@attr 2=103 @attr 3=1 7 -> plan
+@attr 2=103 @attr 3=2 7 -> plan
+@attr 2=103 @attr 3=3 7 -> plan
+@attr 2=103 @attr 5=1 7 -> plan
+@attr 2=103 @attr 5=2 7 -> plan
+@attr 2=103 @attr 5=3 7 -> plan
+@attr 2=103 @attr 5=100 7 -> plan
+@attr 2=103 @attr 5=101 7 -> plan
+@attr 2=103 @attr 6=1 7 -> plan
+@attr 2=103 @attr 6=2 7 -> plan
+@attr 2=103 @attr 6=3 7 -> plan
+@attr 3=1 @attr 5=1 7 -> plan
+@attr 3=1 @attr 5=2 7 -> plan
+@attr 3=1 @attr 5=3 7 -> plan
+@attr 3=1 @attr 5=100 7 -> plan
+@attr 3=1 @attr 5=101 7 -> plan
+@attr 3=1 @attr 6=1 7 -> plan
+@attr 3=1 @attr 6=2 7 -> plan
+@attr 3=1 @attr 6=3 7 -> plan
+@attr 3=2 @attr 5=1 7 -> plan
+@attr 3=2 @attr 5=2 7 -> plan
+@attr 3=2 @attr 5=3 7 -> plan
+@attr 3=2 @attr 5=100 7 -> plan
+@attr 3=2 @attr 5=101 7 -> plan
+@attr 3=2 @attr 6=1 7 -> plan
+@attr 3=2 @attr 6=2 7 -> plan
+@attr 3=2 @attr 6=3 7 -> plan
+@attr 3=3 @attr 5=1 7 -> plan
+@attr 3=3 @attr 5=2 7 -> plan
+@attr 3=3 @attr 5=3 7 -> plan
+@attr 3=3 @attr 5=100 7 -> plan
+@attr 3=3 @attr 5=101 7 -> plan
+@attr 3=3 @attr 6=1 7 -> plan
+@attr 3=3 @attr 6=2 7 -> plan
+@attr 3=3 @attr 6=3 7 -> plan
+@attr 5=1 @attr 6=1 7 -> plan
+@attr 5=1 @attr 6=2 7 -> plan
+@attr 5=1 @attr 6=3 7 -> plan
+@attr 5=2 @attr 6=1 7 -> plan
+@attr 5=2 @attr 6=2 7 -> plan
+@attr 5=2 @attr 6=3 7 -> plan
+@attr 5=3 @attr 6=1 7 -> plan
+@attr 5=3 @attr 6=2 7 -> plan
+@attr 5=3 @attr 6=3 7 -> plan
+@attr 5=100 @attr 6=1 7 -> plan
+@attr 5=100 @attr 6=2 7 -> plan
+@attr 5=100 @attr 6=3 7 -> plan
+@attr 5=101 @attr 6=1 7 -> plan
+@attr 5=101 @attr 6=2 7 -> plan
+@attr 5=101 @attr 6=3 7 -> plan
+";
+
+/// The attributes that a scan takes, with the register and the start of a scan that begins at `7`, and those that it
+/// doesn't.
+const SCANNED: &str = r"@attr 2=3 7 -> 0 w 7
+@attr 3=3 7 -> 0 w 7
+@attr 4=1 7 -> 0 w 7
+@attr 4=2 7 -> 0 w 7
+@attr 4=109 7 -> 0 n 000000000000000007
+@attr 5=100 7 -> 0 w 7
+@attr 6=1 7 -> 0 w 7
+@attr 6=2 7 -> 0 p 7
+@attr 6=3 7 -> 0 p 7
+@attr 1=All 7 -> 0 w 7
+@attr 2=1 7 -> 123 at 10
+@attr 2=2 7 -> 123 at 10
+@attr 2=4 7 -> 123 at 10
+@attr 2=5 7 -> 123 at 10
+@attr 2=103 7 -> 123 at 12
+@attr 3=1 7 -> 123 at 10
+@attr 3=2 7 -> 123 at 10
+@attr 4=6 7 -> 123 at 10
+@attr 4=105 7 -> 123 at 12
+@attr 4=107 7 -> 123 at 12
+@attr 5=1 7 -> 123 at 10
+@attr 5=2 7 -> 123 at 10
+@attr 5=3 7 -> 123 at 10
+@attr 5=101 7 -> 123 at 12
+";

@@ -1,57 +1,101 @@
 //! Requests for memory that are refused: to be run with each refused in turn.
 
-use super::diagnostics::{FAULTS, OVER, PLANS, PROXIMITY, UNTIED};
+use super::diagnostics::{FAULTS, OVER, PLACES, PLANS, PROXIMITY, UNTIED};
 use super::order::{NEIGHBOURS, UNTIED_NEIGHBOURS};
-use super::scans::SCANS;
-use super::texts::{KEYWORDS_USED, WORDS};
-use super::{PROFILE, Row, WITHOUT_ANY, plan_line, read_line, scan_line};
-use std::alloc::{AllocError, AllocGlobal, Global};
-use std::process::Abort;
+use super::scans::{FROM_NO_WORD, SCANS};
+use super::texts::{BLANKS, KEYWORDS_USED, WORDS};
+use super::{Asked, PROFILE, Row, WITHOUT_ANY, halves_of, line};
+use std::alloc::Global;
 use std::test::Fail;
 use zeb_profile::Profile;
 
-/// What is asked of a text.
-#[derive(Clone, Copy)]
-enum Asked<'a> {
-    Reading,
-    Finding(&'a Profile),
-    Scanning(&'a Profile),
-}
+/// What is asked of the texts of lines.
+const LINES: &[(Asked, &str)] = &[
+    (Asked::Reading, WORDS),
+    (Asked::Reading, KEYWORDS_USED),
+    (Asked::Finding, FAULTS),
+    (Asked::Finding, PLANS),
+    (Asked::Finding, PROXIMITY),
+    (Asked::Finding, OVER),
+    (Asked::Finding, NEIGHBOURS),
+    (Asked::Scanning, SCANS),
+];
 
-fn line(alloc: Global, text: &str, asked: Asked<'_>) -> Result<String, AllocError> {
-    match asked {
-        Asked::Reading => read_line(alloc, text),
-        Asked::Finding(profile) => plan_line(alloc, text, profile),
-        Asked::Scanning(profile) => scan_line(alloc, text, profile),
+/// The same of rows.
+const ROWS: &[(Asked, &[Row])] = &[
+    (Asked::Reading, BLANKS),
+    (Asked::Finding, PLACES),
+    (Asked::Scanning, FROM_NO_WORD),
+];
+
+/// The answer is this one, or want of memory; where the line itself can't be made nothing is asked.
+fn is_ordinary_or_memory(
+    alloc: Global,
+    asked: Asked,
+    profile: &Profile,
+    text: &str,
+    answer: &str,
+) -> bool {
+    match line(alloc, asked, profile, text) {
+        Ok(line) => line.as_str() == "memory" || line.as_str() == answer,
+        Err(_) => true,
     }
 }
 
-/// Each answer is the one of its row, or want of memory; where the line itself can't be made nothing is asked.
-fn ordinary_or_memory(rt: &(impl Abort + AllocGlobal), rows: &[Row], asked: Asked<'_>) {
-    for (text, answer) in rows {
-        if let Ok(line) = line(rt.alloc(), text, asked) {
-            let line = line.as_str();
-            assert!(rt; line == "memory" || line == *answer, "{line} at {text:?}");
+/// Each line's answer is the ordinary one, or want of memory.
+fn lines_or_memory(
+    alloc: Global,
+    asked: Asked,
+    profile: &Profile,
+    lines: &'static str,
+) -> Result<(), Fail> {
+    for line in lines.lines() {
+        let (text, answer) = halves_of(line);
+        if !is_ordinary_or_memory(alloc, asked, profile, text, answer) {
+            return Err(Fail::new(line));
         }
     }
+    Ok(())
+}
+
+/// The same of rows.
+fn rows_or_memory(
+    alloc: Global,
+    asked: Asked,
+    profile: &Profile,
+    rows: &[Row],
+) -> Result<(), Fail> {
+    for (text, answer) in rows {
+        if !is_ordinary_or_memory(alloc, asked, profile, text, answer) {
+            return Err(Fail::new(*text));
+        }
+    }
+    Ok(())
 }
 
 /// Holds whatever request for memory is refused.
 #[test]
 fn requests_for_memory_may_be_refused(rt: HostRuntime) -> Result<(), Fail> {
-    for rows in [WORDS, KEYWORDS_USED] {
-        ordinary_or_memory(&rt, rows, Asked::Reading);
+    let Ok(profile) = Profile::read(rt.alloc(), PROFILE) else {
+        return Ok(());
+    };
+    for (asked, lines) in LINES {
+        lines_or_memory(rt.alloc(), *asked, &profile, lines)?;
     }
-    if let Ok(profile) = Profile::read(rt.alloc(), PROFILE) {
-        for rows in [FAULTS, PLANS, PROXIMITY, OVER, NEIGHBOURS] {
-            ordinary_or_memory(&rt, rows, Asked::Finding(&profile));
-        }
-        ordinary_or_memory(&rt, SCANS, Asked::Scanning(&profile));
+    for (asked, rows) in ROWS {
+        rows_or_memory(rt.alloc(), *asked, &profile, rows)?;
     }
-    if let Ok(profile) = Profile::read(rt.alloc(), WITHOUT_ANY) {
-        for rows in [UNTIED, UNTIED_NEIGHBOURS] {
-            ordinary_or_memory(&rt, rows, Asked::Finding(&profile));
-        }
+    Ok(())
+}
+
+/// The same over the other profile.
+#[test]
+fn requests_for_memory_without_any_may_be_refused(rt: HostRuntime) -> Result<(), Fail> {
+    let Ok(profile) = Profile::read(rt.alloc(), WITHOUT_ANY) else {
+        return Ok(());
+    };
+    for lines in [UNTIED, UNTIED_NEIGHBOURS] {
+        lines_or_memory(rt.alloc(), Asked::Finding, &profile, lines)?;
     }
     Ok(())
 }

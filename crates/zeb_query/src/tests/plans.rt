@@ -1,7 +1,7 @@
 //! What the plans of queries are, from worked examples.
 
-use super::{PROFILE, Row};
-use crate::{NearPlan, PairPlan, Plan, TermPlan, plan, read_pqf};
+use super::{Asked, PROFILE, line_of, lines_hold, plan_of};
+use crate::{NearPlan, PairPlan, Plan, QueryFault, TermPlan};
 use std::alloc::{AllocError, Global};
 use std::test::Fail;
 use zeb_profile::Profile;
@@ -102,115 +102,70 @@ fn plan_text(alloc: Global, plan: &Plan) -> Result<String, AllocError> {
 }
 
 /// Queries and their plans; the indexes are Title 0, Date 1, Any 2.
-const PLANS: &[Row] = &[
-    ("whale", "phrase 2 whale"),
-    ("@attr 1=4 \"Moby Dick\"", "phrase 0 moby dick"),
-    ("@attr 1=4 CAF\u{c9}", "phrase 0 cafe"),
-    ("@attr 1=4 @attr 3=1 or", "first phrase 0 or"),
-    ("@attr 1=4 @attr 3=2 or", "first phrase 0 or"),
-    ("@attr 1=4 @attr 3=3 or", "phrase 0 or"),
-    ("@attr 1=4 @attr 5=100 m#y", "phrase 0 m y"),
-    ("@attr 1=4 @attr 5=101 m#y", "phrase 0 *"),
-    ("@attr 1=4 @attr 5=1 \"moby d\"", "phrase 0 moby *"),
-    ("@attr 1=4 @attr 5=2 \"moby d\"", "phrase 0 * d"),
-    ("@attr 1=4 @attr 5=3 \"a moby d\"", "phrase 0 * moby *"),
-    ("@attr 1=4 @attr 4=2 \"whale moby\"", "phrase 0 whale moby"),
-    (
-        "@attr 1=4 @attr 4=6 \"whale moby\"",
-        "all words 0 whale moby",
-    ),
-    ("@attr 4=6 @attr 5=1 \"whale moby\"", "all words 2 * *"),
-    (
-        "@attr 1=4 @attr 4=105 \"whale zzz\"",
-        "any word 0 whale zzz",
-    ),
-    ("@attr 1=4 @attr 6=2 MOBY-DICK", "complete 0 moby dick"),
-    ("@attr 1=4 @attr 6=3 MOBY-DICK", "complete 0 moby dick"),
-    ("@attr 1=4 @attr 6=3 @attr 3=1 moby", "complete 0 moby"),
-    ("@attr 1=4 @attr 6=3 \"\"", "complete 0"),
-    ("@attr 1=4 @attr 2=1 Dick", "ordered 0 w Less dick"),
-    ("@attr 1=4 @attr 2=2 Dick", "ordered 0 w LessOrEqual dick"),
-    ("@attr 1=4 @attr 2=3 Dick", "phrase 0 dick"),
-    (
-        "@attr 1=4 @attr 2=4 @attr 6=2 \"M  D\"",
-        "ordered 0 p GreaterOrEqual m d",
-    ),
-    ("@attr 1=4 @attr 2=5 Dick", "ordered 0 w Greater dick"),
-    ("@attr 2=1 \"\"", "ordered 2 w Less no word"),
-    ("@attr 2=5 \" ,; \"", "ordered 2 w Greater no word"),
-    ("@attr 2=103 \"\"", "always 2 w"),
-    ("@attr 1=4 @attr 2=103 @attr 6=2 x", "always 0 p"),
-    ("@attr 1=31 @attr 2=103 @attr 4=109 x", "always 1 n"),
-    (
-        "@attr 1=31 @attr 4=109 @attr 2=4 951",
-        "number 1 GreaterOrEqual 951",
-    ),
-    ("@attr 1=31 @attr 4=109 00951", "number 1 Equal 951"),
-    ("@attr 4=107 007", "record 7"),
-    ("@not moby \"\"", "Not(phrase 2 moby, phrase 2)"),
-    (
-        "@or @and a b c",
-        "Or(And(phrase 2 a, phrase 2 b), phrase 2 c)",
-    ),
-    (
-        "@attr 1=4 @and a @attr 1=title b",
-        "And(phrase 0 a, phrase 0 b)",
-    ),
-    (
-        "@prox 0 1 0 1 k 2 moby dick",
-        "near 2 moby dick Less 1 any order",
-    ),
-    (
-        "@prox 0 1 1 2 k 2 dick moby",
-        "near 2 dick moby LessOrEqual 1 ordered",
-    ),
-    (
-        "@prox 0 000000000 0 3 known 2 moby moby",
-        "near 2 moby moby Equal 0 any order",
-    ),
-    (
-        "@prox 0 007 1 4 k 2 or whale",
-        "near 2 or whale GreaterOrEqual 7 ordered",
-    ),
-    (
-        "@prox 0 999999999 1 5 k 2 Or, /WHALE/",
-        "near 2 or whale Greater 999999999 ordered",
-    ),
-    (
-        "@prox 0 1 1 6 k 2 or whale",
-        "near 2 or whale NotEqual 1 ordered",
-    ),
-    (
-        "@attr 1=4 @prox 0 1 1 2 known 2 moby @attr 5=1 di",
-        "near 0 moby * LessOrEqual 1 ordered",
-    ),
-    (
-        "@prox 0 1 0 2 k 2 @attr 1=4 moby @attr 1=Title dick",
-        "near 0 moby dick LessOrEqual 1 any order",
-    ),
-    (
-        "@not @prox 0 1 0 2 k 2 a b c",
-        "Not(near 2 a b LessOrEqual 1 any order, phrase 2 c)",
-    ),
-];
+const PLANS: &str = r#"whale -> phrase 2 whale
+@attr 1=4 "Moby Dick" -> phrase 0 moby dick
+@attr 1=4 CAFÉ -> phrase 0 cafe
+@attr 1=4 @attr 3=1 or -> first phrase 0 or
+@attr 1=4 @attr 3=2 or -> first phrase 0 or
+@attr 1=4 @attr 3=3 or -> phrase 0 or
+@attr 1=4 @attr 5=100 m#y -> phrase 0 m y
+@attr 1=4 @attr 5=101 m#y -> phrase 0 *
+@attr 1=4 @attr 5=1 "moby d" -> phrase 0 moby *
+@attr 1=4 @attr 5=2 "moby d" -> phrase 0 * d
+@attr 1=4 @attr 5=3 "a moby d" -> phrase 0 * moby *
+@attr 1=4 @attr 4=2 "whale moby" -> phrase 0 whale moby
+@attr 1=4 @attr 4=6 "whale moby" -> all words 0 whale moby
+@attr 4=6 @attr 5=1 "whale moby" -> all words 2 * *
+@attr 1=4 @attr 4=105 "whale zzz" -> any word 0 whale zzz
+@attr 1=4 @attr 6=2 MOBY-DICK -> complete 0 moby dick
+@attr 1=4 @attr 6=3 MOBY-DICK -> complete 0 moby dick
+@attr 1=4 @attr 6=3 @attr 3=1 moby -> complete 0 moby
+@attr 1=4 @attr 6=3 "" -> complete 0
+@attr 1=4 @attr 2=1 Dick -> ordered 0 w Less dick
+@attr 1=4 @attr 2=2 Dick -> ordered 0 w LessOrEqual dick
+@attr 1=4 @attr 2=3 Dick -> phrase 0 dick
+@attr 1=4 @attr 2=4 @attr 6=2 "M  D" -> ordered 0 p GreaterOrEqual m d
+@attr 1=4 @attr 2=5 Dick -> ordered 0 w Greater dick
+@attr 2=1 "" -> ordered 2 w Less no word
+@attr 2=5 " ,; " -> ordered 2 w Greater no word
+@attr 2=103 "" -> always 2 w
+@attr 1=4 @attr 2=103 @attr 6=2 x -> always 0 p
+@attr 1=31 @attr 2=103 @attr 4=109 x -> always 1 n
+@attr 1=31 @attr 4=109 @attr 2=4 951 -> number 1 GreaterOrEqual 951
+@attr 1=31 @attr 4=109 00951 -> number 1 Equal 951
+@attr 4=107 007 -> record 7
+@not moby "" -> Not(phrase 2 moby, phrase 2)
+@or @and a b c -> Or(And(phrase 2 a, phrase 2 b), phrase 2 c)
+@attr 1=4 @and a @attr 1=title b -> And(phrase 0 a, phrase 0 b)
+@prox 0 1 0 1 k 2 moby dick -> near 2 moby dick Less 1 any order
+@prox 0 1 1 2 k 2 dick moby -> near 2 dick moby LessOrEqual 1 ordered
+@prox 0 000000000 0 3 known 2 moby moby -> near 2 moby moby Equal 0 any order
+@prox 0 007 1 4 k 2 or whale -> near 2 or whale GreaterOrEqual 7 ordered
+@prox 0 999999999 1 5 k 2 Or, /WHALE/ -> near 2 or whale Greater 999999999 ordered
+@prox 0 1 1 6 k 2 or whale -> near 2 or whale NotEqual 1 ordered
+@attr 1=4 @prox 0 1 1 2 known 2 moby @attr 5=1 di -> near 0 moby * LessOrEqual 1 ordered
+@prox 0 1 0 2 k 2 @attr 1=4 moby @attr 1=Title dick -> near 0 moby dick LessOrEqual 1 any order
+@not @prox 0 1 0 2 k 2 a b c -> Not(near 2 a b LessOrEqual 1 any order, phrase 2 c)
+"#;
+
+/// A plan as one line, or the fault.
+pub(super) fn plan_line(
+    alloc: Global,
+    answer: &Result<Plan, QueryFault>,
+) -> Result<String, AllocError> {
+    match answer {
+        Ok(plan) => plan_text(alloc, plan),
+        Err(fault) => line_of(alloc, fault),
+    }
+}
 
 #[test]
 fn plans_of_queries(rt: HostRuntime) -> Result<(), Fail> {
-    let profile = Profile::read(rt.alloc(), PROFILE)?;
-    for (text, answer) in PLANS {
-        let query = read_pqf(rt.alloc(), text)?;
-        let found = plan(rt.alloc(), &query, &profile)?;
-        assert_eq!(rt;
-            plan_text(rt.alloc(), &found)?.as_str(),
-            *answer,
-            "at {text}"
-        );
-    }
-    Ok(())
+    lines_hold(rt.alloc(), Asked::Planning, PROFILE, PLANS)
 }
 
 /// A query of one pattern, a text that the pattern matches, and one that it doesn't.
-const STARS: [(&str, &str, &str); 6] = [
+const STARS: &[(&str, &str, &str)] = &[
     ("@attr 5=1 Moby", "mobydick", "amoby"),
     ("@attr 5=2 ale", "whale", "ales"),
     ("@attr 5=3 hal", "whale", "while"),
@@ -232,15 +187,24 @@ fn only_pattern(plan: &Plan) -> Option<&Pattern> {
     }
 }
 
+/// Whether the one pattern of a query's plan matches a text.
+fn matches(alloc: Global, profile: &Profile, query: &str, text: &str) -> Result<bool, QueryFault> {
+    let found = plan_of(alloc, query, profile)?;
+    Ok(only_pattern(&found).is_some_and(|pattern| pattern.matches(text)))
+}
+
+/// Fails at the first row whose pattern matches other texts.
+fn stars_hold(alloc: Global, profile: &Profile) -> Result<(), Fail> {
+    for (query, matching, other) in STARS {
+        if !matches(alloc, profile, query, matching)? || matches(alloc, profile, query, other)? {
+            return Err(Fail::new(*query));
+        }
+    }
+    Ok(())
+}
+
 #[test]
 fn stars_of_truncations(rt: HostRuntime) -> Result<(), Fail> {
     let profile = Profile::read(rt.alloc(), PROFILE)?;
-    for (text, matching, other) in STARS {
-        let query = read_pqf(rt.alloc(), text)?;
-        let found = plan(rt.alloc(), &query, &profile)?;
-        let pattern = only_pattern(&found).ok_or("a pattern")?;
-        assert!(rt; pattern.matches(matching), "at {text}");
-        assert!(rt; !pattern.matches(other), "at {text}");
-    }
-    Ok(())
+    stars_hold(rt.alloc(), &profile)
 }

@@ -1,47 +1,50 @@
 //! Which texts are queries, and where the others have their fault.
 
-use super::{Row, read_line, texts_are};
+use super::{Asked, PROFILE, Row, lines_hold, rows_hold};
 use std::test::Fail;
 
 /// Words, blanks and quotes.
-pub(super) const WORDS: &[Row] = &[
+pub(super) const WORDS: &str = r#"moby -> query
+moby dick -> 108 at 5
+"moby dick" -> query
+"moby -> 108 at 0
+moby" -> query
+moby"dick" -> query
+moby"dick or" -> 108 at 10
+"moby"dick -> 108 at 6
+"moby""dick" -> 108 at 6
+"" -> query
+"" "" -> 108 at 3
+" -> 108 at 0
+"a \" b" -> query
+"a \" b" x -> 108 at 9
+"a\\" x -> 108 at 6
+"a\ -> 108 at 0
+"a\" -> 108 at 0
+a\ b -> 108 at 3
+a\ -> query
+{moby dick} -> 108 at 0
+{ -> 108 at 0
+} -> query
+a{b -> query
+"{moby dick}" -> query
+é x -> 108 at 3
+€ x -> 108 at 4
+"é€"x -> 108 at 7
+"\🐋" x -> 108 at 8
+@attr 1=é € x -> 108 at 15
+"#;
+
+/// Blanks, and characters that are none.
+pub(super) const BLANKS: &[Row] = &[
     ("", "108 at 0"),
     (" \t\r\n", "108 at 4"),
-    ("moby", "query"),
-    ("moby dick", "108 at 5"),
-    ("\"moby dick\"", "query"),
-    ("\"moby", "108 at 0"),
-    ("moby\"", "query"),
-    ("moby\"dick\"", "query"),
-    ("moby\"dick or\"", "108 at 10"),
-    ("\"moby\"dick", "108 at 6"),
-    ("\"moby\"\"dick\"", "108 at 6"),
-    ("\"\"", "query"),
-    ("\"\" \"\"", "108 at 3"),
-    ("\"", "108 at 0"),
-    ("\"a \\\" b\"", "query"),
-    ("\"a \\\" b\" x", "108 at 9"),
-    ("\"a\\\\\" x", "108 at 6"),
-    ("\"a\\", "108 at 0"),
-    ("\"a\\\"", "108 at 0"),
-    ("a\\ b", "108 at 3"),
-    ("a\\", "query"),
-    ("{moby dick}", "108 at 0"),
-    ("{", "108 at 0"),
-    ("}", "query"),
-    ("a{b", "query"),
-    ("\"{moby dick}\"", "query"),
     ("\tmoby\tdick", "108 at 6"),
     ("\t\tmoby", "query"),
     ("moby\r\ndick", "108 at 6"),
     ("moby\r\n\r\n", "query"),
     ("\r\n\"moby\"\r\ndick", "108 at 10"),
-    ("\u{e9} x", "108 at 3"),
-    ("\u{20ac} x", "108 at 4"),
     ("\u{1f40b}\tx", "108 at 5"),
-    ("\"\u{e9}\u{20ac}\"x", "108 at 7"),
-    ("\"\\\u{1f40b}\" x", "108 at 8"),
-    ("@attr 1=\u{e9} \u{20ac} x", "108 at 15"),
     ("\t@and\r\n\"\u{e9}\u{20ac}\" ", "108 at 15"),
     ("moby\u{a0}dick", "query"),
     ("moby\u{b}dick", "query"),
@@ -50,108 +53,111 @@ pub(super) const WORDS: &[Row] = &[
 ];
 
 /// What the grammar says of keywords and of the words after them.
-pub(super) const KEYWORDS_USED: &[Row] = &[
-    ("@foo", "query"),
-    ("@", "query"),
-    ("@and@or", "query"),
-    ("@attr 1=4", "108 at 9"),
-    ("@attr 1=4 x", "query"),
-    ("@attr =4 x", "108 at 6"),
-    ("@attr 1= x", "108 at 6"),
-    ("@attr = x", "108 at 6"),
-    ("@attr 1a=4 x", "108 at 6"),
-    ("@attr -1=4 x", "108 at 6"),
-    ("@attr +1=4 x", "108 at 6"),
-    ("@attr \u{ff11}=4 x", "108 at 6"),
-    ("@attr 1=4=5 x", "query"),
-    ("@attr 0=0 x", "query"),
-    ("@attr 1234567890=4 x", "108 at 6"),
-    ("@attr 0000000001=4 x", "108 at 6"),
-    ("@attr 123456789=4 x", "query"),
-    ("@attr bib-1 x y", "108 at 12"),
-    ("@attr bib-1 1=4 y", "query"),
-    ("@attr bib-1 1=4", "108 at 15"),
-    ("@attr bib-1", "108 at 11"),
-    ("@attr 1 =4 x", "108 at 8"),
-    ("@attr 1= 4 x", "108 at 6"),
-    ("@attr x = y", "108 at 8"),
-    ("@attr x @attr 1=4 y", "108 at 8"),
-    ("@attr @and 1=4 y", "query"),
-    ("@attr \"\" 1=4 y", "query"),
-    ("@attr \"1=4\" y", "query"),
-    ("@attr \"1=4 y", "108 at 6"),
-    ("@attr {1=4 y", "108 at 6"),
-    ("@attr x {1=4 y", "108 at 8"),
-    ("@attr x 1={4 y", "query"),
-    ("@attr 1=4 {y", "108 at 10"),
-    ("@attr 1=4 @attrset x y", "108 at 10"),
-    ("@attr 1=4 @set r", "query"),
-    ("@and x", "108 at 6"),
-    ("@and x y", "query"),
-    ("@and x y z", "108 at 9"),
-    ("@and x {y", "108 at 7"),
-    ("@and @or x y", "108 at 12"),
-    ("@and @attrset x y z", "108 at 5"),
-    ("@or @not a b @and c d", "query"),
-    ("@or @not a b @and c d @and", "108 at 22"),
-    ("@AND x", "108 at 5"),
-    ("@attrset @and x", "query"),
-    ("@attrset x", "108 at 10"),
-    ("@attrset {x y", "108 at 9"),
-    ("@attrset x @attrset y z", "108 at 11"),
-    ("@attrset \"a b\" x", "query"),
-    ("x @attrset", "108 at 2"),
-    ("@set @set", "query"),
-    ("@set {r", "108 at 5"),
-    ("@set r s", "108 at 7"),
-    ("@and @set a @set b", "query"),
-    ("@term @and x", "query"),
-    ("@term {x y", "108 at 6"),
-    ("@term general", "108 at 13"),
-    ("@term general @attr 1=4 x", "query"),
-    ("@term general @set r", "query"),
-    ("@prox 0 1 0 2 k 2 moby dick", "query"),
-    ("@prox 0 1 0 2 k 2 moby", "108 at 22"),
-    ("@prox 0 1 0 2 k 2", "108 at 17"),
-    ("@prox 0 1 0 2 k", "108 at 15"),
-    ("@prox 0 1 0 {2 k 2 a b", "108 at 12"),
-    ("@prox 0 1 0 2 k 2 a b c", "108 at 22"),
-    ("@prox @and @or @not @set @term @attr a b", "query"),
-    ("@prox \"\" \"\" \"\" \"\" \"\" \"\" a b", "query"),
-    ("@prox 0 1 0 2 k 2 @prox 0 1 0 2 k 2 a b c", "query"),
-];
+pub(super) const KEYWORDS_USED: &str = r#"@foo -> query
+@ -> query
+@and@or -> query
+@attr 1=4 -> 108 at 9
+@attr 1=4 x -> query
+@attr =4 x -> 108 at 6
+@attr 1= x -> 108 at 6
+@attr = x -> 108 at 6
+@attr 1a=4 x -> 108 at 6
+@attr -1=4 x -> 108 at 6
+@attr +1=4 x -> 108 at 6
+@attr １=4 x -> 108 at 6
+@attr 1=4=5 x -> query
+@attr 0=0 x -> query
+@attr 1234567890=4 x -> 108 at 6
+@attr 0000000001=4 x -> 108 at 6
+@attr 123456789=4 x -> query
+@attr bib-1 x y -> 108 at 12
+@attr bib-1 1=4 y -> query
+@attr bib-1 1=4 -> 108 at 15
+@attr bib-1 -> 108 at 11
+@attr 1 =4 x -> 108 at 8
+@attr 1= 4 x -> 108 at 6
+@attr x = y -> 108 at 8
+@attr x @attr 1=4 y -> 108 at 8
+@attr @and 1=4 y -> query
+@attr "" 1=4 y -> query
+@attr "1=4" y -> query
+@attr "1=4 y -> 108 at 6
+@attr {1=4 y -> 108 at 6
+@attr x {1=4 y -> 108 at 8
+@attr x 1={4 y -> query
+@attr 1=4 {y -> 108 at 10
+@attr 1=4 @attrset x y -> 108 at 10
+@attr 1=4 @set r -> query
+@and x -> 108 at 6
+@and x y -> query
+@and x y z -> 108 at 9
+@and x {y -> 108 at 7
+@and @or x y -> 108 at 12
+@and @attrset x y z -> 108 at 5
+@or @not a b @and c d -> query
+@or @not a b @and c d @and -> 108 at 22
+@AND x -> 108 at 5
+@attrset @and x -> query
+@attrset x -> 108 at 10
+@attrset {x y -> 108 at 9
+@attrset x @attrset y z -> 108 at 11
+@attrset "a b" x -> query
+x @attrset -> 108 at 2
+@set @set -> query
+@set {r -> 108 at 5
+@set r s -> 108 at 7
+@and @set a @set b -> query
+@term @and x -> query
+@term {x y -> 108 at 6
+@term general -> 108 at 13
+@term general @attr 1=4 x -> query
+@term general @set r -> query
+@prox 0 1 0 2 k 2 moby dick -> query
+@prox 0 1 0 2 k 2 moby -> 108 at 22
+@prox 0 1 0 2 k 2 -> 108 at 17
+@prox 0 1 0 2 k -> 108 at 15
+@prox 0 1 0 {2 k 2 a b -> 108 at 12
+@prox 0 1 0 2 k 2 a b c -> 108 at 22
+@prox @and @or @not @set @term @attr a b -> query
+@prox "" "" "" "" "" "" a b -> query
+@prox 0 1 0 2 k 2 @prox 0 1 0 2 k 2 a b c -> query
+"#;
 
-/// The keywords, each in upper case, and where a text of the keyword alone has its fault: at its end.
-const KEYWORDS: [(&str, &str, &str); 8] = [
-    ("@attrset", "@ATTRSET", "108 at 8"),
-    ("@attr", "@ATTR", "108 at 5"),
-    ("@and", "@AND", "108 at 4"),
-    ("@or", "@OR", "108 at 3"),
-    ("@not", "@NOT", "108 at 4"),
-    ("@prox", "@PROX", "108 at 5"),
-    ("@set", "@SET", "108 at 4"),
-    ("@term", "@TERM", "108 at 5"),
-];
+/// Each keyword alone, which has its fault at its end, and quoted and in upper case, where it is a term.
+const KEYWORDS: &str = r#"@attrset -> 108 at 8
+"@attrset" -> query
+@ATTRSET -> query
+@attr -> 108 at 5
+"@attr" -> query
+@ATTR -> query
+@and -> 108 at 4
+"@and" -> query
+@AND -> query
+@or -> 108 at 3
+"@or" -> query
+@OR -> query
+@not -> 108 at 4
+"@not" -> query
+@NOT -> query
+@prox -> 108 at 5
+"@prox" -> query
+@PROX -> query
+@set -> 108 at 4
+"@set" -> query
+@SET -> query
+@term -> 108 at 5
+"@term" -> query
+@TERM -> query
+"#;
 
 #[test]
-fn texts_and_their_faults(rt: HostRuntime) -> Result<(), Fail> {
-    texts_are(&rt, WORDS)?;
-    texts_are(&rt, KEYWORDS_USED)
+fn words_and_their_faults(rt: HostRuntime) -> Result<(), Fail> {
+    lines_hold(rt.alloc(), Asked::Reading, PROFILE, WORDS)?;
+    rows_hold(rt.alloc(), Asked::Reading, PROFILE, BLANKS)
 }
 
-/// A keyword is a term where it is quoted or in upper case.
 #[test]
-fn keywords_are_unquoted_and_in_lower_case(rt: HostRuntime) -> Result<(), Fail> {
-    for (keyword, upper, alone) in KEYWORDS {
-        let quoted = format!(in rt.alloc(); "\"{keyword}\"")?;
-        let rows = [
-            (keyword, alone),
-            (quoted.as_str(), "query"),
-            (upper, "query"),
-        ];
-        for (text, answer) in rows {
-            assert_eq!(rt; read_line(rt.alloc(), text)?.as_str(), answer, "at {text}");
-        }
-    }
-    Ok(())
+fn keywords_and_what_follows_them(rt: HostRuntime) -> Result<(), Fail> {
+    lines_hold(rt.alloc(), Asked::Reading, PROFILE, KEYWORDS_USED)?;
+    lines_hold(rt.alloc(), Asked::Reading, PROFILE, KEYWORDS)
 }
