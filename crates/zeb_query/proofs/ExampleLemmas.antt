@@ -2,7 +2,7 @@
 use Rattle.std.proofs.Common.{◌≡◌, ℕ, true, false, List, [], ◌∷◌, ◌++◌, Some, None, length, map, codes, refl, subst}
 use Rattle.std.specs.Prelude.{Result, chars}
 use Rattle.std.specs.List.{list_all}
-use Rattle.zeb_query.specs.declared.words.Spelling.TheVariants.{Plain}
+use Rattle.zeb_query.specs.declared.words.Spelling.TheVariants.{Plain, Quoted}
 use Rattle.zeb_query.specs.declared.keywords.Keyword.TheVariants.{Operator}
 use Rattle.zeb_query.specs.declared.queries.Connective.{Connective}
 use Rattle.zeb_query.specs.Words.{Word, AreWords, words_at}
@@ -19,6 +19,10 @@ plain place text = record { place = place; spelling = Plain; text = text }
 
 pub term_at : (place : ℕ) (text : List ℕ) → keyword_spelled text ≡ None → IsStructure (plain place text ∷ []) (TermValue place no_head text)
 term_at place text key = is_term (plain place text) refl key
+
+pub quoted_at : (place : ℕ) (text : List ℕ)
+    → IsStructure (record { place = place; spelling = Quoted; text = text } ∷ []) (TermValue place no_head text)
+quoted_at place text = is_term (record { place = place; spelling = Quoted; text = text }) refl refl
 
 pub named_at : (place at : ℕ) (name : List ℕ) → IsStructure (plain place (codes "@set") ∷ plain at name ∷ []) (NamedValue place no_head name)
 named_at place at name = is_named (plain place (codes "@set")) (plain at name) refl refl

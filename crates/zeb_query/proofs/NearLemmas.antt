@@ -19,8 +19,7 @@ use Rattle.zeb_query.specs.declared.terms.Values.{Values}
 use Rattle.zeb_query.specs.Queries.{HeadValue}
 use Rattle.zeb_query.specs.Grammar.{is_number, number_of}
 use Rattle.zeb_query.specs.Holding.{HoldingValue, holding_of}
-use Rattle.zeb_query.specs.TermChecks.{Check, check, first_that_applies, one_of, index_held, patterns_held, clash_checks, near_clash_checks, register_checks, number_checks, near_checks}
-use Rattle.zeb_query.specs.Proximity.{Operand, kept_text, orderings, distance_relations, parameter_checks, separation_of, operand_checks, operand_pattern, operands_checks, proximity_checks, separation_asked, word_near}
+use Rattle.zeb_query.specs.TermChecks.{Check, check, first_that_applies, one_of, index_held, patterns_held, clash_checks, near_clash_checks, register_checks, number_checks, near_checks, Operand, kept_text, orderings, distance_relations, parameter_checks, separation_of, operand_checks, operand_pattern, operands_checks, proximity_checks, separation_asked, word_near}
 use Rattle.zeb_query.specs.PrivatePlanning.{is_equal, is_phrase, is_local, register_of, kept_or, term_of}
 use Rattle.zeb_query.proofs.NearSteps.{parameter_kept, separation_read, found_near, term_near}
 use Rattle.zeb_query.specs.Plans.{PlanValue, NearOf, near_plan, operands_plan}

@@ -1,5 +1,5 @@
 -- The diagnostics by which a query is refused (ANSI/NISO Z39.50-2003, Appendix ERR, the list Bib-1), as values, and what
--- it means that a call gives what a definition says.
+-- it means that a call gives what a definition says. Which fault has which number and place is this project's own choice.
 use Rattle.std.specs.Prelude.{◌≡◌, ℕ, List, Option, Some, None, Result, Ok, Err, string_bytes, []}
 use Rattle.zeb_query.specs.declared.faults.QueryFault.{QueryFault}
 use Rattle.zeb_query.specs.declared.faults.QueryFault.TheVariants.{Diagnostic, Memory}
@@ -9,11 +9,6 @@ pub record Refusal : Type 0 where
   pub number : ℕ
   pub place : ℕ
   pub addinfo : List ℕ
-
--- the fault is this diagnostic, or want of memory
-abbrev pub IsDiagnostic : QueryFault → ℕ → ℕ → List ℕ → Type 0
-IsDiagnostic Memory number place addinfo = Unit {0}
-IsDiagnostic (Diagnostic n p a) number place addinfo = (n ≡ number) × (p ≡ place) × (string_bytes a ≡ addinfo)
 
 -- the definition refuses by the fault, or memory ran out
 abbrev pub Fails : {Y : Type 0} → QueryFault → Result Y Refusal → Type 0

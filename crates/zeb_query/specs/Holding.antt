@@ -1,6 +1,7 @@
 -- The attributes that hold for a term (YAZ manual, PQF; ANSI/NISO Z39.50-2003, attribute sets). For each type the innermost
 -- attribute holds. All attributes over a term count for two faults: a set other than Bib-1, and a type outside 1 to 6,
--- of which the leftmost is told.
+-- of which the leftmost is told. These two faults, and that a value of more than nine digits is no number, are this project's
+-- own rules.
 use Rattle.std.specs.Prelude.{ℕ, ◌==◌, ◌||◌, ◌&&◌, Bool, not, List, [], ◌∷◌, ◌++◌, Option, Some, None, map, nat_lt, if◌then◌else◌, codes, option_and_then}
 use Rattle.std.specs.Option.{option_to_list}
 use Rattle.std.specs.List.{find}

@@ -5,7 +5,6 @@ pub mod Reading
 pub mod Faults
 pub mod Holding
 pub mod TermChecks
-pub mod Proximity
 pub mod Plans
 pub mod Sample
 pub mod PrivateReading

@@ -30,8 +30,7 @@ use Rattle.zeb_query.specs.declared.queries.Connective.TheVariants.{And, Or, Not
 use Rattle.zeb_query.specs.Holding.{value_of, HoldingValue, holding_of}
 use Rattle.zeb_query.specs.Queries.{HeadValue, TreeValue, TermValue, NamedValue, PairValue, QueryValue}
 use Rattle.zeb_query.specs.Grammar.{heads, no_head}
-use Rattle.zeb_query.specs.TermChecks.{first_that_applies, relation_is, position_is, structure_is, completeness_is, index_held, register_searched, patterns_held, find_checks, scan_checks, Check, check}
-use Rattle.zeb_query.specs.Proximity.{Operand, operand_of, separation_asked, word_near, proximity_checks}
+use Rattle.zeb_query.specs.TermChecks.{first_that_applies, relation_is, position_is, structure_is, completeness_is, index_held, register_searched, patterns_held, find_checks, scan_checks, Check, check, Operand, operand_of, separation_asked, word_near, proximity_checks}
 use Rattle.zeb_query.specs.Faults.{Refusal, ◌>>=◌, refused, answered}
 
 -- what a term asks for, without where texts and lists lie in memory

@@ -4,6 +4,8 @@ use Rattle.std.specs.Prelude.{ℕ, List, ◌++◌, map, string_bytes, ◌≡◌,
 use Rattle.std.specs.List.{list_all}
 use Rattle.std.specs.Borrow.{Bor}
 use Rattle.std.specs.Option.{option_map}
+use Rattle.zeb_query.specs.declared.faults.QueryFault.{QueryFault}
+use Rattle.zeb_query.specs.declared.faults.QueryFault.TheVariants.{Diagnostic, Memory}
 use Rattle.zeb_query.specs.declared.words.Word.{Word as WordOfText}
 use Rattle.zeb_query.specs.declared.words.Mode.{Mode}
 use Rattle.zeb_query.specs.declared.words.Mode.TheVariants.{Between, Plain, Quoted, Escaped}
@@ -18,6 +20,13 @@ use Rattle.zeb_query.specs.Grammar.{keyword_of, IsStructure, IsQuery, under, is_
 use Rattle.zeb_query.specs.Queries.{AttributeValue, HeadValue, TreeValue}
 use Rattle.zeb_query.specs.Reading.{Due, fault}
 use Rattle.zeb_query.specs.Holding.{HoldingValue, is_bib1, is_other_kind, or_else}
+
+-- ---- faults
+
+-- the fault is this diagnostic, or want of memory
+abbrev pub IsDiagnostic : QueryFault → ℕ → ℕ → List ℕ → Type 0
+IsDiagnostic Memory number place addinfo = Unit {0}
+IsDiagnostic (Diagnostic n p a) number place addinfo = (n ≡ number) × (p ≡ place) × (string_bytes a ≡ addinfo)
 
 -- ---- words
 

@@ -1,4 +1,4 @@
--- The diagnostics of a term as a table (ANSI/NISO Z39.50-2003, attribute set Bib-1, and the list of diagnostics Bib-1). Each
+-- The diagnostics of a term, and of `@prox`, as tables (ANSI/NISO Z39.50-2003, attribute set Bib-1, and the list of diagnostics Bib-1). Each
 -- check has a diagnostic's number and addinfo, and says by the attributes that hold over the term, by its text and by the
 -- profile where it applies. They are in the order in which they are asked, and the first that applies refuses the term, at
 -- its place. Attributes are spoken of by their types and values: 1 use, 2 relation, 3 position, 4 structure, 5 truncation,
@@ -6,7 +6,10 @@
 -- The diagnostics and the values are Bib-1's. This project's own choices are: the order of the checks; that other values than
 -- these are refused; that 107, a local number, is the record's system number; that a term has at most 64 words (5) and a number
 -- at most 9 or 18 digits (126); and which values aren't taken together (123).
-use Rattle.std.specs.Prelude.{ℕ, ◌==◌, ◌||◌, ◌&&◌, Bool, false, not, List, [], ◌∷◌, ◌++◌, Option, Some, None, length, nat_lt, chars, if◌then◌else◌, codes}
+-- Proximity (YAZ manual, Prefix Query Format: `@prox`; ANSI/NISO Z39.50-2003, the proximity operator) is of two words in one unit.
+-- The six parameters are exclusion, distance, ordered, relation, which-code and unit-code. Which of their values are kept,
+-- that others are refused by 110, and which attributes the two terms may have, is this project's own choice.
+use Rattle.std.specs.Prelude.{ℕ, ◌==◌, ◌||◌, ◌&&◌, Bool, false, not, List, [], ◌∷◌, ◌++◌, Option, Some, None, length, nat_lt, chars, if◌then◌else◌, codes, true, Result}
 use Rattle.std.specs.Option.{is_some, is_none, unwrap_or}
 use Rattle.std.specs.List.{list_any}
 use Rattle.std.specs.Str.{bytes_eq}
@@ -21,9 +24,14 @@ use Rattle.zeb_text.specs.declared.Spread.{Spread}
 use Rattle.zeb_text.specs.declared.Spread.TheVariants.{Ends, Each}
 use Rattle.zeb_text.specs.Symbols.{Symbol}
 use Rattle.zeb_text.specs.Truncation.{patterns_of}
-use Rattle.zeb_query.specs.Grammar.{is_number, number_of}
-use Rattle.zeb_query.specs.Holding.{truncations, number_or, value_of, HoldingValue}
-use Rattle.zeb_query.specs.Faults.{Refusal}
+use Rattle.zeb_query.specs.Grammar.{is_number, number_of, heads}
+use Rattle.zeb_query.specs.Holding.{truncations, number_or, value_of, HoldingValue, holding_of}
+use Rattle.zeb_query.specs.Faults.{Refusal, answered}
+use Rattle.std.specs.Str.Parse.{digits_value}
+use Rattle.zeb_query.specs.declared.plans.DistanceRelation.{DistanceRelation}
+use Rattle.zeb_query.specs.declared.plans.DistanceRelation.TheVariants.{Less, LessOrEqual, Equal, GreaterOrEqual, Greater, NotEqual}
+use Rattle.zeb_query.specs.declared.plans.Separation.{Separation}
+use Rattle.zeb_query.specs.Queries.{HeadValue, TreeValue, TermValue, NamedValue, PairValue}
 
 -- ---- checks
 
@@ -221,3 +229,84 @@ scan_checks profile place h text = term_checks (scan_clash_checks place h) profi
 
 abbrev pub near_checks : Profile → ℕ → HoldingValue → List ℕ → List Check
 near_checks profile place h text = term_checks (near_clash_checks place h text) profile place h text
+
+-- ---- proximity: the parameters
+
+-- what a text stands for in a table
+abbrev pub kept_text : {A : Type 0} → List (List ℕ × A) → List ℕ → Option A
+kept_text [] text = None
+kept_text (row ∷ rows) text = if bytes_eq text row.0 then Some row.1 else kept_text rows text
+
+-- whether the left word has to stand before the right one
+abbrev pub orderings : List (List ℕ × Bool)
+orderings = (codes "0", false) ∷ (codes "1", true) ∷ []
+
+-- how the number of words from the one to the other stands to the distance
+abbrev pub distance_relations : List (List ℕ × DistanceRelation)
+distance_relations =
+    (codes "1", Less) ∷ (codes "2", LessOrEqual) ∷ (codes "3", Equal) ∷ (codes "4", GreaterOrEqual) ∷ (codes "5", Greater)
+    ∷ (codes "6", NotEqual) ∷ []
+
+-- the first parameter that isn't kept is told; there are six
+abbrev pub parameter_checks : ℕ → List (List ℕ) → List Check
+parameter_checks place (exclusion ∷ distance ∷ ordered ∷ relation ∷ which_code ∷ unit_code ∷ []) =
+    check place 110 exclusion (not (bytes_eq exclusion (codes "0")))
+    ∷ check place 110 distance (not (is_number 9 distance))
+    ∷ check place 110 ordered (is_none (kept_text orderings ordered))
+    ∷ check place 110 relation (is_none (kept_text distance_relations relation))
+    ∷ check place 110 which_code (not (bytes_eq which_code (codes "k") || bytes_eq which_code (codes "known")))
+    ∷ check place 110 unit_code (not (bytes_eq unit_code (codes "2")))
+    ∷ []
+parameter_checks place other = check place 110 (codes "@prox") true ∷ []
+
+-- what parameters ask for that are kept
+abbrev pub separation_of : List (List ℕ) → Separation
+separation_of (exclusion ∷ distance ∷ ordered ∷ relation ∷ which_code ∷ unit_code ∷ []) = record {
+  distance = digits_value 10 distance;
+  ordered = unwrap_or (kept_text orderings ordered) false;
+  relation = unwrap_or (kept_text distance_relations relation) Equal;
+}
+separation_of other = record { distance = 0; ordered = false; relation = Equal }
+
+-- ---- proximity: the operands
+
+-- a term, and what holds over it
+pub record Operand : Type 0 where
+  pub place : ℕ
+  pub held : HoldingValue
+  pub text : List ℕ
+
+-- the term that a structure is, over which the set is named and the head stands
+abbrev pub operand_of : Option (List ℕ) → HeadValue → TreeValue → Option Operand
+operand_of set outer (TermValue place head text) = Some (record { place = place; held = holding_of set (heads outer head); text = text })
+operand_of set outer (NamedValue place head name) = None
+operand_of set outer (PairValue place head connective parameters left right) = None
+
+abbrev pub operand_checks : Profile → Operand → List Check
+operand_checks profile o = near_checks profile o.place o.held o.text
+
+-- the pattern of the one word
+abbrev pub operand_pattern : Operand → List Symbol
+operand_pattern o = unwrap_or (one_of (patterns_held o.held o.text)) []
+
+-- ---- all checks of `@prox` and its two operands, the left one first
+
+abbrev pub operands_checks : Profile → ℕ → Option Operand → Option Operand → List Check
+operands_checks profile place (Some left) (Some right) =
+    operand_checks profile left
+    ++ (operand_checks profile right
+    ++ check place 123 [] (not (index_held profile left.held == index_held profile right.held)) ∷ [])
+operands_checks profile place (Some left) None = check place 110 (codes "@prox") true ∷ []
+operands_checks profile place None right = check place 110 (codes "@prox") true ∷ []
+
+abbrev pub proximity_checks : Profile → ℕ → List (List ℕ) → Option Operand → Option Operand → List Check
+proximity_checks profile place parameters left right = parameter_checks place parameters ++ operands_checks profile place left right
+
+-- ---- what is read of `@prox` and its operands, or the first diagnostic
+
+abbrev pub separation_asked : ℕ → List (List ℕ) → Result Separation Refusal
+separation_asked place parameters = answered (first_that_applies (parameter_checks place parameters)) (separation_of parameters)
+
+-- an operand's index, and the pattern of its word
+unfoldable pub word_near : Profile → Operand → Result (ℕ × List Symbol) Refusal
+word_near profile o = answered (first_that_applies (operand_checks profile o)) (index_held profile o.held, operand_pattern o)

@@ -37,7 +37,7 @@ impl Relation {
 /// Where in a field a term stands (Bib-1, attribute type 3).
 #[derive(Clone, Copy, Debug, PartialEq, Eq)]
 pub(crate) enum Position {
-    /// 1, first in field, and 2, first in subfield, which are treated alike.
+    /// 1, first in field, and 2, first in subfield, which this project treats alike.
     First,
     /// 3, any position.
     Any,
@@ -46,13 +46,13 @@ pub(crate) enum Position {
 /// How a term is read (Bib-1, attribute type 4).
 #[derive(Clone, Copy, Debug, PartialEq, Eq)]
 pub(crate) enum Structure {
-    /// 1, phrase, and 2, word, which are treated alike.
+    /// 1, phrase, and 2, word, which this project treats alike.
     Phrase,
     /// 6, word list.
     WordList,
     /// 105, free-form text.
     FreeForm,
-    /// 107, local number: a record's system number.
+    /// 107, local number, which this project reads as the record's system number.
     LocalNumber,
     /// 109, numeric string.
     Numeric,
@@ -63,7 +63,7 @@ pub(crate) enum Structure {
 pub(crate) enum Completeness {
     /// 1, incomplete subfield.
     Incomplete,
-    /// 2, complete subfield, and 3, complete field, which are treated alike.
+    /// 2, complete subfield, and 3, complete field, which this project treats alike.
     Complete,
 }
 

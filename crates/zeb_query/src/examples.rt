@@ -1,9 +1,9 @@
 //! Worked examples of the definitions: what texts and queries come to, as a reader would work them out.
-ghost use Rattle.std.specs.Prelude.{◌≡◌, [], ◌∷◌, false, true, Some, None, Ok, codes};
-ghost use Rattle.zeb_text.specs.Symbols.{literal};
-ghost use Rattle.zeb_profile.specs.declared.registers.Register.TheVariants.{Word, Number};
+ghost use Rattle.std.specs.Prelude.{◌≡◌, [], ◌∷◌, ◌++◌, false, true, Some, None, Ok, codes};
+ghost use Rattle.zeb_text.specs.Symbols.{Star, literal};
+ghost use Rattle.zeb_profile.specs.declared.registers.Register.TheVariants.{Word, Phrase, Number};
 ghost use Rattle.zeb_query.specs.Reading.{query_fault};
-ghost use Rattle.zeb_query.specs.Plans.{TermOf, PairOf, NearOf, RecordNumberOf, AlwaysOf, NumberOf, OrderedOf, CompleteOf, PhraseOf};
+ghost use Rattle.zeb_query.specs.Plans.{TermOf, PairOf, NearOf, RecordNumberOf, AlwaysOf, NumberOf, OrderedOf, CompleteOf, PhraseOf, AllWordsOf, AnyWordOf};
 ghost use Rattle.zeb_query.specs.Faults.{refused};
 ghost use Rattle.zeb_query.specs.Sample.{PlansAs, ScansAs};
 
@@ -37,6 +37,13 @@ pub fn diagnostics_at_examples()
     ensures named { PlansAs (codes "@set r") (refused 18 0 (codes "r")) }
     ensures register { PlansAs (codes "@attr 1=31 1851") (refused 123 11 []) }
     ensures number { PlansAs (codes "@attr 1=31 @attr 4=109 x1") (refused 126 23 (codes "x1")) }
+    ensures words { PlansAs (34 ∷ (codes "a a a a a a a a a a a a a a a a a a a a a a a a a a a a a a a a a a a a a a a "
+        ++ (codes "a a a a a a a a a a a a a a a a a a a a a a a a a a" ++ 34 ∷ []))) (refused 5 0 []) }
+    ensures local_first { PlansAs (codes "@attr 4=107 @attr 3=1 1") (refused 123 22 []) }
+    ensures local_order { PlansAs (codes "@attr 4=107 @attr 2=4 1") (refused 123 22 []) }
+    ensures list_complete { PlansAs (codes "@attr 4=6 @attr 6=2 x") (refused 123 20 []) }
+    ensures order_truncated { PlansAs (codes "@attr 2=4 @attr 5=1 x") (refused 123 20 []) }
+    ensures local_number { PlansAs (codes "@attr 4=107 x") (refused 126 12 (codes "x")) }
     ensures left { PlansAs (codes "@and @attr 2=6 x @attr 1=9999 y") (refused 117 15 (codes "6")) }
 {}
 
@@ -52,6 +59,50 @@ pub fn plans_at_examples()
         (TermOf (PhraseOf 2 (literal (codes "a") ∷ []) false)) (TermOf (PhraseOf 2 (literal (codes "b") ∷ []) false)))) }
 {}
 
+/// What the values of a relation, a position, a structure and a completeness come to under that profile.
+pub fn values_at_examples()
+    ensures first_in_field { PlansAs (codes "@attr 1=4 @attr 3=1 or")
+        (Ok (TermOf (PhraseOf 0 (literal (codes "or") ∷ []) true))) }
+    ensures first_in_subfield { PlansAs (codes "@attr 1=4 @attr 3=2 or")
+        (Ok (TermOf (PhraseOf 0 (literal (codes "or") ∷ []) true))) }
+    ensures any_position { PlansAs (codes "@attr 1=4 @attr 3=3 or") (Ok (TermOf (PhraseOf 0 (literal (codes "or") ∷ []) false))) }
+    ensures word { PlansAs (codes "@attr 1=4 @attr 4=2 or") (Ok (TermOf (PhraseOf 0 (literal (codes "or") ∷ []) false))) }
+    ensures word_list { PlansAs (codes "@attr 1=4 @attr 4=6 " ++ 34 ∷ (codes "whale moby" ++ 34 ∷ []))
+        (Ok (TermOf (AllWordsOf 0 (literal (codes "whale") ∷ literal (codes "moby") ∷ [])))) }
+    ensures free_form { PlansAs (codes "@attr 1=4 @attr 4=105 " ++ 34 ∷ (codes "whale moby" ++ 34 ∷ []))
+        (Ok (TermOf (AnyWordOf 0 (literal (codes "whale") ∷ literal (codes "moby") ∷ [])))) }
+    ensures complete_subfield { PlansAs (codes "@attr 1=4 @attr 6=2 moby")
+        (Ok (TermOf (CompleteOf 0 (Some (literal (codes "moby")))))) }
+    ensures less_or_equal { PlansAs (codes "@attr 1=4 @attr 2=2 Dick")
+        (Ok (TermOf (OrderedOf 0 Word Order.LessOrEqual (Some (codes "dick"))))) }
+    ensures greater_or_equal { PlansAs (codes "@attr 1=4 @attr 2=4 Dick")
+        (Ok (TermOf (OrderedOf 0 Word Order.GreaterOrEqual (Some (codes "dick"))))) }
+    ensures greater { PlansAs (codes "@attr 1=4 @attr 2=5 Dick")
+        (Ok (TermOf (OrderedOf 0 Word Order.Greater (Some (codes "dick"))))) }
+    ensures lesser_number { PlansAs (codes "@attr 1=31 @attr 4=109 @attr 2=1 951") (Ok (TermOf (NumberOf 1 Relation.Less 951))) }
+    ensures lesser_or_equal_number { PlansAs (codes "@attr 1=31 @attr 4=109 @attr 2=2 951")
+        (Ok (TermOf (NumberOf 1 Relation.LessOrEqual 951))) }
+    ensures equal_number { PlansAs (codes "@attr 1=31 @attr 4=109 951") (Ok (TermOf (NumberOf 1 Relation.Equal 951))) }
+    ensures greater_number { PlansAs (codes "@attr 1=31 @attr 4=109 @attr 2=5 951")
+        (Ok (TermOf (NumberOf 1 Relation.Greater 951))) }
+{}
+
+/// The patterns of terms under that profile, by their truncation; it stands on each word of a word list, else at the ends.
+pub fn truncations_at_examples()
+    ensures right { PlansAs (codes "@attr 5=1 " ++ 34 ∷ (codes "moby d" ++ 34 ∷ []))
+        (Ok (TermOf (PhraseOf 2 (literal (codes "moby") ∷ (literal (codes "d") ++ Star ∷ []) ∷ []) false))) }
+    ensures left { PlansAs (codes "@attr 5=2 " ++ 34 ∷ (codes "oby dick" ++ 34 ∷ []))
+        (Ok (TermOf (PhraseOf 2 ((Star ∷ literal (codes "oby")) ∷ literal (codes "dick") ∷ []) false))) }
+    ensures both { PlansAs (codes "@attr 5=3 hal")
+        (Ok (TermOf (PhraseOf 2 ((Star ∷ (literal (codes "hal") ++ Star ∷ [])) ∷ []) false))) }
+    ensures hash { PlansAs (codes "@attr 5=101 m#y")
+        (Ok (TermOf (PhraseOf 2 ((literal (codes "m") ++ Star ∷ literal (codes "y")) ∷ []) false))) }
+    ensures no_truncation { PlansAs (codes "@attr 5=100 m#y")
+        (Ok (TermOf (PhraseOf 2 (literal (codes "m") ∷ literal (codes "y") ∷ []) false))) }
+    ensures right_of_each { PlansAs (codes "@attr 4=6 @attr 5=1 " ++ 34 ∷ (codes "w m" ++ 34 ∷ []))
+        (Ok (TermOf (AllWordsOf 2 ((literal (codes "w") ++ Star ∷ []) ∷ (literal (codes "m") ++ Star ∷ []) ∷ [])))) }
+{}
+
 /// Proximity under that profile: diagnostics, and a plan.
 pub fn proximity_at_examples()
     ensures exclusion { PlansAs (codes "@prox 1 1 0 2 k 2 a b") (refused 110 0 (codes "1")) }
@@ -62,13 +113,34 @@ pub fn proximity_at_examples()
     ensures near { PlansAs (codes "@prox 0 1 1 2 known 2 Dick moby") (Ok (NearOf 2
         (literal (codes "dick")) (literal (codes "moby"))
         record { distance = 1; ordered = true; relation = DistanceRelation.LessOrEqual })) }
+    ensures less { PlansAs (codes "@prox 0 1 0 1 k 2 a b")
+        (Ok (NearOf 2 (literal (codes "a")) (literal (codes "b"))
+        record { distance = 1; ordered = false; relation = DistanceRelation.Less })) }
+    ensures equal { PlansAs (codes "@prox 0 1 0 3 k 2 a b")
+        (Ok (NearOf 2 (literal (codes "a")) (literal (codes "b"))
+        record { distance = 1; ordered = false; relation = DistanceRelation.Equal })) }
+    ensures greater_or_equal { PlansAs (codes "@prox 0 1 0 4 k 2 a b")
+        (Ok (NearOf 2 (literal (codes "a")) (literal (codes "b"))
+        record { distance = 1; ordered = false; relation = DistanceRelation.GreaterOrEqual })) }
+    ensures greater { PlansAs (codes "@prox 0 1 0 5 k 2 a b")
+        (Ok (NearOf 2 (literal (codes "a")) (literal (codes "b"))
+        record { distance = 1; ordered = false; relation = DistanceRelation.Greater })) }
+    ensures not_equal { PlansAs (codes "@prox 0 1 0 6 k 2 a b")
+        (Ok (NearOf 2 (literal (codes "a")) (literal (codes "b"))
+        record { distance = 1; ordered = false; relation = DistanceRelation.NotEqual })) }
 {}
 
 /// Where scans begin under that profile, and their diagnostics.
 pub fn scans_at_examples()
     ensures word { ScansAs (codes "@attr 1=4 Dick") (Ok record { index = 0; register = Word; start = codes "dick" }) }
+    ensures phrase { ScansAs (codes "@attr 1=4 @attr 6=3 a") (Ok record { index = 0; register = Phrase; start = codes "a" }) }
     ensures number { ScansAs (codes "@attr 1=31 @attr 4=109 1851")
         (Ok record { index = 1; register = Number; start = codes "000000000000001851" }) }
     ensures relation { ScansAs (codes "@attr 2=103 a") (refused 123 12 []) }
+    ensures position { ScansAs (codes "@attr 3=1 a") (refused 123 10 []) }
+    ensures truncation { ScansAs (codes "@attr 5=1 a") (refused 123 10 []) }
+    ensures word_list { ScansAs (codes "@attr 4=6 a") (refused 123 10 []) }
+    ensures free_form { ScansAs (codes "@attr 4=105 a") (refused 123 12 []) }
+    ensures local_number { ScansAs (codes "@attr 4=107 1") (refused 123 12 []) }
     ensures operator { ScansAs (codes "@or a b") (refused 110 0 (codes "@or")) }
 {}

@@ -4,7 +4,8 @@ use thiserror::Error;
 /// Why a text is no query, or a query has no plan.
 #[derive(Debug, Drop, Error)]
 pub enum QueryFault {
-    /// A diagnostic by its number in the list of Bib-1 (ANSI/NISO Z39.50-2003, Appendix ERR).
+    /// A diagnostic by its number in the list of Bib-1 (ANSI/NISO Z39.50-2003, Appendix ERR). Which fault has which number
+    /// is this project's own choice.
     #[error("diagnostic {number} at {place}: {addinfo}")]
     Diagnostic {
         /// The diagnostic's number.
@@ -21,7 +22,7 @@ pub enum QueryFault {
 
 impl QueryFault {
     ghost use Rattle.std.specs.Prelude.{[]};
-    ghost use Rattle.zeb_query.specs.Faults.{IsDiagnostic};
+    ghost use Rattle.zeb_query.specs.PrivateReading.{IsDiagnostic};
 
     /// A diagnostic without an addinfo.
     pub(crate) fn diagnostic(alloc: Global, number: u32, place: usize) -> QueryFault

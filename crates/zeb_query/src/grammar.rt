@@ -13,7 +13,7 @@ use crate::words::{Spelling, Word};
 use crate::{Attribute, Connective, Head, Leaf, Query, QueryFault, Tree};
 use std::alloc::{AllocError, Global};
 
-/// The greatest number of operators in a query.
+/// The greatest number of operators in a query, a limit of this project's own.
 const MOST_OPERATORS: u32 = 100;
 
 /// The words of a query that aren't read yet.
@@ -228,7 +228,7 @@ fn attribute_of<'a>(alloc: Global, rest: Rest<'a>) -> Result<(Attribute, Rest<'a
     spec_of(alloc, Some(set), after)
 }
 
-/// `SPEC`: 1 to 9 digits, which are the type, then `=`, then the value.
+/// `SPEC`: 1 to 9 digits, which are the type, then `=`, then the value. That there are at most nine is an own rule.
 fn spec_of<'a>(
     alloc: Global,
     set: Option<String>,

@@ -1,6 +1,10 @@
 //! Queries in the Prefix Query Format (YAZ manual, "Prefix Query Format") with attributes of the set Bib-1
 //! (ANSI/NISO Z39.50-2003, attribute set Bib-1): a text is one query or one diagnostic with its place, and a
 //! query over an indexing profile is a plan or its first diagnostic.
+//!
+//! What these leave open is a rule of this project's own: how words are quoted and escaped, which diagnostic answers which
+//! fault, at which place and in which order, the limits, which values go together, and that structure 107, a local number,
+//! is the record's system number.
 #![tactic(auto)]
 
 mod attributes;
@@ -22,7 +26,7 @@ mod words;
 
 pub use examples::{
     diagnostics_at_examples, faults_at_examples, plans_at_examples, proximity_at_examples,
-    scans_at_examples,
+    scans_at_examples, truncations_at_examples, values_at_examples,
 };
 pub use faults::QueryFault;
 pub use laws::{

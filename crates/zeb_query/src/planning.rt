@@ -37,6 +37,10 @@ use zeb_text::{Pattern, join, join_patterns, words};
 /// - 5 for a term of more than 64 words;
 /// - 123 for values that aren't kept together, and for an index that has no target with the searched register;
 /// - 126 about a term that had to be a number, of 1 to 9 digits for a local number, of 1 to 18 otherwise.
+///
+/// The values of attributes are Bib-1's, and the numbers those of its list of diagnostics. Which of them are kept, which
+/// number answers which fault, the order, the limits, what goes together, and that structure 107 asks for the record's
+/// system number, are this project's own rules.
 pub fn plan(alloc: Global, query: &Query, profile: &Profile) -> Result<Plan, QueryFault>
     ensures planned { Gives plans.plan_value result (plans.plan_of profile.now (query_value query.now)) }
     ensures numbers { IfOk result (λ plan. plans.HasSmallNumbers (plans.plan_value plan)) }

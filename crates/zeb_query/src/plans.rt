@@ -43,7 +43,7 @@ pub enum Order {
 /// What a term asks for, with indexes by their number in the profile.
 #[derive(Debug, Drop)]
 pub enum TermPlan {
-    /// The record with this system number, 0 to 999,999,999.
+    /// The record with this system number, 0 to 999,999,999: what this project takes a local number for.
     RecordNumber(u64),
     /// The records that have any entry in the register of the index.
     Always {

@@ -3,7 +3,7 @@
 pub struct Attribute {
     /// The name of the attribute set, where the query gives one.
     pub set: Option<String>,
-    /// The attribute's type, 0 to 999,999,999.
+    /// The attribute's type, 0 to 999,999,999; the limit is this project's own.
     pub kind: u64,
     /// The value as written; never empty.
     pub value: String,

@@ -17,7 +17,8 @@ use zeb_text::key_of_number;
 ///
 /// The faults are those of [`plan`](crate::plan), but an operator is 110 about its word, and 123 is answered also for
 /// a relation other than equal, a position other than any, a truncation, and a structure other than phrase, word and
-/// numeric string. The start is the term's words joined by one space, or the key of its number.
+/// numeric string. The start is the term's words joined by one space, or the key of its number. What a scan takes is this
+/// project's own rule.
 pub fn plan_scan(alloc: Global, query: &Query, profile: &Profile) -> Result<ScanPlan, QueryFault>
     ensures planned { Gives plans.scan_value result (plans.scan_of profile.now (query_value query.now)) }
     ensures number { IfOk result (λ plan. plans.BeginsAtKey (plans.scan_value plan)) }

@@ -15,7 +15,7 @@ use std::alloc::Global;
 use zeb_profile::{Profile, Register};
 use zeb_text::{Cut, Pattern, Spread, pattern_words};
 
-/// The greatest number of words in a term.
+/// The greatest number of words in a term, a limit of this project's own.
 const MOST_WORDS: usize = 64;
 
 /// The use attribute that holds where none is given: 1016, any.

@@ -1,4 +1,4 @@
-//! Queries, scans and their faults, from the tables of the manuals and worked by hand.
+//! Queries, scans and their faults, from the table of attributes that are kept and worked by hand.
 
 use crate::{Plan, QueryFault, ScanPlan, plan, plan_scan, read_pqf};
 use std::alloc::{AllocError, Global};
@@ -14,9 +14,6 @@ mod plans;
 mod scans;
 mod texts;
 
-/// A text, and what it comes to, where these don't stand well on a line.
-type Row = (&'static str, &'static str);
-
 /// A profile with an index of each register.
 const PROFILE: &str = "store books.db\nidentifier 001\natt 4 Title\natt 31 Date\natt 1016 Any\n\
     melm 245$a Title:w,Title:p\nmelm 245 Title:w\nmelm 260$c Date:n\nall Any\n";
@@ -26,6 +23,16 @@ const WITHOUT_ANY: &str = "store books.db\nidentifier 001\natt 4 Title\nmelm 245
 
 /// A profile whose one index has all registers.
 const WHOLE: &str = "store books.db\nidentifier 001\natt 1016 All\nmelm 245 All:w,All:p,All:n\n";
+
+/// Rows, each a text, and behind an arrow what it comes to.
+struct Table {
+    asked: Asked,
+    /// The text of the profile.
+    profile: &'static str,
+    /// What ends each row.
+    separator: char,
+    rows: &'static str,
+}
 
 /// What is asked of a text.
 #[derive(Clone, Copy)]
@@ -38,6 +45,8 @@ enum Asked {
     Planning,
     /// Where a scan begins.
     Scanning,
+    /// Whether the pattern of a query matches an entry, which stands behind ` = `.
+    Matching,
 }
 
 /// A fault as one line.
@@ -103,6 +112,12 @@ fn scan_line(alloc: Global, answer: &Result<ScanPlan, QueryFault>) -> Result<Str
     }
 }
 
+/// Whether the pattern of a query matches the entry behind it.
+fn match_line(alloc: Global, text: &str, profile: &Profile) -> Result<String, AllocError> {
+    let (query, entry) = text.split_once(" = ").unwrap_or((text, ""));
+    plans::match_line(alloc, &plan_of(alloc, query, profile), entry)
+}
+
 /// What a text comes to over a profile.
 fn line(alloc: Global, asked: Asked, profile: &Profile, text: &str) -> Result<String, AllocError> {
     match asked {
@@ -110,6 +125,7 @@ fn line(alloc: Global, asked: Asked, profile: &Profile, text: &str) -> Result<St
         Asked::Finding => word_or_fault(alloc, plan_of(alloc, text, profile), "plan"),
         Asked::Planning => plans::plan_line(alloc, &plan_of(alloc, text, profile)),
         Asked::Scanning => scan_line(alloc, &scan_of(alloc, text, profile)),
+        Asked::Matching => match_line(alloc, text, profile),
     }
 }
 
@@ -131,47 +147,17 @@ fn compare(
     wrong.push_str(note.as_str())
 }
 
+/// What stands in a row before the arrow, and behind it.
+fn halves_of(row: &str) -> (&str, &str) {
+    row.split_once(" -> ").unwrap_or((row, "no arrow"))
+}
+
 /// The rows whose text comes to something else, a line for each.
-fn wrong_rows(
-    alloc: Global,
-    asked: Asked,
-    profile: &Profile,
-    rows: &[Row],
-) -> Result<String, AllocError> {
+fn wrong_rows(alloc: Global, table: &Table, profile: &Profile) -> Result<String, AllocError> {
     let mut wrong = String::new(alloc);
-    for (text, answer) in rows {
-        compare(alloc, asked, profile, text, answer, &mut wrong)?;
-    }
-    Ok(wrong)
-}
-
-/// Notes the text of a line that comes to something else than the line says.
-fn compare_line(
-    alloc: Global,
-    asked: Asked,
-    profile: &Profile,
-    line: &str,
-    wrong: &mut String,
-) -> Result<(), AllocError> {
-    let (text, answer) = halves_of(line);
-    compare(alloc, asked, profile, text, answer, wrong)
-}
-
-/// What stands before the arrow of a line and behind it.
-fn halves_of(line: &str) -> (&str, &str) {
-    line.split_once(" -> ").unwrap_or((line, "no arrow"))
-}
-
-/// The lines whose text comes to something else, a line for each.
-fn wrong_lines(
-    alloc: Global,
-    asked: Asked,
-    profile: &Profile,
-    lines: &str,
-) -> Result<String, AllocError> {
-    let mut wrong = String::new(alloc);
-    for line in lines.lines() {
-        compare_line(alloc, asked, profile, line, &mut wrong)?;
+    for row in table.rows.split_terminator(table.separator) {
+        let (text, answer) = halves_of(row);
+        compare(alloc, table.asked, profile, text, answer, &mut wrong)?;
     }
     Ok(wrong)
 }
@@ -186,13 +172,7 @@ fn nothing_wrong(wrong: String) -> Result<(), Fail> {
 }
 
 /// Each text comes to what its row says.
-fn rows_hold(alloc: Global, asked: Asked, profile: &str, rows: &[Row]) -> Result<(), Fail> {
-    let profile = Profile::read(alloc, profile)?;
-    nothing_wrong(wrong_rows(alloc, asked, &profile, rows)?)
-}
-
-/// Each text comes to what its line says: a text, and behind an arrow what it comes to.
-fn lines_hold(alloc: Global, asked: Asked, profile: &str, lines: &str) -> Result<(), Fail> {
-    let profile = Profile::read(alloc, profile)?;
-    nothing_wrong(wrong_lines(alloc, asked, &profile, lines)?)
+fn table_holds(alloc: Global, table: &Table) -> Result<(), Fail> {
+    let profile = Profile::read(alloc, table.profile)?;
+    nothing_wrong(wrong_rows(alloc, table, &profile)?)
 }

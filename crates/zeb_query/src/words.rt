@@ -11,7 +11,7 @@ pub(crate) enum Spelling {
     Plain,
     /// Between double quotes, so never a keyword.
     Quoted,
-    /// A quoted word without end, or a word in braces, which PQF knows and this reader doesn't.
+    /// A quoted word without end, or one that begins with a brace, by which PQF quotes and this project doesn't.
     Bad,
 }
 
@@ -163,7 +163,8 @@ fn unquoted(text: &str) -> Spelling
 }
 
 /// The words of a query's text, in order. A word that begins with a double quote goes to the next one, and a
-/// backslash before that takes the next character as it is; any other word goes to the next blank.
+/// backslash before that takes the next character as it is; any other word goes to the next blank. These rules of
+/// quoting and escaping are this project's own.
 pub(crate) fn words_of(alloc: Global, text: &str) -> Result<Vec<Word>, AllocError>
     ensures { IfOk result (λ words. map word_of words.items ≡ words_at 0 (chars text.now)) }
 {

@@ -1,25 +1,29 @@
 //! The values of attributes (Bib-1, types 1 to 6): which are kept, and which go together.
 
-use super::{Asked, WHOLE, lines_hold};
+use super::{Asked, Table, WHOLE, table_holds};
 use std::test::Fail;
 
 #[test]
 fn values_that_are_kept(rt: HostRuntime) -> Result<(), Fail> {
-    lines_hold(rt.alloc(), Asked::Finding, WHOLE, VALUES)
+    table_holds(rt.alloc(), VALUES)
 }
 
 #[test]
 fn values_that_go_together(rt: HostRuntime) -> Result<(), Fail> {
-    lines_hold(rt.alloc(), Asked::Finding, WHOLE, PAIRS)
+    table_holds(rt.alloc(), PAIRS)
 }
 
 #[test]
 fn values_in_a_scan(rt: HostRuntime) -> Result<(), Fail> {
-    lines_hold(rt.alloc(), Asked::Scanning, WHOLE, SCANNED)
+    table_holds(rt.alloc(), SCANNED)
 }
 
 /// Values that are kept, and others, of which each type has its diagnostic.
-const VALUES: &str = r"@attr 1=1016 7 -> plan
+const VALUES: &Table = &Table {
+    asked: Asked::Finding,
+    profile: WHOLE,
+    separator: '\n',
+    rows: r"@attr 1=1016 7 -> plan
 @attr 1=All 7 -> plan
 @attr 1=all 7 -> plan
 @attr 1=ALL 7 -> plan
@@ -82,10 +86,15 @@ const VALUES: &str = r"@attr 1=1016 7 -> plan
 @attr 6=4 7 -> 122 at 10: 4
 @attr 6=23 7 -> 122 at 11: 23
 @attr 6=x 7 -> 122 at 10: x
-";
+",
+};
 
 /// Each two values that are kept, of two types, once: those that aren't kept together have 123.
-const PAIRS: &str = r"@attr 4=107 @attr 2=1 7 -> 123 at 22
+const PAIRS: &Table = &Table {
+    asked: Asked::Finding,
+    profile: WHOLE,
+    separator: '\n',
+    rows: r"@attr 4=107 @attr 2=1 7 -> 123 at 22
 @attr 4=107 @attr 2=2 7 -> 123 at 22
 @attr 4=107 @attr 2=4 7 -> 123 at 22
 @attr 4=107 @attr 2=5 7 -> 123 at 22
@@ -292,11 +301,16 @@ const PAIRS: &str = r"@attr 4=107 @attr 2=1 7 -> 123 at 22
 @attr 5=101 @attr 6=1 7 -> plan
 @attr 5=101 @attr 6=2 7 -> plan
 @attr 5=101 @attr 6=3 7 -> plan
-";
+",
+};
 
 /// The attributes that a scan takes, with the register and the start of a scan that begins at `7`, and those that it
 /// doesn't.
-const SCANNED: &str = r"@attr 2=3 7 -> 0 w 7
+const SCANNED: &Table = &Table {
+    asked: Asked::Scanning,
+    profile: WHOLE,
+    separator: '\n',
+    rows: r"@attr 2=3 7 -> 0 w 7
 @attr 3=3 7 -> 0 w 7
 @attr 4=1 7 -> 0 w 7
 @attr 4=2 7 -> 0 w 7
@@ -320,4 +334,5 @@ const SCANNED: &str = r"@attr 2=3 7 -> 0 w 7
 @attr 5=2 7 -> 123 at 10
 @attr 5=3 7 -> 123 at 10
 @attr 5=101 7 -> 123 at 12
-";
+",
+};

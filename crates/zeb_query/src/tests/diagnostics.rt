@@ -1,10 +1,14 @@
 //! The plan of a query, or its first diagnostic.
 
-use super::{Asked, PROFILE, Row, WITHOUT_ANY, lines_hold, rows_hold};
+use super::{Asked, PROFILE, Table, WITHOUT_ANY, table_holds};
 use std::test::Fail;
 
 /// Faults of one term, named set or operator.
-pub(super) const FAULTS: &str = r#"@set r -> 18 at 0: r
+pub(super) const FAULTS: &Table = &Table {
+    asked: Asked::Finding,
+    profile: PROFILE,
+    separator: '\n',
+    rows: r#"@set r -> 18 at 0: r
 @set "a \" b" -> 18 at 0: a " b
 @set "" -> 18 at 0
 @attr 1=4 @set r -> 18 at 10: r
@@ -50,10 +54,15 @@ pub(super) const FAULTS: &str = r#"@set r -> 18 at 0: r
 @attr 4=107 "" -> 126 at 12
 @attr 4=107 -1 -> 126 at 12: -1
 @attr 4=107 1234567890 -> 126 at 12: 1234567890
-"#;
+"#,
+};
 
 /// Queries that have a plan.
-pub(super) const PLANS: &str = r#"whale -> plan
+pub(super) const PLANS: &Table = &Table {
+    asked: Asked::Finding,
+    profile: PROFILE,
+    separator: '\n',
+    rows: r#"whale -> plan
 "" -> plan
 @and x y -> plan
 @or x @not y z -> plan
@@ -77,10 +86,15 @@ pub(super) const PLANS: &str = r#"whale -> plan
 @attr 2=103 "" -> plan
 @term general @term string 5 -> plan
 @term numeric @term string 5 -> plan
-"#;
+"#,
+};
 
 /// Proximity: its parameters, whether its operands are terms, each operand, and last their indexes.
-pub(super) const PROXIMITY: &str = r#"@prox 0 1 0 2 k 2 moby dick -> plan
+pub(super) const PROXIMITY: &Table = &Table {
+    asked: Asked::Finding,
+    profile: PROFILE,
+    separator: '\n',
+    rows: r#"@prox 0 1 0 2 k 2 moby dick -> plan
 @prox 0 1 1 2 k 2 dick moby -> plan
 @prox 0 1 0 2 k 2 dick moby -> plan
 @prox 0 1 1 3 k 2 or whale -> plan
@@ -131,10 +145,15 @@ pub(super) const PROXIMITY: &str = r#"@prox 0 1 0 2 k 2 moby dick -> plan
 @prox 0 1 0 2 k 2 @attr 6=2 a b -> 123 at 28
 @prox 0 1 0 2 k 2 a @attr 6=3 b -> 123 at 30
 @prox 0 1 0 2 k 2 @attr 4=2 a @attr 3=3 b -> plan
-"#;
+"#,
+};
 
 /// Which attributes and term types hold, and which node is told.
-pub(super) const OVER: &str = r"@attr 1=4 @attr 1=9999 moby -> 114 at 23: 9999
+pub(super) const OVER: &Table = &Table {
+    asked: Asked::Finding,
+    profile: PROFILE,
+    separator: '\n',
+    rows: r"@attr 1=4 @attr 1=9999 moby -> 114 at 23: 9999
 @attr 1=9999 @attr 1=4 moby -> plan
 @attr 4=3 @attr 1=9999 x -> 114 at 23: 9999
 @attr 2=6 @attr 2=3 x -> plan
@@ -161,19 +180,24 @@ pub(super) const OVER: &str = r"@attr 1=4 @attr 1=9999 moby -> 114 at 23: 9999
 @attr 8=1 @and @attr 7=1 x y -> 113 at 25: 8
 @and x @attr 7=1 y -> 113 at 17: 7
 @attr 8=1 @set r -> 18 at 10: r
-";
+",
+};
 
 /// Places count bytes, and blanks too.
-pub(super) const PLACES: &[Row] = &[
-    (
-        "\t@and\r\n\"\u{e9}\u{20ac}\" @set \u{1f40b}",
-        "18 at 15: \u{1f40b}",
-    ),
-    ("@and \u{20ac}\r\n\t@attr 1=\u{e9} x", "114 at 22: \u{e9}"),
-];
+pub(super) const PLACES: &Table = &Table {
+    asked: Asked::Finding,
+    profile: PROFILE,
+    separator: '|',
+    rows: "\t@and\r\n\"\u{e9}\u{20ac}\" @set \u{1f40b} -> 18 at 15: \u{1f40b}|\
+    @and \u{20ac}\r\n\t@attr 1=\u{e9} x -> 114 at 22: \u{e9}|",
+};
 
 /// Queries over a profile that doesn't tie the use attribute 1016.
-pub(super) const UNTIED: &str = r"whale -> 116 at 0
+pub(super) const UNTIED: &Table = &Table {
+    asked: Asked::Finding,
+    profile: WITHOUT_ANY,
+    separator: '\n',
+    rows: r"whale -> 116 at 0
 @attr 2=3 whale -> 116 at 10
 @attr 1=1016 whale -> 114 at 13: 1016
 @attr 1=4 whale -> plan
@@ -181,22 +205,23 @@ pub(super) const UNTIED: &str = r"whale -> 116 at 0
 @attr 7=1 whale -> 113 at 10: 7
 @attr 2=6 whale -> 116 at 10
 @and @attr 1=4 x y -> 116 at 17
-";
+",
+};
 
 #[test]
 fn terms_and_their_diagnostics(rt: HostRuntime) -> Result<(), Fail> {
-    lines_hold(rt.alloc(), Asked::Finding, PROFILE, FAULTS)?;
-    lines_hold(rt.alloc(), Asked::Finding, PROFILE, PLANS)
+    table_holds(rt.alloc(), FAULTS)?;
+    table_holds(rt.alloc(), PLANS)
 }
 
 #[test]
 fn proximity_and_its_diagnostics(rt: HostRuntime) -> Result<(), Fail> {
-    lines_hold(rt.alloc(), Asked::Finding, PROFILE, PROXIMITY)
+    table_holds(rt.alloc(), PROXIMITY)
 }
 
 #[test]
 fn attributes_that_hold(rt: HostRuntime) -> Result<(), Fail> {
-    lines_hold(rt.alloc(), Asked::Finding, PROFILE, OVER)?;
-    rows_hold(rt.alloc(), Asked::Finding, PROFILE, PLACES)?;
-    lines_hold(rt.alloc(), Asked::Finding, WITHOUT_ANY, UNTIED)
+    table_holds(rt.alloc(), OVER)?;
+    table_holds(rt.alloc(), PLACES)?;
+    table_holds(rt.alloc(), UNTIED)
 }

@@ -1,10 +1,9 @@
 //! What the plans of queries are, from worked examples.
 
-use super::{Asked, PROFILE, line_of, lines_hold, plan_of};
+use super::{Asked, PROFILE, Table, line_of, table_holds};
 use crate::{NearPlan, PairPlan, Plan, QueryFault, TermPlan};
 use std::alloc::{AllocError, Global};
 use std::test::Fail;
-use zeb_profile::Profile;
 use zeb_text::Pattern;
 
 /// A list of patterns, each after a space; `*` for one with a star.
@@ -102,7 +101,11 @@ fn plan_text(alloc: Global, plan: &Plan) -> Result<String, AllocError> {
 }
 
 /// Queries and their plans; the indexes are Title 0, Date 1, Any 2.
-const PLANS: &str = r#"whale -> phrase 2 whale
+const PLANS: &Table = &Table {
+    asked: Asked::Planning,
+    profile: PROFILE,
+    separator: '\n',
+    rows: r#"whale -> phrase 2 whale
 @attr 1=4 "Moby Dick" -> phrase 0 moby dick
 @attr 1=4 CAFÉ -> phrase 0 cafe
 @attr 1=4 @attr 3=1 or -> first phrase 0 or
@@ -146,7 +149,8 @@ const PLANS: &str = r#"whale -> phrase 2 whale
 @attr 1=4 @prox 0 1 1 2 known 2 moby @attr 5=1 di -> near 0 moby * LessOrEqual 1 ordered
 @prox 0 1 0 2 k 2 @attr 1=4 moby @attr 1=Title dick -> near 0 moby dick LessOrEqual 1 any order
 @not @prox 0 1 0 2 k 2 a b c -> Not(near 2 a b LessOrEqual 1 any order, phrase 2 c)
-"#;
+"#,
+};
 
 /// A plan as one line, or the fault.
 pub(super) fn plan_line(
@@ -161,22 +165,28 @@ pub(super) fn plan_line(
 
 #[test]
 fn plans_of_queries(rt: HostRuntime) -> Result<(), Fail> {
-    lines_hold(rt.alloc(), Asked::Planning, PROFILE, PLANS)
+    table_holds(rt.alloc(), PLANS)
 }
 
-/// A query of one pattern, a text that the pattern matches, and one that it doesn't.
-const STARS: &[(&str, &str, &str)] = &[
-    ("@attr 5=1 Moby", "mobydick", "amoby"),
-    ("@attr 5=2 ale", "whale", "ales"),
-    ("@attr 5=3 hal", "whale", "while"),
-    ("@attr 5=101 m#y", "moby", "m"),
-    ("@attr 5=101 #by", "moby", "mob"),
-    (
-        "@attr 1=4 @attr 6=3 @attr 5=1 \"moby d\"",
-        "moby dick",
-        "moby",
-    ),
-];
+/// A query of one pattern, then an entry, and whether the pattern matches it.
+const STARS: &Table = &Table {
+    asked: Asked::Matching,
+    profile: PROFILE,
+    separator: '\n',
+    rows: r#"@attr 5=1 Moby = mobydick -> true
+@attr 5=1 Moby = amoby -> false
+@attr 5=2 ale = whale -> true
+@attr 5=2 ale = ales -> false
+@attr 5=3 hal = whale -> true
+@attr 5=3 hal = while -> false
+@attr 5=101 m#y = moby -> true
+@attr 5=101 m#y = m -> false
+@attr 5=101 #by = moby -> true
+@attr 5=101 #by = mob -> false
+@attr 1=4 @attr 6=3 @attr 5=1 "moby d" = moby dick -> true
+@attr 1=4 @attr 6=3 @attr 5=1 "moby d" = moby -> false
+"#,
+};
 
 /// The one pattern of a plan.
 fn only_pattern(plan: &Plan) -> Option<&Pattern> {
@@ -187,24 +197,25 @@ fn only_pattern(plan: &Plan) -> Option<&Pattern> {
     }
 }
 
-/// Whether the one pattern of a query's plan matches a text.
-fn matches(alloc: Global, profile: &Profile, query: &str, text: &str) -> Result<bool, QueryFault> {
-    let found = plan_of(alloc, query, profile)?;
-    Ok(only_pattern(&found).is_some_and(|pattern| pattern.matches(text)))
-}
-
-/// Fails at the first row whose pattern matches other texts.
-fn stars_hold(alloc: Global, profile: &Profile) -> Result<(), Fail> {
-    for (query, matching, other) in STARS {
-        if !matches(alloc, profile, query, matching)? || matches(alloc, profile, query, other)? {
-            return Err(Fail::new(*query));
-        }
-    }
-    Ok(())
+/// Whether the one pattern of a plan matches an entry, or the fault.
+pub(super) fn match_line(
+    alloc: Global,
+    answer: &Result<Plan, QueryFault>,
+    entry: &str,
+) -> Result<String, AllocError> {
+    let plan = match answer {
+        Ok(plan) => plan,
+        Err(fault) => return line_of(alloc, fault),
+    };
+    let line = match only_pattern(plan) {
+        None => "no pattern",
+        Some(pattern) if pattern.matches(entry) => "true",
+        Some(_) => "false",
+    };
+    String::from_str(alloc, line)
 }
 
 #[test]
 fn stars_of_truncations(rt: HostRuntime) -> Result<(), Fail> {
-    let profile = Profile::read(rt.alloc(), PROFILE)?;
-    stars_hold(rt.alloc(), &profile)
+    table_holds(rt.alloc(), STARS)
 }

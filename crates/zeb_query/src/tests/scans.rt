@@ -1,11 +1,15 @@
 //! Where a scan begins, or its first diagnostic.
 
-use super::{Asked, PROFILE, Row, WITHOUT_ANY, lines_hold, rows_hold};
+use super::{Asked, PROFILE, Table, WITHOUT_ANY, table_holds};
 use std::test::Fail;
 
 /// Scans over the profile, with the number of the index, the register and the start; the indexes are Title 0, Date 1,
 /// Any 2.
-pub(super) const SCANS: &str = r#"d -> 2 w d
+pub(super) const SCANS: &Table = &Table {
+    asked: Asked::Scanning,
+    profile: PROFILE,
+    separator: '\n',
+    rows: r#"d -> 2 w d
 @attr 1=4 d -> 0 w d
 @attr 1=4 "Moby  DICK" -> 0 w moby dick
 @attr 1=4 CAFÉ -> 0 w cafe
@@ -33,17 +37,29 @@ pub(super) const SCANS: &str = r#"d -> 2 w d
 @attr 4=107 x -> 123 at 12
 @attr 2=103 a -> 123 at 12
 @attr 2=6 @attr 4=6 a -> 117 at 20: 6
-"#;
+"#,
+};
 
 /// A scan whose term has no word, which begins at the first entry.
-pub(super) const FROM_NO_WORD: &[Row] = &[("@attr 1=4 \"\"", "0 w ")];
+pub(super) const FROM_NO_WORD: &Table = &Table {
+    asked: Asked::Scanning,
+    profile: PROFILE,
+    separator: '|',
+    rows: "@attr 1=4 \"\" -> 0 w |",
+};
 
 /// A scan over the profile without an index for the use attribute that holds where none is given.
-const UNTIED: &[Row] = &[("d", "116 at 0")];
+const UNTIED: &Table = &Table {
+    asked: Asked::Scanning,
+    profile: WITHOUT_ANY,
+    separator: '\n',
+    rows: r"d -> 116 at 0
+",
+};
 
 #[test]
 fn scans(rt: HostRuntime) -> Result<(), Fail> {
-    lines_hold(rt.alloc(), Asked::Scanning, PROFILE, SCANS)?;
-    rows_hold(rt.alloc(), Asked::Scanning, PROFILE, FROM_NO_WORD)?;
-    rows_hold(rt.alloc(), Asked::Scanning, WITHOUT_ANY, UNTIED)
+    table_holds(rt.alloc(), SCANS)?;
+    table_holds(rt.alloc(), FROM_NO_WORD)?;
+    table_holds(rt.alloc(), UNTIED)
 }

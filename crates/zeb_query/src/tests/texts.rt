@@ -1,10 +1,14 @@
 //! Which texts are queries, and where the others have their fault.
 
-use super::{Asked, PROFILE, Row, lines_hold, rows_hold};
+use super::{Asked, PROFILE, Table, table_holds};
 use std::test::Fail;
 
 /// Words, blanks and quotes.
-pub(super) const WORDS: &str = r#"moby -> query
+pub(super) const WORDS: &Table = &Table {
+    asked: Asked::Reading,
+    profile: PROFILE,
+    separator: '\n',
+    rows: r#"moby -> query
 moby dick -> 108 at 5
 "moby dick" -> query
 "moby -> 108 at 0
@@ -33,27 +37,35 @@ a{b -> query
 "é€"x -> 108 at 7
 "\🐋" x -> 108 at 8
 @attr 1=é € x -> 108 at 15
-"#;
+"#,
+};
 
 /// Blanks, and characters that are none.
-pub(super) const BLANKS: &[Row] = &[
-    ("", "108 at 0"),
-    (" \t\r\n", "108 at 4"),
-    ("\tmoby\tdick", "108 at 6"),
-    ("\t\tmoby", "query"),
-    ("moby\r\ndick", "108 at 6"),
-    ("moby\r\n\r\n", "query"),
-    ("\r\n\"moby\"\r\ndick", "108 at 10"),
-    ("\u{1f40b}\tx", "108 at 5"),
-    ("\t@and\r\n\"\u{e9}\u{20ac}\" ", "108 at 15"),
-    ("moby\u{a0}dick", "query"),
-    ("moby\u{b}dick", "query"),
-    ("moby\u{c}dick\u{85}", "query"),
-    ("moby\u{2028}dick", "query"),
-];
+pub(super) const BLANKS: &Table = &Table {
+    asked: Asked::Reading,
+    profile: PROFILE,
+    separator: '|',
+    rows: " -> 108 at 0|\
+    \u{20}\t\r\n -> 108 at 4|\
+    \tmoby\tdick -> 108 at 6|\
+    \t\tmoby -> query|\
+    moby\r\ndick -> 108 at 6|\
+    moby\r\n\r\n -> query|\
+    \r\n\"moby\"\r\ndick -> 108 at 10|\
+    \u{1f40b}\tx -> 108 at 5|\
+    \t@and\r\n\"\u{e9}\u{20ac}\"  -> 108 at 15|\
+    moby\u{a0}dick -> query|\
+    moby\u{b}dick -> query|\
+    moby\u{c}dick\u{85} -> query|\
+    moby\u{2028}dick -> query|",
+};
 
 /// What the grammar says of keywords and of the words after them.
-pub(super) const KEYWORDS_USED: &str = r#"@foo -> query
+pub(super) const KEYWORDS_USED: &Table = &Table {
+    asked: Asked::Reading,
+    profile: PROFILE,
+    separator: '\n',
+    rows: r#"@foo -> query
 @ -> query
 @and@or -> query
 @attr 1=4 -> 108 at 9
@@ -121,10 +133,15 @@ x @attrset -> 108 at 2
 @prox @and @or @not @set @term @attr a b -> query
 @prox "" "" "" "" "" "" a b -> query
 @prox 0 1 0 2 k 2 @prox 0 1 0 2 k 2 a b c -> query
-"#;
+"#,
+};
 
 /// Each keyword alone, which has its fault at its end, and quoted and in upper case, where it is a term.
-const KEYWORDS: &str = r#"@attrset -> 108 at 8
+const KEYWORDS: &Table = &Table {
+    asked: Asked::Reading,
+    profile: PROFILE,
+    separator: '\n',
+    rows: r#"@attrset -> 108 at 8
 "@attrset" -> query
 @ATTRSET -> query
 @attr -> 108 at 5
@@ -148,16 +165,17 @@ const KEYWORDS: &str = r#"@attrset -> 108 at 8
 @term -> 108 at 5
 "@term" -> query
 @TERM -> query
-"#;
+"#,
+};
 
 #[test]
 fn words_and_their_faults(rt: HostRuntime) -> Result<(), Fail> {
-    lines_hold(rt.alloc(), Asked::Reading, PROFILE, WORDS)?;
-    rows_hold(rt.alloc(), Asked::Reading, PROFILE, BLANKS)
+    table_holds(rt.alloc(), WORDS)?;
+    table_holds(rt.alloc(), BLANKS)
 }
 
 #[test]
 fn keywords_and_what_follows_them(rt: HostRuntime) -> Result<(), Fail> {
-    lines_hold(rt.alloc(), Asked::Reading, PROFILE, KEYWORDS_USED)?;
-    lines_hold(rt.alloc(), Asked::Reading, PROFILE, KEYWORDS)
+    table_holds(rt.alloc(), KEYWORDS_USED)?;
+    table_holds(rt.alloc(), KEYWORDS)
 }

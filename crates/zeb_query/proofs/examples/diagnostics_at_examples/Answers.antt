@@ -11,9 +11,9 @@ use Rattle.zeb_text.specs.Numbers.{number_key}
 use Rattle.zeb_query.specs.declared.queries.Connective.TheVariants.{And}
 use Rattle.zeb_query.specs.Grammar.{kind_and_value, is_structure}
 use Rattle.zeb_query.specs.Holding.{holding_of}
-use Rattle.zeb_query.specs.Proximity.{word_near}
+use Rattle.zeb_query.specs.TermChecks.{word_near}
 use Rattle.zeb_query.specs.Plans.{leaf_plan, leaf_scan, plan_asked, scan_asked}
-use Rattle.zeb_query.proofs.ExampleLemmas.{planned, term_at, under_at, set_at, typed_at, named_at, pair_at}
+use Rattle.zeb_query.proofs.ExampleLemmas.{planned, term_at, under_at, set_at, typed_at, named_at, pair_at, quoted_at}
 use Rattle.zeb_query.proofs.examples.diagnostics_at_examples.Goals as goal
 
 pub returns-clause-use_attribute : goal.returns-clause-use_attribute
@@ -67,3 +67,27 @@ returns-clause-number c = planned (is_structure _ _ (under_at 0 6 (codes "1=31")
 pub returns-clause-left : goal.returns-clause-left
 unfolding chars is_utf8 encode kind_and_value leaf_plan leaf_scan plan_asked scan_asked word_near holding_of caseless ucd_category folded is_word_character runs_of truncated number_key digits
 returns-clause-left c = planned (is_structure _ _ (pair_at 0 (codes "@and") And [] refl refl refl (under_at 5 11 (codes "2=6") (2, codes "6") refl (term_at 15 (codes "x") refl)) (under_at 17 23 (codes "1=9999") (1, codes "9999") refl (term_at 30 (codes "y") refl)))) refl refl
+
+pub returns-clause-words : goal.returns-clause-words
+unfolding chars is_utf8 encode kind_and_value leaf_plan leaf_scan plan_asked scan_asked word_near holding_of caseless ucd_category folded is_word_character runs_of truncated number_key digits
+returns-clause-words c = planned (is_structure _ _ (quoted_at 0 (codes "a a a a a a a a a a a a a a a a a a a a a a a a a a a a a a a a a a a a a a a a a a a a a a a a a a a a a a a a a a a a a a a a a"))) refl refl
+
+pub returns-clause-local_first : goal.returns-clause-local_first
+unfolding chars is_utf8 encode kind_and_value leaf_plan leaf_scan plan_asked scan_asked word_near holding_of caseless ucd_category folded is_word_character runs_of truncated number_key digits
+returns-clause-local_first c = planned (is_structure _ _ (under_at 0 6 (codes "4=107") (4, codes "107") refl (under_at 12 18 (codes "3=1") (3, codes "1") refl (term_at 22 (codes "1") refl)))) refl refl
+
+pub returns-clause-local_order : goal.returns-clause-local_order
+unfolding chars is_utf8 encode kind_and_value leaf_plan leaf_scan plan_asked scan_asked word_near holding_of caseless ucd_category folded is_word_character runs_of truncated number_key digits
+returns-clause-local_order c = planned (is_structure _ _ (under_at 0 6 (codes "4=107") (4, codes "107") refl (under_at 12 18 (codes "2=4") (2, codes "4") refl (term_at 22 (codes "1") refl)))) refl refl
+
+pub returns-clause-list_complete : goal.returns-clause-list_complete
+unfolding chars is_utf8 encode kind_and_value leaf_plan leaf_scan plan_asked scan_asked word_near holding_of caseless ucd_category folded is_word_character runs_of truncated number_key digits
+returns-clause-list_complete c = planned (is_structure _ _ (under_at 0 6 (codes "4=6") (4, codes "6") refl (under_at 10 16 (codes "6=2") (6, codes "2") refl (term_at 20 (codes "x") refl)))) refl refl
+
+pub returns-clause-order_truncated : goal.returns-clause-order_truncated
+unfolding chars is_utf8 encode kind_and_value leaf_plan leaf_scan plan_asked scan_asked word_near holding_of caseless ucd_category folded is_word_character runs_of truncated number_key digits
+returns-clause-order_truncated c = planned (is_structure _ _ (under_at 0 6 (codes "2=4") (2, codes "4") refl (under_at 10 16 (codes "5=1") (5, codes "1") refl (term_at 20 (codes "x") refl)))) refl refl
+
+pub returns-clause-local_number : goal.returns-clause-local_number
+unfolding chars is_utf8 encode kind_and_value leaf_plan leaf_scan plan_asked scan_asked word_near holding_of caseless ucd_category folded is_word_character runs_of truncated number_key digits
+returns-clause-local_number c = planned (is_structure _ _ (under_at 0 6 (codes "4=107") (4, codes "107") refl (term_at 12 (codes "x") refl))) refl refl

@@ -11,7 +11,7 @@ use Rattle.zeb_text.specs.Numbers.{number_key}
 use Rattle.zeb_query.specs.declared.queries.Connective.TheVariants.{Not}
 use Rattle.zeb_query.specs.Grammar.{kind_and_value, is_structure}
 use Rattle.zeb_query.specs.Holding.{holding_of}
-use Rattle.zeb_query.specs.Proximity.{word_near}
+use Rattle.zeb_query.specs.TermChecks.{word_near}
 use Rattle.zeb_query.specs.Plans.{leaf_plan, leaf_scan, plan_asked, scan_asked}
 use Rattle.zeb_query.proofs.ExampleLemmas.{planned, term_at, under_at, pair_at}
 use Rattle.zeb_query.proofs.examples.plans_at_examples.Goals as goal

@@ -11,7 +11,7 @@ use Rattle.zeb_text.specs.Numbers.{number_key}
 use Rattle.zeb_query.specs.declared.queries.Connective.TheVariants.{Or}
 use Rattle.zeb_query.specs.Grammar.{kind_and_value, is_structure}
 use Rattle.zeb_query.specs.Holding.{holding_of}
-use Rattle.zeb_query.specs.Proximity.{word_near}
+use Rattle.zeb_query.specs.TermChecks.{word_near}
 use Rattle.zeb_query.specs.Plans.{leaf_plan, leaf_scan, plan_asked, scan_asked}
 use Rattle.zeb_query.proofs.ExampleLemmas.{scanned, term_at, under_at, pair_at}
 use Rattle.zeb_query.proofs.examples.scans_at_examples.Goals as goal
@@ -31,3 +31,27 @@ returns-clause-relation c = scanned (is_structure _ _ (under_at 0 6 (codes "2=10
 pub returns-clause-operator : goal.returns-clause-operator
 unfolding chars is_utf8 encode kind_and_value leaf_plan leaf_scan plan_asked scan_asked word_near holding_of caseless ucd_category folded is_word_character runs_of truncated number_key digits
 returns-clause-operator c = scanned (is_structure _ _ (pair_at 0 (codes "@or") Or [] refl refl refl (term_at 4 (codes "a") refl) (term_at 6 (codes "b") refl))) refl refl
+
+pub returns-clause-phrase : goal.returns-clause-phrase
+unfolding chars is_utf8 encode kind_and_value leaf_plan leaf_scan plan_asked scan_asked word_near holding_of caseless ucd_category folded is_word_character runs_of truncated number_key digits
+returns-clause-phrase c = scanned (is_structure _ _ (under_at 0 6 (codes "1=4") (1, codes "4") refl (under_at 10 16 (codes "6=3") (6, codes "3") refl (term_at 20 (codes "a") refl)))) refl refl
+
+pub returns-clause-position : goal.returns-clause-position
+unfolding chars is_utf8 encode kind_and_value leaf_plan leaf_scan plan_asked scan_asked word_near holding_of caseless ucd_category folded is_word_character runs_of truncated number_key digits
+returns-clause-position c = scanned (is_structure _ _ (under_at 0 6 (codes "3=1") (3, codes "1") refl (term_at 10 (codes "a") refl))) refl refl
+
+pub returns-clause-truncation : goal.returns-clause-truncation
+unfolding chars is_utf8 encode kind_and_value leaf_plan leaf_scan plan_asked scan_asked word_near holding_of caseless ucd_category folded is_word_character runs_of truncated number_key digits
+returns-clause-truncation c = scanned (is_structure _ _ (under_at 0 6 (codes "5=1") (5, codes "1") refl (term_at 10 (codes "a") refl))) refl refl
+
+pub returns-clause-word_list : goal.returns-clause-word_list
+unfolding chars is_utf8 encode kind_and_value leaf_plan leaf_scan plan_asked scan_asked word_near holding_of caseless ucd_category folded is_word_character runs_of truncated number_key digits
+returns-clause-word_list c = scanned (is_structure _ _ (under_at 0 6 (codes "4=6") (4, codes "6") refl (term_at 10 (codes "a") refl))) refl refl
+
+pub returns-clause-free_form : goal.returns-clause-free_form
+unfolding chars is_utf8 encode kind_and_value leaf_plan leaf_scan plan_asked scan_asked word_near holding_of caseless ucd_category folded is_word_character runs_of truncated number_key digits
+returns-clause-free_form c = scanned (is_structure _ _ (under_at 0 6 (codes "4=105") (4, codes "105") refl (term_at 12 (codes "a") refl))) refl refl
+
+pub returns-clause-local_number : goal.returns-clause-local_number
+unfolding chars is_utf8 encode kind_and_value leaf_plan leaf_scan plan_asked scan_asked word_near holding_of caseless ucd_category folded is_word_character runs_of truncated number_key digits
+returns-clause-local_number c = scanned (is_structure _ _ (under_at 0 6 (codes "4=107") (4, codes "107") refl (term_at 12 (codes "1") refl))) refl refl
