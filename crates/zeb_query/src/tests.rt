@@ -176,3 +176,10 @@ fn table_holds(alloc: Global, table: &Table) -> Result<(), Fail> {
     let profile = Profile::read(alloc, table.profile)?;
     nothing_wrong(wrong_rows(alloc, table, &profile)?)
 }
+
+fn tables_hold(alloc: Global, tables: &[&'static Table]) -> Result<(), Fail> {
+    for table in tables {
+        table_holds(alloc, table)?;
+    }
+    Ok(())
+}

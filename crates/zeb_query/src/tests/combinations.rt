@@ -1,22 +1,7 @@
 //! The values of attributes (Bib-1, types 1 to 6): which are kept, and which go together.
 
-use super::{Asked, Table, WHOLE, table_holds};
+use super::{Asked, Table, WHOLE, tables_hold};
 use std::test::Fail;
-
-#[test]
-fn values_that_are_kept(rt: HostRuntime) -> Result<(), Fail> {
-    table_holds(rt.alloc(), VALUES)
-}
-
-#[test]
-fn values_that_go_together(rt: HostRuntime) -> Result<(), Fail> {
-    table_holds(rt.alloc(), PAIRS)
-}
-
-#[test]
-fn values_in_a_scan(rt: HostRuntime) -> Result<(), Fail> {
-    table_holds(rt.alloc(), SCANNED)
-}
 
 /// Values that are kept, and others, of which each type has its diagnostic.
 const VALUES: &Table = &Table {
@@ -336,3 +321,8 @@ const SCANNED: &Table = &Table {
 @attr 5=101 7 -> 123 at 12
 ",
 };
+
+#[test]
+fn values_alone_and_together(rt: HostRuntime) -> Result<(), Fail> {
+    tables_hold(rt.alloc(), &[VALUES, PAIRS, SCANNED])
+}

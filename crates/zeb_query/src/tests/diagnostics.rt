@@ -1,6 +1,6 @@
 //! The plan of a query, or its first diagnostic.
 
-use super::{Asked, PROFILE, Table, WITHOUT_ANY, table_holds};
+use super::{Asked, PROFILE, Table, WITHOUT_ANY, tables_hold};
 use std::test::Fail;
 
 /// Faults of one term, named set or operator.
@@ -209,19 +209,9 @@ pub(super) const UNTIED: &Table = &Table {
 };
 
 #[test]
-fn terms_and_their_diagnostics(rt: HostRuntime) -> Result<(), Fail> {
-    table_holds(rt.alloc(), FAULTS)?;
-    table_holds(rt.alloc(), PLANS)
-}
-
-#[test]
-fn proximity_and_its_diagnostics(rt: HostRuntime) -> Result<(), Fail> {
-    table_holds(rt.alloc(), PROXIMITY)
-}
-
-#[test]
-fn attributes_that_hold(rt: HostRuntime) -> Result<(), Fail> {
-    table_holds(rt.alloc(), OVER)?;
-    table_holds(rt.alloc(), PLACES)?;
-    table_holds(rt.alloc(), UNTIED)
+fn diagnostics_and_plans(rt: HostRuntime) -> Result<(), Fail> {
+    tables_hold(
+        rt.alloc(),
+        &[FAULTS, PLANS, PROXIMITY, OVER, PLACES, UNTIED],
+    )
 }

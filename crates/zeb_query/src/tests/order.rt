@@ -1,7 +1,6 @@
 //! The order of diagnostics: at one node, and of an operator's two sides.
 
-use super::limits::{LongRow, long_rows_hold};
-use super::{Asked, PROFILE, Table, WITHOUT_ANY, table_holds};
+use super::{Asked, PROFILE, Table, WITHOUT_ANY, tables_hold};
 use std::test::Fail;
 
 /// Two faults of one node, neighbours in the order: the first is told, whichever attribute stands first.
@@ -54,33 +53,6 @@ pub(super) const UNTIED_NEIGHBOURS: &Table = &Table {
 ",
 };
 
-/// The same with a term of 65 words.
-const LONG_TERMS: &[LongRow] = &[
-    ("@prox 0 1 0 2 k 2 a \"", "w ", 65, "\"", "5 at 20"),
-    (
-        "@prox 0 1 0 2 k 2 a @attr 6=2 \"",
-        "w ",
-        65,
-        "\"",
-        "5 at 30",
-    ),
-    ("@attr 6=4 \"", "w ", 65, "\"", "122 at 10: 4"),
-    ("@attr 2=4 @attr 5=1 \"", "w ", 65, "\"", "5 at 20"),
-    ("@attr 1=31 \"", "w ", 65, "\"", "5 at 11"),
-    ("@and @attr 6=4 x \"", "w ", 65, "\"", "122 at 15: 4"),
-];
-
-#[test]
-fn the_first_of_two_neighbours(rt: HostRuntime) -> Result<(), Fail> {
-    table_holds(rt.alloc(), NEIGHBOURS)?;
-    table_holds(rt.alloc(), UNTIED_NEIGHBOURS)
-}
-
-#[test]
-fn the_first_of_two_with_a_long_term(rt: HostRuntime) -> Result<(), Fail> {
-    long_rows_hold(rt.alloc(), Asked::Finding, LONG_TERMS)
-}
-
 /// A structure with each diagnostic but 116, which another profile gives, and 5, whose term is long: alone, and on the
 /// right, where nothing on the left has a diagnostic.
 const ALONE: &Table = &Table {
@@ -116,7 +88,7 @@ const ALONE: &Table = &Table {
 ",
 };
 
-/// Each two of these, of which the left one is told.
+/// Each two of these, where the left one is told.
 const SIDES: &Table = &Table {
     asked: Asked::Finding,
     profile: PROFILE,
@@ -293,9 +265,7 @@ const SIDES: &Table = &Table {
 ",
 };
 
-/// Where both sides of an operator have a diagnostic, the left one's is told; where the right one alone has, that.
 #[test]
-fn the_left_side_first(rt: HostRuntime) -> Result<(), Fail> {
-    table_holds(rt.alloc(), ALONE)?;
-    table_holds(rt.alloc(), SIDES)
+fn the_first_of_two(rt: HostRuntime) -> Result<(), Fail> {
+    tables_hold(rt.alloc(), &[NEIGHBOURS, UNTIED_NEIGHBOURS, ALONE, SIDES])
 }

@@ -1,9 +1,10 @@
 //! What the plans of queries are, from worked examples.
 
-use super::{Asked, PROFILE, Table, line_of, table_holds};
-use crate::{NearPlan, PairPlan, Plan, QueryFault, TermPlan};
+use super::{Asked, PROFILE, Table, line_of, tables_hold};
+use crate::{NearPlan, Order, PairPlan, Plan, QueryFault, TermPlan};
 use std::alloc::{AllocError, Global};
 use std::test::Fail;
+use zeb_profile::Register;
 use zeb_text::Pattern;
 
 /// A list of patterns, each after a space; `*` for one with a star.
@@ -27,6 +28,18 @@ fn words_line(
     format!(in alloc; "{name} {index}{patterns}")
 }
 
+/// The plan of a term that is compared in an order.
+fn ordered_line(
+    alloc: Global,
+    index: u32,
+    register: Register,
+    order: Order,
+    start: Option<&str>,
+) -> Result<String, AllocError> {
+    let start = start.unwrap_or("no word");
+    format!(in alloc; "ordered {index} {register} {order:?} {start}")
+}
+
 fn term_line(alloc: Global, term: &TermPlan) -> Result<String, AllocError> {
     match term {
         TermPlan::RecordNumber(number) => format!(in alloc; "record {number}"),
@@ -41,31 +54,30 @@ fn term_line(alloc: Global, term: &TermPlan) -> Result<String, AllocError> {
             register,
             order,
             start,
-        } => {
-            let start = match start {
-                Some(start) => start.as_str(),
-                None => "no word",
-            };
-            format!(in alloc; "ordered {index} {register} {order:?} {start}")
+        } => ordered_line(alloc, *index, *register, *order, start.as_deref()),
+        other => asked_words_line(alloc, other),
+    }
+}
+
+/// The plan of a term whose words are asked for.
+fn asked_words_line(alloc: Global, term: &TermPlan) -> Result<String, AllocError> {
+    match term {
+        TermPlan::Complete { index, pattern } => {
+            words_line(alloc, "complete", *index, pattern.as_slice())
         }
-        TermPlan::Complete { index, pattern } => words_line(
-            alloc,
-            "complete",
-            *index,
-            pattern.as_slice(),
-        ),
         TermPlan::Phrase {
             index,
             patterns,
-            first,
-        } => words_line(
-            alloc,
-            if *first { "first phrase" } else { "phrase" },
-            *index,
+            first: true,
+        } => words_line(alloc, "first phrase", *index, patterns),
+        TermPlan::Phrase {
+            index,
             patterns,
-        ),
+            ..
+        } => words_line(alloc, "phrase", *index, patterns),
         TermPlan::AllWords { index, patterns } => words_line(alloc, "all words", *index, patterns),
         TermPlan::AnyWord { index, patterns } => words_line(alloc, "any word", *index, patterns),
+        _ => String::from_str(alloc, "no words"),
     }
 }
 
@@ -163,11 +175,6 @@ pub(super) fn plan_line(
     }
 }
 
-#[test]
-fn plans_of_queries(rt: HostRuntime) -> Result<(), Fail> {
-    table_holds(rt.alloc(), PLANS)
-}
-
 /// A query of one pattern, then an entry, and whether the pattern matches it.
 const STARS: &Table = &Table {
     asked: Asked::Matching,
@@ -216,6 +223,6 @@ pub(super) fn match_line(
 }
 
 #[test]
-fn stars_of_truncations(rt: HostRuntime) -> Result<(), Fail> {
-    table_holds(rt.alloc(), STARS)
+fn plans_of_queries(rt: HostRuntime) -> Result<(), Fail> {
+    tables_hold(rt.alloc(), &[PLANS, STARS])
 }

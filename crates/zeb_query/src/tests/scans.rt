@@ -1,6 +1,6 @@
 //! Where a scan begins, or its first diagnostic.
 
-use super::{Asked, PROFILE, Table, WITHOUT_ANY, table_holds};
+use super::{Asked, PROFILE, Table, WITHOUT_ANY, tables_hold};
 use std::test::Fail;
 
 /// Scans over the profile, with the number of the index, the register and the start; the indexes are Title 0, Date 1,
@@ -59,7 +59,5 @@ const UNTIED: &Table = &Table {
 
 #[test]
 fn scans(rt: HostRuntime) -> Result<(), Fail> {
-    table_holds(rt.alloc(), SCANS)?;
-    table_holds(rt.alloc(), FROM_NO_WORD)?;
-    table_holds(rt.alloc(), UNTIED)
+    tables_hold(rt.alloc(), &[SCANS, FROM_NO_WORD, UNTIED])
 }

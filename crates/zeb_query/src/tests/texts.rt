@@ -1,6 +1,6 @@
 //! Which texts are queries, and where the others have their fault.
 
-use super::{Asked, PROFILE, Table, table_holds};
+use super::{Asked, PROFILE, Table, tables_hold};
 use std::test::Fail;
 
 /// Words, blanks and quotes.
@@ -169,13 +169,6 @@ const KEYWORDS: &Table = &Table {
 };
 
 #[test]
-fn words_and_their_faults(rt: HostRuntime) -> Result<(), Fail> {
-    table_holds(rt.alloc(), WORDS)?;
-    table_holds(rt.alloc(), BLANKS)
-}
-
-#[test]
-fn keywords_and_what_follows_them(rt: HostRuntime) -> Result<(), Fail> {
-    table_holds(rt.alloc(), KEYWORDS_USED)?;
-    table_holds(rt.alloc(), KEYWORDS)
+fn texts_and_their_faults(rt: HostRuntime) -> Result<(), Fail> {
+    tables_hold(rt.alloc(), &[WORDS, BLANKS, KEYWORDS_USED, KEYWORDS])
 }
