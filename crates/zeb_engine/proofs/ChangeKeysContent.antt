@@ -13,8 +13,7 @@ use Rattle.zeb_extract.specs.declared.keys.Occurrence.{Occurrence}
 use Rattle.zeb_extract.specs.Order.{key_order}
 use Rattle.zeb_extract.proofs.Rising.{key_total, keys_apart}
 use Rattle.zeb_register.specs.declared.registers.Place.{Place}
-use Rattle.zeb_register.specs.declared.registers.Posting.{Posting}
-use Rattle.zeb_register.specs.Content.{Content, IsChangedAt, IsRising, IsStorable, IsStorablePosting, posting_at, ArePlacesOf}
+use Rattle.zeb_register.specs.Content.{Content, IsChangedAt, IsRising, IsStorable, IsStorablePosting, posting_at, ArePlacesOf, Posting}
 use Rattle.sqlite.specs.Tree.{Trees}
 use Rattle.zeb_register.specs.Store.{KeepsLists}
 use Rattle.zeb_register.specs.declared.faults.RegFault.{RegFault}

@@ -9,8 +9,7 @@ use Rattle.sqlite_rules.specs.Lists.{Has}
 use Rattle.sqlite_rules.proofs.ListLemmas.{has_contained, contains_had}
 use Rattle.zeb_extract.specs.declared.keys.Key.{Key}
 use Rattle.zeb_profile.specs.declared.directives.Directive.{Directive}
-use Rattle.zeb_register.specs.declared.registers.Posting.{Posting}
-use Rattle.zeb_register.specs.Content.{Content, IsRising, IsWithout, posting_cmp}
+use Rattle.zeb_register.specs.Content.{Content, IsRising, IsWithout, posting_cmp, Posting}
 use Rattle.zeb_register.specs.Sql.{Loses}
 use Rattle.zeb_register.specs.Store.{HasDatabase, IsRecordIn, TakesDatabase, record_row}
 use Rattle.zeb_engine.specs.Holdings.{Base, Kept, base_named, without_base}

@@ -12,8 +12,7 @@ use Rattle.zeb_query.specs.Reading.{SpellsQuery, query_fault}
 use Rattle.zeb_query.specs.Plans.{PlanValue, plan_of}
 use Rattle.zeb_extract.specs.declared.keys.Key.{Key}
 use Rattle.zeb_extract.specs.declared.keys.Occurrence.{Occurrence}
-use Rattle.zeb_register.specs.declared.registers.Posting.{Posting}
-use Rattle.zeb_register.specs.Content.{Content, posted}
+use Rattle.zeb_register.specs.Content.{Content, posted, Posting}
 use Rattle.zeb_register.specs.Formats.{Format}
 use Rattle.zeb_register.specs.Occurring.{HasKey}
 use Rattle.zeb_register.specs.RowTerms.{IsInRecord}

@@ -15,8 +15,7 @@ use Rattle.sqlite_rules.proofs.ProbeLemmas.{has_mapped, mapped_has}
 use Rattle.zeb_text.specs.Symbols.{Symbol, Char, Star, literal}
 use Rattle.zeb_profile.specs.declared.registers.Register.TheVariants.{Word}
 use Rattle.zeb_extract.specs.declared.keys.Key.{Key}
-use Rattle.zeb_register.specs.declared.registers.Posting.{Posting}
-use Rattle.zeb_register.specs.Content.{posting_cmp}
+use Rattle.zeb_register.specs.Content.{posting_cmp, Posting}
 use Rattle.zeb_register.specs.RowTerms.{IsInRecord}
 use Rattle.zeb_engine.specs.Finding.{AreNumbers, plain_text, plain_word, word_key}
 use Rattle.zeb_engine.specs.Answers.{Why, unsupported}

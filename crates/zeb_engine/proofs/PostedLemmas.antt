@@ -8,8 +8,7 @@ use Rattle.zeb_profile.specs.declared.directives.Directive.{Directive}
 use Rattle.zeb_extract.specs.declared.keys.Key.{Key}
 use Rattle.zeb_extract.specs.declared.keys.Occurrence.{Occurrence}
 use Rattle.zeb_register.specs.declared.registers.Place.{Place}
-use Rattle.zeb_register.specs.declared.registers.Posting.{Posting}
-use Rattle.zeb_register.specs.Content.{Content, posting_at}
+use Rattle.zeb_register.specs.Content.{Content, posting_at, Posting}
 use Rattle.zeb_engine.specs.PrivateChangedKeys.{occurrence_at, ArePostingsOf, IsReposted}
 use Rattle.zeb_engine.specs.Finding.{OccursIn, occurs}
 use Rattle.zeb_engine.specs.Holdings.{Kept}

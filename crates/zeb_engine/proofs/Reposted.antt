@@ -8,8 +8,7 @@ use Rattle.zeb_extract.specs.declared.keys.Key.{Key}
 use Rattle.zeb_extract.specs.declared.keys.Occurrence.{Occurrence}
 use Rattle.zeb_extract.proofs.Rising.{key_total, keys_apart}
 use Rattle.zeb_register.specs.declared.registers.Place.{Place}
-use Rattle.zeb_register.specs.declared.registers.Posting.{Posting}
-use Rattle.zeb_register.specs.Content.{Content, IsRising, posting_at, posting_cmp, IsChangedAt}
+use Rattle.zeb_register.specs.Content.{Content, IsRising, posting_at, posting_cmp, IsChangedAt, Posting}
 use Rattle.zeb_register.proofs.RisingLists.{told_by}
 use Rattle.zeb_register.proofs.ContentChanges.{changed_at, change_is}
 use Rattle.zeb_engine.specs.PrivateChangedKeys.{occurrence_at, IsReposted}

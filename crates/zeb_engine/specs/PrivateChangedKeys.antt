@@ -9,8 +9,7 @@ use Rattle.zeb_extract.specs.declared.keys.Key.{Key}
 use Rattle.zeb_extract.specs.declared.keys.Occurrence.{Occurrence}
 use Rattle.zeb_extract.specs.Order.{key_order}
 use Rattle.zeb_register.specs.declared.registers.Place.{Place}
-use Rattle.zeb_register.specs.declared.registers.Posting.{Posting}
-use Rattle.zeb_register.specs.Content.{Content, IsRising, IsStorablePosting, place_cmp, posting_at}
+use Rattle.zeb_register.specs.Content.{Content, IsRising, IsStorablePosting, place_cmp, posting_at, Posting}
 use Rattle.zeb_engine.specs.declared.changed_keys.ChangedKey.{ChangedKey}
 
 abbrev pub occurrence_at : Key → Place → Occurrence

@@ -13,7 +13,7 @@ use Rattle.sqlite_value.proofs.OrderLemmas.{row_cmp_total, value_cmp-Int}
 use Rattle.zeb_extract.specs.declared.keys.Key.{Key}
 use Rattle.zeb_profile.specs.declared.Register.{Register}
 use Rattle.zeb_profile.specs.declared.Register.TheVariants.{Word, Phrase, Number}
-use Rattle.zeb_register.specs.declared.registers.Posting.{Posting}
+use Rattle.zeb_blocks.specs.declared.postings.Posting.{Posting}
 use Rattle.zeb_register.specs.Sql.{IsListOf}
 use Rattle.zeb_register.specs.Store.{postings_tree, IsRest}
 use Rattle.zeb_register.proofs.RisingLists.{same_list}

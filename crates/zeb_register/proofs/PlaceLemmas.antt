@@ -15,7 +15,7 @@ use Rattle.sqlite_rules.proofs.ProbeLemmas.{has_mapped, mapped_has}
 use Rattle.sqlite_value.proofs.OrderLemmas.{value_cmp-Int}
 use Rattle.zeb_extract.specs.declared.keys.Key.{Key}
 use Rattle.zeb_register.specs.declared.registers.Place.{Place}
-use Rattle.zeb_register.specs.declared.registers.Posting.{Posting}
+use Rattle.zeb_blocks.specs.declared.postings.Posting.{Posting}
 use Rattle.zeb_register.specs.Sql.{HasRow, KeepsOthers, IsKeyed, Loses, IsListOf}
 use Rattle.zeb_register.specs.RowStatements.{Gains, place_key}
 use Rattle.zeb_register.specs.Store.{postings_tree, IsRest, Changes, blocks_tree, dict_tree, databases_tree, records_tree, TakesDatabase, IsRecordIn, IsPostingIn}

@@ -6,18 +6,16 @@ use Rattle.std.specs.declared.cmp.Ordering.{Ordering}
 use Rattle.std.specs.Ordering.{nat_cmp, ordering_then}
 use Rattle.sqlite.specs.State.{State}
 use Rattle.sqlite_rules.specs.Lists.{Has}
+pub use Rattle.zeb_blocks.specs.declared.postings.Posting.{Posting}
+pub use Rattle.zeb_blocks.specs.Order.{posting_cmp}
 use Rattle.zeb_extract.specs.declared.keys.Key.{Key}
 use Rattle.zeb_extract.specs.declared.keys.Occurrence.{Occurrence}
 use Rattle.zeb_register.specs.declared.registers.Place.{Place}
-use Rattle.zeb_register.specs.declared.registers.Posting.{Posting}
 use Rattle.zeb_register.specs.Sql.{Loses}
 use Rattle.zeb_register.specs.Store.{IsStore, meta_tree, databases_tree, records_tree, TakesDatabase, IsRecordIn, IsPostingIn, postings_tree, blocks_tree, dict_tree}
 
 abbrev pub Content : Type 0
 Content = ℤ → Key → List Posting
-
-abbrev pub posting_cmp : Posting → Posting → Ordering
-posting_cmp p q = ordering_then (nat_cmp p.sysno q.sysno) (ordering_then (nat_cmp p.seq q.seq) (nat_cmp p.pos q.pos))
 
 abbrev pub place_cmp : Place → Place → Ordering
 place_cmp p q = ordering_then (nat_cmp p.seq q.seq) (nat_cmp p.pos q.pos)

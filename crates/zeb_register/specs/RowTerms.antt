@@ -8,7 +8,7 @@ use Rattle.sqlite.specs.Order.{Row, column}
 use Rattle.sqlite.specs.Tree.{Trees}
 use Rattle.sqlite.specs.State.{State, IsUnchanged}
 use Rattle.sqlite_rules.specs.Lists.{Has}
-use Rattle.zeb_register.specs.declared.registers.Posting.{Posting}
+use Rattle.zeb_blocks.specs.declared.postings.Posting.{Posting}
 use Rattle.zeb_register.specs.declared.registers.TermCount.{TermCount}
 use Rattle.zeb_register.specs.Sql.{HasRow}
 use Rattle.zeb_register.specs.Store.{IsStore, postings_tree, key_of}

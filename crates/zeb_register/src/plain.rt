@@ -17,7 +17,7 @@ ghost use Rattle.zeb_register.specs.Calls.{GoesOn, OnlyReads, Alters, Inside, Re
 ghost use Rattle.zeb_register.specs.Occurring.{key_in};
 
 use crate::dropping::database_drop_whole;
-use crate::registers::{Layout, Place, Posting, TermCount, Totals, Work};
+use crate::registers::{Layout, Place, TermCount, Totals, Work};
 use crate::statements::postings::{
     nothing_of, place_rows, places_lift, posting_put, posting_rows, register_rows,
 };
@@ -26,6 +26,7 @@ use crate::values::{read, stored};
 use crate::{DatabaseId, RegFault};
 use sqlite::{Alter, Connection, Row, Transaction};
 use std::alloc::Global;
+use zeb_blocks::Posting;
 use zeb_extract::Key;
 use zeb_profile::Register;
 

@@ -13,20 +13,13 @@ ghost use Rattle.zeb_register.specs.Store.{KeepsRegisters, LacksRegisters};
 use crate::{DatabaseId, RegFault};
 use sqlite::{Alter, Connection, Transaction};
 use std::alloc::Global;
+use zeb_blocks::Posting;
 use zeb_extract::{Key, Term};
 use zeb_profile::Register;
 
 /// A place of a record at which a key stands: the number of the unit, and the number of the word or number in it. Both are 1 to `2^63 - 1`.
 #[derive(Clone, Copy, Debug, PartialEq, Eq)]
 pub struct Place {
-    pub seq: u64,
-    pub pos: u64,
-}
-
-/// A place of a key in a database: the record's system number, 1 to 999,999,999, and the place in that record.
-#[derive(Clone, Copy, Debug, PartialEq, Eq)]
-pub struct Posting {
-    pub sysno: u64,
     pub seq: u64,
     pub pos: u64,
 }
@@ -57,7 +50,8 @@ pub struct Work {
 
 /// A way to keep the registers of all databases in tables.
 ///
-/// What the registers hold is, for each database and each key, a rising list of postings.
+/// What the registers hold is, for each database and each key, a rising list of postings. The system numbers of records are 1 to
+/// 999,999,999.
 pub trait Layout {
     ghost use Rattle.std.specs.Prelude.{List, ℕ};
     ghost use Rattle.std.specs.List.Sorted.{IsStrictlySortedBy};
@@ -67,7 +61,7 @@ pub trait Layout {
     ghost use Rattle.zeb_register.specs.Content.{Content, IsChangedAt, ArePlacesOf, IsStorable, place_cmp, posted, IsWithout, TakesWhole};
     ghost use Rattle.zeb_register.specs.Occurring.{AreTermsOf, AreTermsFrom, AreTermsBefore, AreTotals};
     ghost use Rattle.zeb_register.specs.Tallies.{Works, ReadsTerms};
-    ghost use Rattle.zeb_register.specs.declared.registers.Posting.{Posting};
+    ghost use Rattle.zeb_blocks.specs.declared.postings.Posting.{Posting};
 
     /// In which format the tables keep the registers.
     ghost format: { Format };

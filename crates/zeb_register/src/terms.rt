@@ -15,12 +15,13 @@ ghost use Rattle.zeb_register.specs.RowTerms.{IsInRecord, IsShown, ShowsOccurren
 ghost use Rattle.zeb_register.specs.RowTerms.{IsLeastTerm, IsGreatestTerm};
 
 use crate::plain::{code_of, postings_under};
-use crate::registers::{Posting, TermCount};
+use crate::registers::TermCount;
 use crate::statements::postings::{rows_before, rows_from};
 use crate::values::read;
 use crate::{DatabaseId, RegFault};
 use sqlite::{Alter, Connection, Row};
 use std::alloc::{AllocError, Global};
+use zeb_blocks::Posting;
 use zeb_extract::Term;
 use zeb_profile::Register;
 

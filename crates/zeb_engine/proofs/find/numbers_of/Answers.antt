@@ -1,5 +1,5 @@
 use Rattle.std.proofs.Common.{rules, ◌≡◌, map}
-use Rattle.zeb_register.specs.declared.registers.Posting.{Posting}
+use Rattle.zeb_register.specs.Content.{Posting}
 use Rattle.zeb_engine.proofs.Numbers.{numbers_from_dedup}
 use Rattle.zeb_engine.proofs.find.numbers_of.Goals as goal
 
