@@ -28,7 +28,9 @@ pub mod ContentChanges
 pub mod CountLemmas
 pub mod TermLists
 pub mod OccurringLemmas
+pub mod TermsAmong
 pub mod TermRows
+pub mod PackedLemmas
 pub mod PlaceLemmas
 pub mod RecordLemmas
 pub mod Refusals

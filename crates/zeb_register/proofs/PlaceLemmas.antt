@@ -269,7 +269,7 @@ int_row [] is = absurd cc
 int_row (Int id ∷ columns) is = (id, columns, refl)
 int_row (v ∷ columns) is = absurd cc
 
-none_left : (P : Row → Type 0) (tree : ℕ) (old new : Trees) → IsKeyed (new tree) → Loses P tree old new → old tree ≡ [] → new tree ≡ []
+pub none_left : (P : Row → Type 0) (tree : ℕ) (old new : Trees) → IsKeyed (new tree) → Loses P tree old new → old tree ≡ [] → new tree ≡ []
 none_left P tree old new keyed lost none = at (new tree) refl
   where
     at : (rows : List Row) → new tree ≡ rows → new tree ≡ []

@@ -1,10 +1,10 @@
 -- Rows of a register as the terms of a content.
-use Rattle.std.proofs.Common.{◌≡◌, ◌≢◌, ◌↔◌, ◌⊎◌, ◌∙◌, ◌<◌, ◌≤◌, ◌+◌, ℕ, ℤ, pos, negsuc, zero, suc, Bool, true, false, List, [], ◌∷◌, ◌++◌, length, map, filter, take, drop, get_or, refl, sym, ap, ap₂, subst, inl, inr, Ordering, Less, Equal, Greater, nat_cmp, arith, Option, Some, None, String, string_bytes, IsUtf8}
+use Rattle.std.proofs.Common.{◌≡◌, ◌≢◌, ◌↔◌, ◌⊎◌, ◌∙◌, ◌<◌, ◌≤◌, ◌+◌, ℕ, ℤ, pos, negsuc, zero, suc, true, false, List, [], ◌∷◌, ◌++◌, length, map, take, drop, get_or, refl, sym, ap, ap₂, subst, inl, inr, Ordering, Less, Equal, Greater, nat_cmp, arith, Option, Some, None, String, string_bytes, IsUtf8}
 use Rattle.std.proofs.lemmas.List.{take_more}
 use Rattle.std.specs.List.{slice_set}
 use Rattle.std.specs.Ordering.{is_lt, ordering_then}
 use Rattle.std.specs.Cmp.{nat_cmp_total}
-use Rattle.std.specs.Cmp.Lexicographic.{slice_cmp, nat_list_cmp_total}
+use Rattle.std.specs.Cmp.Lexicographic.{slice_cmp}
 use Rattle.std.specs.List.Sorted.{IsStrictlySortedBy}
 use Rattle.std.specs.declared.alloc.Global.{Global}
 use Rattle.sqlite.specs.declared.types.Value.{Value}
@@ -12,7 +12,7 @@ use Rattle.sqlite.specs.declared.types.Value.TheVariants.{Null, Int, Real, Text,
 use Rattle.sqlite.specs.Order.{Row, column, value_cmp, row_cmp}
 use Rattle.sqlite.specs.Tree.{Trees}
 use Rattle.sqlite_rules.specs.Lists.{Has}
-use Rattle.sqlite_rules.proofs.ListLemmas.{has_filtered, has_kept, has_left, has_right, has_either}
+use Rattle.sqlite_rules.proofs.ListLemmas.{has_left, has_right, has_either}
 use Rattle.sqlite_rules.proofs.ProbeLemmas.{has_mapped, mapped_has}
 use Rattle.sqlite_value.proofs.OrderLemmas.{row_cmp_total, value_cmp-Int, value_cmp-Text}
 use Rattle.zeb_profile.specs.declared.Register.{Register}
@@ -22,15 +22,16 @@ use Rattle.zeb_register.specs.Sql.{HasRow, IsListOf}
 use Rattle.zeb_register.specs.Store.{postings_tree, key_of, IsRest}
 use Rattle.zeb_register.specs.Content.{Content, IsStorable, posted, posting_cmp}
 use Rattle.zeb_register.specs.PlainRows.{HoldsRows, posting_row, code_of_register}
-use Rattle.zeb_register.specs.Occurring.{IsCount, AreCounts, AreSpotsOf, AreTermsOf, HasSpot, Spot, TermIn, key_in, spot_cmp, term_cmp}
-use Rattle.zeb_register.specs.RowTerms.{IsInRecord, IsTerm, term_with, HasTerm, ShowsOccurrence, IsOccurrenceRow, IsShown, ShowsTerm, IsTermRow, ShowsLeast, ShowsGreatest, IsLeastTerm, IsGreatestTerm}
-use Rattle.zeb_register.proofs.RisingLists.{front_rises, before_last, kept_rises, with_all, all_there, all_rise}
+use Rattle.zeb_register.specs.Occurring.{IsCount, AreCounts, AreSpotsOf, AreTermsOf, HasSpot, Spot, TermIn, key_in, spot_cmp}
+use Rattle.zeb_register.specs.RowTerms.{IsInRecord, IsTerm, HasTerm, ShowsOccurrence, IsOccurrenceRow, IsShown, ShowsTerm, IsTermRow, ShowsLeast, ShowsGreatest, IsLeastTerm, IsGreatestTerm}
+use Rattle.zeb_register.proofs.RisingLists.{front_rises, before_last}
 use Rattle.zeb_register.proofs.RowLemmas.{same_bytes}
 use Rattle.zeb_register.proofs.Scans.{strictly_mapped}
 use Rattle.zeb_register.proofs.ContentChanges.{numbers_apart}
 use Rattle.zeb_register.proofs.ContentLemmas.{ints_order, same_key}
 use Rattle.zeb_register.proofs.CountLemmas.{IsNewest, is_less, counts_so, count_so, count_more, counted_none, newest_is, above_newest, newest_stays}
 use Rattle.zeb_register.proofs.OccurringLemmas.{key_posted}
+use Rattle.zeb_register.proofs.TermsAmong.{terms_among}
 
 -- ---- rows one after the other
 
@@ -252,68 +253,11 @@ module _ (trees : Trees) (content : Content) (db : ℤ) (index : ℕ) (register 
   unfolding text_at text_of
   text_is id term rest = refl
 
-  has_some : List Posting → Bool
-  has_some [] = false
-  has_some (p ∷ ps) = true
-
-  some_is : (ps : List Posting) → has_some ps ≡ true → (p : Posting) × Has ps p
-  unfolding has_some
-  some_is [] h = absurd (cc)
-  some_is (p ∷ ps) h = (p, inl refl)
-
-  is_some : (ps : List Posting) (p : Posting) → Has ps p → has_some ps ≡ true
-  unfolding has_some
-  is_some [] p h = absurd h
-  is_some (q ∷ ps) p h = refl
-
-  texts : List (List ℕ)
-  texts = filter (λ t. has_some (list_of t)) (with_all nat_list_cmp_total same_bytes (map text_at (trees 7)) [])
-
-  numbers_of : List Posting → List ℕ
-  numbers_of ps = with_all nat_cmp_total numbers_apart (map (λ (p : Posting). p.sysno) ps) []
-
-  numbers_count : (ps : List Posting) → IsCount (IsInRecord ps) (length (numbers_of ps))
-  unfolding numbers_of IsStrictlySortedBy
-  numbers_count ps = record {
-    numbers = with_all nat_cmp_total numbers_apart (map (λ (p : Posting). p.sysno) ps) [];
-    rising = all_rise nat_cmp_total numbers_apart (map (λ (p : Posting). p.sysno) ps) [] tt;
-    each = λ n. let there = all_there nat_cmp_total numbers_apart (map (λ (p : Posting). p.sysno) ps) [] n in (
-      λ h. elim (there.0 h) [ inl none ↦ absurd none | inr put ↦ let p = has_mapped (λ (p : Posting). p.sysno) ps n put in (p.0, p.1, sym p.2) ],
-      λ h. there.1 (inr (subst (Has (map (λ (p : Posting). p.sysno) ps)) h.2 (mapped_has (λ (p : Posting). p.sysno) ps h.0 h.1))),
-    );
-    count_is = refl;
-  }
-
-  counted : List ℕ → TermCount
-  counted t = term_with t (length (numbers_of (list_of t)))
-
   pub held_terms : (terms : List TermCount) × AreTermsOf (posted content db) index register terms
-  unfolding texts counted IsStrictlySortedBy
-  held_terms = (map counted texts, record { rising = rises; found = there; some = back; counts = count })
-    where
-      rises : IsStrictlySortedBy term_cmp (map counted texts)
-      rises = strictly_mapped (slice_cmp nat_cmp) term_cmp counted texts (λ a b here there less. less) (kept_rises nat_list_cmp_total (λ t. has_some (list_of t)) (with_all nat_list_cmp_total same_bytes (map text_at (trees 7)) []) (all_rise nat_list_cmp_total same_bytes (map text_at (trees 7)) [] tt))
-
-      there : (term : List ℕ) (n : ℕ) → term_in term n → (t : TermCount) × Has (map counted texts) t × (t.term ≡ term)
-      there term n in_it =
-          let p = (key_posted content db (key_in index register term) n).0 in_it in
-          let row = term_there term (n, in_it) in
-          let whole = Int row.1.0 ∷ key_of db (pos index) (pos (code_of_register register)) term ++ row.0 in
-          let listed_text : Has (map text_at (trees 7)) term = subst (Has (map text_at (trees 7))) (text_is row.1.0 term row.0) (mapped_has text_at (trees 7) whole row.1.1) in
-          let here = has_kept (λ t. has_some (list_of t)) (with_all nat_list_cmp_total same_bytes (map text_at (trees 7)) []) term ((all_there nat_list_cmp_total same_bytes (map text_at (trees 7)) [] term).1 (inr listed_text)) (is_some (list_of term) p.0 p.1) in
-          (counted term, mapped_has counted texts term here, refl)
-
-      back : (t : TermCount) → Has (map counted texts) t → (n : ℕ) × term_in t.term n
-      back t h =
-          let u = has_mapped counted texts t h in
-          let passes = (has_filtered (λ t. has_some (list_of t)) (with_all nat_list_cmp_total same_bytes (map text_at (trees 7)) []) u.0 u.1).1 in
-          let p = some_is (list_of u.0) passes in
-          subst (λ (x : List ℕ). (n : ℕ) × term_in x n) (sym (ap (λ (x : TermCount). x.term) u.2)) (p.0.sysno, (key_posted content db (key_in index register u.0) p.0.sysno).1 (p.0, p.1, refl))
-
-      count : (t : TermCount) → Has (map counted texts) t → IsCount (term_in t.term) t.records
-      count t h =
-          let u = has_mapped counted texts t h in
-          subst (λ (x : TermCount). IsCount (term_in x.term) x.records) (sym u.2) (count_so (IsInRecord (list_of u.0)) (term_in u.0) (length (numbers_of (list_of u.0))) (λ n. ((key_posted content db (key_in index register u.0) n).1, (key_posted content db (key_in index register u.0) n).0)) (numbers_count (list_of u.0)))
+  held_terms = terms_among content db index register (map text_at (trees postings_tree)) (λ term n in_it.
+      let row = term_there term (n, in_it) in
+      let whole = Int row.1.0 ∷ key_of db (pos index) (pos (code_of_register register)) term ++ row.0 in
+      subst (Has (map text_at (trees postings_tree))) (text_is row.1.0 term row.0) (mapped_has text_at (trees postings_tree) whole row.1.1))
 
   -- ---- the term next to a text
   abbrev here_has : List ℕ → Type 0

@@ -9,6 +9,7 @@ pub mod Content
 pub mod Occurring
 pub mod Tallies
 pub mod PlainRows
+pub mod PackedBlocks
 pub mod RowStatements
 pub mod RowTerms
 pub mod RowPlaces
