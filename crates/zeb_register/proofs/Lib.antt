@@ -8,6 +8,7 @@ pub mod Writes
 pub mod FirstRows
 pub mod Selects
 pub mod Prefix
+pub mod Falling
 pub mod CreateTable
 pub mod TableStatements
 pub mod CallsInTurn
@@ -19,6 +20,7 @@ pub mod RecordStatements
 pub mod RowsAreLists
 pub mod PostingStatements
 pub mod TermStatements
+pub mod PackedStatements
 pub mod WipeStatements
 pub mod LookUps
 pub mod FormatLemmas
@@ -31,6 +33,8 @@ pub mod OccurringLemmas
 pub mod TermsAmong
 pub mod TermRows
 pub mod PackedLemmas
+pub mod PackedLists
+pub mod PackedTerms
 pub mod PlaceLemmas
 pub mod RecordLemmas
 pub mod Refusals

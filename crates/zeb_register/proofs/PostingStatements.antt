@@ -46,10 +46,10 @@ takes db old new count store ran =
 
 -- ---- the same of the tables of packed registers
 
-abbrev blocks : Table
+abbrev pub blocks : Table
 blocks = record blocks_table { tree = 9 }
 
-blocks_static : IsPlainTable store_schema 4 blocks
+pub blocks_static : IsPlainTable store_schema 4 blocks
 blocks_static = record { there = refl; whole = refl; free = λ olds news. refl; uncounted = refl; unstamped = refl }
 
 abbrev pub blocks_text : List ℕ
@@ -69,10 +69,10 @@ takes_blocks db old new count store ran =
     loses store_schema 9 old new (Int db ∷ []) wheres (IsPostingIn db) (λ id columns. (λ m. m.0, λ p. (p, tt)))
     (deletes store_schema 4 blocks blocks_static blocks_text (Int db ∷ []) wheres blocks_is blocks_plain refl old new count store ran)
 
-abbrev dict : Table
+abbrev pub dict : Table
 dict = record dict_table { tree = 11 }
 
-dict_static : IsPlainTable store_schema 5 dict
+pub dict_static : IsPlainTable store_schema 5 dict
 dict_static = record { there = refl; whole = refl; free = λ olds news. refl; uncounted = refl; unstamped = refl }
 
 abbrev pub dict_text : List ℕ

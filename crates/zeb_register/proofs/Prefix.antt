@@ -59,7 +59,7 @@ columns_after (w ∷ front) x n is = later_columns w (front ++ x) (length front)
 abbrev pub IsAfter : List Row → Row → Row → List Condition → Row → Type 0
 IsAfter rows key rest more x = (id : ℤ) × Has rows (Int id ∷ (key ++ x)) × MeetsAll (key ++ rest) (Int id ∷ (key ++ x)) more
 
-after_key : (rows : List Row) (key rest : Row) (more : List Condition) (n : ℕ) (x : Row) → ((r : Row) → Has rows r → (is_int (rowid r) ≡ true) × (length r ≡ suc (length key + n)))
+pub after_key : (rows : List Row) (key rest : Row) (more : List Condition) (n : ℕ) (x : Row) → ((r : Row) → Has rows r → (is_int (rowid r) ≡ true) × (length r ≡ suc (length key + n)))
     → IsSelected rows (keyed_from 1 0 (length key) ++ more) (key ++ rest) (range_with_len (suc (length key)) n) x ↔ IsAfter rows key rest more x
 after_key rows key rest more n x known = (
   λ h. found h.0 h.1 h.2 h.3,

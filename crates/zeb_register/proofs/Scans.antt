@@ -134,6 +134,27 @@ module _ (db : List Row) (wheres : List Condition) (project : List Term) (keys :
         subst (Has all_shown) (sym is.3) (mapped_has (λ (k : Output). k.1) h.ordered (one is.0) (in_order is.0 is.1 is.2)),
   )
 
+  -- where no two rows that pass tie in ORDER BY, what is shown is in an order that follows ORDER BY
+  pub shows_sorted : (S : Row → Row → Ordering) → IsTable db
+      → ((r s : Row) → Has db r → Has db s → passes wheres params r ≡ true → passes wheres params s ≡ true → value_cmp (rowid r) (rowid s) ≡ Less → output_cmp (reading_by 0 wheres project keys limit) (one r) (one s) ≢ Equal)
+      → ((r s : Row) → output_cmp (reading_by 0 wheres project keys limit) (one r) (one s) ≡ Less → S (eval_all project (params ∷ r ∷ [])) (eval_all project (params ∷ s ∷ [])) ≡ Less) → IsStrictlySortedBy S all_shown
+  shows_sorted S up apart follows =
+      let R = output_cmp (reading_by 0 wheres project keys limit) in
+      let total = output_cmp_total (reading_by 0 wheres project keys limit) in
+      let kept = filter (passes wheres params) db in
+      let distinct = distinct_mapped (λ a b. value_cmp (rowid a) (rowid b) ≡ Less) (eq_by_cmp R) one kept (λ a b here there lower.
+      let r = has_filtered (passes wheres params) db a here in
+      let s = has_filtered (passes wheres params) db b there in
+      elim (cases_Bool (eq_by_cmp R (one a) (one b))) [
+        | inl ties ↦ absurd (apart a b r.0 s.0 r.1 s.1 lower (tied (R (one a) (one b)) ties))
+        | inr other ↦ other
+      ]) (ascending_filter (λ a b. value_cmp (rowid a) (rowid b) ≡ Less) (passes wheres params) db up) in
+      let apart_now = IsDistinct-IsPermutation (eq_by_cmp R) (eq_by_cmp_equiv total).symm (map one kept) h.ordered h.same distinct in
+      strictly_mapped R S (λ (o : Output). o.1) h.ordered (λ a b here there lower.
+      let r = origin a here in
+      let s = origin b there in
+      rw (r.3, s.3) (follows r.0 s.0 (rw (r.3, s.3) at lower))) (strictly R total h.ordered h.sorted apart_now)
+
 -- the rows rise where ORDER BY does
 module _ (db : List Row) (wheres : List Condition) (project : List Term) (order : List ℕ) (limit : Term) (params : Row) (rows : List Row) (h : IsReading db wheres project (rising order) limit params rows) where
   abbrev row_of : Row → Output
@@ -146,18 +167,4 @@ module _ (db : List Row) (wheres : List Condition) (project : List Term) (order 
   pub shows_rising : IsTable db → ((r s : Row) → Has db r → Has db s → passes wheres params r ≡ true → passes wheres params s ≡ true → value_cmp (rowid r) (rowid s) ≡ Less → ordering order r s ≢ Equal)
       → ((r s : Row) → ordering order r s ≡ Less → row_cmp (eval_all project (params ∷ r ∷ [])) (eval_all project (params ∷ s ∷ [])) ≡ Less) → IsStrictlySortedBy row_cmp (all_shown db wheres project (rising order) limit params rows h)
   shows_rising up apart rises =
-      let R = output_cmp (reading 0 wheres project order limit) in
-      let total = output_cmp_total (reading 0 wheres project order limit) in
-      let kept = filter (passes wheres params) db in
-      let distinct = distinct_mapped (λ a b. value_cmp (rowid a) (rowid b) ≡ Less) (eq_by_cmp R) row_of kept (λ a b here there lower.
-      let r = has_filtered (passes wheres params) db a here in
-      let s = has_filtered (passes wheres params) db b there in
-      elim (cases_Bool (eq_by_cmp R (row_of a) (row_of b))) [
-        | inl ties ↦ absurd (apart a b r.0 s.0 r.1 s.1 lower (sym (ordered_by a b) ∙ tied (R (row_of a) (row_of b)) ties))
-        | inr other ↦ other
-      ]) (ascending_filter (λ a b. value_cmp (rowid a) (rowid b) ≡ Less) (passes wheres params) db up) in
-      let apart_now = IsDistinct-IsPermutation (eq_by_cmp R) (eq_by_cmp_equiv total).symm (map row_of kept) h.ordered h.same distinct in
-      strictly_mapped R row_cmp (λ (o : Output). o.1) h.ordered (λ a b here there lower.
-      let r = origin db wheres project (rising order) limit params rows h a here in
-      let s = origin db wheres project (rising order) limit params rows h b there in
-      rw (r.3, s.3) (rises r.0 s.0 (sym (ordered_by r.0 s.0) ∙ rw (r.3, s.3) at lower))) (strictly R total h.ordered h.sorted apart_now)
+      shows_sorted db wheres project (rising order) limit params rows h row_cmp up (λ r s here there p q lower tie. apart r s here there p q lower (sym (ordered_by r s) ∙ tie)) (λ r s lower. rises r s (sym (ordered_by r s) ∙ lower))

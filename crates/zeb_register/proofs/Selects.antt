@@ -22,7 +22,7 @@ use Rattle.zeb_register.proofs.RowLemmas.{covered_some, ordering_tied, shares_al
 use Rattle.zeb_register.proofs.Scans.{reads, shows_each, shows_rising, all_shown}
 use Rattle.zeb_register.proofs.Writes.{keyed_there, codes_there, meets_there}
 
-shown_places : (params r : Row) (show : List ℕ) → eval_all (shows show) (params ∷ r ∷ []) ≡ map (column r) show
+pub shown_places : (params r : Row) (show : List ℕ) → eval_all (shows show) (params ∷ r ∷ []) ≡ map (column r) show
 shown_places params r [] = refl
 shown_places params r (place ∷ show) = ap (λ vs. column r place ∷ vs) (shown_places params r show)
 

@@ -13,4 +13,5 @@ pub mod PackedBlocks
 pub mod RowStatements
 pub mod RowTerms
 pub mod RowPlaces
+pub mod PackedRows
 pub mod Formats

@@ -28,12 +28,14 @@ dict_row db key records = key_row db key ++ Int (pos records) ∷ []
 -- the row of a key and a block in which it has a posting: its bytes spell the postings of the key there
 abbrev pub IsBlockRow : Content → Row → Type 0
 IsBlockRow content row =
-    (db : ℤ) × (key : Key) × (block : ℕ) × (bytes : List ℕ) × BlockSpells block (part_in block (content db key)) bytes × (row ≡ block_row db key block bytes)
+    (db : ℤ) × (key : Key) × (block : ℕ) × (bytes : List ℕ)
+    × BlockSpells block (part_in block (content db key)) bytes × (row ≡ block_row db key block bytes)
 
 -- the row of a key that has a posting: it counts the records that have the key
 abbrev pub IsDictRow : Content → Row → Type 0
 IsDictRow content row =
-    (db : ℤ) × (key : Key) × (records : ℕ) × (content db key ≢ []) × IsCount (HasKey (posted content db) key) records × (row ≡ dict_row db key records)
+    (db : ℤ) × (key : Key) × (records : ℕ)
+    × (content db key ≢ []) × IsCount (HasKey (posted content db) key) records × (row ≡ dict_row db key records)
 
 -- The tables of the registers hold the content: a row of `blocks` for each key and each block in which it has a posting, a row of `dict`
 -- for each key that has one, and no other, and no row of `postings`. No number of a posting is 0 or needs more than 64 bits.

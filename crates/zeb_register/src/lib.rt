@@ -13,6 +13,7 @@ mod kept;
 mod lists;
 mod meta;
 mod occurring;
+mod packed;
 mod plain;
 mod registers;
 mod statements;

@@ -1,0 +1,175 @@
+//! Registers packed in blocks: a row of `blocks` for each block of a key's postings, and a row of `dict` for each key.
+
+ghost use Rattle.std.specs.Prelude.{◌≡◌, ◌^◌, ◌<◌, ◌++◌, List, length, map, take, IfOk, OnOk, FitsSigned};
+ghost use Rattle.std.specs.Int.{w64};
+ghost use Rattle.sqlite.specs.Held.{state};
+ghost use Rattle.sqlite.specs.State.{HasCleanDisk, IsUnchanged};
+ghost use Rattle.sqlite.specs.Order.{Row as Columns};
+ghost use Rattle.sqlite.specs.declared.types.Value.TheVariants.{Int};
+ghost use Rattle.sqlite_rules.specs.Lists.{Has};
+ghost use Rattle.sqlite_sql.specs.Query.{as_count, limited};
+ghost use Rattle.zeb_register.specs.Calls.{Reading};
+ghost use Rattle.zeb_register.specs.Content.{Content, IsStorable, posted};
+ghost use Rattle.zeb_register.specs.Occurring.{AreTermsBefore, AreTermsFrom, AreTermsOf, key_in};
+ghost use Rattle.zeb_register.specs.PackedBlocks.{HoldsBlocks};
+ghost use Rattle.zeb_register.specs.PackedRows.{AreSpelled, IsCountRow, SpellsPart, count_row};
+ghost use Rattle.zeb_register.specs.RowPlaces.{first_two};
+ghost use Rattle.zeb_register.specs.Store.{IsStore};
+
+use crate::plain::code_of;
+use crate::registers::TermCount;
+use crate::statements::packed::{block_rows, dict_rows, dict_rows_before, dict_rows_from};
+use crate::values::read;
+use crate::{DatabaseId, RegFault};
+use sqlite::{Alter, Connection, Row};
+use std::alloc::Global;
+use zeb_blocks::{Posting, Postings};
+use zeb_extract::Term;
+use zeb_profile::Register;
+
+/// The postings of a term, rising. `Damaged` where a row of its blocks spells none.
+pub(crate) fn postings_packed<S: Alter>(
+    alloc: Global,
+    conn: &mut Connection<S>,
+    db: DatabaseId,
+    index: u32,
+    register: Register,
+    term: &str,
+) -> Result<Vec<Posting>, RegFault>
+    ensures call { Reading (state S.Store conn.old) (state S.Store conn.new) result (λ _. IsUnchanged) }
+    ensures value { HasCleanDisk (state S.Store conn.new) → IsStore (state S.Store conn.old)
+        → IfOk result (λ list. (content : Content) → HoldsBlocks (state S.Store conn.old).now.trees content
+        → list.items ≡ content db.0 (key_in index register term.now)) }
+    ensures honest { HasCleanDisk (state S.Store conn.new) → IsStore (state S.Store conn.old) → result ≡ Err RegFault.Damaged
+        → (content : Content) → ¬ HoldsBlocks (state S.Store conn.old).now.trees content }
+{
+    let rows = block_rows(conn, db.column(), index, code_of(register), term)?;
+    postings_in(alloc, &rows)
+}
+
+/// The postings that blocks spell, one block behind the other.
+fn postings_in(alloc: Global, rows: &[Row]) -> Result<Vec<Posting>, RegFault>
+    ensures ok { IfOk result (λ list. AreSpelled rows.now list.items) }
+    ensures honest { result ≡ Err RegFault.Damaged → (list : List _) → ¬ AreSpelled rows.now list }
+{
+    let mut postings = Vec::new(alloc);
+    for row in rows {
+        add_part(&mut postings, row)?;
+    }
+    Ok(postings)
+}
+
+/// Puts the postings that a row's block spells behind those before it.
+fn add_part(postings: &mut Vec<Posting>, row: &Row) -> Result<(), RegFault>
+    ensures ok { OnOk result ((part : List _) × SpellsPart row.now part × (postings.new.items ≡ postings.old.items ++ part)) }
+    ensures honest { result ≡ Err RegFault.Damaged → (part : List _) → ¬ SpellsPart row.now part }
+{
+    let block: u64 = read(row, 0)?;
+    let bytes: Vec<u8> = read(row, 1)?;
+    let Ok(part) = Postings::read(block, &bytes) else {
+        return Err(RegFault::Damaged);
+    };
+    for posting in part {
+        postings.push(posting)?;
+    }
+    Ok(())
+}
+
+/// The terms of a register that have a posting, in the order of their bytes.
+pub(crate) fn terms_packed<S: Alter>(
+    alloc: Global,
+    conn: &mut Connection<S>,
+    db: DatabaseId,
+    index: u32,
+    register: Register,
+) -> Result<Vec<TermCount>, RegFault>
+    ensures call { Reading (state S.Store conn.old) (state S.Store conn.new) result (λ _. IsUnchanged) }
+    ensures value { HasCleanDisk (state S.Store conn.new) → IsStore (state S.Store conn.old)
+        → IfOk result (λ list. (content : Content) → HoldsBlocks (state S.Store conn.old).now.trees content
+        → AreTermsOf (posted content db.0) index register list.items) }
+    ensures honest { HasCleanDisk (state S.Store conn.new) → IsStore (state S.Store conn.old) → result ≡ Err RegFault.Damaged
+        → (content : Content) → IsStorable content → ¬ HoldsBlocks (state S.Store conn.old).now.trees content }
+{
+    let rows = dict_rows(conn, db.column(), index, code_of(register))?;
+    counts_in(alloc, &rows)
+}
+
+/// The first `n` of these terms that are not below `start`, in the order of their bytes.
+pub(crate) fn terms_packed_from<S: Alter>(
+    alloc: Global,
+    conn: &mut Connection<S>,
+    db: DatabaseId,
+    index: u32,
+    register: Register,
+    start: &str,
+    n: u64,
+) -> Result<Vec<TermCount>, RegFault>
+    ensures call { Reading (state S.Store conn.old) (state S.Store conn.new) result (λ _. IsUnchanged) }
+    ensures value { HasCleanDisk (state S.Store conn.new) → IsStore (state S.Store conn.old)
+        → IfOk result (λ list. (content : Content) → HoldsBlocks (state S.Store conn.old).now.trees content
+        → AreTermsFrom (posted content db.0) index register start.now n list.items) }
+    ensures honest { HasCleanDisk (state S.Store conn.new) → IsStore (state S.Store conn.old) → result ≡ Err RegFault.Damaged
+        → (content : Content) → IsStorable content → ¬ HoldsBlocks (state S.Store conn.old).now.trees content }
+{
+    let limit = limit_of(n);
+    let rows = dict_rows_from(conn, db.column(), index, code_of(register), start, limit)?;
+    counts_in(alloc, &rows)
+}
+
+/// The last `n` of these terms that are below `start`, in the order of their bytes.
+pub(crate) fn terms_packed_before<S: Alter>(
+    alloc: Global,
+    conn: &mut Connection<S>,
+    db: DatabaseId,
+    index: u32,
+    register: Register,
+    start: &str,
+    n: u64,
+) -> Result<Vec<TermCount>, RegFault>
+    ensures call { Reading (state S.Store conn.old) (state S.Store conn.new) result (λ _. IsUnchanged) }
+    ensures value { HasCleanDisk (state S.Store conn.new) → IsStore (state S.Store conn.old)
+        → IfOk result (λ list. (content : Content) → HoldsBlocks (state S.Store conn.old).now.trees content
+        → AreTermsBefore (posted content db.0) index register start.now n list.items) }
+    ensures honest { HasCleanDisk (state S.Store conn.new) → IsStore (state S.Store conn.old) → result ≡ Err RegFault.Damaged
+        → (content : Content) → IsStorable content → ¬ HoldsBlocks (state S.Store conn.old).now.trees content }
+{
+    let limit = limit_of(n);
+    let rows = dict_rows_before(conn, db.column(), index, code_of(register), start, limit)?;
+    let mut counts = counts_in(alloc, &rows)?;
+    counts.reverse();
+    Ok(counts)
+}
+
+/// How many rows a statement gives at most: a number that no column stores, and no list has, is no limit, as -1 says.
+fn limit_of(n: u64) -> i64
+    ensures fits { FitsSigned w64 result }
+    ensures limit { (rows all : List Columns) → rows ≡ limited (as_count (Int result)) all → length rows < 2 ^ 63 → rows ≡ take n all }
+{
+    i64::try_from(n).unwrap_or(-1)
+}
+
+/// The terms that rows show, each with the number of its records.
+fn counts_in(alloc: Global, rows: &[Row]) -> Result<Vec<TermCount>, RegFault>
+    ensures ok { IfOk result (λ list. map count_row list.items ≡ map first_two rows.now) }
+    ensures few { length rows.now < 2 ^ 63 }
+    ensures honest { result ≡ Err RegFault.Damaged → ¬ ((row : _) → Has rows.now row → IsCountRow row) }
+{
+    let mut counts = Vec::new(alloc);
+    for row in rows {
+        counts.push(count_of(row)?)?;
+    }
+    Ok(counts)
+}
+
+/// The term that a row shows, with the number of its records.
+fn count_of(row: &Row) -> Result<TermCount, RegFault>
+    ensures ok { IfOk result (λ t. count_row t ≡ first_two row.now) }
+    ensures honest { result ≡ Err RegFault.Damaged → ¬ IsCountRow row.now }
+{
+    let term: String = read(row, 0)?;
+    let records: u64 = read(row, 1)?;
+    Ok(TermCount {
+        term: Term::new(term),
+        records,
+    })
+}
