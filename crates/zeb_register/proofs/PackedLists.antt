@@ -1,5 +1,8 @@
 -- Rows of a key's blocks as its list of postings.
 use Rattle.std.proofs.Common.{◌≡◌, ◌∙◌, ◌<◌, ◌+◌, ◌/◌, ℕ, ℤ, pos, negsuc, List, [], ◌∷◌, ◌++◌, length, take, get_or, refl, sym, ap, ap₂, subst, inl, inr, Ordering, Less, Equal, Greater, nat_cmp, arith}
+use Rattle.std.specs.Prelude.{◌≢◌, ◌==◌, if◌then◌else◌, Bool}
+use Rattle.std.proofs.lemmas.Bool.{eq-eqb}
+use Rattle.std.proofs.lemmas.Bool.Decides.{eqb_tells}
 use Rattle.std.proofs.lemmas.List.{take_more, append_assoc, append-nil}
 use Rattle.std.specs.Ordering.{ordering_then}
 use Rattle.std.specs.List.Sorted.{IsStrictlySortedBy}
@@ -14,7 +17,7 @@ use Rattle.zeb_blocks.specs.declared.postings.Posting.{Posting}
 use Rattle.zeb_blocks.specs.Blocks.{BlockSpells, spelled_from, start_of}
 use Rattle.zeb_extract.specs.declared.keys.Key.{Key}
 use Rattle.zeb_register.specs.Content.{Content, posting_cmp}
-use Rattle.zeb_register.specs.PackedBlocks.{HoldsBlocks, part_in}
+use Rattle.zeb_register.specs.PackedBlocks.{HoldsBlocks, blocks_of, part_in}
 use Rattle.zeb_register.specs.PackedRows.{AreSpelled, SpellsPart}
 use Rattle.zeb_register.specs.PlainRows.{key_row}
 use Rattle.zeb_register.specs.Sql.{IsListOf}
@@ -22,7 +25,7 @@ use Rattle.zeb_register.specs.Store.{IsRest, blocks_tree}
 use Rattle.zeb_register.proofs.ContentChanges.{posting_total}
 use Rattle.zeb_register.proofs.ContentLemmas.{ints_order, told_apart}
 use Rattle.zeb_register.proofs.CountLemmas.{is_less}
-use Rattle.zeb_register.proofs.PackedLemmas.{block_spells, block_there, in_part, one_spelled, part_in_block, part_in_list}
+use Rattle.zeb_register.proofs.PackedLemmas.{block_spells, block_there, in_part, not_empty, one_spelled, part_in_block, part_in_list}
 use Rattle.zeb_register.proofs.RisingLists.{joined_rises, never_itself, same_list}
 
 -- ---- rows that spell lists
@@ -151,6 +154,41 @@ module _ (list : List Posting) where
       let two : q.sysno / 256 ≡ block_at later.0 = part_in_block (block_at later.0) list q later.2 in
       posting_lower p q (omega (arith, low, one, two)))
 
+-- ---- how many rows a list has
+
+abbrev one_unless : Bool → ℕ
+one_unless b = if b then 0 else 1
+
+same_block : (p q : Posting) → p.sysno / 256 ≡ q.sysno / 256 → one_unless (p.sysno / 256 == q.sysno / 256) ≡ 0
+same_block p q is = ap one_unless (eq-eqb (p.sysno / 256) (q.sysno / 256) is)
+
+other_block : (p q : Posting) → p.sysno / 256 ≢ q.sysno / 256 → one_unless (p.sysno / 256 == q.sysno / 256) ≡ 1
+other_block p q differ = elim (eqb_tells (p.sysno / 256) (q.sysno / 256)) [ inl yes' ↦ absurd (differ yes'.1) | inr no' ↦ ap one_unless no'.0 ]
+
+-- the postings of one block before those of others
+one_more_block : (block : ℕ) (part rest : List Posting) → part ≢ [] → ((p : Posting) → Has part p → p.sysno / 256 ≡ block) → ((q : Posting) → Has rest q → q.sysno / 256 ≢ block)
+    → blocks_of (part ++ rest) ≡ blocks_of rest + 1
+one_more_block block [] rest some inside outside = absurd (some refl)
+one_more_block block (p ∷ []) [] some inside outside = refl
+one_more_block block (p ∷ []) (q ∷ rest) some inside outside =
+    omega (arith, other_block p q (λ same. outside q (inl refl) (sym same ∙ inside p (inl refl))))
+one_more_block block (p ∷ q ∷ part) rest some inside outside =
+    omega (arith, same_block p q (inside p (inl refl) ∙ sym (inside q (inr (inl refl)))), one_more_block block (q ∷ part) rest (λ none. not_empty (q ∷ part) q (inl refl) none) (λ r h. inside r (inr h)) outside)
+
+gathered_blocks : (list : List Posting) (rows : List Row) → ((row : Row) → Has rows row → IsKeyRow list row) → IsStrictlySortedBy row_cmp rows → length rows ≡ blocks_of (gathered list rows)
+unfolding gathered IsStrictlySortedBy
+gathered_blocks list [] known up = refl
+gathered_blocks list (row ∷ rows) known up =
+    let it = known row (inl refl) in
+    let part = part_in (block_at row) list in
+    let some : part ≢ [] = λ none. it.3.some (ap (λ (k : ℕ). part_in k list) (sym (block_is list row it)) ∙ none) in
+    let more = one_more_block (block_at row) part (gathered list rows) some (part_in_block (block_at row) list) (λ q there same.
+    let later = gathered_from list rows q there in
+    let low = lower_block list row later.0 it (known later.0 (inr later.1)) (all_has (λ r. row_cmp row r ≡ Less) rows later.0 up.0 later.1) in
+    let at : q.sysno / 256 ≡ block_at later.0 = part_in_block (block_at later.0) list q later.2 in
+    absurd (omega (arith, low, at, same))) in
+    omega (arith, more, gathered_blocks list rows (λ r h. known r (inr h)) up.1)
+
 module _ (trees : Trees) (content : Content) (db : ℤ) (key : Key) (holds : HoldsBlocks trees content) (rows : List Row) (are : IsListOf (IsRest blocks_tree (key_row db key) trees) rows) where
   abbrev list : List Posting
   list = content db key
@@ -178,3 +216,7 @@ module _ (trees : Trees) (content : Content) (db : ℤ) (key : Key) (holds : Hol
 
   pub key_read : (found : List Posting) → AreSpelled rows found → found ≡ list
   key_read found spelled = one_spelled_list rows found list spelled key_spelled
+
+  -- there are as many of them as the list has blocks
+  pub key_blocks : (found : List Posting) → AreSpelled rows found → length rows ≡ blocks_of found
+  key_blocks found spelled = gathered_blocks list rows known are.rising ∙ ap blocks_of (gathered_is ∙ sym (key_read found spelled))

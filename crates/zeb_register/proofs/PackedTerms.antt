@@ -23,6 +23,7 @@ use Rattle.zeb_register.specs.PlainRows.{code_of_register}
 use Rattle.zeb_register.specs.RowPlaces.{first_two}
 use Rattle.zeb_register.specs.Sql.{IsListOf}
 use Rattle.zeb_register.specs.Store.{IsRest, dict_tree}
+use Rattle.zeb_register.specs.Tallies.{Rises, RisesUpTo}
 use Rattle.zeb_register.proofs.ContentLemmas.{one_list, same_key}
 use Rattle.zeb_register.proofs.CountLemmas.{one_count, term_total}
 use Rattle.zeb_register.proofs.OccurringLemmas.{key_posted}
@@ -95,6 +96,15 @@ has_taken (suc n) (y ∷ xs) x (inr later) = inr (has_taken n xs x later)
 pub first_has : {X : Type 0} (limit : Option ℕ) (xs : List X) (x : X) → Has (limited limit xs) x → Has xs x
 first_has None xs x h = h
 first_has (Some n) xs x h = has_taken n xs x h
+
+pub taken_few : {X : Type 0} (n : ℕ) (xs : List X) → length (take n xs) ≤ n
+taken_few zero xs = omega arith
+taken_few (suc n) [] = omega arith
+taken_few (suc n) (x ∷ xs) = omega (arith, taken_few n xs)
+
+pub rises_up_to : (by most old new : ℕ) → Rises by old new → by ≤ most → old ≤ new → RisesUpTo most old new
+rises_up_to by most old new (inl is) few more = (more, omega (arith, is, few))
+rises_up_to by most old new (inr full) few more = (more, omega (arith, full.0, full.1, few))
 
 -- ---- rows that fall
 

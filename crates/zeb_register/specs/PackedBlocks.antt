@@ -1,5 +1,5 @@
 -- Version 2, the layout with packed blocks: which rows hold a content. Such tables and blocks are this project's own.
-use Rattle.std.specs.Prelude.{◌≡◌, ◌≢◌, ◌↔◌, ◌/◌, ◌==◌, ℕ, ℤ, pos, List, [], ◌∷◌, ◌++◌, filter}
+use Rattle.std.specs.Prelude.{◌≡◌, ◌≢◌, ◌↔◌, ◌+◌, ◌/◌, ◌==◌, if◌then◌else◌, ℕ, ℤ, pos, List, [], ◌∷◌, ◌++◌, filter}
 use Rattle.sqlite.specs.declared.types.Value.TheVariants.{Int, Blob}
 use Rattle.sqlite.specs.Order.{Row}
 use Rattle.sqlite.specs.Tree.{Trees}
@@ -45,3 +45,9 @@ pub record HoldsBlocks (trees : Trees) (content : Content) : Type 0 where
   pub blocks : (row : Row) → HasRow trees blocks_tree row ↔ IsBlockRow content row
   pub dict : (row : Row) → HasRow trees dict_tree row ↔ IsDictRow content row
   pub alone : trees postings_tree ≡ []
+
+-- how many rows of `blocks` a rising list has: one, and one more wherever the next posting lies in another block
+abbrev pub blocks_of : List Posting → ℕ
+blocks_of [] = 0
+blocks_of (p ∷ []) = 1
+blocks_of (p ∷ q ∷ list) = (if p.sysno / 256 == q.sysno / 256 then 0 else 1) + blocks_of (q ∷ list)

@@ -1,6 +1,6 @@
 //! Registers packed in blocks: a row of `blocks` for each block of a key's postings, and a row of `dict` for each key.
 
-ghost use Rattle.std.specs.Prelude.{◌≡◌, ◌^◌, ◌<◌, ◌++◌, List, length, map, take, IfOk, OnOk, FitsSigned};
+ghost use Rattle.std.specs.Prelude.{◌≡◌, ◌^◌, ◌<◌, ◌≤◌, ◌++◌, List, length, map, take, IfOk, OnOk, FitsSigned};
 ghost use Rattle.std.specs.Int.{w64};
 ghost use Rattle.sqlite.specs.Held.{state};
 ghost use Rattle.sqlite.specs.State.{HasCleanDisk, IsUnchanged};
@@ -11,13 +11,14 @@ ghost use Rattle.sqlite_sql.specs.Query.{as_count, limited};
 ghost use Rattle.zeb_register.specs.Calls.{Reading};
 ghost use Rattle.zeb_register.specs.Content.{Content, IsStorable, posted};
 ghost use Rattle.zeb_register.specs.Occurring.{AreTermsBefore, AreTermsFrom, AreTermsOf, key_in};
-ghost use Rattle.zeb_register.specs.PackedBlocks.{HoldsBlocks};
+ghost use Rattle.zeb_register.specs.PackedBlocks.{HoldsBlocks, blocks_of};
 ghost use Rattle.zeb_register.specs.PackedRows.{AreSpelled, IsCountRow, SpellsPart, count_row};
 ghost use Rattle.zeb_register.specs.RowPlaces.{first_two};
 ghost use Rattle.zeb_register.specs.Store.{IsStore};
+ghost use Rattle.zeb_register.specs.Tallies.{ReadsTerms, Rises, Works};
 
 use crate::plain::code_of;
-use crate::registers::TermCount;
+use crate::registers::{TermCount, Work};
 use crate::statements::packed::{block_rows, dict_rows, dict_rows_before, dict_rows_from};
 use crate::values::read;
 use crate::{DatabaseId, RegFault};
@@ -27,10 +28,11 @@ use zeb_blocks::{Posting, Postings};
 use zeb_extract::Term;
 use zeb_profile::Register;
 
-/// The postings of a term, rising. `Damaged` where a row of its blocks spells none.
+/// The postings of a term, rising. `Damaged` where a row of its blocks spells none. `work` counts these rows.
 pub(crate) fn postings_packed<S: Alter>(
     alloc: Global,
     conn: &mut Connection<S>,
+    work: &mut Work,
     db: DatabaseId,
     index: u32,
     register: Register,
@@ -42,9 +44,22 @@ pub(crate) fn postings_packed<S: Alter>(
         → list.items ≡ content db.0 (key_in index register term.now)) }
     ensures honest { HasCleanDisk (state S.Store conn.new) → IsStore (state S.Store conn.old) → result ≡ Err RegFault.Damaged
         → (content : Content) → ¬ HoldsBlocks (state S.Store conn.old).now.trees content }
+    ensures work { HasCleanDisk (state S.Store conn.new) → IsStore (state S.Store conn.old)
+        → IfOk result (λ list. (content : Content) → HoldsBlocks (state S.Store conn.old).now.trees content
+        → Works 0 0 (blocks_of list.items) 0 work.old work.new) }
 {
     let rows = block_rows(conn, db.column(), index, code_of(register), term)?;
-    postings_in(alloc, &rows)
+    let list = postings_in(alloc, &rows)?;
+    work.block_read = counted(work.block_read, rows.len());
+    Ok(list)
+}
+
+/// A count with so many rows more; it stays at its greatest value.
+fn counted(count: u64, rows: usize) -> u64
+    ensures rises { Rises rows count result }
+    ensures keeps { count ≤ result }
+{
+    count.saturating_add(rows as u64)
 }
 
 /// The postings that blocks spell, one block behind the other.
@@ -75,10 +90,11 @@ fn add_part(postings: &mut Vec<Posting>, row: &Row) -> Result<(), RegFault>
     Ok(())
 }
 
-/// The terms of a register that have a posting, in the order of their bytes.
+/// The terms of a register that have a posting, in the order of their bytes. `work` counts their rows, as below.
 pub(crate) fn terms_packed<S: Alter>(
     alloc: Global,
     conn: &mut Connection<S>,
+    work: &mut Work,
     db: DatabaseId,
     index: u32,
     register: Register,
@@ -89,15 +105,19 @@ pub(crate) fn terms_packed<S: Alter>(
         → AreTermsOf (posted content db.0) index register list.items) }
     ensures honest { HasCleanDisk (state S.Store conn.new) → IsStore (state S.Store conn.old) → result ≡ Err RegFault.Damaged
         → (content : Content) → IsStorable content → ¬ HoldsBlocks (state S.Store conn.old).now.trees content }
+    ensures work { IfOk result (λ list. Works (length list.items) 0 0 0 work.old work.new) }
 {
     let rows = dict_rows(conn, db.column(), index, code_of(register))?;
-    counts_in(alloc, &rows)
+    let counts = counts_in(alloc, &rows)?;
+    work.dict_read = counted(work.dict_read, counts.len());
+    Ok(counts)
 }
 
 /// The first `n` of these terms that are not below `start`, in the order of their bytes.
 pub(crate) fn terms_packed_from<S: Alter>(
     alloc: Global,
     conn: &mut Connection<S>,
+    work: &mut Work,
     db: DatabaseId,
     index: u32,
     register: Register,
@@ -110,16 +130,21 @@ pub(crate) fn terms_packed_from<S: Alter>(
         → AreTermsFrom (posted content db.0) index register start.now n list.items) }
     ensures honest { HasCleanDisk (state S.Store conn.new) → IsStore (state S.Store conn.old) → result ≡ Err RegFault.Damaged
         → (content : Content) → IsStorable content → ¬ HoldsBlocks (state S.Store conn.old).now.trees content }
+    ensures work { HasCleanDisk (state S.Store conn.new) → IsStore (state S.Store conn.old)
+        → OnOk result (ReadsTerms n work.old work.new) }
 {
     let limit = limit_of(n);
     let rows = dict_rows_from(conn, db.column(), index, code_of(register), start, limit)?;
-    counts_in(alloc, &rows)
+    let counts = counts_in(alloc, &rows)?;
+    work.dict_read = counted(work.dict_read, rows.len());
+    Ok(counts)
 }
 
 /// The last `n` of these terms that are below `start`, in the order of their bytes.
 pub(crate) fn terms_packed_before<S: Alter>(
     alloc: Global,
     conn: &mut Connection<S>,
+    work: &mut Work,
     db: DatabaseId,
     index: u32,
     register: Register,
@@ -132,10 +157,13 @@ pub(crate) fn terms_packed_before<S: Alter>(
         → AreTermsBefore (posted content db.0) index register start.now n list.items) }
     ensures honest { HasCleanDisk (state S.Store conn.new) → IsStore (state S.Store conn.old) → result ≡ Err RegFault.Damaged
         → (content : Content) → IsStorable content → ¬ HoldsBlocks (state S.Store conn.old).now.trees content }
+    ensures work { HasCleanDisk (state S.Store conn.new) → IsStore (state S.Store conn.old)
+        → OnOk result (ReadsTerms n work.old work.new) }
 {
     let limit = limit_of(n);
     let rows = dict_rows_before(conn, db.column(), index, code_of(register), start, limit)?;
     let mut counts = counts_in(alloc, &rows)?;
+    work.dict_read = counted(work.dict_read, rows.len());
     counts.reverse();
     Ok(counts)
 }

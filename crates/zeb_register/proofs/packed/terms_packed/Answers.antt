@@ -1,6 +1,5 @@
-use Rattle.std.proofs.Common.{◌≡◌, ◌∙◌, ap, pos, map, subst, w64, to_z, of_z, [], ◌∷◌}
+use Rattle.std.proofs.Common.{rules, ◌≡◌, ◌∙◌, ap, pos, map, subst, w64, to_z, of_z, [], ◌∷◌}
 use Rattle.std.proofs.Math.Facts.{to_z-of_z}
-use Rattle.std.proofs.lemmas.Result.{IfOk-weaker}
 use Rattle.sqlite.specs.Held.{state}
 use Rattle.sqlite.specs.declared.types.Value.TheVariants.{Int}
 use Rattle.sqlite_rules.specs.Lists.{Has}
@@ -22,10 +21,10 @@ returns-clause-value g c clean store =
     let held : IsListOf (IsRest dict_tree (register_front c.args.db.0 c.args.index c.args.register) trees) items =
     subst (λ r. IsListOf (IsRest dict_tree (Int c.args.db.0 ∷ Int (pos c.args.index) ∷ Int r ∷ []) trees) items) code
     (subst (λ d. IsListOf (IsRest dict_tree (Int d ∷ Int (pos c.args.index) ∷ Int (to_z w64 (of_z w64 c.code_of.result)) ∷ []) trees) items) known raw) in
-    IfOk-weaker c.counts_in.result _ _ (λ list shown content holds. terms_read trees content c.args.db.0 c.args.index c.args.register holds items list.items held (shown ∙ ap (map first_two) c.deref.ensures.value)) c.counts_in.ensures.ok
+    λ content holds. terms_read trees content c.args.db.0 c.args.index c.args.register holds items c.in_ok-counts.counts.items held (c.in_ok-counts.ensures.ok ∙ ap (map first_two) c.deref.ensures.value)
 
-pub returns-clause-honest : goal.returns-clause-honest
-returns-clause-honest g c clean store is content texts holds =
+pub returns-in_err-counts-clause-honest : goal.returns-in_err-counts-clause-honest
+returns-in_err-counts-clause-honest g c clean store is content texts holds =
     let trees = (state g.S.Store c.args.conn.now).now.trees in
     let items = c.in_ok-rows.rows.items in
     let known : to_z w64 (of_z w64 c.column.result) ≡ c.args.db.0 = to_z-of_z {w = w64} {z = c.column.result} c.column.ensures.fits ∙ c.column.ensures.value in
@@ -34,4 +33,4 @@ returns-clause-honest g c clean store is content texts holds =
     let held : IsListOf (IsRest dict_tree (register_front c.args.db.0 c.args.index c.args.register) trees) items =
     subst (λ r. IsListOf (IsRest dict_tree (Int c.args.db.0 ∷ Int (pos c.args.index) ∷ Int r ∷ []) trees) items) code
     (subst (λ d. IsListOf (IsRest dict_tree (Int d ∷ Int (pos c.args.index) ∷ Int (to_z w64 (of_z w64 c.code_of.result)) ∷ []) trees) items) known raw) in
-    c.counts_in.ensures.honest is (λ row here. rows_counted trees content c.args.db.0 c.args.index c.args.register holds texts row ((held.each row).0 (subst (λ l. Has l row) c.deref.ensures.value here)))
+    c.in_err-counts.ensures.honest (search rules) (λ row here. rows_counted trees content c.args.db.0 c.args.index c.args.register holds texts row ((held.each row).0 (subst (λ l. Has l row) c.deref.ensures.value here)))

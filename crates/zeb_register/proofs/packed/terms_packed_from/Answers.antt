@@ -1,7 +1,8 @@
-use Rattle.std.proofs.Common.{◌≡◌, ◌∙◌, ◌<◌, ◌^◌, ap, pos, map, take, length, subst, w64, to_z, of_z, [], ◌∷◌}
+use Rattle.std.proofs.Common.{sym, List, ◌≤◌, refl, rules, ◌≡◌, ◌∙◌, ◌<◌, ◌^◌, ap, pos, map, take, length, subst, w64, to_z, of_z, [], ◌∷◌}
 use Rattle.std.proofs.Math.Facts.{to_z-of_z}
-use Rattle.std.proofs.lemmas.Result.{IfOk-weaker}
 use Rattle.sqlite.specs.Held.{state}
+use Rattle.sqlite.specs.Order.{Row}
+use Rattle.zeb_register.specs.Tallies.{Rises}
 use Rattle.sqlite.specs.declared.types.Value.TheVariants.{Int}
 use Rattle.sqlite_sql.specs.Query.{as_count, limited}
 use Rattle.sqlite_rules.specs.Lists.{Has}
@@ -10,7 +11,7 @@ use Rattle.zeb_register.specs.Store.{dict_tree}
 use Rattle.zeb_register.specs.PackedRows.{IsRestFrom}
 use Rattle.zeb_register.specs.PlainRows.{code_of_register}
 use Rattle.zeb_register.specs.RowPlaces.{first_two}
-use Rattle.zeb_register.proofs.PackedTerms.{first_has, from_read, rows_counted}
+use Rattle.zeb_register.proofs.PackedTerms.{first_has, from_read, rises_up_to, rows_counted, taken_few}
 use Rattle.zeb_register.proofs.TermRows.{register_front}
 use Rattle.zeb_register.proofs.packed.terms_packed_from.Goals as goal
 
@@ -28,10 +29,10 @@ returns-clause-value g c clean store =
     let limit : to_z w64 (of_z w64 c.limit_of-limit.result) ≡ c.limit_of-limit.result = to_z-of_z {w = w64} {z = c.limit_of-limit.result} c.limit_of-limit.ensures.fits in
     let cut : items ≡ limited (as_count (Int c.limit_of-limit.result)) raw.0 = subst (λ z. items ≡ limited (as_count (Int z)) raw.0) limit raw.2 in
     let first : items ≡ take c.args.n raw.0 = c.limit_of-limit.ensures.limit items raw.0 cut (subst (λ l. length l < 2 ^ 63) c.deref.ensures.value c.counts_in.ensures.few) in
-    IfOk-weaker c.counts_in.result _ _ (λ list shown content holds. from_read trees content c.args.db.0 c.args.index c.args.register holds start c.args.n items raw.0 list.items held first (shown ∙ ap (map first_two) c.deref.ensures.value)) c.counts_in.ensures.ok
+    λ content holds. from_read trees content c.args.db.0 c.args.index c.args.register holds start c.args.n items raw.0 c.in_ok-counts.counts.items held first (c.in_ok-counts.ensures.ok ∙ ap (map first_two) c.deref.ensures.value)
 
-pub returns-clause-honest : goal.returns-clause-honest
-returns-clause-honest g c clean store is content texts holds =
+pub returns-in_err-counts-clause-honest : goal.returns-in_err-counts-clause-honest
+returns-in_err-counts-clause-honest g c clean store is content texts holds =
     let trees = (state g.S.Store c.args.conn.now).now.trees in
     let items = c.in_ok-rows.rows.items in
     let start = c.args.start.now in
@@ -43,4 +44,16 @@ returns-clause-honest g c clean store is content texts holds =
     (subst (λ d. IsListOf (IsRestFrom dict_tree (Int d ∷ Int (pos c.args.index) ∷ Int (to_z w64 (of_z w64 c.code_of.result)) ∷ []) start trees) raw.0) known raw.1) in
     let limit : to_z w64 (of_z w64 c.limit_of-limit.result) ≡ c.limit_of-limit.result = to_z-of_z {w = w64} {z = c.limit_of-limit.result} c.limit_of-limit.ensures.fits in
     let cut : items ≡ limited (as_count (Int c.limit_of-limit.result)) raw.0 = subst (λ z. items ≡ limited (as_count (Int z)) raw.0) limit raw.2 in
-    c.counts_in.ensures.honest is (λ row here. rows_counted trees content c.args.db.0 c.args.index c.args.register holds texts row ((held.each row).0 (first_has (as_count (Int c.limit_of-limit.result)) raw.0 row (subst (λ l. Has l row) (c.deref.ensures.value ∙ cut) here))).0)
+    c.in_err-counts.ensures.honest (search rules) (λ row here. rows_counted trees content c.args.db.0 c.args.index c.args.register holds texts row ((held.each row).0 (first_has (as_count (Int c.limit_of-limit.result)) raw.0 row (subst (λ l. Has l row) (c.deref.ensures.value ∙ cut) here))).0)
+
+pub returns-clause-work : goal.returns-clause-work
+returns-clause-work g c clean store =
+    let items = c.in_ok-rows.rows.items in
+    let count = c.args.work.now.dict_read in
+    let raw = (c.in_ok-rows.ensures.call.ok clean).1 store in
+    let limit : to_z w64 (of_z w64 c.limit_of-limit.result) ≡ c.limit_of-limit.result = to_z-of_z {w = w64} {z = c.limit_of-limit.result} c.limit_of-limit.ensures.fits in
+    let cut : items ≡ limited (as_count (Int c.limit_of-limit.result)) raw.0 = subst (λ z. items ≡ limited (as_count (Int z)) raw.0) limit raw.2 in
+    let first : items ≡ take c.args.n raw.0 = c.limit_of-limit.ensures.limit items raw.0 cut (subst (λ l. length l < 2 ^ 63) c.deref.ensures.value c.counts_in.ensures.few) in
+    let few : length items ≤ c.args.n = subst (λ (l : List Row). length l ≤ c.args.n) (sym first) (taken_few c.args.n raw.0) in
+    let counted : Rises (length items) count c.counted-work.result = subst (λ k. Rises k count c.counted-work.result) (c.len.ensures ∙ c.in_ok-rows.rows.ok.0) c.counted-work.ensures.rises in
+    record { terms = rises_up_to (length items) c.args.n count c.counted-work.result counted few c.counted-work.ensures.keeps; no_term = refl; no_block = (refl, refl) }
