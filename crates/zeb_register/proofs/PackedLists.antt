@@ -62,6 +62,14 @@ each_spelled [] list are row here = absurd here
 each_spelled (r ∷ rows) list are row (inl same) = (are.0, subst (λ (x : Row). SpellsPart x are.0) (sym same) are.2)
 each_spelled (r ∷ rows) list are row (inr later) = each_spelled rows are.1 are.3 row later
 
+-- where each of them spells a part they spell a list
+pub all_spelled : (rows : List Row) → ((row : Row) → Has rows row → (part : List Posting) × SpellsPart row part) → (list : List Posting) × AreSpelled rows list
+all_spelled [] each = ([], refl)
+all_spelled (row ∷ rows) each =
+    let first = each row (inl refl) in
+    let rest = all_spelled rows (λ r h. each r (inr h)) in
+    (first.0 ++ rest.0, (first.0, rest.0, first.1, rest.1, refl))
+
 take_whole : {X : Type 0} (xs : List X) → take (length xs) xs ≡ xs
 take_whole [] = refl
 take_whole (x ∷ xs) = ap (λ l. x ∷ l) (take_whole xs)

@@ -12,7 +12,7 @@ use Rattle.zeb_blocks.specs.declared.postings.Posting.{Posting}
 use Rattle.zeb_blocks.specs.Blocks.{BlockSpells}
 use Rattle.zeb_register.specs.declared.registers.TermCount.{TermCount}
 use Rattle.zeb_register.specs.Sql.{IsListOf}
-use Rattle.zeb_register.specs.Store.{IsStore, IsRest}
+use Rattle.zeb_register.specs.Store.{IsStore, IsRest, blocks_tree}
 
 -- ---- what statements list
 
@@ -47,6 +47,10 @@ SpellsPart row part = (block : ℕ) × (bytes : List ℕ) × (column row 0 ≡ I
 abbrev pub AreSpelled : List Row → List Posting → Type 0
 AreSpelled [] list = list ≡ []
 AreSpelled (row ∷ rows) list = (part : List Posting) × (rest : List Posting) × SpellsPart row part × AreSpelled rows rest × (list ≡ part ++ rest)
+
+-- each row of `blocks` that begins with these columns spells some postings
+abbrev pub AreAllSpelled : Trees → Row → Type 0
+AreAllSpelled trees front = (row : Row) → IsRest blocks_tree front trees row → (part : List Posting) × SpellsPart row part
 
 -- ---- terms
 

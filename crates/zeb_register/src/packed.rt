@@ -1,6 +1,6 @@
 //! Registers packed in blocks: a row of `blocks` for each block of a key's postings, and a row of `dict` for each key.
 
-ghost use Rattle.std.specs.Prelude.{◌≡◌, ◌^◌, ◌<◌, ◌≤◌, ◌++◌, List, length, map, take, IfOk, OnOk, FitsSigned};
+ghost use Rattle.std.specs.Prelude.{◌≡◌, ◌≢◌, ◌^◌, ◌<◌, ◌≤◌, ◌++◌, List, length, map, take, IfOk, OnOk, FitsSigned};
 ghost use Rattle.std.specs.Int.{w64};
 ghost use Rattle.sqlite.specs.Held.{state};
 ghost use Rattle.sqlite.specs.State.{HasCleanDisk, IsUnchanged};
@@ -12,9 +12,11 @@ ghost use Rattle.zeb_register.specs.Calls.{Reading};
 ghost use Rattle.zeb_register.specs.Content.{Content, IsStorable, posted};
 ghost use Rattle.zeb_register.specs.Occurring.{AreTermsBefore, AreTermsFrom, AreTermsOf, key_in};
 ghost use Rattle.zeb_register.specs.PackedBlocks.{HoldsBlocks, blocks_of};
-ghost use Rattle.zeb_register.specs.PackedRows.{AreSpelled, IsCountRow, SpellsPart, count_row};
+ghost use Rattle.zeb_register.specs.PackedRows.{AreAllSpelled, AreSpelled, IsCountRow, SpellsPart, count_row};
+ghost use Rattle.zeb_register.specs.PlainRows.{key_row};
 ghost use Rattle.zeb_register.specs.RowPlaces.{first_two};
-ghost use Rattle.zeb_register.specs.Store.{IsStore};
+ghost use Rattle.zeb_register.specs.RowStatements.{Lists};
+ghost use Rattle.zeb_register.specs.Store.{IsRest, IsStore, blocks_tree};
 ghost use Rattle.zeb_register.specs.Tallies.{ReadsTerms, Rises, Works};
 
 use crate::plain::code_of;
@@ -28,7 +30,7 @@ use zeb_blocks::{Posting, Postings};
 use zeb_extract::Term;
 use zeb_profile::Register;
 
-/// The postings of a term, rising. `Damaged` where a row of its blocks spells none. `work` counts these rows.
+/// The postings of a term, rising. `Damaged` exactly where a row of its blocks spells none. `work` counts these rows.
 pub(crate) fn postings_packed<S: Alter>(
     alloc: Global,
     conn: &mut Connection<S>,
@@ -44,14 +46,34 @@ pub(crate) fn postings_packed<S: Alter>(
         → list.items ≡ content db.0 (key_in index register term.now)) }
     ensures honest { HasCleanDisk (state S.Store conn.new) → IsStore (state S.Store conn.old) → result ≡ Err RegFault.Damaged
         → (content : Content) → ¬ HoldsBlocks (state S.Store conn.old).now.trees content }
+    ensures spelled { HasCleanDisk (state S.Store conn.new) → IsStore (state S.Store conn.old)
+        → OnOk result (AreAllSpelled (state S.Store conn.old).now.trees (key_row db.0 (key_in index register term.now))) }
+    ensures damaged { HasCleanDisk (state S.Store conn.new) → IsStore (state S.Store conn.old) → result ≡ Err RegFault.Damaged
+        → ¬ AreAllSpelled (state S.Store conn.old).now.trees (key_row db.0 (key_in index register term.now)) }
     ensures work { HasCleanDisk (state S.Store conn.new) → IsStore (state S.Store conn.old)
         → IfOk result (λ list. (content : Content) → HoldsBlocks (state S.Store conn.old).now.trees content
         → Works 0 0 (blocks_of list.items) 0 work.old work.new) }
 {
-    let rows = block_rows(conn, db.column(), index, code_of(register), term)?;
+    let rows = key_rows(conn, db, index, register, term)?;
     let list = postings_in(alloc, &rows)?;
     work.block_read = counted(work.block_read, rows.len());
     Ok(list)
+}
+
+/// The rows of a term's blocks, by the numbers of the blocks.
+fn key_rows<S: Alter>(
+    conn: &mut Connection<S>,
+    db: DatabaseId,
+    index: u32,
+    register: Register,
+    term: &str,
+) -> Result<Vec<Row>, RegFault>
+    ensures call { Reading (state S.Store conn.old) (state S.Store conn.new) result
+        (λ rows a b. Lists (IsRest blocks_tree (key_row db.0 (key_in index register term.now))) a b rows.items) }
+    ensures honest { result ≢ Err RegFault.Damaged }
+{
+    let rows = block_rows(conn, db.column(), index, code_of(register), term)?;
+    Ok(rows)
 }
 
 /// A count with so many rows more; it stays at its greatest value.
