@@ -14,6 +14,7 @@ use zeb_register::Rows;
 mod changes;
 mod databases;
 mod failing_disk;
+mod finds;
 mod limits;
 mod reads;
 mod refused_memory;
@@ -24,6 +25,10 @@ mod versions;
 
 /// Titles by their words, records named by their control number.
 pub const TITLES: &str = "store books.db\nidentifier 001\natt 4 Title\nmelm 245 Title\n";
+
+/// Titles by their words and whole, dates by their numbers, and any words.
+pub const BOOKS: &str =
+    "store books.db\nidentifier 001\natt 4 Title\natt 31 Date\natt 1016 Any\nmelm 245$a Title:w,Title:p\nmelm 245 Title:w\nmelm 260$c Date:n\nall Any\n";
 
 /// A file: what stands in it, one after the other.
 pub type File<'a> = &'a [&'a [u8]];
@@ -39,6 +44,8 @@ pub enum Step<'a> {
     Delete(&'a [File<'a>]),
     Adelete(&'a [File<'a>]),
     Find(&'a str),
+    /// The first of the hits to show, how many, and the query.
+    FindFrom(u32, u32, &'a str),
     /// The database, the number of terms, the start's place among them, and the query that names it.
     Scan(&'a str, u32, u32, &'a str),
     Stat(&'a str),
@@ -79,12 +86,12 @@ fn change(alloc: Global, kind: Kind, all: &[File<'_>]) -> Result<Command, Refusa
     })
 }
 
-fn find(alloc: Global, query: &str) -> Result<Command, Refusal> {
+fn find(alloc: Global, first: u32, count: u32, query: &str) -> Result<Command, Refusal> {
     Ok(Command::Find {
         database: name("Default")?,
         query: String::from_str(alloc, query)?,
-        first: 1,
-        count: 20,
+        first,
+        count,
     })
 }
 
@@ -112,7 +119,8 @@ fn command_of(alloc: Global, step: &Step<'_>) -> Result<Command, Refusal> {
         Step::Update(all) => change(alloc, Kind::Update, all),
         Step::Delete(all) => change(alloc, Kind::Delete, all),
         Step::Adelete(all) => change(alloc, Kind::Adelete, all),
-        Step::Find(query) => find(alloc, query),
+        Step::Find(query) => find(alloc, 1, 20, query),
+        Step::FindFrom(first, count, query) => find(alloc, *first, *count, query),
         Step::Scan(database, number, position, query) => {
             scan(alloc, database, *number, *position, query)
         }
@@ -237,6 +245,11 @@ fn databases_are_made_and_dropped(rt: HostRuntime) -> Result<(), Fail> {
 #[test]
 fn whole_databases_are_read(rt: HostRuntime) -> Result<(), Fail> {
     run_each(&rt, &reads::SCRIPTS)
+}
+
+#[test]
+fn each_attribute_is_answered(rt: HostRuntime) -> Result<(), Fail> {
+    run_each(&rt, &finds::SCRIPTS)
 }
 
 #[test]

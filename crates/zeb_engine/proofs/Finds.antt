@@ -1,5 +1,6 @@
 -- A find, step by step: what a plan holds of by the postings of its key, and that sets of the same occurrences have the same answers.
 use Rattle.std.proofs.Common.{◌≡◌, ◌↔◌, ◌∙◌, ◌-◌, ◌&&◌, ℕ, ℤ, zero, suc, pos, Bool, true, false, if◌then◌else◌, List, [], ◌∷◌, length, take, drop, nat_lt, Option, Some, None, Result, Ok, Err, refl, sym, ap, subst, inl, inr, arith, IsUtf8, string_bytes}
+use Rattle.std.specs.List.{Contains}
 use Rattle.std.specs.Fmt.{decimal}
 use Rattle.sqlite.specs.Tree.{Trees}
 use Rattle.sqlite_rules.specs.Lists.{Has}
@@ -10,23 +11,23 @@ use Rattle.zeb_query.specs.Faults.{Fails, Refusal as PlanRefusal}
 use Rattle.zeb_query.specs.Queries.{QueryValue}
 use Rattle.zeb_query.specs.Reading.{SpellsQuery, query_fault}
 use Rattle.zeb_query.specs.Plans.{PlanValue, plan_of}
-use Rattle.zeb_extract.specs.declared.keys.Key.{Key}
 use Rattle.zeb_extract.specs.declared.keys.Occurrence.{Occurrence}
-use Rattle.zeb_register.specs.Content.{Content, posted, Posting}
+use Rattle.zeb_register.specs.Content.{Content, posted}
 use Rattle.zeb_register.specs.Formats.{Format}
-use Rattle.zeb_register.specs.Occurring.{HasKey}
-use Rattle.zeb_register.specs.RowTerms.{IsInRecord}
-use Rattle.zeb_register.proofs.OccurringLemmas.{key_posted}
 use Rattle.zeb_engine.specs.declared.refusals.Refusal.{Refusal}
-use Rattle.zeb_engine.specs.Alone.{has_ident_in}
-use Rattle.zeb_engine.specs.Answers.{Answer, Why, found, refused, diagnostic, unsupported, why_of}
-use Rattle.zeb_engine.specs.Finding.{AreNumbers, AreShown, IsAnswered, IsFoundBy, IsPlanned, IsShown, TreeHolds, asked_of, has_name, occurs, plan_key}
-use Rattle.zeb_engine.specs.Holdings.{Base, base_named}
+use Rattle.zeb_engine.specs.Answers.{Answer, Why, found, refused, diagnostic, why_of}
+use Rattle.zeb_engine.specs.Finding.{AreShown, IsAnswered, IsNamed, IsPlanned, IsShown, asked_of, has_name, occurs}
+use Rattle.zeb_search.specs.Holds.{TreeHolds}
+use Rattle.zeb_search.specs.Lists.{AreNumbers}
+use Rattle.zeb_search.specs.Registers.{has_ident_in, HasReadableIdents, HoldsIn, is_kept_in}
+use Rattle.zeb_search.proofs.HoldsAlike.{tree_alike}
+use Rattle.zeb_search.proofs.Known.{IsKnown, holder_known}
+use Rattle.zeb_engine.specs.Holdings.{Base, Kept, base_named}
 use Rattle.zeb_engine.specs.Outcomes.{query_refusal}
 use Rattle.zeb_engine.specs.Steps.{FindAnswers}
-use Rattle.zeb_engine.specs.Works.{KeepsEach, Meets, key_or}
+use Rattle.zeb_engine.specs.Works.{KeepsEach, Meets}
 use Rattle.zeb_engine.proofs.Asked.{Ends, said_ends}
-use Rattle.zeb_engine.proofs.Held.{IsHeld, base_numbered, named_as_kept}
+use Rattle.zeb_engine.proofs.Held.{IsHeld, base_numbered, kept_as_named, named_as_kept}
 
 -- ---- sets of the same occurrences
 
@@ -36,45 +37,20 @@ numbers_as P Q so numbers are = record { rising = are.rising; each = λ n. (λ h
 shown_as : (N M : ℕ → List ℕ → Type 0) → ((n : ℕ) (ident : List ℕ) → N n ident → M n ident) → (numbers : List ℕ) (shown : List (ℕ × List ℕ)) → AreShown N numbers shown → AreShown M numbers shown
 shown_as N M so numbers shown are = record { in_order = are.in_order; named = λ hit there. so hit.0 hit.1 (are.named hit there) }
 
-module _ (O P : ℕ → Occurrence → Type 0) (same : (n : ℕ) (o : Occurrence) → O n o ↔ P n o) (N M : ℕ → List ℕ → Type 0) (so : (n : ℕ) (ident : List ℕ) → N n ident → M n ident) where
-  tree_as : (plan : PlanValue) (n : ℕ) → TreeHolds O plan n ↔ TreeHolds P plan n
-  tree_as plan n = (
-    λ h. (h.0, h.1, (h.2.0, (same n h.2.0).0 h.2.1, h.2.2)),
-    λ h. (h.0, h.1, (h.2.0, (same n h.2.0).1 h.2.1, h.2.2)),
-  )
+module _ (O P : ℕ → Occurrence → Type 0) (same : (n : ℕ) (o : Occurrence) → O n o ↔ P n o) (N M : ℕ → List ℕ → Type 0) (so : (n : ℕ) (ident : List ℕ) → N n ident ↔ M n ident) where
+  named_alike : (n : ℕ) → IsNamed O N n ↔ IsNamed P M n
+  named_alike n = (λ h. (h.0, (so n h.0).0 h.1), λ h. (h.0, (so n h.0).1 h.1))
 
   module _ (first count : ℕ) (answer : Answer) where
     told_as : (hits : List ℕ) (asked : Result (List ℕ) Why) → IsShown O N hits asked answer → IsShown P M hits asked answer
-    told_as hits (Ok asked) is = (is.0, shown_as N M so asked is.0 is.1, is.2)
+    told_as hits (Ok asked) is = (is.0, shown_as N M (λ n ident. (so n ident).0) asked is.0 is.1, is.2)
     told_as hits (Err why) is = is
 
-    found_as : (key : Option Key) (plan : PlanValue) → IsFoundBy O N key plan first count answer → IsFoundBy P M key plan first count answer
-    found_as (Some key) plan is = (is.0, numbers_as (TreeHolds O plan) (TreeHolds P plan) (tree_as plan) is.0 is.1, told_as is.0 (asked_of is.0 first count) is.2)
-    found_as None plan is = is
-
     pub planned_as : (plan : Result PlanValue PlanRefusal) → IsPlanned O N plan first count answer → IsPlanned P M plan first count answer
-    planned_as (Ok plan) is = found_as (plan_key plan) plan is
+    planned_as (Ok plan) is =
+        let alike = tree_alike O P same (IsNamed O N) (IsNamed P M) named_alike plan in
+        (is.0, numbers_as (TreeHolds O (IsNamed O N) plan) (TreeHolds P (IsNamed P M) plan) alike is.0 is.1, told_as is.0 (asked_of is.0 first count) is.2)
     planned_as (Err e) is = is
-
--- ---- the postings of a key
-
--- a plan that gave a key has it
-pub key_met : (o : Option Key) (key : Key) → Meets {A = Key} {X = Key} (λ wanted k. k ≡ wanted) (key_or o) (Ok key) → o ≡ Some key
-key_met (Some k) key met = ap Some (sym met)
-key_met None key met = absurd met
-
-pub hits_posted : (content : Content) (db : ℤ) (plan : PlanValue) (key : Key) → plan_key plan ≡ Some key → (postings : List Posting) (numbers : List ℕ) → postings ≡ content db key
-    → AreNumbers (IsInRecord postings) numbers → AreNumbers (TreeHolds (posted content db) plan) numbers
-hits_posted content db plan key sought postings numbers is are = numbers_as (IsInRecord postings) (TreeHolds (posted content db) plan) holds numbers are
-  where
-    holds : (n : ℕ) → IsInRecord postings n ↔ TreeHolds (posted content db) plan n
-    holds n = (
-      λ h. (key, sought, (key_posted content db key n).1 (subst (λ (l : List Posting). IsInRecord l n) is h)),
-      λ h.
-          let both : ◌≡◌ {A = Option Key} (Some h.0) (Some key) = sym h.1 ∙ sought in
-          let one : h.0 ≡ key = cc in
-          subst (λ (l : List Posting). IsInRecord l n) (sym is) ((key_posted content db key n).0 (subst (λ (k : Key). HasKey (posted content db) k n) one h.2)),
-    )
 
 -- ---- those that are asked for
 
@@ -103,15 +79,27 @@ asked_has numbers asked first count said n there =
     has_dropped (first - 1) numbers n (has_taken count (drop (first - 1) numbers) n (subst (λ (l : List ℕ). Has l n) (sym part) there))
 
 module _ (format : Format) (profile : List Directive) (trees : Trees) (id : ℤ) (base : Base) (held : IsHeld format profile trees id base) where
+  abbrev in_tables : ℕ → Type 0
+  in_tables = is_kept_in trees id
+
+  -- who has an occurrence is kept, with the occurrence or without
+  known_kept : (n : ℕ) → IsKnown (posted held.content id) in_tables n → (k : Kept) × Contains base.records k × (k.sysno ≡ n)
+  known_kept n (inl known) = (let of = (held.occurring n known.0).0 known.1 in (of.0, of.1, of.2))
+  known_kept n (inr row) = (let of = (held.kept (pos n) row.0 row.1.0).0 row.1.1 in (of.0, of.1, (let e = of.2 in cc)))
+
   -- the records of the hits are kept
-  pub asked_kept : (plan : PlanValue) (numbers asked : List ℕ) (first count : ℕ) → AreNumbers (TreeHolds (posted held.content id) plan) numbers → asked_of numbers first count ≡ Ok asked → KeepsEach trees id asked
+  pub asked_kept : (plan : PlanValue) (numbers asked : List ℕ) (first count : ℕ) → AreNumbers (HoldsIn trees held.content id plan) numbers → asked_of numbers first count ≡ Ok asked → KeepsEach trees id asked
   asked_kept plan numbers asked first count are said n there =
       let holds = (are.each n).0 (asked_has numbers asked first count said n there) in
-      let of = (held.occurring n holds.2.0).0 holds.2.1 in (
+      let of = known_kept n (holder_known (posted held.content id) in_tables plan n holds) in (
         (of.0.ident, of.0.bytes, (held.kept (pos n) of.0.ident of.0.bytes).1 (of.0, of.1, ap pos (sym of.2), refl, refl)),
         λ ident bytes row. let k = (held.kept (pos n) ident bytes).0 row in subst IsUtf8 (sym k.3) (held.sound.sound k.0 k.1).text,
         (let number = base_numbered profile base held.sound of.0 of.1 in omega (arith, number.1, of.2)),
       )
+
+  -- each identifier in the tables is UTF-8
+  pub idents_readable : HasReadableIdents trees id
+  idents_readable n ident bytes row = (let k = (held.kept (pos n) ident bytes).0 row in subst IsUtf8 (sym k.3) (held.sound.sound k.0 k.1).text)
 
   -- ---- the answers
 
@@ -120,11 +108,14 @@ module _ (format : Format) (profile : List Directive) (trees : Trees) (id : ℤ)
     FindEnds = Ends (FindAnswers profile query first count) name query bases
 
     -- what is answered by the registers is answered by the records' bytes
+    named_alike_kept : (n : ℕ) (ident : List ℕ) → has_ident_in trees id n ident ↔ has_name base.records n ident
+    named_alike_kept n ident = (named_as_kept format profile trees id base held n ident, kept_as_named format profile trees id base held n ident)
+
     planned_ends : (answer : Answer) → IsPlanned (posted held.content id) (has_ident_in trees id) (plan_of profile value) first count answer → FindEnds answer
     planned_ends answer is = said_ends (FindAnswers profile query first count) name query bases sound base named answer (
       value,
       spells,
-      planned_as (posted held.content id) (occurs profile base.records) held.occurring (has_ident_in trees id) (has_name base.records) (named_as_kept format profile trees id base held) first count answer (plan_of profile value) is,
+      planned_as (posted held.content id) (occurs profile base.records) held.occurring (has_ident_in trees id) (has_name base.records) named_alike_kept first count answer (plan_of profile value) is,
     )
 
     pub plan_ends : (e : QueryFault) → Fails e (plan_of profile value) → FindEnds (refused (why_of (query_refusal e)))
@@ -133,40 +124,25 @@ module _ (format : Format) (profile : List Directive) (trees : Trees) (id : ℤ)
         let answer = refused (diagnostic number place (string_bytes addinfo)) in
         planned_ends answer (subst (λ r. IsPlanned (posted held.content id) (has_ident_in trees id) r first count answer) (sym said) refl)
 
-    module _ (plan : PlanValue) (planned : plan_of profile value ≡ Ok plan) where
-      by_key : (answer : Answer) → IsFoundBy (posted held.content id) (has_ident_in trees id) (plan_key plan) plan first count answer → FindEnds answer
-      by_key answer is = planned_ends answer (subst (λ r. IsPlanned (posted held.content id) (has_ident_in trees id) r first count answer) (sym planned) is)
+    module _ (plan : PlanValue) (planned : plan_of profile value ≡ Ok plan) (numbers : List ℕ) (are : AreNumbers (HoldsIn trees held.content id plan) numbers) where
+      shown_ends : (answer : Answer) → IsShown (posted held.content id) (has_ident_in trees id) numbers (asked_of numbers first count) answer → FindEnds answer
+      shown_ends answer is = planned_ends answer (subst (λ r. IsPlanned (posted held.content id) (has_ident_in trees id) r first count answer) (sym planned) (numbers, are, is))
 
-      no_key : (why : Why) (o : Option Key) → key_or o ≡ Err why → IsFoundBy (posted held.content id) (has_ident_in trees id) o plan first count (refused why)
-      no_key why (Some key) said = absurd (cc)
-      no_key why None said = (let e : ◌≡◌ {A = Result Key Why} (Err unsupported) (Err why) = said in cc)
+      pub found_ends : (asked : List ℕ) → asked_of numbers first count ≡ Ok asked → (shown : List (ℕ × List ℕ)) → AreShown (has_ident_in trees id) asked shown → FindEnds (found (length numbers) shown)
+      found_ends asked said shown told = shown_ends (found (length numbers) shown)
+          (subst (λ (r : Result (List ℕ) Why). IsShown (posted held.content id) (has_ident_in trees id) numbers r (found (length numbers) shown)) (sym said) (shown, told, refl))
 
-      pub key_ends : (refusal : Refusal) → Meets {A = Key} {X = Key} (λ wanted key. key ≡ wanted) (key_or (plan_key plan)) (Err refusal) → FindEnds (refused (why_of refusal))
-      key_ends refusal met = elim met [
+      pub asked_ends : {X : Type 0} (Good : List ℕ → X → Type 0) (refusal : Refusal) → Meets {X = X} Good (asked_of numbers first count) (Err refusal) → FindEnds (refused (why_of refusal))
+      asked_ends Good refusal met = elim met [
         | inl failed ↦ inr failed
-        | inr said ↦ by_key (refused (why_of refusal)) (no_key (why_of refusal) (plan_key plan) said)
+        | inr said ↦ shown_ends (refused (why_of refusal)) (subst (λ (r : Result (List ℕ) Why). IsShown (posted held.content id) (has_ident_in trees id) numbers r (refused (why_of refusal))) (sym said) refl)
       ]
-
-      module _ (key : Key) (sought : plan_key plan ≡ Some key) (numbers : List ℕ) (are : AreNumbers (TreeHolds (posted held.content id) plan) numbers) where
-        shown_ends : (answer : Answer) → IsShown (posted held.content id) (has_ident_in trees id) numbers (asked_of numbers first count) answer → FindEnds answer
-        shown_ends answer is = by_key answer (subst (λ (o : Option Key). IsFoundBy (posted held.content id) (has_ident_in trees id) o plan first count answer) (sym sought) (numbers, are, is))
-
-        pub found_ends : (asked : List ℕ) → asked_of numbers first count ≡ Ok asked → (shown : List (ℕ × List ℕ)) → AreShown (has_ident_in trees id) asked shown → FindEnds (found (length numbers) shown)
-        found_ends asked said shown told = shown_ends (found (length numbers) shown)
-            (subst (λ (r : Result (List ℕ) Why). IsShown (posted held.content id) (has_ident_in trees id) numbers r (found (length numbers) shown)) (sym said) (shown, told, refl))
-
-        pub asked_ends : {X : Type 0} (Good : List ℕ → X → Type 0) (refusal : Refusal) → Meets {X = X} Good (asked_of numbers first count) (Err refusal) → FindEnds (refused (why_of refusal))
-        asked_ends Good refusal met = elim met [
-          | inl failed ↦ inr failed
-          | inr said ↦ shown_ends (refused (why_of refusal)) (subst (λ (r : Result (List ℕ) Why). IsShown (posted held.content id) (has_ident_in trees id) numbers r (refused (why_of refusal))) (sym said) refl)
-        ]
 
 -- what a find answers of a query with these hits
 pub hits_answered : (O : ℕ → Occurrence → Type 0) (N : ℕ → List ℕ → Type 0) (profile : List Directive) (query : List ℕ) (first count : ℕ) (value : QueryValue) → SpellsQuery query value
-    → (plan : PlanValue) → plan_of profile value ≡ Ok plan → (key : Key) → plan_key plan ≡ Some key → (numbers : List ℕ) → AreNumbers (TreeHolds O plan) numbers
+    → (plan : PlanValue) → plan_of profile value ≡ Ok plan → (numbers : List ℕ) → AreNumbers (TreeHolds O (IsNamed O N) plan) numbers
     → (asked : List ℕ) → asked_of numbers first count ≡ Ok asked → (shown : List (ℕ × List ℕ)) → AreShown N asked shown → IsAnswered O N profile query first count (found (length numbers) shown)
-hits_answered O N profile query first count value spells plan planned key sought numbers are asked said shown told =
+hits_answered O N profile query first count value spells plan planned numbers are asked said shown told =
     let answer = found (length numbers) shown in
     let shows : IsShown O N numbers (asked_of numbers first count) answer = subst (λ (r : Result (List ℕ) Why). IsShown O N numbers r answer) (sym said) (shown, told, refl) in
-    let by : IsFoundBy O N (plan_key plan) plan first count answer = subst (λ (o : Option Key). IsFoundBy O N o plan first count answer) (sym sought) (numbers, are, shows) in
-    (value, spells, subst (λ r. IsPlanned O N r first count answer) (sym planned) by)
+    (value, spells, subst (λ r. IsPlanned O N r first count answer) (sym planned) (numbers, are, shows))

@@ -14,7 +14,7 @@ use Rattle.zeb_register.specs.declared.catalog.Database.{Database}
 use Rattle.zeb_register.specs.Content.{Content, IsStorable, posted}
 use Rattle.zeb_register.specs.Formats.{Format, holds_in}
 use Rattle.zeb_register.specs.Store.{HasDatabase, HasRecord}
-use Rattle.zeb_engine.specs.Alone.{has_ident_in}
+use Rattle.zeb_search.specs.Registers.{has_ident_in}
 use Rattle.zeb_engine.specs.Conditions.{Conditions, AreSessions}
 use Rattle.zeb_engine.specs.Finding.{has_name, occurs}
 use Rattle.zeb_engine.specs.Holdings.{Holdings, Base, Kept, base_named}
@@ -110,6 +110,20 @@ named_as_kept format profile trees id base held n ident row =
     let there = has_contained base.records of.0 of.1 in
     let found = first_found n base.records of.0 there number (λ a h same. one_number base.records held.sound.rising a of.0 h there (same ∙ sym number)) in
     ap (option_map (λ (kept : Kept). kept.ident)) found ∙ ap Some (sym of.3)
+
+-- who has a name is kept under it
+found_there : (n : ℕ) (records : List Kept) (ident : List ℕ) → has_name records n ident → (k : Kept) × Has records k × (k.sysno ≡ n) × (k.ident ≡ ident)
+found_there n [] ident is = cc
+found_there n (first ∷ rest) ident is = elim (cases_Bool (nat_eq first.sysno n)) [
+  | inl passes ↦ (let named : ◌≡◌ {A = Option (List ℕ)} (Some first.ident) (Some ident) = rw passes at is in (first, inl refl, (Decides-eqb first.sysno n).0 passes, cc))
+  | inr fails ↦ (let later = found_there n rest ident (rw fails at is) in (later.0, inr later.1, later.2, later.3))
+]
+
+pub kept_as_named : (format : Format) (profile : List Directive) (trees : Trees) (id : ℤ) (base : Base) → IsHeld format profile trees id base → (n : ℕ) (ident : List ℕ)
+    → has_name base.records n ident → has_ident_in trees id n ident
+kept_as_named format profile trees id base held n ident is =
+    let of = found_there n base.records ident is in
+    (of.0.bytes, (held.kept (pos n) ident of.0.bytes).1 (of.0, contains_had base.records of.0 of.1, ap pos (sym of.2), sym of.3, refl))
 
 -- ---- the database that was looked up
 

@@ -41,7 +41,6 @@ pub mod ChangeSteps
 pub mod ChangeBegins
 pub mod ReadFaults
 pub mod Held
-pub mod Numbers
 pub mod Showing
 pub mod TermTexts
 pub mod Finds
@@ -63,7 +62,6 @@ pub mod FoldRecords
 pub mod Honest
 pub mod Accepted
 pub mod OneAnswer
-pub mod Matched
 pub mod Folds
 pub mod Lasting
 pub mod DeletedRecords

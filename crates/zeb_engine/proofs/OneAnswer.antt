@@ -17,7 +17,9 @@ use Rattle.zeb_engine.specs.declared.commands.Command.{Command}
 use Rattle.zeb_engine.specs.declared.commands.Command.TheVariants.{Init, Check, Create, Drop, Stat, Dump, Change, Find, Scan, Analyse}
 use Rattle.zeb_engine.specs.Answers.{Answer, Why, found, scanned}
 use Rattle.zeb_engine.specs.Conditions.{Conditions}
-use Rattle.zeb_engine.specs.Finding.{AreNumbers, IsAnswered, IsFound, IsFoundBy, IsPlanned, IsShown, TreeHolds, asked_of, has_name, occurs, plan_key}
+use Rattle.zeb_search.specs.Holds.{TreeHolds}
+use Rattle.zeb_search.specs.Lists.{AreNumbers}
+use Rattle.zeb_engine.specs.Finding.{IsAnswered, IsFound, IsNamed, IsPlanned, IsShown, asked_of, has_name, occurs}
 use Rattle.zeb_engine.specs.Holdings.{Base, Holdings, Kept, base_named}
 use Rattle.zeb_engine.specs.NameOf.{name_bytes}
 use Rattle.zeb_engine.specs.Scanning.{IsScanned, IsScanPlanned, around}
@@ -51,15 +53,11 @@ module _ (O : ℕ → Occurrence → Type 0) (N : ℕ → List ℕ → Type 0) (
 
   pub found_once : (plan : PlanValue) → IsFound O N plan first count one → IsFound O N plan first count other → one ≡ other
   found_once plan x y =
-      let same = numbers_once (TreeHolds O plan) x.0 y.0 x.1 y.1 in
+      let same = numbers_once (TreeHolds O (IsNamed O N) plan) x.0 y.0 x.1 y.1 in
       shown_once y.0 (asked_of y.0 first count) (subst (λ (hits : List ℕ). IsShown O N hits (asked_of hits first count) one) same x.2) y.2
 
-  found_by_once : (key : Option Key) (plan : PlanValue) → IsFoundBy O N key plan first count one → IsFoundBy O N key plan first count other → one ≡ other
-  found_by_once None plan x y = x ∙ sym y
-  found_by_once (Some key) plan x y = found_once plan x y
-
   planned_once : (plan : Result PlanValue Refusal) → IsPlanned O N plan first count one → IsPlanned O N plan first count other → one ≡ other
-  planned_once (Ok plan) x y = found_by_once (plan_key plan) plan x y
+  planned_once (Ok plan) x y = found_once plan x y
   planned_once (Err e) x y = x ∙ sym y
 
   pub answered_once : (profile : List Directive) (text : List ℕ) → IsAnswered O N profile text first count one → IsAnswered O N profile text first count other → one ≡ other

@@ -24,7 +24,7 @@ use Rattle.zeb_engine.specs.declared.tally.Fate.TheVariants.{Inserted, PassedOve
 use Rattle.zeb_engine.specs.NameOf.{name_bytes}
 use Rattle.zeb_engine.specs.Answers.{Answer, Why, old_format, profile_changed, diagnostic, unknown, database_full, too_many_records, damaged, read_fault, store_failed, out_of_memory, refused, why_of}
 use Rattle.zeb_engine.specs.Conditions.{Conditions}
-use Rattle.zeb_engine.specs.Finding.{IsFoundBy, IsPlanned, IsShown, asked_of, has_name, occurs, plan_key}
+use Rattle.zeb_engine.specs.Finding.{IsPlanned, IsShown, asked_of, has_name, occurs}
 use Rattle.zeb_engine.specs.Scanning.{IsScanPlanned}
 use Rattle.zeb_engine.specs.Folding.{Changed, Progress, at_end, at_first, changed_by, changed_record, counted, deleted, file_folded, files_folded, folded, ident_in, slices_folded, updated, with_ident, with_record, ◌then◌}
 use Rattle.zeb_engine.specs.Holdings.{Base, Holdings, Kept, nothing_yet, under, base_named, kept_as, with_new}
@@ -209,12 +209,8 @@ module _ (O : ℕ → Occurrence → Type 0) (N : ℕ → List ℕ → Type 0) (
   shown_own hits (Ok asked) own is = subst IsOwnAnswer (sym is.2) tt
   shown_own hits (Err why) own is = subst IsOwnAnswer (sym is) own
 
-  found_by_own : (key : Option Key) (plan : PlanValue) → IsFoundBy O N key plan first count answer → IsOwnAnswer answer
-  found_by_own None plan is = subst IsOwnAnswer (sym is) tt
-  found_by_own (Some key) plan is = shown_own is.0 (asked_of is.0 first count) (asked_of_own is.0 first count) is.2
-
   planned_own : (plan : Result PlanValue Refusal) → IsPlanned O N plan first count answer → IsOwnAnswer answer
-  planned_own (Ok plan) is = found_by_own (plan_key plan) plan is
+  planned_own (Ok plan) is = shown_own is.0 (asked_of is.0 first count) (asked_of_own is.0 first count) is.2
   planned_own (Err e) is = subst IsOwnAnswer (sym is) tt
 
 module _ (O : ℕ → Occurrence → Type 0) (number position : ℕ) (answer : Answer) where

@@ -11,7 +11,7 @@ use Rattle.sqlite_rules.proofs.ListLemmas.{has_at, has_either}
 use Rattle.zeb_register.specs.Calls.{ChangesNothing}
 use Rattle.zeb_register.specs.Kept.{IsIdentOf, AreReadableIdents}
 use Rattle.zeb_register.proofs.Calls.{store_same}
-use Rattle.zeb_engine.specs.Alone.{has_ident_in}
+use Rattle.zeb_search.specs.Registers.{has_ident_in}
 use Rattle.zeb_engine.specs.Finding.{AreShown}
 use Rattle.zeb_engine.specs.Works.{KeepsEach, ShowsStore}
 

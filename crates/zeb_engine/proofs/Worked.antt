@@ -1,5 +1,5 @@
 -- "Moby Dick" is kept, and again, refused with what stands behind it, and found.
-use Rattle.std.proofs.Common.{◌≡◌, ◌↔◌, ◌∙◌, ℕ, ◌≤◌, Bool, true, false, not, List, [], ◌∷◌, Option, None, Some, Ok, nat_le, refl, sym, ap, ap₂, subst, inl, inr, codes, arith}
+use Rattle.std.proofs.Common.{◌≡◌, ◌↔◌, ◌∙◌, ℕ, ◌≤◌, Bool, true, false, not, List, [], ◌∷◌, Option, None, Some, Ok, nat_le, refl, sym, ap, ap₂, subst, inl, inr, codes, IsUtf8, arith}
 use lib.Utf8.{encode}
 use Rattle.std.specs.List.{Contains}
 use Rattle.std.specs.List.Sorted.{IsStrictlySortedBy}
@@ -33,7 +33,10 @@ use Rattle.zeb_engine.specs.declared.faults.RecordFault.TheVariants as fault
 use Rattle.zeb_engine.specs.declared.tally.Fate.TheVariants.{Inserted, Updated}
 use Rattle.zeb_engine.specs.Answers.{Answer, done, changed, refused, found, faulty}
 use Rattle.zeb_engine.specs.Conditions.{Conditions}
-use Rattle.zeb_engine.specs.Finding.{AreNumbers, AreShown, IsFound, IsFoundBy, OccursIn, TreeHolds, has_name, occurs, plan_key}
+use Rattle.zeb_search.specs.Holds.{TreeHolds}
+use Rattle.zeb_search.specs.Lists.{AreNumbers}
+use Rattle.zeb_search.proofs.PlainWords.{plain_word}
+use Rattle.zeb_engine.specs.Finding.{AreShown, IsFound, IsNamed, OccursIn, has_name, occurs}
 use Rattle.zeb_engine.specs.Folding.{Progress, at_first, counted, folded, ident_in}
 use Rattle.zeb_engine.specs.Holdings.{Holdings, Base, Kept, new_base, with_base, with_new, with_bytes}
 use Rattle.zeb_engine.specs.Steps.{initialised, turned, changed_by_files, splits_of}
@@ -101,35 +104,34 @@ has_no_other n has =
 abbrev pub one_found : Answer
 one_found = found 1 ((1, codes "a1") ∷ [])
 
-whale_key : plan_key (title_plan (codes "whale")) ≡ Some (title_word (codes "whale"))
+whale_text : IsUtf8 (codes "whale")
 unfolding encode
-whale_key = refl
+whale_text = (codes "whale", (refl, refl))
 
-ahab_key : plan_key (title_plan (codes "ahab")) ≡ Some (title_word (codes "ahab"))
+ahab_text : IsUtf8 (codes "ahab")
 unfolding encode
-ahab_key = refl
+ahab_text = (codes "ahab", (refl, refl))
 
 -- just the record's number is a hit
-whale_hits : AreNumbers (TreeHolds book_occurs (title_plan (codes "whale"))) (1 ∷ [])
+whale_hits : AreNumbers (TreeHolds book_occurs (IsNamed book_occurs book_named) (title_plan (codes "whale"))) (1 ∷ [])
 unfolding IsStrictlySortedBy
 whale_hits = record {
   rising = (tt, tt);
   each = λ n. (
-    λ h. elim h [ inl same ↦ (title_word (codes "whale"), whale_key, subst (HasKey book_occurs (title_word (codes "whale"))) (sym same) has_word) | inr none ↦ absurd none ],
-    λ holds. inl (sym holds.2.1.2 ∙ ap (λ (k : Kept). k.sysno) (is_book holds.2.1.0 holds.2.1.1)),
+    λ h. elim h [ inl same ↦ (plain_word book_occurs (IsNamed book_occurs book_named) 0 (codes "whale") whale_text n).1 (subst (HasKey book_occurs (title_word (codes "whale"))) (sym same) has_word) | inr none ↦ absurd none ],
+    λ holds.
+        let has = (plain_word book_occurs (IsNamed book_occurs book_named) 0 (codes "whale") whale_text n).0 holds in
+        inl (sym has.1.2 ∙ ap (λ (k : Kept). k.sysno) (is_book has.1.0 has.1.1)),
   );
 }
 
-no_hits : AreNumbers (TreeHolds book_occurs (title_plan (codes "ahab"))) []
+no_hits : AreNumbers (TreeHolds book_occurs (IsNamed book_occurs book_named) (title_plan (codes "ahab"))) []
 unfolding IsStrictlySortedBy
 no_hits = record {
   rising = tt;
   each = λ n. (
     λ h. absurd h,
-    λ holds.
-        let both : ◌≡◌ {A = Option Key} (Some holds.0) (Some (title_word (codes "ahab"))) = sym holds.1 ∙ ahab_key in
-        let one : holds.0 ≡ title_word (codes "ahab") = cc in
-        absurd (has_no_other n (subst (λ (k : Key). HasKey book_occurs k n) one holds.2)),
+    λ holds. absurd (has_no_other n ((plain_word book_occurs (IsNamed book_occurs book_named) 0 (codes "ahab") ahab_text n).0 holds)),
   );
 }
 
@@ -151,10 +153,6 @@ word_found = just_one (title_plan (codes "whale")) one_found (1 ∷ [], whale_hi
 
 pub word_not_found : (answer : Answer) → IsFound book_occurs book_named (title_plan (codes "ahab")) 1 20 answer ↔ (answer ≡ found 0 [])
 word_not_found = just_one (title_plan (codes "ahab")) (found 0 []) ([], no_hits, ([], none_shown, refl))
-
--- the word is asked for by its plan
-pub word_planned : IsFoundBy book_occurs book_named (plan_key (title_plan (codes "whale"))) (title_plan (codes "whale")) 1 20 one_found
-word_planned = subst (λ (o : Option Key). IsFoundBy book_occurs book_named o (title_plan (codes "whale")) 1 20 one_found) (sym whale_key) ((word_found one_found).1 refl)
 
 -- ---- the commands
 

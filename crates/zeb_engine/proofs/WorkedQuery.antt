@@ -26,7 +26,7 @@ use Rattle.zeb_engine.specs.Holdings.{Holdings}
 use Rattle.zeb_engine.specs.Steps.{AskedAmong, FindAnswers, FoundFrom, ready, Step}
 use Rattle.zeb_engine.specs.Worked.{book_base, book_conditions, one_book, title_plan, IsFindBy}
 use Rattle.zeb_engine.proofs.OneAnswer.{answered_once, name_once}
-use Rattle.zeb_engine.proofs.Worked.{book_named, book_occurs, one_found, word_planned}
+use Rattle.zeb_engine.proofs.Worked.{book_named, book_occurs, one_found, word_found}
 use Rattle.zeb_engine.proofs.WorkedLemmas.{ready_held}
 
 abbrev text : List ℕ
@@ -64,7 +64,7 @@ abbrev Answers : Answer → Type 0
 Answers = FindAnswers title_profile text 1 20 book_base
 
 answered : Answers one_found
-answered = (query, spells, subst (λ p. IsPlanned book_occurs book_named p 1 20 one_found) (sym planned) word_planned)
+answered = (query, spells, subst (λ p. IsPlanned book_occurs book_named p 1 20 one_found) (sym planned) ((word_found one_found).1 refl))
 
 -- nothing else is answered
 only_answered : (answer : Answer) → Answers answer → answer ≡ one_found

@@ -10,6 +10,7 @@ use Rattle.zeb_register.specs.Content.{Content, posted}
 use Rattle.zeb_register.specs.Formats.{Format, holds_in}
 use Rattle.zeb_register.specs.Sql.{IsListOf}
 use Rattle.zeb_register.specs.Store.{IsStore, HasDatabase, HasRecord, IsRest, records_tree}
+use Rattle.zeb_search.specs.Registers.{has_ident_in}
 use Rattle.zeb_engine.specs.declared.commands.Command.{Command}
 use Rattle.zeb_engine.specs.declared.commands.Command.TheVariants.{Find, Scan, Stat}
 use Rattle.zeb_engine.specs.declared.refusals.Refusal.{Refusal}
@@ -19,10 +20,6 @@ use Rattle.zeb_engine.specs.Counting.{IsCounted}
 use Rattle.zeb_engine.specs.Finding.{IsAnswered}
 use Rattle.zeb_engine.specs.NameOf.{name_bytes}
 use Rattle.zeb_engine.specs.Scanning.{IsScanned}
-
--- the record of this number has the identifier
-abbrev pub has_ident_in : Trees → ℤ → ℕ → List ℕ → Type 0
-has_ident_in trees db n ident = (bytes : List ℕ) × HasRecord trees db (pos n) ident bytes
 
 -- what may be answered of a database, by its number and the last system number that it gave
 abbrev pub Said : Type 1

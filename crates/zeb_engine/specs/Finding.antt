@@ -1,28 +1,24 @@
--- What a query finds among the records that have a set of occurrences (Z39.50 Bib-1: a word in an index). Such a set says of a record's
--- number and an occurrence whether the record has it. Read with the bytes of all kept records, from nothing, it tells what a find answers;
--- read with the postings of the registers, what it answers by the registers alone.
-use Rattle.std.specs.Prelude.{◌≡◌, ◌↔◌, ℕ, ◌-◌, Bool, false, List, [], ◌∷◌, Option, None, Some, Result, Ok, Err, length, map, find, take, drop, nat_eq, nat_lt, ◌&&◌, encode_utf8_all, if◌then◌else◌}
+-- What a find answers of the records that have a set of occurrences. Such a set says of a record's number and an occurrence whether the
+-- record has it. Read with the bytes of all kept records, from nothing, it tells what a find answers; read with the postings of the
+-- registers, what it answers by the registers alone.
+use Rattle.std.specs.Prelude.{◌≡◌, ℕ, ◌-◌, List, Option, Some, Result, Ok, Err, length, map, find, take, drop, nat_eq, nat_lt, ◌&&◌, if◌then◌else◌}
 use Rattle.std.specs.List.{Contains}
-use Rattle.std.specs.List.Sorted.{IsStrictlySortedBy}
 use Rattle.std.specs.Option.{option_map}
-use Rattle.std.specs.Ordering.{nat_cmp}
 use Rattle.std.specs.Fmt.{decimal}
 use Rattle.sqlite_rules.specs.Lists.{Has}
 use Rattle.zeb_marc.specs.Records.{fields_of}
 use Rattle.zeb_marc.specs.Contents.{units_of}
-use Rattle.zeb_text.specs.Symbols.{Symbol, Char, Star}
 use Rattle.zeb_profile.specs.declared.directives.Directive.{Directive}
-use Rattle.zeb_profile.specs.declared.registers.Register.TheVariants.{Word}
 use Rattle.zeb_profile.specs.Indexes.{unit_targets}
 use Rattle.zeb_query.specs.Faults.{Refusal}
 use Rattle.zeb_query.specs.Queries.{QueryValue}
 use Rattle.zeb_query.specs.Reading.{SpellsQuery}
-use Rattle.zeb_query.specs.Plans.{PlanValue, TermOf, PairOf, NearOf, TermPlanValue, PhraseOf, plan_of}
-use Rattle.zeb_extract.specs.declared.keys.Key.{Key}
+use Rattle.zeb_query.specs.Plans.{PlanValue, plan_of}
 use Rattle.zeb_extract.specs.declared.keys.Occurrence.{Occurrence}
 use Rattle.zeb_extract.specs.Occurrences.{IsOccurrence}
-use Rattle.zeb_register.specs.Occurring.{HasKey}
-use Rattle.zeb_engine.specs.Answers.{Answer, Why, found, refused, diagnostic, unsupported}
+use Rattle.zeb_search.specs.Holds.{TreeHolds}
+use Rattle.zeb_search.specs.Lists.{AreNumbers}
+use Rattle.zeb_engine.specs.Answers.{Answer, Why, found, refused, diagnostic}
 use Rattle.zeb_engine.specs.Holdings.{Kept}
 
 -- ---- kept records
@@ -38,40 +34,6 @@ occurs profile records n o = (kept : Kept) × Contains records kept × (kept.sys
 -- the record of this number has the identifier
 abbrev pub has_name : List Kept → ℕ → List ℕ → Type 0
 has_name records n ident = option_map (λ kept. kept.ident) (find (λ kept. nat_eq kept.sysno n) records) ≡ Some ident
-
--- ---- what a query asks for
-
--- the text of a pattern without stars
-abbrev pub plain_text : List Symbol → Option (List ℕ)
-plain_text [] = Some []
-plain_text (Star ∷ rest) = None
-plain_text (Char char ∷ rest) = option_map (λ text. char ∷ text) (plain_text rest)
-
-abbrev pub word_key : ℕ → List ℕ → Key
-word_key index word = record { index = index; register = Word; term = encode_utf8_all word }
-
--- the key of a plan that asks for one plain word in one index; no other plan is answered yet
-abbrev pub plain_word : ℕ → List (List Symbol) → Bool → Option Key
-plain_word index (pattern ∷ []) false = option_map (word_key index) (plain_text pattern)
-plain_word index patterns first = None
-
-abbrev pub term_key : TermPlanValue → Option Key
-term_key (PhraseOf index patterns first) = plain_word index patterns first
-term_key other = None
-
-abbrev pub plan_key : PlanValue → Option Key
-plan_key (TermOf plan) = term_key plan
-plan_key (PairOf op left right) = None
-plan_key (NearOf index left right separation) = None
-
--- the plan holds of the record with this number
-abbrev pub TreeHolds : (ℕ → Occurrence → Type 0) → PlanValue → ℕ → Type 0
-TreeHolds O plan n = (key : Key) × (plan_key plan ≡ Some key) × HasKey O key n
-
--- just the numbers that are P, rising
-pub record AreNumbers (P : ℕ → Type 0) (numbers : List ℕ) : Type 0 where
-  pub rising : IsStrictlySortedBy nat_cmp numbers
-  pub each : (n : ℕ) → Has numbers n ↔ P n
 
 -- ---- what is shown
 
@@ -93,19 +55,18 @@ module _ (O : ℕ → Occurrence → Type 0) (Named : ℕ → List ℕ → Type 
   IsShown hits (Err why) answer = answer ≡ refused why
   IsShown hits (Ok asked) answer = (shown : List (ℕ × List ℕ)) × AreShown Named asked shown × (answer ≡ found (length hits) shown)
 
+  -- a record with this number is named
+  abbrev pub IsNamed : ℕ → Type 0
+  IsNamed n = (ident : List ℕ) × Named n ident
+
   -- all hits are counted, and those that are asked for are shown
   abbrev pub IsFound : PlanValue → ℕ → ℕ → Answer → Type 0
-  IsFound plan first count answer = (hits : List ℕ) × AreNumbers (TreeHolds O plan) hits × IsShown hits (asked_of hits first count) answer
-
-  -- a plan that has no key is not answered yet
-  abbrev pub IsFoundBy : Option Key → PlanValue → ℕ → ℕ → Answer → Type 0
-  IsFoundBy None plan first count answer = answer ≡ refused unsupported
-  IsFoundBy (Some key) plan first count answer = IsFound plan first count answer
+  IsFound plan first count answer = (hits : List ℕ) × AreNumbers (TreeHolds O IsNamed plan) hits × IsShown hits (asked_of hits first count) answer
 
   -- a query that has no plan is refused by its first diagnostic
   abbrev pub IsPlanned : Result PlanValue Refusal → ℕ → ℕ → Answer → Type 0
   IsPlanned (Err e) first count answer = answer ≡ refused (diagnostic e.number e.place e.addinfo)
-  IsPlanned (Ok plan) first count answer = IsFoundBy (plan_key plan) plan first count answer
+  IsPlanned (Ok plan) first count answer = IsFound plan first count answer
 
   -- the answer to a query's text: the text spells one query
   abbrev pub IsAnswered : List Directive → List ℕ → ℕ → ℕ → Answer → Type 0

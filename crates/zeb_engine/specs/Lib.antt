@@ -30,5 +30,4 @@ pub mod Adopting
 pub mod PrivateRecords
 pub mod Worked
 pub mod Crashes
-pub mod Matching
 pub mod Lasting

@@ -1,6 +1,6 @@
 -- Worked commands: "Moby Dick" is kept in a database, and again, and found by a word of its title; behind it in a file stands a
 -- record of five letters.
-use Rattle.std.specs.Prelude.{◌≡◌, ◌↔◌, ℕ, false, List, [], ◌∷◌, ◌++◌, map, codes, string_bytes}
+use Rattle.std.specs.Prelude.{◌≡◌, ◌↔◌, ℕ, false, List, [], ◌∷◌, ◌++◌, map, codes, chars, string_bytes}
 use Rattle.zeb_profile.specs.declared.registers.Register.TheVariants.{Word}
 use Rattle.zeb_profile.specs.Canonical.{canonical_text}
 use Rattle.zeb_marc.specs.Worked.{worked_record}
@@ -43,9 +43,13 @@ faulty_file = worked_record ++ codes "xxxxx"
 abbrev pub title_word : List ℕ → Key
 title_word word = record { index = 0; register = Word; term = word }
 
+-- the plan of a word in an index, without stars
+abbrev pub word_plan : ℕ → List ℕ → PlanValue
+word_plan index word = TermOf (PhraseOf index (literal (chars word) ∷ []) false)
+
 -- the plan of a word there
 abbrev pub title_plan : List ℕ → PlanValue
-title_plan word = TermOf (PhraseOf 0 (literal word ∷ []) false)
+title_plan = word_plan 0
 
 -- the command updates the database `Default` by files of these bytes
 abbrev pub IsUpdateBy : List (List ℕ) → Command → Type 0

@@ -95,11 +95,6 @@ pub record IsFolded (format : Format) (profile : List Directive) (id : ℤ) (rec
 
 -- ---- a find
 
--- the key that is asked for; a plan that has none is not there yet
-abbrev pub key_or : Option Key → Result Key Why
-key_or (Some key) = Ok key
-key_or None = Err unsupported
-
 -- an open connection shows these tables, and they are the store's
 abbrev pub ShowsStore : State → Trees → Type 0
 ShowsStore s trees = IsTrue s.is_open → IsStore s × (s.now.trees ≡ trees)

@@ -1,19 +1,19 @@
 //! Laws of the definitions that the contracts cite. Each is a function with no code, whose contract is the law.
-ghost use Rattle.std.specs.Prelude.{◌≡◌, ◌≢◌, ◌↔◌, ◌⊎◌, ◌+◌, ◌<◌, ◌≤◌, ℕ, false, List, [], ◌∷◌, Some, length};
+ghost use Rattle.std.specs.Prelude.{◌≡◌, ◌≢◌, ◌↔◌, ◌⊎◌, ◌+◌, ◌<◌, ◌≤◌, ℕ, IsUtf8, List, length};
 ghost use Rattle.std.specs.List.{Contains};
 ghost use Rattle.sqlite.specs.Tree.{Trees};
 ghost use Rattle.zeb_marc.specs.Splits.{Split};
 ghost use Rattle.zeb_profile.specs.declared.directives.Directive.{Directive};
 ghost use Rattle.zeb_profile.specs.Canonical.{canonical_text};
 ghost use Rattle.zeb_profile.specs.Laws.{IsProfile};
-ghost use Rattle.zeb_text.specs.Symbols.{Symbol};
-ghost use Rattle.zeb_query.specs.Plans.{PlanValue, TermOf, PhraseOf};
-ghost use Rattle.zeb_extract.specs.declared.keys.Key.{Key};
+ghost use Rattle.zeb_profile.specs.declared.registers.Register.TheVariants.{Word};
+ghost use Rattle.zeb_register.specs.Occurring.{TermIn};
+ghost use Rattle.zeb_search.specs.Holds.{TreeHolds};
 ghost use Rattle.zeb_engine.specs.Answers.{Answer, changed, refused, damaged, store_failed, out_of_memory, read_fault};
 ghost use Rattle.zeb_engine.specs.Conditions.{Conditions};
 ghost use Rattle.zeb_engine.specs.Counts.{FoldsTo, HasNamesake, IsAccepted, records_in, told};
-ghost use Rattle.zeb_engine.specs.Finding.{TreeHolds, occurs, plan_key};
-ghost use Rattle.zeb_engine.specs.Matching.{AsksFor, HasMatch};
+ghost use Rattle.zeb_engine.specs.Finding.{IsNamed, has_name, occurs};
+ghost use Rattle.zeb_engine.specs.Worked.{word_plan};
 ghost use Rattle.zeb_engine.specs.Folding.{Progress};
 ghost use Rattle.zeb_engine.specs.Holdings.{Base, Holdings, Kept};
 ghost use Rattle.zeb_engine.specs.Image.{IsBase, IsImage, IsImageUnder};
@@ -48,15 +48,12 @@ pub fn a_command_has_one_answer()
         → Step c command before other right → (one ≡ other) × (left ≡ right) }
 {}
 
-/// What a find asks for, said by matching and not by keys: a plan that has a key is that of one word in one index, and it holds of
-/// a record just where a word of its text stands in that index that the plan's pattern matches. So a reader can check a
-/// find's answer against the records' texts, without a register in mind.
+/// A find of one word without stars holds of a record just where the word itself stands in that index of it: what a pattern matches is
+/// then one entry of the register, and so a reader can check a find's answer against the records' texts, without a register in mind.
 pub fn a_word_is_found_where_it_stands()
-    ensures found { (profile : List Directive) (records : List Kept) (index : ℕ) (pattern : List Symbol) (key : Key) (n : ℕ)
-        → plan_key (TermOf (PhraseOf index (pattern ∷ []) false)) ≡ Some key
-        → TreeHolds (occurs profile records) (TermOf (PhraseOf index (pattern ∷ []) false)) n
-        ↔ HasMatch (occurs profile records) index pattern n }
-    ensures others { (plan : PlanValue) (key : Key) → plan_key plan ≡ Some key → AsksFor plan key }
+    ensures { (profile : List Directive) (records : List Kept) (index : ℕ) (word : List ℕ) (n : ℕ) → IsUtf8 word
+        → TreeHolds (occurs profile records) (IsNamed (occurs profile records) (has_name records)) (word_plan index word) n
+        ↔ TermIn (occurs profile records) index Word word n }
 {}
 
 /// The counts of an accepted change add up: they are those of all records of its files, folded into its database. Each record of the files is taken, and counted once, unless a lenient delete

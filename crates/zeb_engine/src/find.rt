@@ -1,41 +1,37 @@
 //! Finding records by a query.
 
 ghost use Rattle.std.specs.Prelude.{◌≡◌, ◌⊎◌, List, false, map, string_bytes, IfOk, IfErr, OnOk, IsTrue, Ok};
-ghost use Rattle.std.specs.List.Sorted.{IsStrictlySortedBy};
 ghost use Rattle.sqlite.specs.Held.{state};
 ghost use Rattle.sqlite.specs.State.{HasCleanDisk, Survives};
 ghost use Rattle.sqlite.specs.Tree.{Trees};
-ghost use Rattle.zeb_query.specs.Plans.{plan_value};
 ghost use Rattle.zeb_query.specs.Reading.{query_fault};
 ghost use Rattle.zeb_register.specs.Calls.{ChangesNothing};
 ghost use Rattle.zeb_register.specs.Formats.{version_of};
-ghost use Rattle.zeb_register.specs.Content.{posting_cmp};
-ghost use Rattle.zeb_register.specs.RowTerms.{IsInRecord};
+ghost use Rattle.zeb_search.specs.Registers.{has_ident_in};
 ghost use Rattle.zeb_engine.specs.declared.commands.Limits.{Limits};
 ghost use Rattle.zeb_engine.specs.Adopting.{StaysOpen};
 ghost use Rattle.zeb_engine.specs.Answers.{answer_of, refused, why_of, IsFailure};
 ghost use Rattle.zeb_engine.specs.Conditions.{conditions};
-ghost use Rattle.zeb_engine.specs.Alone.{Alone, FindSays, has_ident_in};
-ghost use Rattle.zeb_engine.specs.Finding.{AreNumbers, AreShown, asked_of, plain_word, plan_key};
+ghost use Rattle.zeb_engine.specs.Alone.{Alone, FindSays};
+ghost use Rattle.zeb_engine.specs.Finding.{AreShown, asked_of};
 ghost use Rattle.zeb_engine.specs.Holdings.{Holdings, Base};
 ghost use Rattle.zeb_engine.specs.Image.{Keeps};
 ghost use Rattle.zeb_engine.specs.NameOf.{name_bytes};
 ghost use Rattle.zeb_engine.specs.PrivateReadiness.{NeverUnready};
 ghost use Rattle.zeb_engine.specs.Reading.{NoReadFault};
 ghost use Rattle.zeb_engine.specs.Steps.{ready, AskedAmong, FindAnswers};
-ghost use Rattle.zeb_engine.specs.Works.{key_or, KeepsEach, Meets, ShowsStore};
+ghost use Rattle.zeb_engine.specs.Works.{KeepsEach, Meets, ShowsStore};
 
 use crate::names::DbName;
 use crate::readiness::existing_database;
 use crate::refusals::Refusal;
 use crate::replies::{Hit, Reply};
 use sqlite::{Alter, Connection};
-use std::alloc::{AllocError, Global};
-use zeb_extract::{Key, Term};
-use zeb_profile::{Profile, Register};
-use zeb_query::{Plan, TermPlan, plan, read_pqf};
-use zeb_register::{DatabaseId, Layout, Posting, Work, ident_of};
-use zeb_text::Pattern;
+use std::alloc::Global;
+use zeb_profile::Profile;
+use zeb_query::{plan, read_pqf};
+use zeb_register::{DatabaseId, Layout, Work, ident_of};
+use zeb_search::hits;
 
 /// The Bib-1 diagnostic of a first record past the last hit.
 const PAST_THE_HITS: u32 = 13;
@@ -46,52 +42,6 @@ pub(crate) struct Question<'a> {
     pub query: &'a str,
     pub first: u32,
     pub count: u32,
-}
-
-/// The key of one plain word in an index; any other patterns are `Unsupported`.
-fn key_of_word(alloc: Global, index: u32, patterns: &[Pattern]) -> Result<Key, Refusal>
-    ensures key { Meets (λ wanted key. key ≡ wanted) (key_or (plain_word index patterns.now false)) result }
-    ensures unread { NoReadFault result }
-    ensures ready { NeverUnready result }
-{
-    let [pattern] = patterns else {
-        return Err(Refusal::Unsupported);
-    };
-    let Some(word) = pattern.literal() else {
-        return Err(Refusal::Unsupported);
-    };
-    Ok(Key {
-        index,
-        register: Register::Word,
-        term: Term::new(String::from_str(alloc, word)?),
-    })
-}
-
-/// The key of a plan that asks for one plain word in one index; any other plan is `Unsupported`.
-fn key_of_plan(alloc: Global, plan: &Plan) -> Result<Key, Refusal>
-    ensures key { Meets (λ wanted key. key ≡ wanted) (key_or (plan_key (plan_value plan.now))) result }
-    ensures unread { NoReadFault result }
-    ensures ready { NeverUnready result }
-{
-    match plan {
-        Plan::Term(
-            TermPlan::Phrase {
-                index,
-                patterns,
-                first: false,
-            },
-        ) => key_of_word(alloc, *index, patterns.as_slice()),
-        _ => Err(Refusal::Unsupported),
-    }
-}
-
-/// The numbers of the records that have a posting, each once; postings rise by number.
-fn numbers_of(alloc: Global, postings: &[Posting]) -> Result<Vec<u64>, AllocError>
-    ensures { IsStrictlySortedBy posting_cmp postings.now → IfOk result (λ numbers. AreNumbers (IsInRecord postings.now) numbers.items) }
-{
-    let mut numbers: Vec<u64> = postings.iter().map(|posting| posting.sysno).collect(alloc)?;
-    numbers.dedup();
-    Ok(numbers)
 }
 
 /// The hits with their identifiers; `Damaged` where one of them is no kept record.
@@ -186,13 +136,12 @@ pub(crate) fn find<S: Alter, L: Layout>(
     profile.is_of_some_text();
     let query = read_pqf(alloc, question.query)?;
     let database = existing_database::<S, L>(alloc, connection, name)?;
-    let key = key_of_plan(alloc, &plan(alloc, &query, profile)?)?;
-    let postings = L::key_list(alloc, connection, work, database.id, &key)?;
-    let numbers = numbers_of(alloc, &postings)?;
-    let asked = asked_for(alloc, &numbers, &question)?;
+    let plan = plan(alloc, &query, profile)?;
+    let hits = hits::<S, L>(alloc, connection, work, database.id, &plan)?;
+    let asked = asked_for(alloc, &hits, &question)?;
     let shown = show(alloc, connection, database.id, asked)?;
     Ok(Reply::Found {
-        hits: numbers.len() as u64,
+        hits: hits.len() as u64,
         shown,
     })
 }

@@ -6,6 +6,7 @@ ghost use Rattle.sqlite.specs.State.{HasCleanDisk, Survives};
 ghost use Rattle.zeb_register.specs.Calls.{ChangesNothing};
 ghost use Rattle.zeb_register.specs.Formats.{version_of};
 ghost use Rattle.zeb_register.specs.Store.{IsStore, HasDatabase};
+ghost use Rattle.zeb_engine.specs.Adopting.{StaysOpen};
 ghost use Rattle.zeb_engine.specs.Answers.{IsFailure, refused, why_of};
 ghost use Rattle.zeb_engine.specs.Conditions.{Conditions, conditions};
 ghost use Rattle.zeb_engine.specs.declared.commands.Limits.{Limits};
@@ -85,7 +86,8 @@ pub(crate) fn existing_database<S: Alter, L: Layout>(
         → Meets (λ base found. HasDatabase (state S.Store connection.old).now.trees found.id.0 base.name (pos base.last)
         × (found.last ≡ base.last) × IsTrue (state S.Store connection.new).is_open)
         (existing (name_bytes name.now) bases) result }
-    ensures found { HasCleanDisk (state S.Store connection.new) → OnOk result (IsTrue (state S.Store connection.old).is_open) }
+    ensures found { HasCleanDisk (state S.Store connection.new)
+        → OnOk result (StaysOpen (state S.Store connection.old) (state S.Store connection.new)) }
     ensures opened { HasCleanDisk (state S.Store connection.new)
         → IfErr result (λ refusal. IsFailure (refused (why_of refusal)) ⊎ IsTrue (state S.Store connection.old).is_open) }
     ensures unread { NoReadFault result }

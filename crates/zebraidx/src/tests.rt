@@ -9,6 +9,7 @@ use std::{io, str};
 use zeb_marc::{FromRead, Slice};
 
 mod fakes;
+mod queries;
 mod records;
 mod scans;
 

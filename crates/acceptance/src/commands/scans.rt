@@ -1,11 +1,7 @@
 //! Terms around a start.
 
-use super::{Script, Step, TITLES};
+use super::{BOOKS, Script, Step, TITLES};
 use crate::samples::{CAFE, DOCK, MOBY};
-
-/// Titles by their words and whole, dates by their numbers, and any words.
-const BOOKS: &str =
-    "store books.db\nidentifier 001\natt 4 Title\natt 31 Date\natt 1016 Any\nmelm 245$a Title:w,Title:p\nmelm 245 Title:w\nmelm 260$c Date:n\nall Any\n";
 
 /// The words of titles around a start.
 const TITLE: &str = "@attr 1=4 d";

@@ -6,8 +6,8 @@ use Rattle.zeb_register.specs.Kept.{IsIdentOf, AreReadableIdents}
 use Rattle.zeb_register.specs.declared.RegFault.{RegFault}
 use Rattle.zeb_register.specs.declared.RegFault.TheVariants as register
 use Rattle.std.proofs.lemmas.List.{map-append}
+use Rattle.zeb_search.specs.Registers.{has_ident_in}
 use Rattle.zeb_engine.specs.declared.replies.Hit.{Hit}
-use Rattle.zeb_engine.specs.Alone.{has_ident_in}
 use Rattle.zeb_engine.specs.Finding.{AreShown}
 use Rattle.zeb_engine.specs.Outcomes.{register_refusal}
 use Rattle.zeb_query.proofs.HoldingLemmas.{take_whole}

@@ -3,7 +3,7 @@ use Rattle.sqlite.specs.Held.{state}
 use Rattle.sqlite.specs.State.{HasCleanDisk, Survives}
 use Rattle.sqlite.specs.Tree.{Trees}
 use Rattle.zeb_register.specs.Calls.{ChangesNothing}
-use Rattle.zeb_engine.specs.Alone.{has_ident_in}
+use Rattle.zeb_search.specs.Registers.{has_ident_in}
 use Rattle.zeb_engine.specs.Finding.{AreShown}
 use Rattle.zeb_engine.specs.Works.{ShowsStore}
 use Rattle.zeb_engine.proofs.find.show.Given as goal

@@ -37,7 +37,7 @@ returns-clause-serves g c clean k home before fits keeps =
     let mid = state g.S.Store c.existing_database.new.connection in
     let name = name_bytes c.args.name.now in
     let first : HasCleanDisk mid = omega (arith, c.transact.ensures.survives.clean) in
-    let opened = c.in_ok-database.ensures.found first in
+    let opened = (c.in_ok-database.ensures.found first).0 in
     let ready = fits opened in
     let met = c.in_ok-database.ensures.exists first opened k before ready.0 ready.1 keeps in
     let known = existing_known {X = Database} (λ (base : Base) (found : Database). HasDatabase old.now.trees found.id.0 base.name (pos base.last) × (found.last ≡ base.last) × IsTrue mid.is_open) name ready.0 c.in_ok-database.database met in
@@ -53,7 +53,7 @@ returns-clause-survives g c =
     let name = name_bytes c.args.name.now in
     survives_after old mid new _ _ c.existing_database.ensures.crash c.transact.ensures.survives (λ clean db made k home before fits keeps.
     let first : HasCleanDisk mid = omega (arith, c.transact.ensures.survives.clean) in
-    let opened = c.in_ok-database.ensures.found first in
+    let opened = (c.in_ok-database.ensures.found first).0 in
     let ready = fits opened in
     let met = c.in_ok-database.ensures.exists first opened k before ready.0 ready.1 keeps in
     let known = existing_known {X = Database} (λ (base : Base) (found : Database). HasDatabase old.now.trees found.id.0 base.name (pos base.last) × (found.last ≡ base.last) × IsTrue mid.is_open) name ready.0 c.in_ok-database.database met in

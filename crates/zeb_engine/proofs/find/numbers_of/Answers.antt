@@ -1,9 +1,0 @@
-use Rattle.std.proofs.Common.{rules, ◌≡◌, map}
-use Rattle.zeb_register.specs.Content.{Posting}
-use Rattle.zeb_engine.proofs.Numbers.{numbers_from_dedup}
-use Rattle.zeb_engine.proofs.find.numbers_of.Goals as goal
-
-pub returns : goal.returns
-returns c =
-    let mapped : c.in_ok-numbers.numbers.items ≡ map (λ (p : Posting). p.sysno) c.args.postings.now = search rules in
-    numbers_from_dedup c.args.postings.now c.in_ok-numbers.numbers.items c.dedup.new.self.items mapped c.dedup.ensures.filtered

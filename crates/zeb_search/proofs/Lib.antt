@@ -1,0 +1,14 @@
+pub mod Comparisons
+pub mod FollowingPostings
+pub mod Gathering
+pub mod HoldsAlike
+pub mod JoinedLists
+pub mod JustLemmas
+pub mod Known
+pub mod OrderedLists
+pub mod PlainWords
+pub mod PlanLemmas
+pub mod PostingLemmas
+pub mod ReadLemmas
+pub mod SeparatedPostings
+pub mod TermLemmas

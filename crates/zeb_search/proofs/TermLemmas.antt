@@ -1,0 +1,54 @@
+-- The terms that a step of a search asks for.
+use Rattle.std.proofs.Common.{◌≡◌, ◌↔◌, ◌∙◌, ◌<◌, ◌^◌, ℕ, List, sym, ap, subst, IsUtf8, chars, encode_utf8_all}
+use Rattle.std.proofs.lemmas.Str.{encodes-chars}
+use Rattle.zeb_query.specs.declared.plans.Relation.{Relation}
+use Rattle.zeb_text.specs.Numbers.{number_key}
+use Rattle.zeb_text.specs.Patterns.{Matches}
+use Rattle.zeb_text.specs.Symbols.{Symbol, literal}
+use Rattle.zeb_text.proofs.MatchLemmas.{literal-same, same-literal}
+use Rattle.zeb_text.proofs.KeyLemmas.{keys_order}
+use Rattle.zeb_profile.specs.declared.Register.{Register}
+use Rattle.zeb_extract.specs.declared.keys.Key.{Key}
+use Rattle.zeb_extract.specs.declared.keys.Occurrence.{Occurrence}
+use Rattle.zeb_register.specs.declared.registers.TermCount.{TermCount}
+use Rattle.zeb_register.specs.Occurring.{AreTermsOf, key_in}
+use Rattle.zeb_register.proofs.ContentChanges.{numbers_apart}
+use Rattle.zeb_search.specs.Comparing.{Stands}
+use Rattle.zeb_search.specs.Holds.{Fits, IsNumberAt}
+use Rattle.zeb_search.specs.declared.terms.Wanted.{Wanted}
+use Rattle.zeb_search.specs.PrivateTerms.{AreKeysOf, AreTaken, HasWanted, IsWanted}
+use Rattle.zeb_search.proofs.Comparisons.{tied_back}
+
+pub same_number : (m n : ℕ) → m < 10 ^ 18 → n < 10 ^ 18 → number_key m ≡ number_key n → m ≡ n
+same_number m n m_small n_small same = numbers_apart m n (sym (keys_order m n m_small n_small) ∙ tied_back (number_key m) (number_key n) same)
+
+-- a key of a number is asked for where its number is
+pub number_taken : (relation : Relation) (number value : ℕ) (term : List ℕ) (P : Type 0) → value < 10 ^ 18 → term ≡ number_key value → (P ↔ Stands relation value number) → P ↔ IsNumberAt relation number term
+number_taken relation number value term P small is both = (
+  λ p. (value, small, is, both.0 p),
+  λ at. both.1 (subst (λ n. Stands relation n number) (same_number at.0 value at.1 small (sym at.2 ∙ is)) at.3),
+)
+
+-- a pattern without a star fits its own text alone
+pub literal_wanted : (pattern : List Symbol) (text : List ℕ) → IsUtf8 text → pattern ≡ literal (chars text) → (term : List ℕ) → Fits pattern term ↔ (term ≡ text)
+literal_wanted pattern text utf8 is term = (
+  λ fits. sym (encodes-chars term fits.0) ∙ ap encode_utf8_all (literal-same (chars text) (chars term) (subst (λ p. Matches p (chars term)) is fits.1)) ∙ encodes-chars text utf8,
+  λ same. (subst IsUtf8 (sym same) utf8, subst (λ p. Matches p (chars term)) (sym is) (same-literal (chars text) (chars term) (ap chars same))),
+)
+
+-- ---- the keys of the terms that are asked for
+
+module _ (O : ℕ → Occurrence → Type 0) (index : ℕ) (register : Register) (wanted : Wanted) where
+  pub all_has_wanted : (terms : List TermCount) → AreTermsOf O index register terms → HasWanted O index register wanted terms
+  all_has_wanted terms are term n there asked = are.found term n there
+
+  pub keys_are : (terms : List TermCount) (keys : List Key) → HasWanted O index register wanted terms → AreTaken index register wanted terms keys → AreKeysOf O index register (IsWanted wanted) keys
+  keys_are terms keys has taken = record {
+    each = λ key there.
+        let from = (taken key).0 there in
+        let same : key.term ≡ from.0.term = ap (λ (k : Key). k.term) from.2.1 in
+        (from.2.1 ∙ ap (key_in index register) (sym same), subst (IsWanted wanted) (sym same) from.2.0);
+    all = λ term n there asked.
+        let from = has term n there asked in
+        (taken (key_in index register term)).1 (from.0, from.1, (subst (IsWanted wanted) (sym from.2) asked, ap (key_in index register) (sym from.2)));
+  }

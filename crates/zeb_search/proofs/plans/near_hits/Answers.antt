@@ -1,0 +1,22 @@
+use Rattle.std.proofs.Common.{List, sym, subst}
+use Rattle.sqlite.specs.Held.{state}
+use Rattle.zeb_register.specs.Content.{posted, Posting}
+use Rattle.zeb_register.specs.Formats.{holds_in}
+use Rattle.zeb_search.specs.Lists.{ArePostings}
+use Rattle.zeb_search.proofs.PlanLemmas.{IsWordAt, near_hits}
+use Rattle.zeb_search.proofs.ReadLemmas.{as_read, clean_before, still_store, still_trees}
+use Rattle.zeb_search.proofs.plans.near_hits.Goals as goal
+
+pub returns-clause-value : goal.returns-clause-value
+returns-clause-value g c clean store content has =
+    let old = state g.S.Store c.args.connection.now in
+    let mid = state g.S.Store c.places_of_words.new.connection in
+    let new = state g.S.Store c.places_of_words-2.new.connection in
+    let O = posted content c.args.database.0 in
+    let plan = c.args.plan.now in
+    let first = clean_before mid new c.places_of_words-2.ensures.call.crash clean in
+    let read = as_read old mid c.in_ok-left.left c.in_ok-left.ensures.call in
+    let there = subst (λ t. holds_in g.L.Layout.format t content) (sym (still_trees old mid read first)) has in
+    let left = subst (ArePostings (IsWordAt O plan.index plan.left)) (sym c.deref.ensures.value) (c.in_ok-left.ensures.value first store content has) in
+    let right = subst (ArePostings (IsWordAt O plan.index plan.right)) (sym c.deref-2.ensures.value) (c.in_ok-right.ensures.value clean (still_store old mid read first store) content there) in
+    near_hits O plan.index plan.left plan.right plan.separation c.deref.result.now c.deref-2.result.now c.in_ok-near.field-0.items left right (c.in_ok-near.ensures left.rising right.rising)

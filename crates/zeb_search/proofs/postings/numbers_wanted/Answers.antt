@@ -1,0 +1,27 @@
+use Rattle.std.proofs.Common.{List, sym, subst}
+use Rattle.std.specs.List.Sorted.{IsStrictlySortedBy}
+use Rattle.sqlite.specs.Held.{state}
+use Rattle.zeb_extract.specs.declared.keys.Key.{Key}
+use Rattle.zeb_register.specs.Content.{posting_cmp, Posting}
+use Rattle.zeb_register.specs.Formats.{holds_in}
+use Rattle.zeb_register.specs.RowTerms.{IsInRecord}
+use Rattle.zeb_search.specs.Lists.{AreNumbers, ArePostings}
+use Rattle.zeb_search.specs.PrivateTerms.{IsPostingOf, IsWanted}
+use Rattle.zeb_search.proofs.PostingLemmas.{entry_numbers}
+use Rattle.zeb_search.proofs.ReadLemmas.{as_read, clean_before, still_store, still_trees}
+use Rattle.zeb_search.proofs.postings.numbers_wanted.Goals as goal
+
+pub returns-clause-value : goal.returns-clause-value
+returns-clause-value g c clean store content has =
+    let old = state g.S.Store c.args.connection.now in
+    let mid = state g.S.Store c.keys_wanted.new.connection in
+    let db = c.args.database.0 in
+    let keys = c.in_ok-keys.keys.items in
+    let postings = c.in_ok-postings.postings.items in
+    let first = clean_before mid (state g.S.Store c.postings_of.new.connection) c.postings_of.ensures.call.crash clean in
+    let read = as_read old mid c.in_ok-keys.keys c.in_ok-keys.ensures.call in
+    let there = subst (λ t. holds_in g.L.Layout.format t content) (sym (still_trees old mid read first)) has in
+    let list = subst (λ (l : List Key). ArePostings (IsPostingOf content db l) postings) c.deref.ensures.value (c.in_ok-postings.ensures.value clean (still_store old mid read first store) content there) in
+    let rising = subst (IsStrictlySortedBy posting_cmp) (sym c.deref-2.ensures.value) list.rising in
+    let numbers = subst (λ (l : List Posting). AreNumbers (IsInRecord l) c.in_ok-numbers_of.field-0.items) c.deref-2.ensures.value (c.in_ok-numbers_of.ensures rising) in
+    entry_numbers content db c.args.index c.args.register (IsWanted c.args.wanted) keys (c.in_ok-keys.ensures.value first store content has) postings c.in_ok-numbers_of.field-0.items list numbers

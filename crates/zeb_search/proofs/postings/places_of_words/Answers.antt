@@ -1,0 +1,23 @@
+use Rattle.std.proofs.Common.{List, sym, subst}
+use Rattle.std.proofs.lemmas.Result.{IfOk-weaker}
+use Rattle.sqlite.specs.Held.{state}
+use Rattle.zeb_extract.specs.declared.keys.Key.{Key}
+use Rattle.zeb_register.specs.Formats.{holds_in}
+use Rattle.zeb_search.specs.Lists.{ArePostings}
+use Rattle.zeb_search.specs.PrivateTerms.{IsPostingOf}
+use Rattle.zeb_search.proofs.PostingLemmas.{word_places}
+use Rattle.zeb_search.proofs.ReadLemmas.{as_read, clean_before, still_store, still_trees}
+use Rattle.zeb_search.proofs.postings.places_of_words.Goals as goal
+
+pub returns-clause-value : goal.returns-clause-value
+returns-clause-value g c clean store =
+    let old = state g.S.Store c.args.connection.now in
+    let mid = state g.S.Store c.keys_wanted.new.connection in
+    let db = c.args.database.0 in
+    let keys = c.in_ok-keys.keys.items in
+    let first = clean_before mid (state g.S.Store c.postings_of.new.connection) c.postings_of.ensures.call.crash clean in
+    let read = as_read old mid c.in_ok-keys.keys c.in_ok-keys.ensures.call in
+    IfOk-weaker c.postings_of.result _ _ (λ list are content has.
+    let there = subst (λ t. holds_in g.L.Layout.format t content) (sym (still_trees old mid read first)) has in
+    word_places content db c.args.index c.args.pattern.now keys (c.in_ok-keys.ensures.value first store content has) list.items
+    (subst (λ (l : List Key). ArePostings (IsPostingOf content db l) list.items) c.deref.ensures.value (are content there))) (c.postings_of.ensures.value clean (still_store old mid read first store))

@@ -1,0 +1,41 @@
+use Rattle.std.proofs.Common.{◌≡◌, ◌∙◌, ◌+◌, ◌++◌, List, arith, get_or, ap, sym, subst, take}
+use Rattle.sqlite.specs.Held.{state}
+use Rattle.sqlite_rules.specs.Lists.{Has}
+use Rattle.zeb_query.proofs.HoldingLemmas.{take_whole}
+use Rattle.zeb_extract.specs.declared.keys.Key.{Key}
+use Rattle.zeb_register.specs.Content.{Posting}
+use Rattle.zeb_register.specs.Formats.{holds_in}
+use Rattle.zeb_search.proofs.Gathering.{Gathers, gathers_next}
+use Rattle.zeb_search.proofs.ReadLemmas.{clean_before, one_read, read_then, still_store, still_trees}
+use Rattle.zeb_search.proofs.postings.postings_of.Goals as goal
+
+pub loop-key-preserved : goal.loop-key-preserved
+loop-key-preserved g c =
+    let old = state g.S.Store c.args.connection.now in
+    let now = state g.S.Store c.loop-key.connection in
+    let new = state g.S.Store c.key_list.new.conn in
+    let index = c.loop-key.key-index in
+    let keys = c.args.keys.now in
+    let list = c.in_ok-list.list.items in
+    record {
+      read = read_then old now new c.loop-key.invariant.read (one_read now new c.in_ok-list.list c.in_ok-list.ensures.call);
+      gathered = λ clean store content has.
+          let first = clean_before now new c.key_list.ensures.call.crash clean in
+          let there = subst (λ t. holds_in g.L.Layout.format t content) (sym (still_trees old now c.loop-key.invariant.read first)) has in
+          let value = c.in_ok-list.ensures.value clean (still_store old now c.loop-key.invariant.read first store) content there in
+          let same : list ≡ content c.args.database.0 (get_or keys index c.key-item.result) = value ∙ ap (content c.args.database.0) c.key-item.is in
+          let all : c.extend_from_slice.new.self.items ≡ c.loop-key.postings.items ++ list = c.in_ok-extend_from_slice.ensures.items ∙ ap (λ l. c.loop-key.postings.items ++ l) c.deref.ensures.value in
+          let R = λ (key : Key) (p : Posting). Has (content c.args.database.0 key) p in
+          subst (Gathers R (take (index + 1) keys)) (sym all)
+          (gathers_next R keys index c.key-item.result c.loop-key.postings.items list c.loop-key-test.true (c.loop-key.invariant.gathered first store content has)
+          (λ p. (subst (λ (l : List Posting). Has l p) same, subst (λ (l : List Posting). Has l p) (sym same))));
+    }
+
+pub returns-clause-value : goal.returns-clause-value
+returns-clause-value g c clean store content has =
+    let whole = take_whole c.args.keys.now c.loop-key.key-index (omega (arith, c.loop-key-test.false)) in
+    let gathered = subst (λ (l : List Key). Gathers (λ (key : Key) (p : Posting). Has (content c.args.database.0 key) p) l c.loop-key.postings.items) whole (c.loop-key.invariant.gathered clean store content has) in
+    record {
+      rising = c.postings_in_order.ensures.rising;
+      each = λ p. (λ there. (gathered p).0 ((c.postings_in_order.ensures.each p).0 there), λ of. (c.postings_in_order.ensures.each p).1 ((gathered p).1 of));
+    }

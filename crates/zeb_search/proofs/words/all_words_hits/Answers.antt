@@ -1,0 +1,63 @@
+use Rattle.std.proofs.Common.{List, ◌+◌, arith, subst, sym, take}
+use Rattle.sqlite.specs.Held.{state}
+use Rattle.zeb_query.proofs.HoldingLemmas.{take_whole}
+use Rattle.zeb_query.specs.declared.plans.Operator.TheVariants as operator
+use Rattle.zeb_register.specs.Content.{posted}
+use Rattle.zeb_register.specs.Formats.{holds_in}
+use Rattle.zeb_text.specs.Symbols.{Symbol}
+use Rattle.zeb_search.specs.Holds.{HasMatch}
+use Rattle.zeb_search.specs.Lists.{AreNumbers}
+use Rattle.zeb_search.proofs.JustLemmas.{joined_numbers}
+use Rattle.zeb_search.proofs.PlanLemmas.{EachMatches, each_matches_more, each_matches_none, each_matches_whole, none_found}
+use Rattle.zeb_search.proofs.ReadLemmas.{as_read, clean_before, read_then, still_store, still_trees}
+use Rattle.zeb_search.proofs.words.all_words_hits.Goals as goal
+
+pub returns-in_default-clause-value : goal.returns-in_default-clause-value
+returns-in_default-clause-value g c clean store content has =
+    none_found c.args.patterns.now (EachMatches (posted content c.args.database.0) c.args.index c.args.patterns.now) c.new.result.items c.in_default.ensures.cases c.new.ensures.items
+
+pub loop-other-init : goal.loop-other-init
+loop-other-init g c = record {
+  read = as_read (state g.S.Store c.args.connection.now) (state g.S.Store c.numbers_wanted.new.connection) c.in_ok-hits.hits c.in_ok-hits.ensures.call;
+  found = (
+    c.in-Some.pattern.now,
+    c.in-Some.ensures.cases.0,
+    λ clean store content has.
+        each_matches_none (posted content c.args.database.0) c.args.index c.in-Some.pattern.now c.in_ok-hits.hits.items (c.in_ok-hits.ensures.value clean store content has),
+  );
+}
+
+pub loop-other-preserved : goal.loop-other-preserved
+loop-other-preserved g c =
+    let old = state g.S.Store c.args.connection.now in
+    let now = state g.S.Store c.loop-other.connection in
+    let new = state g.S.Store c.numbers_wanted-in-loop-other.new.connection in
+    let others = c.in-Some.others.now in
+    let index = c.loop-other.other-index in
+    let pattern = c.other-item.result in
+    let first = c.loop-other.invariant.found.0 in
+    record {
+      read = read_then old now new c.loop-other.invariant.read (as_read now new c.in_ok-found.found c.in_ok-found.ensures.call);
+      found = (
+        first,
+        c.loop-other.invariant.found.1,
+        λ clean store content has.
+            let O = posted content c.args.database.0 in
+            let clean1 = clean_before now new c.numbers_wanted-in-loop-other.ensures.call.crash clean in
+            let there = subst (λ t. holds_in g.L.Layout.format t content) (sym (still_trees old now c.loop-other.invariant.read clean1)) has in
+            let here = c.in_ok-found.ensures.value clean (still_store old now c.loop-other.invariant.read clean1 store) content there in
+            let before = c.loop-other.invariant.found.2 clean1 store content has in
+            each_matches_more O c.args.index others index pattern c.loop-other-test.true c.other-item.is c.in_ok-hits-2.hits.items first
+            (joined_numbers operator.And (λ n. EachMatches O c.args.index (take index others) n × HasMatch O c.args.index first n) (HasMatch O c.args.index pattern) c.loop-other.hits.items c.in_ok-found.found.items
+            c.deref.result.now c.deref-in-loop-other.result.now c.in_ok-hits-2.hits.items c.deref.ensures.value c.deref-in-loop-other.ensures.value before here c.in_ok-hits-2.ensures),
+      );
+    }
+
+pub returns-clause-value : goal.returns-clause-value
+returns-clause-value g c clean store content has =
+    let O = posted content c.args.database.0 in
+    let others = c.in-Some.others.now in
+    let first = c.loop-other.invariant.found.0 in
+    let whole = take_whole others c.loop-other.other-index (omega (arith, c.loop-other-test.false)) in
+    each_matches_whole O c.args.index c.args.patterns.now first others c.loop-other.hits.items c.loop-other.invariant.found.1
+    (subst (λ (l : List (List Symbol)). AreNumbers (λ n. EachMatches O c.args.index l n × HasMatch O c.args.index first n) c.loop-other.hits.items) whole (c.loop-other.invariant.found.2 clean store content has))

@@ -1,0 +1,23 @@
+use Rattle.std.proofs.Common.{◌≡◌, ◌∷◌, List, take}
+use Rattle.sqlite.specs.Held.{state}
+use Rattle.sqlite.specs.State.{HasCleanDisk}
+use Rattle.zeb_register.specs.Content.{Content, posted}
+use Rattle.zeb_register.specs.Formats.{holds_in}
+use Rattle.zeb_register.specs.Store.{IsStore}
+use Rattle.zeb_text.specs.Symbols.{Symbol}
+use Rattle.zeb_search.specs.Holds.{HasMatch}
+use Rattle.zeb_search.specs.Lists.{AreNumbers}
+use Rattle.zeb_search.proofs.PlanLemmas.{EachMatches}
+use Rattle.zeb_search.proofs.ReadLemmas.{IsRead}
+use Rattle.zeb_search.proofs.words.all_words_hits.Given as goal
+
+abbrev pub invariant-loop-other : goal.invariant-loop-other
+invariant-loop-other g l =
+    let old = state g.S.Store l.fn.connection in
+    let now = state g.S.Store l.connection in
+    record {
+      read : IsRead old now;
+      found : (first : List Symbol) × (l.fn.patterns ≡ first ∷ l.others)
+          × (HasCleanDisk now → IsStore old → (content : Content) → holds_in g.L.Layout.format old.now.trees content
+          → AreNumbers (λ n. EachMatches (posted content l.fn.database.0) l.index (take l.other-index l.others) n × HasMatch (posted content l.fn.database.0) l.index first n) l.hits.items);
+    }

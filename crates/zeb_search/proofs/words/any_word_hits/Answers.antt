@@ -1,0 +1,47 @@
+use Rattle.std.proofs.Common.{List, [], arith, subst, sym, take}
+use Rattle.sqlite.specs.Held.{state}
+use Rattle.zeb_query.proofs.HoldingLemmas.{take_whole}
+use Rattle.zeb_query.specs.declared.plans.Operator.TheVariants as operator
+use Rattle.zeb_register.specs.Content.{posted}
+use Rattle.zeb_register.specs.Formats.{holds_in}
+use Rattle.zeb_text.specs.Symbols.{Symbol}
+use Rattle.zeb_search.specs.Holds.{HasMatch}
+use Rattle.zeb_search.specs.Lists.{AreNumbers}
+use Rattle.zeb_search.proofs.JustLemmas.{joined_numbers, just_none}
+use Rattle.zeb_search.proofs.PlanLemmas.{SomeMatch, some_match_more}
+use Rattle.zeb_search.proofs.ReadLemmas.{as_read, clean_before, read_still, read_then, still_store, still_trees}
+use Rattle.zeb_search.proofs.words.any_word_hits.Goals as goal
+
+pub loop-pattern-init : goal.loop-pattern-init
+loop-pattern-init g c = record {
+  read = read_still (state g.S.Store c.args.connection.now);
+  found = λ clean store content has.
+      subst (AreNumbers (SomeMatch (posted content c.args.database.0) c.args.index [])) (sym c.new-hits.ensures.items)
+      (just_none (SomeMatch (posted content c.args.database.0) c.args.index []) (λ n h. h.1));
+}
+
+pub loop-pattern-preserved : goal.loop-pattern-preserved
+loop-pattern-preserved g c =
+    let old = state g.S.Store c.args.connection.now in
+    let now = state g.S.Store c.loop-pattern.connection in
+    let new = state g.S.Store c.numbers_wanted.new.connection in
+    let patterns = c.args.patterns.now in
+    let index = c.loop-pattern.pattern-index in
+    let pattern = c.pattern-item.result in
+    record {
+      read = read_then old now new c.loop-pattern.invariant.read (as_read now new c.in_ok-found.found c.in_ok-found.ensures.call);
+      found = λ clean store content has.
+          let O = posted content c.args.database.0 in
+          let first = clean_before now new c.numbers_wanted.ensures.call.crash clean in
+          let there = subst (λ t. holds_in g.L.Layout.format t content) (sym (still_trees old now c.loop-pattern.invariant.read first)) has in
+          let here = c.in_ok-found.ensures.value clean (still_store old now c.loop-pattern.invariant.read first store) content there in
+          let before = c.loop-pattern.invariant.found first store content has in
+          some_match_more O c.args.index patterns index pattern c.loop-pattern-test.true c.pattern-item.is c.in_ok-hits.hits.items
+          (joined_numbers operator.Or (SomeMatch O c.args.index (take index patterns)) (HasMatch O c.args.index pattern) c.loop-pattern.hits.items c.in_ok-found.found.items
+          c.deref.result.now c.deref-in-loop-pattern.result.now c.in_ok-hits.hits.items c.deref.ensures.value c.deref-in-loop-pattern.ensures.value before here c.in_ok-hits.ensures);
+    }
+
+pub returns-clause-value : goal.returns-clause-value
+returns-clause-value g c clean store content has =
+    let whole = take_whole c.args.patterns.now c.loop-pattern.pattern-index (omega (arith, c.loop-pattern-test.false)) in
+    subst (λ (l : List (List Symbol)). AreNumbers (SomeMatch (posted content c.args.database.0) c.args.index l) c.loop-pattern.hits.items) whole (c.loop-pattern.invariant.found clean store content has)

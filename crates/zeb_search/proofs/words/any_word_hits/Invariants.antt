@@ -1,0 +1,22 @@
+use Rattle.std.proofs.Common.{List, take}
+use Rattle.sqlite.specs.Held.{state}
+use Rattle.sqlite.specs.State.{HasCleanDisk}
+use Rattle.sqlite_rules.specs.Lists.{Has}
+use Rattle.zeb_register.specs.Content.{Content, posted}
+use Rattle.zeb_register.specs.Formats.{holds_in}
+use Rattle.zeb_register.specs.Store.{IsStore}
+use Rattle.zeb_text.specs.Symbols.{Symbol}
+use Rattle.zeb_search.specs.Holds.{HasMatch}
+use Rattle.zeb_search.specs.Lists.{AreNumbers}
+use Rattle.zeb_search.proofs.ReadLemmas.{IsRead}
+use Rattle.zeb_search.proofs.words.any_word_hits.Given as goal
+
+abbrev pub invariant-loop-pattern : goal.invariant-loop-pattern
+invariant-loop-pattern g l =
+    let old = state g.S.Store l.fn.connection in
+    let now = state g.S.Store l.connection in
+    record {
+      read : IsRead old now;
+      found : HasCleanDisk now → IsStore old → (content : Content) → holds_in g.L.Layout.format old.now.trees content
+          → AreNumbers (λ n. (pattern : List Symbol) × Has (take l.pattern-index l.patterns) pattern × HasMatch (posted content l.fn.database.0) l.index pattern n) l.hits.items;
+    }

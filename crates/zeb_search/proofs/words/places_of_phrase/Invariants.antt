@@ -1,0 +1,25 @@
+use Rattle.std.proofs.Common.{◌≡◌, ◌≢◌, ◌++◌, List, [], length}
+use Rattle.sqlite.specs.Held.{state}
+use Rattle.sqlite.specs.State.{HasCleanDisk}
+use Rattle.zeb_register.specs.Content.{Content, posted}
+use Rattle.zeb_register.specs.Formats.{holds_in}
+use Rattle.zeb_register.specs.Store.{IsStore}
+use Rattle.zeb_text.specs.Symbols.{Symbol}
+use Rattle.zeb_search.specs.Lists.{ArePostings}
+use Rattle.zeb_search.proofs.PlanLemmas.{AreWordsAt}
+use Rattle.zeb_search.proofs.ReadLemmas.{IsRead}
+use Rattle.zeb_search.proofs.words.places_of_phrase.Given as goal
+
+abbrev pub invariant-loop-pattern : goal.invariant-loop-pattern
+invariant-loop-pattern g l =
+    let old = state g.S.Store l.fn.connection in
+    let now = state g.S.Store l.connection in
+    record {
+      read : IsRead old now;
+      behind : (rest : List (List Symbol)) × (rest ≢ []) × (l.fn.patterns ≡ l.others ++ rest)
+          × (HasCleanDisk now → IsStore old → (content : Content) → holds_in g.L.Layout.format old.now.trees content
+          → ArePostings (AreWordsAt (posted content l.fn.database.0) l.index rest) l.places.items);
+    }
+
+abbrev pub decreases-loop-pattern : goal.decreases-loop-pattern
+decreases-loop-pattern g l = length l.others

@@ -1,0 +1,50 @@
+-- How numbers, texts and places of words stand to each other (ANSI/NISO Z39.50-2003: Bib-1, relation attributes; the proximity operator).
+use Rattle.std.specs.Prelude.{◌≡◌, ◌≢◌, ◌⊎◌, ◌+◌, ◌<◌, ◌≤◌, ℕ, Bool, true, false, List}
+use Rattle.std.specs.declared.cmp.Ordering.{Ordering}
+use Rattle.std.specs.declared.cmp.Ordering.TheVariants as ordering
+use Rattle.std.specs.Ordering.{nat_cmp}
+use Rattle.std.specs.Cmp.Lexicographic.{slice_cmp}
+use Rattle.zeb_query.specs.declared.plans.DistanceRelation.{DistanceRelation}
+use Rattle.zeb_query.specs.declared.plans.DistanceRelation.TheVariants as at
+use Rattle.zeb_query.specs.declared.plans.Order.{Order}
+use Rattle.zeb_query.specs.declared.plans.Order.TheVariants as in_order
+use Rattle.zeb_query.specs.declared.plans.Relation.{Relation}
+use Rattle.zeb_query.specs.declared.plans.Relation.TheVariants as relation
+use Rattle.zeb_query.specs.declared.plans.Separation.{Separation}
+
+-- the first number stands in the relation to the other
+abbrev pub Stands : Relation → ℕ → ℕ → Type 0
+Stands relation.Less a b = a < b
+Stands relation.LessOrEqual a b = a ≤ b
+Stands relation.Equal a b = a ≡ b
+Stands relation.GreaterOrEqual a b = b ≤ a
+Stands relation.Greater a b = b < a
+
+-- the first text comes before the other in the order of their bytes
+abbrev pub Precedes : List ℕ → List ℕ → Type 0
+Precedes a b = slice_cmp nat_cmp a b ≡ ordering.Less
+
+-- the first text stands so to the other
+abbrev pub StandsInOrder : Order → List ℕ → List ℕ → Type 0
+StandsInOrder in_order.Less a b = Precedes a b
+StandsInOrder in_order.LessOrEqual a b = Precedes a b ⊎ (a ≡ b)
+StandsInOrder in_order.GreaterOrEqual a b = Precedes b a ⊎ (a ≡ b)
+StandsInOrder in_order.Greater a b = Precedes b a
+
+-- the number of words from one word to another stands so to the distance
+abbrev pub IsDistant : DistanceRelation → ℕ → ℕ → Type 0
+IsDistant at.Less words distance = words < distance
+IsDistant at.LessOrEqual words distance = words ≤ distance
+IsDistant at.Equal words distance = words ≡ distance
+IsDistant at.GreaterOrEqual words distance = distance ≤ words
+IsDistant at.Greater words distance = distance < words
+IsDistant at.NotEqual words distance = words ≢ distance
+
+-- one place is some words behind the other, or, where the order doesn't matter, before it; they are two places
+abbrev pub AreApart : Bool → ℕ → ℕ → ℕ → Type 0
+AreApart true words i j = (0 < words) × (i + words ≡ j)
+AreApart false words i j = (0 < words) × ((i + words ≡ j) ⊎ (j + words ≡ i))
+
+-- two places of words in one unit are separated so
+abbrev pub AreSeparated : Separation → ℕ → ℕ → Type 0
+AreSeparated separation i j = (words : ℕ) × AreApart separation.ordered words i j × IsDistant separation.relation words separation.distance

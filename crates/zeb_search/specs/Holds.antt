@@ -1,0 +1,86 @@
+-- On which records a query holds (ANSI/NISO Z39.50-2003, attribute set Bib-1 and the proximity operator; YAZ manual, Prefix Query Format),
+-- by a set of occurrences: it says of a record's number and an occurrence whether the record has it. Read with the bytes of kept records it
+-- tells what a find means; read with the postings of the registers, what they say by themselves.
+use Rattle.std.specs.Prelude.{◌≡◌, ◌≢◌, ◌⊎◌, ◌+◌, ◌<◌, ◌^◌, ℕ, Bool, true, List, [], ◌∷◌, Option, Some, None, IsUtf8, chars}
+use Rattle.sqlite_rules.specs.Lists.{Has}
+use Rattle.zeb_text.specs.Symbols.{Symbol}
+use Rattle.zeb_text.specs.Patterns.{Matches}
+use Rattle.zeb_text.specs.Numbers.{number_key}
+use Rattle.zeb_profile.specs.declared.Register.{Register}
+use Rattle.zeb_profile.specs.declared.Register.TheVariants as register
+use Rattle.zeb_query.specs.declared.plans.Operator.{Operator}
+use Rattle.zeb_query.specs.declared.plans.Operator.TheVariants as operator
+use Rattle.zeb_query.specs.declared.plans.Order.{Order}
+use Rattle.zeb_query.specs.declared.plans.Relation.{Relation}
+use Rattle.zeb_query.specs.declared.plans.Separation.{Separation}
+use Rattle.zeb_query.specs.Plans.{PlanValue, TermOf, PairOf, NearOf, TermPlanValue, RecordNumberOf, AlwaysOf, NumberOf, OrderedOf, CompleteOf, PhraseOf, AllWordsOf, AnyWordOf}
+use Rattle.zeb_extract.specs.declared.keys.Occurrence.{Occurrence}
+use Rattle.zeb_register.specs.Occurring.{TermIn, key_in}
+use Rattle.zeb_search.specs.Comparing.{Stands, StandsInOrder, AreSeparated}
+
+-- ---- entries of a register
+
+-- the pattern matches the entry
+abbrev pub Fits : List Symbol → List ℕ → Type 0
+Fits pattern term = IsUtf8 term × Matches pattern (chars term)
+
+-- the entry is the key of a number that stands so to the given one
+abbrev pub IsNumberAt : Relation → ℕ → List ℕ → Type 0
+IsNumberAt relation number term = (value : ℕ) × (value < 10 ^ 18) × (term ≡ number_key value) × Stands relation value number
+
+-- two conditions under an operator
+abbrev pub AreJoined : Operator → Type 0 → Type 0 → Type 0
+AreJoined operator.And left right = left × right
+AreJoined operator.Or left right = left ⊎ right
+AreJoined operator.Not left right = left × (¬ right)
+
+-- `O` is a set of occurrences
+module _ (O : ℕ → Occurrence → Type 0) where
+  -- the record has an entry that is P in the register
+  abbrev pub HasEntry : ℕ → Register → (P : List ℕ → Type 0) → ℕ → Type 0
+  HasEntry index register P n = (term : List ℕ) × TermIn O index register term n × P term
+
+  -- a word that the pattern matches stands at this place of the record
+  abbrev pub HasWord : ℕ → List Symbol → (n seq pos : ℕ) → Type 0
+  HasWord index pattern n seq pos = (term : List ℕ) × O n (record { key = key_in index register.Word term; seq = seq; pos = pos }) × Fits pattern term
+
+  -- the words of the unit from this place on match the patterns in order
+  abbrev pub HasWords : ℕ → List (List Symbol) → (n seq pos : ℕ) → Type 0
+  HasWords index [] n seq pos = Unit {0}
+  HasWords index (pattern ∷ patterns) n seq pos = HasWord index pattern n seq pos × HasWords index patterns n seq (1 + pos)
+
+  -- The words of one unit match the patterns, one after another; `first` asks that they begin with the unit's first word. Words are
+  -- numbered from 1.
+  abbrev pub HasPhrase : ℕ → List (List Symbol) → Bool → ℕ → Type 0
+  HasPhrase index patterns first n = (seq : ℕ) × (pos : ℕ) × (first ≡ true → pos ≡ 1) × HasWords index patterns n seq pos
+
+  -- some word of the record matches the pattern
+  abbrev pub HasMatch : ℕ → List Symbol → ℕ → Type 0
+  HasMatch index pattern = HasEntry index register.Word (Fits pattern)
+
+  -- two words of one unit, which their patterns match, are separated so
+  abbrev pub HasNear : ℕ → List Symbol → List Symbol → Separation → ℕ → Type 0
+  HasNear index left right separation n =
+      (seq : ℕ) × (i : ℕ) × (j : ℕ) × HasWord index left n seq i × HasWord index right n seq j × AreSeparated separation i j
+
+  -- ---- terms and trees; `IsKept` says of which records the database has
+
+  module _ (IsKept : ℕ → Type 0) where
+    -- the term holds on the record with this number; without a pattern, or without words to stand in an order to, it holds on none
+    abbrev pub TermHolds : TermPlanValue → ℕ → Type 0
+    TermHolds (RecordNumberOf number) n = (n ≡ number) × IsKept n
+    TermHolds (AlwaysOf index register) n = HasEntry index register (λ _. Unit {0}) n
+    TermHolds (NumberOf index relation number) n = HasEntry index register.Number (IsNumberAt relation number) n
+    TermHolds (OrderedOf index register order None) n = ⊥
+    TermHolds (OrderedOf index register order (Some start)) n = HasEntry index register (λ term. StandsInOrder order term start) n
+    TermHolds (CompleteOf index None) n = ⊥
+    TermHolds (CompleteOf index (Some pattern)) n = HasEntry index register.Phrase (Fits pattern) n
+    TermHolds (PhraseOf index patterns first) n = (patterns ≢ []) × HasPhrase index patterns first n
+    TermHolds (AllWordsOf index patterns) n = (patterns ≢ []) × ((pattern : List Symbol) → Has patterns pattern → HasMatch index pattern n)
+    TermHolds (AnyWordOf index patterns) n = (pattern : List Symbol) × Has patterns pattern × HasMatch index pattern n
+
+    -- the query holds on the record with this number
+    abbrev pub TreeHolds : PlanValue → ℕ → Type 0
+    TreeHolds (TermOf plan) n = TermHolds plan n
+    TreeHolds (PairOf operator left right) n = AreJoined operator (TreeHolds left n) (TreeHolds right n)
+    TreeHolds (NearOf index left right separation) n = HasNear index left right separation n

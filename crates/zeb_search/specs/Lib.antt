@@ -1,0 +1,7 @@
+pub mod Comparing
+pub mod Holds
+pub mod Lists
+pub mod PrivateTerms
+pub mod PrivateWalks
+pub mod Registers
+pub mod Untouched

@@ -1,0 +1,20 @@
+-- Lists that rise and have just the members that are P.
+use Rattle.std.specs.Prelude.{◌↔◌, ℕ, List}
+use Rattle.std.specs.declared.cmp.Ordering.{Ordering}
+use Rattle.std.specs.List.Sorted.{IsStrictlySortedBy}
+use Rattle.std.specs.Ordering.{nat_cmp}
+use Rattle.sqlite_rules.specs.Lists.{Has}
+use Rattle.zeb_register.specs.Content.{posting_cmp, Posting}
+
+-- just those that are P, each once, in order
+pub record AreJust {X : Type 0} (cmp : X → X → Ordering) (P : X → Type 0) (list : List X) : Type 0 where
+  pub rising : IsStrictlySortedBy cmp list
+  pub each : (x : X) → Has list x ↔ P x
+
+-- just the numbers that are P, rising
+abbrev pub AreNumbers : (P : ℕ → Type 0) → List ℕ → Type 0
+AreNumbers P = AreJust nat_cmp P
+
+-- just the postings that are P, rising
+abbrev pub ArePostings : (P : Posting → Type 0) → List Posting → Type 0
+ArePostings P = AreJust posting_cmp P

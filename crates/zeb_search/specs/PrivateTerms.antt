@@ -1,0 +1,58 @@
+-- The terms that one step of a search asks for.
+use Rattle.std.specs.Prelude.{◌≡◌, ◌↔◌, ◌+◌, ◌≤◌, ℕ, ℤ, List}
+use Rattle.sqlite_rules.specs.Lists.{Has}
+use Rattle.zeb_profile.specs.declared.Register.{Register}
+use Rattle.zeb_extract.specs.declared.keys.Key.{Key}
+use Rattle.zeb_extract.specs.declared.keys.Occurrence.{Occurrence}
+use Rattle.zeb_register.specs.declared.registers.TermCount.{TermCount}
+use Rattle.zeb_register.specs.Content.{Content, Posting}
+use Rattle.zeb_register.specs.Occurring.{HasKey, TermIn, key_in}
+use Rattle.zeb_search.specs.declared.terms.Wanted.{Wanted}
+use Rattle.zeb_search.specs.declared.terms.Wanted.TheVariants as wanted
+use Rattle.zeb_query.specs.declared.plans.Separation.{Separation}
+use Rattle.zeb_search.specs.Comparing.{AreSeparated, StandsInOrder}
+use Rattle.zeb_search.specs.Holds.{Fits, IsNumberAt}
+
+-- the entry is asked for
+abbrev pub IsWanted : Wanted → List ℕ → Type 0
+IsWanted wanted.All term = Unit {0}
+IsWanted (wanted.Matching pattern) term = Fits pattern.now term
+IsWanted (wanted.Number relation number) term = IsNumberAt relation number term
+IsWanted (wanted.Text order start) term = StandsInOrder order term start.now
+
+-- these are the keys of those of the terms that are asked for
+abbrev pub AreTaken : ℕ → Register → Wanted → List TermCount → List Key → Type 0
+AreTaken index register wanted terms keys =
+    (key : Key) → Has keys key ↔ ((t : TermCount) × Has terms t × (IsWanted wanted t.term × (key ≡ key_in index register t.term)))
+
+-- each entry that is asked for and that some record has is among the terms
+abbrev pub HasWanted : (O : ℕ → Occurrence → Type 0) → ℕ → Register → Wanted → List TermCount → Type 0
+HasWanted O index register wanted terms =
+    (term : List ℕ) (n : ℕ) → TermIn O index register term n → IsWanted wanted term → (t : TermCount) × Has terms t × (t.term ≡ term)
+
+-- keys of one register: each is P, and each entry that is P and that some record has is among them
+pub record AreKeysOf (O : ℕ → Occurrence → Type 0) (index : ℕ) (register : Register) (P : List ℕ → Type 0) (keys : List Key) : Type 0 where
+  pub each : (key : Key) → Has keys key → (key ≡ key_in index register key.term) × P key.term
+  pub all : (term : List ℕ) (n : ℕ) → TermIn O index register term n → P term → Has keys (key_in index register term)
+
+-- the record has one of the keys
+abbrev pub HasOneOf : (O : ℕ → Occurrence → Type 0) → List Key → ℕ → Type 0
+HasOneOf O keys n = (key : Key) × Has keys key × HasKey O key n
+
+-- it is a posting of one of the keys
+abbrev pub IsPostingOf : Content → ℤ → List Key → Posting → Type 0
+IsPostingOf content db keys p = (key : Key) × Has keys key × Has (content db key) p
+
+-- another posting stands behind it in the same unit, at a distance of so many words
+abbrev pub HasBehind : (least greatest : ℕ) → List Posting → Posting → Type 0
+HasBehind least greatest others p =
+    (q : Posting) × Has others q × (q.sysno ≡ p.sysno) × (q.seq ≡ p.seq) × (p.pos + least ≤ q.pos) × (q.pos ≤ p.pos + greatest)
+
+-- two postings of one record and one unit
+abbrev pub ShareUnit : Posting → Posting → Type 0
+ShareUnit p q = (p.sysno ≡ q.sysno) × (p.seq ≡ q.seq)
+
+-- the record has a posting of each list in one unit, and the two are separated so
+abbrev pub IsNear : Separation → List Posting → List Posting → ℕ → Type 0
+IsNear separation left right n =
+    (p : Posting) × (q : Posting) × Has left p × Has right q × (p.sysno ≡ n) × ShareUnit p q × AreSeparated separation p.pos q.pos

@@ -1,0 +1,13 @@
+//! A query's plan, answered by the registers of one database: the numbers of the records on which it holds.
+//!
+//! What a plan holds on is ANSI/NISO Z39.50-2003, attribute set Bib-1, and its proximity operator.
+#![tactic(auto)]
+
+mod distances;
+mod lists;
+mod plans;
+mod postings;
+mod terms;
+mod words;
+
+pub use plans::hits;

@@ -1,0 +1,207 @@
+//! The records on which a plan holds.
+
+ghost use Rattle.std.specs.Prelude.{◌≡◌, ◌<◌, ◌^◌, ℕ, List, IfOk};
+ghost use Rattle.sqlite.specs.Held.{state};
+ghost use Rattle.sqlite.specs.State.{HasCleanDisk};
+ghost use Rattle.zeb_query.specs.Plans.{HasSmallNumber, HasSmallNumbers, NearOf, TermOf, plan_value, term_plan_value};
+ghost use Rattle.zeb_register.specs.Calls.{Reading};
+ghost use Rattle.zeb_register.specs.Content.{Content, IsStorable};
+ghost use Rattle.zeb_register.specs.Formats.{holds_in};
+ghost use Rattle.zeb_register.specs.Store.{IsStore};
+ghost use Rattle.zeb_search.specs.Lists.{AreNumbers};
+ghost use Rattle.zeb_search.specs.Registers.{HasReadableIdents, HoldsIn, is_kept_in};
+ghost use Rattle.zeb_search.specs.Untouched.{IsUntouched};
+
+use crate::distances::near;
+use crate::lists::joined;
+use crate::postings::{numbers_wanted, places_of_words};
+use crate::terms::Wanted;
+use crate::words::{all_words_hits, any_word_hits, phrase_hits};
+use sqlite::{Alter, Connection};
+use std::alloc::Global;
+use zeb_profile::Register;
+use zeb_query::{NearPlan, Plan, TermPlan};
+use zeb_register::{DatabaseId, Layout, RegFault, Work, ident_of};
+
+/// The numbers of the records of a database on which a plan holds, rising and each once. The registers alone are read, and of a
+/// system number that the plan names whether a record has it.
+///
+/// `Damaged` where the tables hold no content, or where the identifier of the record that the plan names is no UTF-8; `Store` where a
+/// call of the store failed; `Memory` where memory ran out. It changes nothing.
+pub fn hits<S: Alter, L: Layout>(
+    alloc: Global,
+    connection: &mut Connection<S>,
+    work: &mut Work,
+    database: DatabaseId,
+    plan: &Plan,
+) -> Result<Vec<u64>, RegFault>
+    requires { HasSmallNumbers (plan_value plan.now) }
+    ensures call { Reading (state S.Store connection.old) (state S.Store connection.new) result (λ _. IsUntouched) }
+    ensures value { HasCleanDisk (state S.Store connection.new) → IsStore (state S.Store connection.old)
+        → IfOk result (λ hits. (content : Content) → holds_in L.format (state S.Store connection.old).now.trees content
+        → AreNumbers (HoldsIn (state S.Store connection.old).now.trees content database.0 (plan_value plan.now)) hits.items) }
+    ensures honest { HasCleanDisk (state S.Store connection.new) → IsStore (state S.Store connection.old) → result ≡ Err RegFault.Damaged
+        → HasReadableIdents (state S.Store connection.old).now.trees database.0
+        → (content : Content) → IsStorable content → ¬ holds_in L.format (state S.Store connection.old).now.trees content }
+{
+    match plan {
+        Plan::Term(term) => term_hits::<S, L>(alloc, connection, work, database, term),
+        Plan::Pair(pair) => {
+            let left = hits::<S, L>(alloc, connection, work, database, &pair.left)?;
+            let right = hits::<S, L>(alloc, connection, work, database, &pair.right)?;
+            Ok(joined(alloc, pair.operator, &left, &right)?)
+        }
+        Plan::Near(near) => near_hits::<S, L>(alloc, connection, work, database, near),
+    }
+}
+
+/// The records on which one term of a plan holds.
+fn term_hits<S: Alter, L: Layout>(
+    alloc: Global,
+    connection: &mut Connection<S>,
+    work: &mut Work,
+    database: DatabaseId,
+    term: &TermPlan,
+) -> Result<Vec<u64>, RegFault>
+    requires { HasSmallNumber (term_plan_value term.now) }
+    ensures call { Reading (state S.Store connection.old) (state S.Store connection.new) result (λ _. IsUntouched) }
+    ensures value { HasCleanDisk (state S.Store connection.new) → IsStore (state S.Store connection.old)
+        → IfOk result (λ hits. (content : Content) → holds_in L.format (state S.Store connection.old).now.trees content
+        → AreNumbers (HoldsIn (state S.Store connection.old).now.trees content database.0 (TermOf (term_plan_value term.now))) hits.items) }
+    ensures honest { HasCleanDisk (state S.Store connection.new) → IsStore (state S.Store connection.old) → result ≡ Err RegFault.Damaged
+        → HasReadableIdents (state S.Store connection.old).now.trees database.0
+        → (content : Content) → IsStorable content → ¬ holds_in L.format (state S.Store connection.old).now.trees content }
+{
+    match term {
+        TermPlan::RecordNumber(number) => record_hits(alloc, connection, database, *number),
+        TermPlan::Always { index, register } => {
+            let wanted = Wanted::All;
+            numbers_wanted::<S, L>(alloc, connection, work, database, *index, *register, wanted)
+        }
+        TermPlan::Number {
+            index,
+            relation,
+            number,
+        } => {
+            let wanted = Wanted::Number(*relation, *number);
+            numbers_wanted::<S, L>(
+                alloc,
+                connection,
+                work,
+                database,
+                *index,
+                Register::Number,
+                wanted,
+            )
+        }
+        TermPlan::Ordered {
+            index,
+            register,
+            order,
+            start,
+        } => match start {
+            Some(start) => {
+                let wanted = Wanted::Text(*order, start.as_str());
+                numbers_wanted::<S, L>(alloc, connection, work, database, *index, *register, wanted)
+            }
+            None => Ok(Vec::new(alloc)),
+        },
+        TermPlan::Complete { index, pattern } => match pattern {
+            Some(pattern) => {
+                let wanted = Wanted::Matching(pattern);
+                numbers_wanted::<S, L>(
+                    alloc,
+                    connection,
+                    work,
+                    database,
+                    *index,
+                    Register::Phrase,
+                    wanted,
+                )
+            }
+            None => Ok(Vec::new(alloc)),
+        },
+        TermPlan::Phrase {
+            index,
+            patterns,
+            first,
+        } => phrase_hits::<S, L>(
+            alloc,
+            connection,
+            work,
+            database,
+            *index,
+            patterns.as_slice(),
+            *first,
+        ),
+        TermPlan::AllWords { index, patterns } => {
+            all_words_hits::<S, L>(
+                alloc,
+                connection,
+                work,
+                database,
+                *index,
+                patterns.as_slice(),
+            )
+        }
+        TermPlan::AnyWord { index, patterns } => {
+            any_word_hits::<S, L>(
+                alloc,
+                connection,
+                work,
+                database,
+                *index,
+                patterns.as_slice(),
+            )
+        }
+    }
+}
+
+/// The record of a system number, if it is kept. `Damaged` where its identifier is no UTF-8.
+fn record_hits<S: Alter>(
+    alloc: Global,
+    connection: &mut Connection<S>,
+    database: DatabaseId,
+    number: u64,
+) -> Result<Vec<u64>, RegFault>
+    requires { number < 10 ^ 9 }
+    ensures call { Reading (state S.Store connection.old) (state S.Store connection.new) result (λ _. IsUntouched) }
+    ensures value { HasCleanDisk (state S.Store connection.new) → IsStore (state S.Store connection.old)
+        → IfOk result (λ hits. AreNumbers (λ n. (n ≡ number) × is_kept_in (state S.Store connection.old).now.trees database.0 n) hits.items) }
+    ensures honest { HasCleanDisk (state S.Store connection.new) → IsStore (state S.Store connection.old) → result ≡ Err RegFault.Damaged
+        → ¬ HasReadableIdents (state S.Store connection.old).now.trees database.0 }
+{
+    let Some(_ident) = ident_of(connection, database, number)? else {
+        return Ok(Vec::new(alloc));
+    };
+    Ok(Vec::from_slice(alloc, &[number])?)
+}
+
+/// The records in which two words stand near each other.
+fn near_hits<S: Alter, L: Layout>(
+    alloc: Global,
+    connection: &mut Connection<S>,
+    work: &mut Work,
+    database: DatabaseId,
+    plan: &NearPlan,
+) -> Result<Vec<u64>, RegFault>
+    requires { plan.now.separation.distance < 10 ^ 9 }
+    ensures call { Reading (state S.Store connection.old) (state S.Store connection.new) result (λ _. IsUntouched) }
+    ensures value { HasCleanDisk (state S.Store connection.new) → IsStore (state S.Store connection.old)
+        → IfOk result (λ hits. (content : Content) → holds_in L.format (state S.Store connection.old).now.trees content
+        → AreNumbers (HoldsIn (state S.Store connection.old).now.trees content database.0
+        (NearOf plan.now.index plan.now.left plan.now.right plan.now.separation)) hits.items) }
+    ensures honest { HasCleanDisk (state S.Store connection.new) → IsStore (state S.Store connection.old) → result ≡ Err RegFault.Damaged
+        → (content : Content) → IsStorable content → ¬ holds_in L.format (state S.Store connection.old).now.trees content }
+{
+    let left = places_of_words::<S, L>(alloc, connection, work, database, plan.index, &plan.left)?;
+    let right = places_of_words::<S, L>(
+        alloc,
+        connection,
+        work,
+        database,
+        plan.index,
+        &plan.right,
+    )?;
+    Ok(near(alloc, &left, &right, &plan.separation)?)
+}

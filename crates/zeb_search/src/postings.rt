@@ -1,0 +1,96 @@
+//! The postings of several keys.
+
+ghost use Rattle.std.specs.Prelude.{◌≡◌, ℕ, List, IfOk};
+ghost use Rattle.sqlite.specs.Held.{state};
+ghost use Rattle.sqlite.specs.State.{HasCleanDisk};
+ghost use Rattle.zeb_register.specs.Calls.{Reading};
+ghost use Rattle.zeb_register.specs.Content.{Content, IsStorable, posted};
+ghost use Rattle.zeb_register.specs.Formats.{holds_in};
+ghost use Rattle.zeb_register.specs.Store.{IsStore};
+ghost use Rattle.zeb_search.specs.Holds.{HasEntry, HasWord};
+ghost use Rattle.zeb_search.specs.Lists.{AreNumbers, ArePostings};
+ghost use Rattle.zeb_search.specs.PrivateTerms.{HasOneOf, IsPostingOf, IsWanted};
+ghost use Rattle.zeb_search.specs.Untouched.{IsUntouched};
+
+use crate::lists::{numbers_of, postings_in_order};
+use crate::terms::{Wanted, keys_wanted};
+use sqlite::{Alter, Connection};
+use std::alloc::Global;
+use zeb_extract::Key;
+use zeb_profile::Register;
+use zeb_register::{DatabaseId, Layout, Posting, RegFault, Work};
+use zeb_text::Pattern;
+
+/// The postings of the keys, in order and each once.
+fn postings_of<S: Alter, L: Layout>(
+    alloc: Global,
+    connection: &mut Connection<S>,
+    work: &mut Work,
+    database: DatabaseId,
+    keys: &[Key],
+) -> Result<Vec<Posting>, RegFault>
+    ensures call { Reading (state S.Store connection.old) (state S.Store connection.new) result (λ _. IsUntouched) }
+    ensures value { HasCleanDisk (state S.Store connection.new) → IsStore (state S.Store connection.old)
+        → IfOk result (λ list. (content : Content) → holds_in L.format (state S.Store connection.old).now.trees content
+        → ArePostings (IsPostingOf content database.0 keys.now) list.items) }
+    ensures honest { HasCleanDisk (state S.Store connection.new) → IsStore (state S.Store connection.old) → result ≡ Err RegFault.Damaged
+        → (content : Content) → IsStorable content → ¬ holds_in L.format (state S.Store connection.old).now.trees content }
+{
+    let mut postings = Vec::new(alloc);
+    for key in keys {
+        let list = L::key_list(alloc, connection, work, database, key)?;
+        postings.extend_from_slice(&list)?;
+    }
+    Ok(postings_in_order(postings))
+}
+
+/// The numbers of the records that have an entry which is asked for, in a register.
+pub(crate) fn numbers_wanted<S: Alter, L: Layout>(
+    alloc: Global,
+    connection: &mut Connection<S>,
+    work: &mut Work,
+    database: DatabaseId,
+    index: u32,
+    register: Register,
+    wanted: Wanted<'_>,
+) -> Result<Vec<u64>, RegFault>
+    ensures call { Reading (state S.Store connection.old) (state S.Store connection.new) result (λ _. IsUntouched) }
+    ensures value { HasCleanDisk (state S.Store connection.new) → IsStore (state S.Store connection.old)
+        → IfOk result (λ numbers. (content : Content) → holds_in L.format (state S.Store connection.old).now.trees content
+        → AreNumbers (HasEntry (posted content database.0) index register (IsWanted wanted.entry)) numbers.items) }
+    ensures honest { HasCleanDisk (state S.Store connection.new) → IsStore (state S.Store connection.old) → result ≡ Err RegFault.Damaged
+        → (content : Content) → IsStorable content → ¬ holds_in L.format (state S.Store connection.old).now.trees content }
+{
+    let keys = keys_wanted::<S, L>(alloc, connection, work, database, index, register, wanted)?;
+    let postings = postings_of::<S, L>(alloc, connection, work, database, &keys)?;
+    Ok(numbers_of(alloc, &postings)?)
+}
+
+/// The places of the words of an index that a pattern matches.
+pub(crate) fn places_of_words<S: Alter, L: Layout>(
+    alloc: Global,
+    connection: &mut Connection<S>,
+    work: &mut Work,
+    database: DatabaseId,
+    index: u32,
+    pattern: &Pattern,
+) -> Result<Vec<Posting>, RegFault>
+    ensures call { Reading (state S.Store connection.old) (state S.Store connection.new) result (λ _. IsUntouched) }
+    ensures value { HasCleanDisk (state S.Store connection.new) → IsStore (state S.Store connection.old)
+        → IfOk result (λ list. (content : Content) → holds_in L.format (state S.Store connection.old).now.trees content
+        → ArePostings (λ p. HasWord (posted content database.0) index pattern.now p.sysno p.seq p.pos) list.items) }
+    ensures honest { HasCleanDisk (state S.Store connection.new) → IsStore (state S.Store connection.old) → result ≡ Err RegFault.Damaged
+        → (content : Content) → IsStorable content → ¬ holds_in L.format (state S.Store connection.old).now.trees content }
+{
+    let wanted = Wanted::Matching(pattern);
+    let keys = keys_wanted::<S, L>(
+        alloc,
+        connection,
+        work,
+        database,
+        index,
+        Register::Word,
+        wanted,
+    )?;
+    postings_of::<S, L>(alloc, connection, work, database, &keys)
+}
