@@ -1,6 +1,6 @@
 -- The headline: after any list of commands the kept records are those that the accepted commands leave, each replacement
--- keeping its number; the registers hold exactly the kept records' postings; every answered find and scan is what reading
--- all kept records from nothing gives; and a refused command changes nothing.
+-- keeping its number; the registers hold exactly the kept records' postings; every answered find, scan and stat is what
+-- reading all kept records from nothing gives; and a refused command changes nothing.
 use Rattle.std.specs.Prelude.{List, map, Result}
 use Rattle.sqlite.specs.State.{State, HasCleanDisk}
 use Rattle.zeb_engine.specs.declared.commands.Command.{Command}

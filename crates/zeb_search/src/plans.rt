@@ -23,11 +23,11 @@ use zeb_profile::Register;
 use zeb_query::{NearPlan, Plan, TermPlan};
 use zeb_register::{DatabaseId, Layout, RegFault, Work, ident_of};
 
-/// The numbers of the records of a database on which a plan holds, rising and each once. The registers alone are read, and of a
-/// system number that the plan names whether a record has it.
+/// The numbers of the records of a database on which a plan holds, rising and each once. The registers alone decide, and of a system
+/// number that the plan names whether a record has it.
 ///
-/// `Damaged` where the tables hold no content, or where the identifier of the record that the plan names is no UTF-8; `Store` where a
-/// call of the store failed; `Memory` where memory ran out. It changes nothing.
+/// `Damaged` only where the tables hold no content, or where an identifier is no UTF-8; `Store` where a call of the store failed;
+/// `Memory` where memory ran out. Outside a transaction it changes nothing.
 pub fn hits<S: Alter, L: Layout>(
     alloc: Global,
     connection: &mut Connection<S>,
