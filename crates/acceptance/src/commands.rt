@@ -11,6 +11,7 @@ use zeb_engine::{
 use zeb_profile::Profile;
 use zeb_register::Rows;
 
+mod analyses;
 mod changes;
 mod databases;
 mod failing_disk;
@@ -50,6 +51,7 @@ pub enum Step<'a> {
     Scan(&'a str, u32, u32, &'a str),
     Stat(&'a str),
     Dump(&'a str),
+    Analyse(&'a [File<'a>]),
 }
 
 /// A command, and what is printed for it.
@@ -126,6 +128,9 @@ fn command_of(alloc: Global, step: &Step<'_>) -> Result<Command, Refusal> {
         }
         Step::Stat(text) => Ok(Command::Stat(name(text)?)),
         Step::Dump(text) => Ok(Command::Dump(name(text)?)),
+        Step::Analyse(all) => Ok(Command::Analyse {
+            files: files(alloc, all)?,
+        }),
     }
 }
 
@@ -255,4 +260,9 @@ fn each_attribute_is_answered(rt: HostRuntime) -> Result<(), Fail> {
 #[test]
 fn terms_stand_around_a_start(rt: HostRuntime) -> Result<(), Fail> {
     run_each(&rt, &scans::SCRIPTS)
+}
+
+#[test]
+fn files_are_analysed(rt: HostRuntime) -> Result<(), Fail> {
+    run_each(&rt, &analyses::SCRIPTS)
 }

@@ -1,15 +1,18 @@
 -- What a session's commands come to after a look at whether the register is ready.
-use Rattle.std.proofs.Common.{◌≡◌, ◌⊎◌, ℕ, List, Result, Ok, Err, String, string_bytes, inl, inr, refl, sym, ap, subst₂}
+use Rattle.std.proofs.Common.{◌≡◌, ◌⊎◌, ℕ, List, Result, Ok, Err, String, Vec, map, string_bytes, inl, inr, refl, sym, ap, subst, subst₂}
 use Rattle.std.specs.declared.alloc.Global.{Global}
 use Rattle.sqlite.specs.State.{State}
 use Rattle.zeb_profile.specs.declared.directives.Directive.{Directive}
 use Rattle.zeb_register.specs.Calls.{ChangesNothing}
-use Rattle.zeb_engine.specs.declared.commands.Command.TheVariants.{Find, Scan}
+use Rattle.zeb_engine.specs.declared.commands.Command.TheVariants.{Analyse, Find, Scan}
+use Rattle.zeb_engine.specs.declared.commands.Limits.{Limits}
 use Rattle.zeb_engine.specs.declared.names.DbName.{DbName}
 use Rattle.zeb_engine.specs.NameOf.{name_bytes}
 use Rattle.zeb_engine.specs.declared.replies.Reply.{Reply}
 use Rattle.zeb_engine.specs.declared.refusals.Refusal.{Refusal}
-use Rattle.zeb_engine.specs.Answers.{Answer, Why, refused, why_of, IsFailure}
+use Rattle.zeb_engine.specs.declared.refusals.Refusal.TheVariants as refusal
+use Rattle.zeb_engine.specs.Analysed.{AnswersAnalysis, IsAnalysed}
+use Rattle.zeb_engine.specs.Answers.{Answer, Why, answer_of, refused, why_of, IsFailure}
 use Rattle.zeb_engine.specs.Conditions.{Conditions}
 use Rattle.zeb_engine.specs.Alone.{Alone, AnswersAlone, FindSays, ScanSays}
 use Rattle.zeb_engine.specs.Holdings.{Holdings, Base}
@@ -68,6 +71,22 @@ scan_serves c old new result database query number position name asked many at i
     asks_serve (λ before. ScannedFrom c (name_bytes database) (string_bytes query) number position (ready c before)) old new result
     (subst₂ (λ (n q : List ℕ). ScansFrom c n q number position old new result) is_name is_asked
     (subst₂ (λ (m p : ℕ). ScansFrom c name asked m p old new result) is_many is_at scans))
+
+-- ---- an analysis
+
+module _ (result : Result Reply Refusal) (files : Vec (Vec ℕ Global) Global) (texts : List (Vec ℕ Global)) (same : texts ≡ files.items) where
+  pub analysis_answers : (profile : List Directive) (limits : Limits) → IsAnalysed profile limits.records (map (λ file. file.items) texts) (answer_of result) ⊎ (result ≡ Err refusal.Memory)
+      → AnswersAnalysis profile limits.records (Analyse files) result
+  analysis_answers profile limits told =
+      subst (λ (these : List (Vec ℕ Global)). IsAnalysed profile limits.records (map (λ file. file.items) these) (answer_of result) ⊎ (result ≡ Err refusal.Memory)) same told
+
+  -- on a connection that is as it was
+  pub analysis_serves : (c : Conditions) (s : State) → IsAnalysed c.profile c.limits.records (map (λ file. file.items) texts) (answer_of result) ⊎ (result ≡ Err refusal.Memory)
+      → ServesCommand c (Analyse files) s s result
+  analysis_serves c s told before keeps = elim (analysis_answers c.profile c.limits told) [
+    | inl is ↦ (before, inl (is, refl), keeps)
+    | inr is ↦ (before, inr (inr (ap answer_of is), refl), keeps)
+  ]
 
 -- ---- by the registers alone
 

@@ -23,7 +23,7 @@ use Rattle.zeb_engine.specs.Crashes.{Accepts, Bears, KeepsDisk, IsEmptyDisk, IsS
 use Rattle.zeb_engine.specs.Holdings.{Holdings}
 use Rattle.zeb_engine.specs.Image.{IsImage, Keeps}
 use Rattle.zeb_engine.specs.Steps.{Ends, Outcome}
-use Rattle.zeb_engine.specs.Transactions.{EnduresRefusal, IsDurable}
+use Rattle.zeb_engine.specs.Transactions.{EnduresRefusal, IsDurable, LeavesNoMore}
 use Rattle.zeb_engine.specs.declared.writes.Write.{Write}
 use Rattle.zeb_engine.specs.PrivateWriting.{Fits, IsReached, written}
 use Rattle.zeb_engine.specs.Works.{Always, Works, ServesBy}
@@ -59,6 +59,7 @@ no_failure (reply.Found hits shown) failed = elim failed [ inl is ↦ absurd cc 
 no_failure (reply.Counted records last holdings) failed = elim failed [ inl is ↦ absurd cc | inr is ↦ absurd cc ]
 no_failure (reply.Dumped bytes) failed = elim failed [ inl is ↦ absurd cc | inr is ↦ absurd cc ]
 no_failure (reply.Scanned register entries) failed = elim failed [ inl is ↦ absurd cc | inr is ↦ absurd cc ]
+no_failure (reply.Analysed names records) failed = elim failed [ inl is ↦ absurd cc | inr is ↦ absurd cc ]
 
 -- it is accepted, whatever it answers
 reply_accepts : (answer : Reply) → Accepts (reply_answer answer)
@@ -68,6 +69,7 @@ reply_accepts (reply.Found hits shown) why is = absurd cc
 reply_accepts (reply.Counted records last holdings) why is = absurd cc
 reply_accepts (reply.Dumped bytes) why is = absurd cc
 reply_accepts (reply.Scanned register entries) why is = absurd cc
+reply_accepts (reply.Analysed names records) why is = absurd cc
 
 -- ---- what survives
 
@@ -148,6 +150,16 @@ module _ (Told : Holdings → Answer → Holdings → Type 0) (old new : State) 
         | inl was ↦ inl (leaves db was)
         | inr made ↦ let done = made before keeps in inr (done.0, done.1, done.2, done.4)
       ])
+
+  -- a command that leaves what is held, and the disk as it was
+  pub endures_still : (result : Result Reply Refusal) → LeavesNoMore old new → ((before later : Holdings) (answer : Answer) → Told before answer later → later ≡ before) → ServesBy Told old new result
+      → Endures Told old new result
+  endures_still (Ok answer) no_more still serves = λ before keeps leaves.
+      let served = serves before keeps in elim served.1 [
+        | inl told ↦ (served.0, told, λ db left. subst (Stands db) (sym (still before served.0 (reply_answer answer) told)) (leaves db (no_more db left)))
+        | inr failed ↦ absurd (no_failure answer failed.0)
+      ]
+  endures_still (Err why) no_more still serves = endures_refusal why (λ other. no_more) (λ before keeps leaves db left. inl (leaves db (no_more db left)))
 
 -- ---- a command that writes
 

@@ -14,6 +14,9 @@ pub mod Commanding
 pub mod Asked
 pub mod RunLemmas
 pub mod StepLemmas
+pub mod Analyses
+pub mod Unasked
+pub mod AnalysisRefusals
 pub mod RefusedSteps
 pub mod RunCrashes
 pub mod Crashing

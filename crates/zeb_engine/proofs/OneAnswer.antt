@@ -8,13 +8,14 @@ use Rattle.zeb_query.specs.Queries.{QueryValue}
 use Rattle.zeb_query.specs.Plans.{PlanValue, plan_of, ScanValue, scan_of}
 use Rattle.zeb_query.specs.Reading.{query_fault}
 use Rattle.zeb_query.proofs.TextFaults.{one_query}
-use Rattle.zeb_extract.specs.declared.keys.Key.{Key}
 use Rattle.zeb_extract.specs.declared.keys.Occurrence.{Occurrence}
+use Rattle.zeb_analysis.proofs.ToldOnce.{told_once as analyses_once}
 use Rattle.zeb_register.specs.declared.registers.TermCount.{TermCount}
 use Rattle.zeb_register.proofs.OccurringLemmas.{one_terms}
 use Rattle.zeb_register.proofs.RisingLists.{same_list}
 use Rattle.zeb_engine.specs.declared.commands.Command.{Command}
 use Rattle.zeb_engine.specs.declared.commands.Command.TheVariants.{Init, Check, Create, Drop, Stat, Dump, Change, Find, Scan, Analyse}
+use Rattle.zeb_engine.specs.Analysed.{IsAnalysed, analysis_answer}
 use Rattle.zeb_engine.specs.Answers.{Answer, Why, found, scanned}
 use Rattle.zeb_engine.specs.Conditions.{Conditions}
 use Rattle.zeb_search.specs.Holds.{TreeHolds}
@@ -83,6 +84,11 @@ module _ (O : ℕ → Occurrence → Type 0) (number position : ℕ) (one other 
       let same : x.0 ≡ y.0 = one_query text x.0 y.0 x.1 y.1 in
       scan_planned_once (scan_of profile y.0) (subst (λ (query : QueryValue). IsScanPlanned O (scan_of profile query) number position one) same x.2) y.2
 
+-- ---- analyses
+
+analysed_once : (profile : List Directive) (limit : ℕ) (texts : List (List ℕ)) (one other : Answer) → IsAnalysed profile limit texts one → IsAnalysed profile limit texts other → one ≡ other
+analysed_once profile limit texts one other x y = x.2 ∙ ap (analysis_answer profile) (analyses_once profile limit texts x.0 y.0 x.1 y.1) ∙ sym y.2
+
 -- ---- any command
 
 module _ (one other : Answer) where
@@ -117,7 +123,7 @@ answers_once c (Dump name) before one other x y = x ∙ sym y
 answers_once c (Scan name query number position) before one other x y =
     asked_once one other (ScanAnswers c.profile (string_bytes query) number position)
     (λ base. scanned_once (occurs c.profile base.records) number position one other c.profile (string_bytes query)) (name_bytes name) (string_bytes query) (ready c before) x y
-answers_once c (Analyse files) before one other x y = x ∙ sym y
+answers_once c (Analyse files) before one other x y = analysed_once c.profile c.limits.records (map (λ file. file.items) files.items) one other x y
 
 pub steps_once : (c : Conditions) (command : Command) (before : Holdings) (one other : Answer) (left right : Holdings) → Step c command before one left → Step c command before other right
     → (one ≡ other) × (left ≡ right)

@@ -12,10 +12,13 @@ use Rattle.zeb_profile.specs.Canonical.{canonical_text}
 use Rattle.zeb_query.specs.Faults.{Refusal}
 use Rattle.zeb_query.specs.Plans.{PlanValue, ScanValue, plan_of, scan_of}
 use Rattle.zeb_query.specs.Reading.{query_fault}
-use Rattle.zeb_extract.specs.declared.keys.Key.{Key}
 use Rattle.zeb_extract.specs.declared.keys.Occurrence.{Occurrence}
 use Rattle.zeb_extract.specs.declared.naming.IdentFault.{IdentFault}
 use Rattle.zeb_extract.specs.declared.naming.IdentFault.TheVariants as ident
+use Rattle.zeb_analysis.specs.declared.faults.AnalysisFault.{AnalysisFault}
+use Rattle.zeb_analysis.specs.declared.faults.AnalysisFault.TheVariants as analysis
+use Rattle.zeb_analysis.specs.Analysing.{Analysed, AnalysesTo}
+use Rattle.zeb_analysis.specs.Laws.{IsRefusal}
 use Rattle.zeb_engine.specs.declared.commands.Command.{Command}
 use Rattle.zeb_engine.specs.declared.commands.Command.TheVariants.{Init, Check, Create, Drop, Stat, Dump, Change, Find, Scan, Analyse}
 use Rattle.zeb_engine.specs.declared.commands.Kind.{Kind}
@@ -28,9 +31,11 @@ use Rattle.zeb_engine.specs.Finding.{IsPlanned, IsShown, asked_of, has_name, occ
 use Rattle.zeb_engine.specs.Scanning.{IsScanPlanned}
 use Rattle.zeb_engine.specs.Folding.{Changed, Progress, at_end, at_first, changed_by, changed_record, counted, deleted, file_folded, files_folded, folded, ident_in, slices_folded, updated, with_ident, with_record, ◌then◌}
 use Rattle.zeb_engine.specs.Holdings.{Base, Holdings, Kept, nothing_yet, under, base_named, kept_as, with_new}
-use Rattle.zeb_engine.specs.Outcomes.{marc_refusal}
+use Rattle.zeb_engine.specs.Analysed.{IsAnalysed, analysis_answer}
+use Rattle.zeb_engine.specs.Outcomes.{analysis_refusal, marc_refusal}
 use Rattle.zeb_engine.specs.Steps.{AskedAmong, AskedFrom, AskedIn, CountedFrom, CountedIn, FindAnswers, ScanAnswers, Turn, change_ends, change_from, changed_by_files, created, created_in, dropped, dropped_in, dumped_from, dumped_in, ends, initialised, ready, splits_of, start_of, turned, turned_from, waits}
 use Rattle.zeb_engine.proofs.StepLemmas.{Answers}
+use Rattle.zeb_engine.proofs.Analyses.{fault_of_text, refusal_of_texts}
 use Rattle.zeb_engine.proofs.FaultAnswers.{IsOfText, IsOfRecord, first_of_text, split_of_text, identifier_of_record}
 
 -- a refusal that tells of the command and of what is held
@@ -250,6 +255,23 @@ dumped_own name (Ok bases) own = go (base_named name bases)
     go None = tt
     go (Some base) = tt
 
+-- ---- an analysis
+
+pub analysis_own : (fault : AnalysisFault) → IsRefusal fault → IsOwn (why_of (analysis_refusal fault))
+analysis_own (analysis.Marc file nth fault) is = marc_own file nth fault (fault_of_text file nth fault is)
+analysis_own (analysis.Ident file nth ident.NoIdentifier) is = tt
+analysis_own (analysis.Ident file nth ident.BadIdentifier) is = tt
+analysis_own (analysis.Ident file nth ident.Memory) is = absurd is
+analysis_own analysis.TooManyRecords is = tt
+analysis_own analysis.Memory is = absurd is
+
+analysed_own : (c : Conditions) (texts : List (List ℕ)) (answer : Answer) → IsAnalysed c.profile c.limits.records texts answer → IsOwnAnswer answer
+analysed_own c texts answer is = subst IsOwnAnswer (sym is.2) (go is.0 is.1)
+  where
+    go : (said : Result (List Analysed) AnalysisFault) → AnalysesTo c.profile c.limits.records texts said → IsOwnAnswer (analysis_answer c.profile said)
+    go (Ok analyses) h = tt
+    go (Err fault) h = analysis_own fault (refusal_of_texts c.profile c.limits.records texts fault h)
+
 -- ---- any command
 
 pub answers_own : (c : Conditions) (command : Command) (before : Holdings) (answer : Answer) → Answers c command before answer → IsOwnAnswer answer
@@ -271,4 +293,4 @@ answers_own c (Scan name query number position) before answer is =
     asked_own (ScanAnswers c.profile (string_bytes query) number position)
     (λ base given h. scanned_own (occurs c.profile base.records) number position given (scan_of c.profile h.0) h.2) (name_bytes name) (string_bytes query) answer
     (ready c before) (ready_own c before) is
-answers_own c (Analyse files) before answer is = subst IsOwnAnswer (sym is) tt
+answers_own c (Analyse files) before answer is = analysed_own c (map (λ file. file.items) files.items) answer is

@@ -26,6 +26,7 @@ reply_stands (reply.Found hits shown) failed = elim failed [ inl is ↦ cc | inr
 reply_stands (reply.Scanned register entries) failed = elim failed [ inl is ↦ cc | inr is ↦ cc ]
 reply_stands (reply.Counted records last holdings) failed = elim failed [ inl is ↦ cc | inr is ↦ cc ]
 reply_stands (reply.Dumped bytes) failed = elim failed [ inl is ↦ cc | inr is ↦ cc ]
+reply_stands (reply.Analysed names records) failed = elim failed [ inl is ↦ cc | inr is ↦ cc ]
 
 -- what one command may leave, on whatever is held before it
 abbrev Carries : Conditions → Command → State → Result Reply Refusal → Trees → Type 0

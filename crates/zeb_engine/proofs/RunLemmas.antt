@@ -1,8 +1,8 @@
 -- A run goes on by one command.
-use Rattle.std.proofs.Common.{List, [], ◌∷◌, ◌++◌, Result, Ok, Err, OnOk, OnErr, IsTrue, rules, refl, subst}
+use Rattle.std.proofs.Common.{List, [], ◌∷◌, ◌++◌, Result, Ok, Err, OnOk, OnErr, IsTrue, inl, inr, rules, refl, subst, sym}
 use Rattle.std.specs.List.{AllByRecursion}
 use Rattle.std.specs.Result.{IsErr}
-use Rattle.sqlite.specs.State.{State}
+use Rattle.sqlite.specs.State.{State, HasCleanDisk}
 use Rattle.zeb_register.specs.Calls.{ChangesNothing}
 use Rattle.zeb_register.proofs.Calls.{nothing_then}
 use Rattle.zeb_engine.specs.declared.commands.Command.{Command}
@@ -13,8 +13,10 @@ use Rattle.zeb_engine.specs.Answers.{Answer, answer_of}
 use Rattle.zeb_engine.specs.Conditions.{Conditions}
 use Rattle.zeb_engine.specs.Holdings.{Holdings}
 use Rattle.zeb_engine.specs.Steps.{Run}
+use Rattle.zeb_engine.specs.Transactions.{AsksStore, NoneAsks}
 use Rattle.zeb_engine.specs.Works.{FindOpen, Runs, ServesCommand}
 use Rattle.zeb_engine.proofs.Serving.{on_ok}
+use Rattle.zeb_engine.proofs.Unasked.{Did}
 
 pub run_more : (c : Conditions) (commands : List Command) (answers : List Answer) (before mid last : Holdings) (command : Command) (answer : Answer) → Run c before commands answers mid → Run c mid (command ∷ []) (answer ∷ []) last
     → Run c before (commands ++ command ∷ []) (answers ++ answer ∷ []) last
@@ -48,14 +50,32 @@ refused_more old now next results result so_far refused all =
 
 -- ---- commands that are accepted
 
-pub open_before : (old now next : State) (result : Result Reply Refusal) → (IsTrue now.is_open → IsTrue old.is_open) → OnOk result (StaysOpen now next) → OnErr result (ChangesNothing now next)
+open_then : (old now next : State) (result : Result Reply Refusal) → (IsTrue now.is_open → IsTrue old.is_open) → OnOk result (StaysOpen now next) → OnErr result (ChangesNothing now next)
     → IsTrue next.is_open → IsTrue old.is_open
-open_before old now next (Ok reply) was stays nothing is_open = was stays.0
-open_before old now next (Err refusal) was stays nothing is_open = was (nothing is_open).0
+open_then old now next (Ok reply) was stays nothing is_open = was stays.0
+open_then old now next (Err refusal) was stays nothing is_open = was (nothing is_open).0
 
-pub open_more : (old now next : State) (results : List (Result Reply Refusal)) (result : Result Reply Refusal) → (IsTrue now.is_open → IsTrue old.is_open) → FindOpen results old now → OnOk result (StaysOpen now next)
-    → FindOpen (results ++ result ∷ []) old next
-open_more old now next [] result was so_far stays = on_ok result (StaysOpen now next) (StaysOpen old next) (λ both. (was both.0, both.1)) stays
-open_more old now next (one ∷ []) result was so_far stays =
-    (on_ok one (StaysOpen old now) (IsTrue old.is_open) (λ both. both.0) so_far, open_more old now next [] result was tt stays)
-open_more old now next (one ∷ another ∷ more) result was so_far stays = (so_far.0, open_more old now next (another ∷ more) result was so_far.1 stays)
+module _ (old now next : State) (command : Command) (result : Result Reply Refusal) (clean : HasCleanDisk next) (was : IsTrue now.is_open → IsTrue old.is_open) where
+  pub open_before : Did command now next result → IsTrue next.is_open → IsTrue old.is_open
+  open_before (inl asked) is_open = open_then old now next result was (asked.1.accepted clean) (asked.1.refused clean) is_open
+  open_before (inr same) is_open = was (subst IsTrue same.1.is_open is_open)
+
+  -- a command that asks nothing of the store leaves the connection open
+  still_open : Did command now next result → ¬ AsksStore command → IsTrue now.is_open → IsTrue next.is_open
+  still_open (inl asked) not is_open = absurd (not asked.0)
+  still_open (inr same) not is_open = subst IsTrue (sym same.1.is_open) is_open
+
+  latest_open : Did command now next result → AsksStore command → OnOk result (IsTrue old.is_open × (NoneAsks [] → IsTrue next.is_open))
+  latest_open (inl asked) asks = on_ok result (StaysOpen now next) (IsTrue old.is_open × (NoneAsks [] → IsTrue next.is_open)) (λ both. (was both.0, λ none. both.1)) (asked.1.accepted clean)
+  latest_open (inr same) asks = absurd (same.0 asks)
+
+  pub open_more : Did command now next result → (commands : List Command) (results : List (Result Reply Refusal)) → FindOpen commands results old now
+      → FindOpen (commands ++ command ∷ []) (results ++ result ∷ []) old next
+  open_more it [] [] so_far = (latest_open it, tt)
+  open_more it [] (one ∷ results) so_far = absurd so_far
+  open_more it (first ∷ commands) [] so_far = absurd so_far
+  open_more it (first ∷ commands) (one ∷ results) so_far = (
+    λ asks. on_ok one (IsTrue old.is_open × (NoneAsks commands → IsTrue now.is_open)) (IsTrue old.is_open × (NoneAsks (commands ++ command ∷ []) → IsTrue next.is_open))
+        (λ both. (both.0, λ none. let split = all_last (λ c. ¬ AsksStore c) commands command none in still_open it split.1 (both.1 split.0))) (so_far.0 asks),
+    open_more it commands results so_far.1,
+  )

@@ -3,12 +3,14 @@ use Rattle.std.proofs.Common.{◌≡◌, ◌↔◌, ◌∙◌, map, Option, Some
 use Rattle.zeb_engine.specs.declared.commands.Command.{Command}
 use Rattle.zeb_engine.specs.declared.commands.Command.TheVariants.{Init, Check, Create, Drop, Stat, Dump, Change, Find, Scan, Analyse}
 use Rattle.zeb_engine.specs.NameOf.{name_bytes}
-use Rattle.zeb_engine.specs.Answers.{Answer, refused, unsupported}
+use Rattle.zeb_engine.specs.Analysed.{IsAnalysed}
+use Rattle.zeb_engine.specs.Answers.{Answer}
 use Rattle.zeb_engine.specs.Conditions.{Conditions}
 use Rattle.zeb_engine.specs.Holdings.{Holdings}
 use Rattle.zeb_engine.specs.Steps.{Outcome, Ends, Step, CountedFrom, FoundFrom, ScannedFrom, changed_by_files, created, dropped, dumped_by, initialised, ready, splits_of, turned, waited}
 
--- What a command answers and leaves. A find, a scan and a stat have none: what they answer is said by the records that are kept.
+-- What a command answers and leaves. A find, a scan and a stat have none: what they answer is said by the records that are kept; nor has an
+-- analysis, which is said by its files.
 abbrev pub outcome : Conditions → Command → Holdings → Option Outcome
 outcome c Init before = Some (initialised c before)
 outcome c (Create name) before = Some (turned c (created (name_bytes name)) before)
@@ -19,13 +21,13 @@ outcome c Check before = Some (waited c before)
 outcome c (Stat name) before = None
 outcome c (Dump name) before = Some (dumped_by c (name_bytes name) before)
 outcome c (Scan name query number position) before = None
-outcome c (Analyse files) before = Some (refused unsupported, before)
+outcome c (Analyse files) before = None
 
 abbrev pub left_by : Holdings → Option Outcome → Holdings
 left_by before None = before
 left_by before (Some told) = told.1
 
--- what is held after a command; a find, a scan and a stat leave what was held
+-- what is held after a command; a find, a scan, a stat and an analysis leave what was held
 abbrev pub after : Conditions → Command → Holdings → Holdings
 after c command before = left_by before (outcome c command before)
 
@@ -33,11 +35,12 @@ abbrev pub IsTold : Option Outcome → Answer → Type 0
 IsTold None answer = ⊥
 IsTold (Some told) answer = answer ≡ told.0
 
--- what a command answers: a find, a scan and a stat by the kept records, each other by its outcome
+-- what a command answers: a find, a scan and a stat by the kept records, an analysis by its files, each other by its outcome
 abbrev pub Answers : Conditions → Command → Holdings → Answer → Type 0
 Answers c (Find name query first count) before answer = FoundFrom c (name_bytes name) (string_bytes query) first count (ready c before) answer
 Answers c (Scan name query number position) before answer = ScannedFrom c (name_bytes name) (string_bytes query) number position (ready c before) answer
 Answers c (Stat name) before answer = CountedFrom c (name_bytes name) (ready c before) answer
+Answers c (Analyse files) before answer = IsAnalysed c.profile c.limits.records (map (λ file. file.items) files.items) answer
 Answers c command before answer = IsTold (outcome c command before) answer
 
 pub step_told : (c : Conditions) (command : Command) (before : Holdings) (answer : Answer) (later : Holdings) → Step c command before answer later
@@ -72,4 +75,4 @@ module _ (answer : Answer) (later : Holdings) where
   step_is c (Stat name) before o is = absurd cc
   step_is c (Dump name) before o is = ends_so (dumped_by c (name_bytes name) before) o is
   step_is c (Scan name query number position) before o is = absurd cc
-  step_is c (Analyse files) before o is = ends_so (refused unsupported, before) o is
+  step_is c (Analyse files) before o is = absurd cc

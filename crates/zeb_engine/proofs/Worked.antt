@@ -1,5 +1,5 @@
 -- "Moby Dick" is kept, and again, refused with what stands behind it, and found.
-use Rattle.std.proofs.Common.{◌≡◌, ◌↔◌, ◌∙◌, ℕ, ◌≤◌, Bool, true, false, not, List, [], ◌∷◌, Option, None, Some, Ok, nat_le, refl, sym, ap, ap₂, subst, inl, inr, codes, IsUtf8, arith}
+use Rattle.std.proofs.Common.{◌≡◌, ◌↔◌, ◌∙◌, ℕ, ◌≤◌, Bool, true, false, not, List, [], ◌∷◌, None, Some, Ok, nat_le, refl, sym, ap, ap₂, subst, inl, inr, codes, IsUtf8, arith}
 use lib.Utf8.{encode}
 use Rattle.std.specs.List.{Contains}
 use Rattle.std.specs.List.Sorted.{IsStrictlySortedBy}
@@ -17,7 +17,6 @@ use Rattle.zeb_marc.specs.Records.{first_fault, fields_of}
 use Rattle.zeb_marc.specs.Splits.{split_of, next_of}
 use Rattle.zeb_marc.specs.Worked.{worked_record, worked_fields}
 use Rattle.zeb_profile.specs.declared.registers.Register.TheVariants.{Word}
-use Rattle.zeb_extract.specs.declared.keys.Key.{Key}
 use Rattle.zeb_extract.specs.declared.keys.Occurrence.{Occurrence}
 use Rattle.zeb_query.specs.Plans.{PlanValue}
 use Rattle.zeb_register.specs.Occurring.{HasKey}

@@ -1,6 +1,8 @@
 -- What a command answers.
 use Rattle.std.specs.Prelude.{◌≡◌, ◌⊎◌, ℕ, List, map, Result, Ok, Err, string_bytes}
 use Rattle.zeb_profile.specs.declared.registers.Register.{Register}
+use Rattle.zeb_analysis.specs.Analysing.{Analysed}
+use Rattle.zeb_analysis.specs.Analysing as analysing
 use Rattle.zeb_engine.specs.declared.faults.RecordFault.{RecordFault}
 use Rattle.zeb_engine.specs.declared.refusals.Refusal.{Refusal}
 use Rattle.zeb_engine.specs.declared.refusals.Refusal.TheVariants as refusal
@@ -47,6 +49,8 @@ pub data Answer : Type 0 where
   counted : ℕ → ℕ → List Extent → Answer
   -- the bytes of records
   dumped : List ℕ → Answer
+  -- the names of the indexes, each at its number, and records with what each is found by
+  analysed : List (List ℕ) → List Analysed → Answer
   refused : Why → Answer
 
 abbrev pub why_of : Refusal → Why
@@ -76,6 +80,7 @@ reply_answer (reply.Found hits shown) = found hits (map (λ hit. (hit.sysno, str
 reply_answer (reply.Scanned register entries) = scanned register (map (λ entry. (entry.term, entry.records)) entries.items)
 reply_answer (reply.Counted records last holdings) = counted records last (map extent_of holdings.items)
 reply_answer (reply.Dumped bytes) = dumped bytes.items
+reply_answer (reply.Analysed names records) = analysed (map string_bytes names.items) (map analysing.analysed records.items)
 
 abbrev pub answer_of : Result Reply Refusal → Answer
 answer_of (Ok reply) = reply_answer reply

@@ -16,6 +16,7 @@ use Rattle.zeb_engine.specs.Conditions.{Conditions}
 use Rattle.zeb_engine.specs.Holdings.{Holdings, nothing_yet}
 use Rattle.zeb_engine.specs.Image.{IsImage, Keeps}
 use Rattle.zeb_engine.specs.Steps.{Answered, Outcome, Step}
+use Rattle.zeb_engine.specs.Transactions.{AsksStore}
 
 -- ---- what a disk stands for
 
@@ -108,13 +109,20 @@ Endures Told old new (Err refusal) = (before : Holdings) → Leaves old before �
 abbrev pub IsRefused : Answer → Type 0
 IsRefused answer = (why : Why) × (answer ≡ refused why)
 
--- A run by the answers that were given, but that one command whose store failed may have been carried out: all later ones are
--- refused then, and change nothing.
+-- each of these commands that asks the store was refused
+abbrev pub AreRefused : List Command → List Answer → Type 0
+AreRefused [] [] = Unit {0}
+AreRefused (command ∷ commands) (answer ∷ answers) = (AsksStore command → IsRefused answer) × AreRefused commands answers
+AreRefused [] (answer ∷ answers) = ⊥
+AreRefused (command ∷ commands) [] = ⊥
+
+-- A run by the answers that were given, but that one command whose store failed may have been carried out: all later ones that ask
+-- the store are refused then, and none changes anything.
 abbrev pub RunLeft : Conditions → Holdings → List Command → List Answer → Holdings → Type 0
 RunLeft c before [] [] last = last ≡ before
 RunLeft c before (command ∷ commands) (answer ∷ answers) last =
     ((later : Holdings) × Answered (Step c command) before answer later × RunLeft c later commands answers last)
-    ⊎ ((answer ≡ refused store_failed) × AllByRecursion IsRefused answers × ((told : Answer) × Step c command before told last))
+    ⊎ ((answer ≡ refused store_failed) × AreRefused commands answers × ((told : Answer) × Step c command before told last))
 RunLeft c before [] (answer ∷ answers) last = ⊥
 RunLeft c before (command ∷ commands) [] last = ⊥
 

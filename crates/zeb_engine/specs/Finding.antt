@@ -1,7 +1,7 @@
 -- What a find answers of the records that have a set of occurrences. Such a set says of a record's number and an occurrence whether the
 -- record has it. Read with the bytes of all kept records, from nothing, it tells what a find answers; read with the postings of the
 -- registers, what it answers by the registers alone.
-use Rattle.std.specs.Prelude.{◌≡◌, ℕ, ◌-◌, List, Option, Some, Result, Ok, Err, length, map, find, take, drop, nat_eq, nat_lt, ◌&&◌, if◌then◌else◌}
+use Rattle.std.specs.Prelude.{◌≡◌, ℕ, ◌-◌, List, Some, Result, Ok, Err, length, map, find, take, drop, nat_eq, nat_lt, ◌&&◌, if◌then◌else◌}
 use Rattle.std.specs.List.{Contains}
 use Rattle.std.specs.Option.{option_map}
 use Rattle.std.specs.Fmt.{decimal}

@@ -14,6 +14,7 @@ pub mod Counts
 pub mod Finding
 pub mod Scanning
 pub mod Counting
+pub mod Analysed
 pub mod Steps
 pub mod Alone
 pub mod Image

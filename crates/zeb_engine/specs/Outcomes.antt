@@ -4,13 +4,15 @@ use Rattle.zeb_marc.specs.declared.faults.MarcFault.{MarcFault}
 use Rattle.zeb_marc.specs.declared.faults.MarcFault.TheVariants as marc
 use Rattle.zeb_extract.specs.declared.naming.IdentFault.{IdentFault}
 use Rattle.zeb_extract.specs.declared.naming.IdentFault.TheVariants as ident
+use Rattle.zeb_analysis.specs.declared.faults.AnalysisFault.{AnalysisFault}
+use Rattle.zeb_analysis.specs.declared.faults.AnalysisFault.TheVariants as analysis
 use Rattle.zeb_query.specs.declared.faults.QueryFault.{QueryFault}
 use Rattle.zeb_query.specs.declared.faults.QueryFault.TheVariants as query
 use Rattle.zeb_register.specs.declared.RegFault.{RegFault}
 use Rattle.zeb_register.specs.declared.RegFault.TheVariants as register
 use Rattle.zeb_engine.specs.declared.faults.RecordFault.TheVariants as fault
 use Rattle.zeb_engine.specs.declared.refusals.Refusal.{Refusal}
-use Rattle.zeb_engine.specs.declared.refusals.Refusal.TheVariants.{Diagnostic, Record, Damaged, ReadFault, Store, Memory}
+use Rattle.zeb_engine.specs.declared.refusals.Refusal.TheVariants.{Diagnostic, Record, TooManyRecords, Damaged, ReadFault, Store, Memory}
 
 abbrev pub register_refusal : RegFault → Refusal
 register_refusal register.Damaged = Damaged
@@ -41,3 +43,10 @@ abbrev pub identifier_refusal : ℕ → ℕ → IdentFault → Refusal
 identifier_refusal file nth ident.NoIdentifier = Record file nth fault.NoIdentifier
 identifier_refusal file nth ident.BadIdentifier = Record file nth fault.BadIdentifier
 identifier_refusal file nth ident.Memory = Memory
+
+-- an analysis ends by the fault of a record, or of its identifier, as a change does
+abbrev pub analysis_refusal : AnalysisFault → Refusal
+analysis_refusal (analysis.Marc file nth fault) = marc_refusal file nth fault
+analysis_refusal (analysis.Ident file nth fault) = identifier_refusal file nth fault
+analysis_refusal analysis.TooManyRecords = TooManyRecords
+analysis_refusal analysis.Memory = Memory

@@ -1,6 +1,6 @@
 -- What is printed for a reply (Zebra manual, zebraidx; the lines are this program's own). Each line ends with LF, and a dump
 -- is its bytes alone.
-use Rattle.std.specs.Prelude.{ℕ, ◌==◌, ◌&&◌, if◌then◌else◌, List, [], ◌∷◌, ◌++◌, length, codes, string_bytes}
+use Rattle.std.specs.Prelude.{ℕ, ◌==◌, ◌&&◌, if◌then◌else◌, List, [], ◌∷◌, ◌++◌, length, map, codes, string_bytes}
 use Rattle.std.specs.Char.{is_ascii_digit}
 use Rattle.std.specs.List.{flat_map, list_all}
 use Rattle.std.specs.Fmt.{decimal}
@@ -8,11 +8,14 @@ use Rattle.std.specs.Str.Parse.{digits_value}
 use Rattle.zeb_profile.specs.Canonical.{register_text}
 use Rattle.zeb_profile.specs.declared.registers.Register.{Register}
 use Rattle.zeb_profile.specs.declared.registers.Register.TheVariants.{Word, Phrase, Number}
+use Rattle.zeb_analysis.specs.declared.analysing.Analysis.{Analysis}
+use Rattle.zeb_analysis.specs.Analysing.{analysed}
+use Rattle.zeb_analysis.specs.Printing.{analysis_text}
 use Rattle.zeb_register.specs.declared.registers.TermCount.{TermCount}
 use Rattle.zeb_engine.specs.declared.replies.Hit.{Hit}
 use Rattle.zeb_engine.specs.declared.replies.Holding.{Holding}
 use Rattle.zeb_engine.specs.declared.replies.Reply.{Reply}
-use Rattle.zeb_engine.specs.declared.replies.Reply.TheVariants.{Done, Changed, Found, Scanned, Counted, Dumped}
+use Rattle.zeb_engine.specs.declared.replies.Reply.TheVariants.{Done, Changed, Found, Scanned, Counted, Dumped, Analysed}
 
 abbrev pub line : List ℕ → List ℕ
 line text = text ++ 10 ∷ []
@@ -49,6 +52,10 @@ records_text records last = line (codes "records " ++ decimal records) ++ line (
 abbrev pub holding_line : Holding → List ℕ
 holding_line holding = line (string_bytes holding.index ++ codes ":" ++ register_text holding.register ++ codes " " ++ decimal holding.terms ++ codes " " ++ decimal holding.occurrences)
 
+-- a record with what it is found by, under the names of the indexes
+abbrev pub record_lines : List (List ℕ) → Analysis → List ℕ
+record_lines names analysis = analysis_text names (analysed analysis)
+
 abbrev pub reply_text : Reply → List ℕ
 reply_text Done = line (codes "ok")
 reply_text (Changed inserted updated deleted) = changed_text inserted updated deleted
@@ -56,3 +63,4 @@ reply_text (Found hits shown) = hits_text hits ++ flat_map hit_line shown.items
 reply_text (Scanned register entries) = flat_map (entry_line register) entries.items
 reply_text (Counted records last holdings) = records_text records last ++ flat_map holding_line holdings.items
 reply_text (Dumped bytes) = bytes.items
+reply_text (Analysed names records) = flat_map (record_lines (map string_bytes names.items)) records.items

@@ -19,6 +19,7 @@ use Rattle.zeb_engine.specs.Folding.{Progress, at_first, files_folded}
 use Rattle.zeb_engine.specs.Counting.{IsCounted}
 use Rattle.zeb_engine.specs.Finding.{IsAnswered, has_name, occurs}
 use Rattle.zeb_engine.specs.Scanning.{IsScanned}
+use Rattle.zeb_engine.specs.Analysed.{IsAnalysed}
 
 -- an answer, and what is held then
 abbrev pub Outcome : Type 0
@@ -189,7 +190,7 @@ Step c Check before = Ends (waited c before)
 Step c (Stat name) before = OnlyAnswers (CountedFrom c (name_bytes name) (ready c before)) before
 Step c (Dump name) before = Ends (dumped_by c (name_bytes name) before)
 Step c (Scan name query number position) before = OnlyAnswers (ScannedFrom c (name_bytes name) (string_bytes query) number position (ready c before)) before
-Step c (Analyse files) before = Ends (refused unsupported, before)
+Step c (Analyse files) before = OnlyAnswers (IsAnalysed c.profile c.limits.records (map (λ file. file.items) files.items)) before
 
 -- the commands that change nothing that is held, whatever it is
 abbrev pub OnlyAsks : Command → Type 0

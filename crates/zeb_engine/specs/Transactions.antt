@@ -1,9 +1,14 @@
 -- What the engine's work does to a connection, whatever it does to rows.
-use Rattle.std.specs.Prelude.{◌≡◌, ◌≢◌, IfErr, IsTrue, MatchResult, OnErr, OnOk, Result}
+use Rattle.std.specs.Prelude.{◌≡◌, ◌≢◌, List, IfErr, IsTrue, MatchResult, OnErr, OnOk, Result}
+use Rattle.std.specs.List.{AllByRecursion}
+use Rattle.sqlite.specs.Held.{Held, state}
 use Rattle.sqlite.specs.State.{State, HasCleanDisk, KeepsCommit}
+use Rattle.sqlite.specs.Store.{Ghosts}
 use Rattle.sqlite.specs.Tree.{Trees}
 use Rattle.zeb_register.specs.Calls.{ChangesNothing}
 use Rattle.zeb_engine.specs.Adopting.{StaysOpen}
+use Rattle.zeb_engine.specs.declared.commands.Command.{Command}
+use Rattle.zeb_engine.specs.declared.commands.Command.TheVariants.{Analyse}
 use Rattle.zeb_engine.specs.declared.refusals.Refusal.{Refusal}
 use Rattle.zeb_engine.specs.declared.refusals.Refusal.TheVariants.{Store}
 
@@ -35,3 +40,16 @@ pub record Commanded {T : Type 0} (old new : State) (result : Result T Refusal) 
   pub accepted : HasCleanDisk new → OnOk result (StaysOpen old new)
   pub refused : HasCleanDisk new → OnErr result (ChangesNothing old new)
   pub endures : HasCleanDisk new → IfErr result (EnduresRefusal old new)
+
+-- the commands that ask the store: all but an analysis, which reads its files alone
+abbrev pub AsksStore : Command → Type 0
+AsksStore (Analyse files) = ⊥
+AsksStore command = Unit {0}
+
+abbrev pub NoneAsks : List Command → Type 0
+NoneAsks = AllByRecursion (λ command. ¬ AsksStore command)
+
+-- One of the commands on a connection. An analysis leaves the connection as it is, open or shut, whatever it answers.
+abbrev pub CommandedBy : {S T : Type 0} → Ghosts S → Command → Held S → Held S → Result T Refusal → Type 0
+CommandedBy g (Analyse files) old new result = new ≡ old
+CommandedBy g command old new result = Commanded (state g old) (state g new) result

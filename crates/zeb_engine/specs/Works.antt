@@ -1,20 +1,18 @@
 -- What commands do to a connection, and to what its tables hold.
-use Rattle.std.specs.Prelude.{◌≡◌, ◌⊎◌, ◌≤◌, ◌<◌, ◌^◌, ℕ, ℤ, pos, List, [], ◌∷◌, Option, Some, None, Result, Ok, Err, IsTrue, OnOk, if◌then◌else◌}
+use Rattle.std.specs.Prelude.{◌≡◌, ◌⊎◌, ◌≤◌, ◌<◌, ◌^◌, ℕ, ℤ, pos, List, [], ◌∷◌, Result, Ok, Err, IsTrue, OnOk, if◌then◌else◌}
 use Rattle.std.specs.List.{Contains}
 use Rattle.std.specs.Ordering.{int_eq}
 use Rattle.sqlite.specs.Tree.{Trees}
 use Rattle.sqlite.specs.State.{State, KeepsCommit}
 use Rattle.sqlite_rules.specs.Lists.{Has}
 use Rattle.zeb_profile.specs.declared.directives.Directive.{Directive}
-use Rattle.zeb_extract.specs.declared.keys.Key.{Key}
 use Rattle.zeb_register.specs.Calls.{GoesOn}
 use Rattle.zeb_register.specs.Store.{IsStore, HasRecord, meta_tree, databases_tree}
 use Rattle.zeb_register.specs.Kept.{AreReadableIdents}
 use Rattle.zeb_engine.specs.declared.commands.Command.{Command}
 use Rattle.zeb_engine.specs.declared.replies.Reply.{Reply}
 use Rattle.zeb_engine.specs.declared.refusals.Refusal.{Refusal}
-use Rattle.zeb_engine.specs.Adopting.{StaysOpen}
-use Rattle.zeb_engine.specs.Answers.{Answer, Why, refused, unsupported, why_of, reply_answer, answer_of, IsFailure}
+use Rattle.zeb_engine.specs.Answers.{Answer, Why, refused, why_of, reply_answer, answer_of, IsFailure}
 use Rattle.zeb_engine.specs.Conditions.{Conditions, conditions}
 use Rattle.zeb_engine.specs.Holdings.{Holdings, Base, Kept}
 use Rattle.zeb_engine.specs.Image.{IsBase, AreStored, IsImage, Sees, Keeps}
@@ -23,6 +21,7 @@ use Rattle.zeb_engine.specs.declared.records.Setting.{Setting}
 use Rattle.zeb_engine.specs.declared.tally.Fate.{Fate}
 use Rattle.zeb_engine.specs.Folding.{Changed, Progress}
 use Rattle.zeb_engine.specs.Steps.{Outcome, Answered, FoundFrom, ScannedFrom, Run, Step, ready}
+use Rattle.zeb_engine.specs.Transactions.{AsksStore, NoneAsks}
 use Rattle.zeb_register.specs.Formats.{Format}
 
 -- ---- a value or a refusal, as a definition says
@@ -140,8 +139,11 @@ abbrev pub Runs : Conditions → List Command → List Answer → State → Stat
 Runs c commands answers old new =
     (before : Holdings) → Keeps old before → (last : Holdings) × Run c before commands answers last × Keeps new last
 
--- where one of the commands is accepted, the connection was open, and where the last one is, it is open still
-abbrev pub FindOpen : List (Result Reply Refusal) → State → State → Type 0
-FindOpen [] old new = Unit {0}
-FindOpen (result ∷ []) old new = OnOk result (StaysOpen old new)
-FindOpen (result ∷ another ∷ more) old new = OnOk result (IsTrue old.is_open) × FindOpen (another ∷ more) old new
+-- where one of the commands that ask the store is accepted, the connection was open, and where none behind it asks the store, it is
+-- open still
+abbrev pub FindOpen : List Command → List (Result Reply Refusal) → State → State → Type 0
+FindOpen [] [] old new = Unit {0}
+FindOpen (command ∷ commands) (result ∷ results) old new =
+    (AsksStore command → OnOk result (IsTrue old.is_open × (NoneAsks commands → IsTrue new.is_open))) × FindOpen commands results old new
+FindOpen [] (result ∷ results) old new = ⊥
+FindOpen (command ∷ commands) [] old new = ⊥

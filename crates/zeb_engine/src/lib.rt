@@ -2,6 +2,7 @@
 //! in one transaction. A command that is refused changes nothing.
 #![tactic(auto)]
 
+mod analysis;
 mod changed_keys;
 mod changes;
 mod commands;

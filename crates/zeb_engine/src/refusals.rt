@@ -4,6 +4,7 @@ ghost use Rattle.std.specs.Prelude.{◌≡◌, ◌++◌, IfOk, codes, string_byt
 
 use crate::faults::RecordFault;
 use std::alloc::{AllocError, Global};
+use zeb_analysis::AnalysisFault;
 use zeb_extract::IdentFault;
 use zeb_marc::MarcFault;
 use zeb_query::QueryFault;
@@ -110,6 +111,21 @@ impl From<QueryFault> for Refusal {
                 addinfo,
             },
             QueryFault::Memory => Refusal::Memory,
+        }
+    }
+}
+
+impl From<AnalysisFault> for Refusal {
+    ghost use Rattle.zeb_engine.specs.Outcomes.{analysis_refusal};
+
+    ghost from_gives = { λ fault refusal. refusal ≡ analysis_refusal fault };
+
+    fn from(fault: AnalysisFault) -> Refusal {
+        match fault {
+            AnalysisFault::Marc { file, nth, fault } => Refusal::of_marc(file, nth, fault),
+            AnalysisFault::Ident { file, nth, fault } => Refusal::of_identifier(file, nth, fault),
+            AnalysisFault::TooManyRecords => Refusal::TooManyRecords,
+            AnalysisFault::Memory => Refusal::Memory,
         }
     }
 }

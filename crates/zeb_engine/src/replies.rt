@@ -1,9 +1,10 @@
 //! What an accepted command answers.
 
-ghost use Rattle.std.specs.Prelude.{◌≡◌, ◌++◌, ◌∷◌, [], IfOk, take, string_bytes};
+ghost use Rattle.std.specs.Prelude.{◌≡◌, ◌++◌, ◌∷◌, [], IfOk, map, take, string_bytes};
 ghost use Rattle.std.specs.List.{flat_map};
 
 use std::alloc::{AllocError, Global};
+use zeb_analysis::{Analysis, analysis_lines};
 use zeb_profile::Register;
 use zeb_register::TermCount;
 use zeb_text::number_of_key;
@@ -60,9 +61,14 @@ pub enum Reply {
     },
     /// The bytes of a database's records, one after the other.
     Dumped(Vec<u8>),
+    /// The records of files with what each is found by, and the names of the profile's indexes, each at its number.
+    Analysed {
+        names: Vec<String>,
+        records: Vec<Analysis>,
+    },
 }
 
-ghost use Rattle.zeb_engine.specs.Replies.{reply_text, hits_text, changed_text, hit_line, entry_line, shown_number, shown_term, holding_line, records_text};
+ghost use Rattle.zeb_engine.specs.Replies.{reply_text, hits_text, changed_text, hit_line, entry_line, shown_number, shown_term, holding_line, record_lines, records_text};
 
 fn changed_line(
     alloc: Global,
@@ -159,6 +165,20 @@ fn counted_lines(
     Ok(text)
 }
 
+fn analysed_lines(
+    alloc: Global,
+    names: &[String],
+    records: &[Analysis],
+) -> Result<String, AllocError>
+    ensures { IfOk result (λ text. string_bytes text ≡ flat_map (record_lines (map string_bytes names.now)) records.now) }
+{
+    let mut text = String::new(alloc);
+    for record in records {
+        text.push_str(analysis_lines(alloc, names, record)?.as_str())?;
+    }
+    Ok(text)
+}
+
 /// The bytes that are printed for a reply: lines, each ended by LF, or the bytes of a dump alone.
 pub fn render(alloc: Global, reply: &Reply) -> Result<Vec<u8>, AllocError>
     ensures { IfOk result (λ bytes. bytes.items ≡ reply_text reply.now) }
@@ -178,6 +198,7 @@ pub fn render(alloc: Global, reply: &Reply) -> Result<Vec<u8>, AllocError>
             holdings,
         } => counted_lines(alloc, *records, *last, holdings)?,
         Reply::Dumped(bytes) => return Vec::from_slice(alloc, bytes),
+        Reply::Analysed { names, records } => analysed_lines(alloc, names, records)?,
     };
     Ok(text.into_bytes())
 }

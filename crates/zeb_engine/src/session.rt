@@ -6,17 +6,19 @@ ghost use Rattle.std.specs.Result.{IsErr};
 ghost use Rattle.sqlite.specs.Held.{state};
 ghost use Rattle.sqlite.specs.State.{HasCleanDisk, IsLive, Opens, Survives};
 ghost use Rattle.zeb_engine.specs.Alone.{AnswersAlone};
+ghost use Rattle.zeb_engine.specs.Analysed.{AnswersAnalysis};
 ghost use Rattle.zeb_engine.specs.Answers.{IsFailure, answer_of, refused, why_of};
 ghost use Rattle.zeb_engine.specs.Conditions.{conditions};
 ghost use Rattle.zeb_engine.specs.NameOf.{name_bytes};
 ghost use Rattle.zeb_engine.specs.Readiness.{GoesByTexts, LooksFirst};
 ghost use Rattle.zeb_engine.specs.Reading.{HasFailedAt, NamesFailed, NoneFailed, NoReadFault};
 ghost use Rattle.zeb_engine.specs.Steps.{Step, TakesFiles, created, dropped, holding, OnlyAsks, turned};
-ghost use Rattle.zeb_engine.specs.Transactions.{Commanded, EnduresRefusal, IsDurable};
+ghost use Rattle.zeb_engine.specs.Transactions.{Commanded, CommandedBy, EnduresRefusal, IsDurable};
 ghost use Rattle.zeb_register.specs.Calls.{ChangesNothing};
 ghost use Rattle.zeb_register.specs.Formats.{version_of};
 ghost use Rattle.zeb_register.specs.Store.{IsStore};
 
+use crate::analysis::analyse_files;
 use crate::changes::{change_database, check_readers};
 use crate::commands::{Command, Kind, Limits};
 use crate::dump::dump;
@@ -162,7 +164,7 @@ impl<S: Alter, L: Layout> Session<S, L> {
     /// Carries out one command. A command that writes is one transaction; refused, it changes nothing.
     pub fn command(&mut self, command: &Command) -> Result<Reply, Refusal>
         ensures durable { HasCleanDisk (state S.Store self.new.connection) → IsDurable (state S.Store self.new.connection) }
-        ensures call { Commanded (state S.Store self.old.connection) (state S.Store self.new.connection) result }
+        ensures call { CommandedBy S.Store command.now self.old.connection self.new.connection result }
         ensures survives { Survives (state S.Store self.old.connection) (state S.Store self.new.connection)
             (CommitsCommand (conditions (version_of L.format) self.old.profile self.old.limits) command.now
             (state S.Store self.old.connection)) }
@@ -187,6 +189,8 @@ impl<S: Alter, L: Layout> Session<S, L> {
         // A find, a scan and a stat are answered by the registers, on any tables that hold a content.
         ensures alone { HasCleanDisk (state S.Store self.new.connection)
             → AnswersAlone L.format self.old.profile command.now (state S.Store self.old.connection) result }
+        // An analysis is answered by its files, whatever the tables hold, and also where the connection is shut.
+        ensures analysed { AnswersAnalysis self.old.profile self.old.limits.records command.now result }
         // Damage is answered only where the tables are the image of nothing that can be held.
         ensures honest { HasCleanDisk (state S.Store self.new.connection) → result ≡ Err Refusal.Damaged
             → (before : Holdings) → ¬ Keeps (state S.Store self.old.connection) before }
@@ -201,7 +205,7 @@ impl<S: Alter, L: Layout> Session<S, L> {
     }
 
     fn carry_out(&mut self, command: &Command) -> Result<Reply, Refusal>
-        ensures call { Commanded (state S.Store self.old.connection) (state S.Store self.new.connection) result }
+        ensures call { CommandedBy S.Store command.now self.old.connection self.new.connection result }
         ensures survives { Survives (state S.Store self.old.connection) (state S.Store self.new.connection)
             (CommitsCommand (conditions (version_of L.format) self.old.profile self.old.limits) command.now
             (state S.Store self.old.connection)) }
@@ -220,6 +224,7 @@ impl<S: Alter, L: Layout> Session<S, L> {
         ensures failed { command.now ≡ Command.Init → IfErr result (λ refusal. IsFailure (refused (why_of refusal))) }
         ensures alone { HasCleanDisk (state S.Store self.new.connection)
             → AnswersAlone L.format self.old.profile command.now (state S.Store self.old.connection) result }
+        ensures analysed { AnswersAnalysis self.old.profile self.old.limits.records command.now result }
         ensures reads { HasCleanDisk (state S.Store self.new.connection) → OnlyAsks command.now
             → ChangesNothing (state S.Store self.old.connection) (state S.Store self.new.connection) }
     {
@@ -272,7 +277,9 @@ impl<S: Alter, L: Layout> Session<S, L> {
                     position: *position,
                 },
             ),
-            Command::Analyse { .. } => Err(Refusal::Unsupported),
+            Command::Analyse { files } => {
+                analyse_files(self.alloc, &self.profile, self.limits, files)
+            }
         }
     }
 
@@ -431,9 +438,10 @@ impl<S: Alter, L: Layout> Session<S, L> {
         ensures crash { HasCleanDisk (state S.Store self.new.connection)
             → IfOk result (λ answers. EnduresRun (conditions (version_of L.format) self.old.profile self.old.limits) commands.now
             (map answer_of answers.items) (state S.Store self.old.connection) (state S.Store self.new.connection)) }
-        // A command is accepted on an open connection only, and leaves it open.
+        // A command that asks the store is accepted on an open connection only, and leaves it open.
         ensures open { HasCleanDisk (state S.Store self.new.connection)
-            → IfOk result (λ answers. FindOpen answers.items (state S.Store self.old.connection) (state S.Store self.new.connection)) }
+            → IfOk result (λ answers. FindOpen commands.now answers.items (state S.Store self.old.connection)
+            (state S.Store self.new.connection)) }
         // Where each command is refused, nothing changes, whatever the tables hold.
         ensures refused { HasCleanDisk (state S.Store self.new.connection)
             → IfOk result (λ answers. AllByRecursion IsErr answers.items

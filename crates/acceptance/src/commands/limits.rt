@@ -12,6 +12,10 @@ const LIMITED: Script = &[(
         (Step::Init, "ok\n"),
         (Step::Update(&[&[MOBY]]), "inserted 1 updated 0 deleted 0\n"),
         (Step::Update(&[&[MOBY, MOBY]]), "zebraidx: too many records"),
+        (
+            Step::Analyse(&[&[MOBY], &[MOBY]]),
+            "zebraidx: too many records",
+        ),
         (Step::Update(&[&[CAFE]]), "zebraidx: database full"),
         (Step::Update(&[&[MOBY]]), "inserted 0 updated 1 deleted 0\n"),
     ],

@@ -1,8 +1,8 @@
-use Rattle.std.proofs.Common.{rules, ◌≡◌, ◌∙◌, ℕ, pos, List, Bor, length, map, Result, Ok, Err, IsTrue, arith, refl, sym, ap, subst, inr, string_bytes}
+use Rattle.std.proofs.Common.{rules, ◌≡◌, ℕ, pos, List, Bor, length, map, Result, Ok, Err, IsTrue, arith, refl, sym, ap, subst, inr, string_bytes}
 use Rattle.sqlite.specs.Held.{state}
 use Rattle.sqlite.specs.State.{HasCleanDisk}
 use Rattle.sqlite.specs.Tree.{Trees}
-use Rattle.zeb_query.specs.Plans.{HasSmallNumbers, plan_value}
+use Rattle.zeb_query.specs.Plans.{plan_value}
 use Rattle.zeb_query.specs.Queries.{query_value}
 use Rattle.zeb_register.specs.Content.{posted}
 use Rattle.zeb_register.specs.Formats.{holds_in, version_of}

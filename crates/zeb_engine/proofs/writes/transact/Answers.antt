@@ -1,12 +1,14 @@
-use Rattle.std.proofs.Common.{◌≡◌, Ok, Err, rules, arith, refl, sym, subst, subst₂}
+use Rattle.std.proofs.Common.{◌≡◌, Ok, Err, inl, rules, arith, refl, sym, subst, subst₂}
 use Rattle.sqlite.specs.State.{HasCleanDisk, Survives}
 use Rattle.sqlite.specs.Held.{state}
+use Rattle.zeb_register.specs.Calls.{ChangesNothing}
+use Rattle.zeb_engine.specs.declared.refusals.Refusal.TheVariants.{Store}
 use Rattle.zeb_engine.specs.Crashes.{Commits}
 use Rattle.zeb_engine.specs.Conditions.{Conditions}
 use Rattle.zeb_engine.specs.Works.{Serves}
 use Rattle.zeb_engine.specs.PrivateWriting.{Begins, Fits, IsReached, written}
 use Rattle.zeb_engine.proofs.Crashing.{write_survives}
-use Rattle.zeb_engine.proofs.Serving.{begins_over, refusal_serves, reply_serves, reached_inside}
+use Rattle.zeb_engine.proofs.Serving.{begins_over, early_serves, refusal_serves, reply_serves, reached_inside}
 use Rattle.zeb_engine.proofs.writes.transact.Goals as goal
 use Rattle.zeb_register.specs.Formats.{version_of}
 
@@ -68,3 +70,15 @@ returns-clause-survives g c =
     subst (λ h. Survives (state g.S.Store old) (state g.S.Store h) (λ db. (k : Conditions) → IsReached write (state g.S.Store old) → Commits (Fits (version_of g.L.Layout.format) k write) (written k write) (state g.S.Store old) db)) same
     (write_survives g.L.Layout.format (version_of g.L.Layout.format) g.S.Store write old c.transaction-tx.result.conn.now (state g.S.Store c.apply.new.tx.conn.now) (state g.S.Store end) c.in_ok-reply.reply c.transaction-tx.ensures.begun
     c.apply.ensures.crash c.commit.ensures.survives c.in_ok-reply.ensures.works)
+
+pub returns-in_err-commit-clause-serves : goal.returns-in_err-commit-clause-serves
+returns-in_err-commit-clause-serves g c clean k reached =
+    let write = c.args.write.now in
+    let old = state g.S.Store c.args.connection.now in
+    let end = c.commit.new.self.0 in
+    let late : HasCleanDisk (state g.S.Store end) = search rules in
+    let same : end ≡ c.connection-2-1.given.0 = search rules in
+    let told : c.from_residual-in_err-commit.result ≡ Err Store = search rules in
+    let nothing : ChangesNothing old (state g.S.Store end) = search rules in
+    subst₂ (λ h r. Serves (Fits (version_of g.L.Layout.format) k write) (written k write) old (state g.S.Store h) r) same (sym told)
+    (early_serves (written k write) (Fits (version_of g.L.Layout.format) k write) old (state g.S.Store end) Store nothing (λ before fits keeps. inl (inl refl)))

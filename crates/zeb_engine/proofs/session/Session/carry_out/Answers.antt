@@ -1,4 +1,4 @@
-use Rattle.std.proofs.Common.{◌≡◌, ◌∙◌, [], ap, inl, map, refl, rules, string_bytes, subst}
+use Rattle.std.proofs.Common.{◌≡◌, ◌∙◌, [], ap, map, refl, rules, string_bytes, subst}
 use Rattle.sqlite.specs.Held.{state}
 use Rattle.sqlite.specs.State.{Survives}
 use Rattle.zeb_register.specs.Store.{IsStore}
@@ -11,9 +11,10 @@ use Rattle.zeb_engine.specs.NameOf.{name_bytes}
 use Rattle.zeb_engine.specs.Steps.{OnlyAsks, turned, TakesFiles, created, dropped, dumped_by, holding, waited, Step, initialised, ready, CountedFrom}
 use Rattle.zeb_engine.specs.Readiness.{LooksFirst}
 use Rattle.zeb_engine.specs.Works.{Always, Asks, Serves, ServesBy}
-use Rattle.zeb_engine.proofs.Commanding.{asks_serve, ends_serve, find_alone, find_serves, scan_alone, scan_serves}
+use Rattle.zeb_engine.proofs.Commanding.{analysis_answers, analysis_serves, asks_serve, ends_serve, find_alone, find_serves, scan_alone, scan_serves}
 use Rattle.zeb_engine.proofs.Crashing.{ends_commit, none_commits, survives_as}
 use Rattle.zeb_engine.proofs.Serving.{on_ok}
+use Rattle.zeb_engine.proofs.Unasked.{reads_command}
 use Rattle.zeb_engine.proofs.session.Session.carry_out.Goals as goal
 use Rattle.zeb_register.specs.Formats.{version_of}
 
@@ -250,7 +251,18 @@ returns-in-Scan-clause-survives g c =
     none_commits (Step k c.args.command.now) (state g.S.Store c.args.self.now.connection) (state g.S.Store c.scan.new.self.connection) c.scan.ensures.survives
 
 pub returns-in-Analyse-clause-serves : goal.returns-in-Analyse-clause-serves
-returns-in-Analyse-clause-serves g c clean = rw c.in-Analyse.is (λ before keeps. (before, inl (refl, refl), keeps))
+returns-in-Analyse-clause-serves g c clean =
+    let k = conditions (version_of g.L.Layout.format) c.args.self.now.profile c.args.self.now.limits in
+    let same_files : c.deref-in-Analyse.result.now ≡ c.in-Analyse.files.items = search rules in
+    rw c.in-Analyse.is (analysis_serves c.analyse_files.result c.in-Analyse.files c.deref-in-Analyse.result.now same_files k (state g.S.Store c.args.self.now.connection) c.analyse_files.ensures.told)
+
+pub returns-in-Analyse-clause-analysed : goal.returns-in-Analyse-clause-analysed
+returns-in-Analyse-clause-analysed g c =
+    let same_files : c.deref-in-Analyse.result.now ≡ c.in-Analyse.files.items = search rules in
+    rw c.in-Analyse.is (analysis_answers c.analyse_files.result c.in-Analyse.files c.deref-in-Analyse.result.now same_files c.args.self.now.profile c.args.self.now.limits c.analyse_files.ensures.told)
+
+pub returns-in-Analyse-clause-call : goal.returns-in-Analyse-clause-call
+returns-in-Analyse-clause-call g c = rw c.in-Analyse.is refl
 
 pub returns-in-Analyse-clause-survives : goal.returns-in-Analyse-clause-survives
 returns-in-Analyse-clause-survives g c =
@@ -262,3 +274,59 @@ returns-in-Init-clause-ready g c clean looks = absurd (subst LooksFirst c.in-Ini
 
 pub returns-in-Analyse-clause-ready : goal.returns-in-Analyse-clause-ready
 returns-in-Analyse-clause-ready g c clean looks = absurd (subst LooksFirst c.in-Analyse.is looks)
+
+pub returns-in-Init-clause-analysed : goal.returns-in-Init-clause-analysed
+returns-in-Init-clause-analysed g c = rw c.in-Init.is tt
+
+pub returns-in-Create-clause-analysed : goal.returns-in-Create-clause-analysed
+returns-in-Create-clause-analysed g c = rw c.in-Create.is tt
+
+pub returns-in-Drop-clause-analysed : goal.returns-in-Drop-clause-analysed
+returns-in-Drop-clause-analysed g c = rw c.in-Drop.is tt
+
+pub returns-in-Change-clause-analysed : goal.returns-in-Change-clause-analysed
+returns-in-Change-clause-analysed g c = rw c.in-Change.is tt
+
+pub returns-in-Find-clause-analysed : goal.returns-in-Find-clause-analysed
+returns-in-Find-clause-analysed g c = rw c.in-Find.is tt
+
+pub returns-in-Check-clause-analysed : goal.returns-in-Check-clause-analysed
+returns-in-Check-clause-analysed g c = rw c.in-Check.is tt
+
+pub returns-in-Stat-clause-analysed : goal.returns-in-Stat-clause-analysed
+returns-in-Stat-clause-analysed g c = rw c.in-Stat.is tt
+
+pub returns-in-Dump-clause-analysed : goal.returns-in-Dump-clause-analysed
+returns-in-Dump-clause-analysed g c = rw c.in-Dump.is tt
+
+pub returns-in-Scan-clause-analysed : goal.returns-in-Scan-clause-analysed
+returns-in-Scan-clause-analysed g c = rw c.in-Scan.is tt
+
+pub returns-in-Init-clause-call : goal.returns-in-Init-clause-call
+returns-in-Init-clause-call g c = rw c.in-Init.is c.init_register.ensures.call
+
+pub returns-in-Create-clause-call : goal.returns-in-Create-clause-call
+returns-in-Create-clause-call g c = rw c.in-Create.is c.create.ensures.call
+
+pub returns-in-Drop-clause-call : goal.returns-in-Drop-clause-call
+returns-in-Drop-clause-call g c = rw c.in-Drop.is c.take.ensures.call
+
+pub returns-in-Change-clause-call : goal.returns-in-Change-clause-call
+returns-in-Change-clause-call g c = rw c.in-Change.is c.change.ensures.call
+
+pub returns-in-Find-clause-call : goal.returns-in-Find-clause-call
+returns-in-Find-clause-call g c = rw c.in-Find.is c.find.ensures.call
+
+pub returns-in-Check-clause-call : goal.returns-in-Check-clause-call
+returns-in-Check-clause-call g c = rw c.in-Check.is c.wait.ensures.call
+
+pub returns-in-Scan-clause-call : goal.returns-in-Scan-clause-call
+returns-in-Scan-clause-call g c = rw c.in-Scan.is c.scan.ensures.call
+
+pub returns-in-Stat-clause-call : goal.returns-in-Stat-clause-call
+returns-in-Stat-clause-call g c =
+    rw c.in-Stat.is (reads_command (state g.S.Store c.args.self.now.connection) (state g.S.Store c.stat.new.connection) c.stat.result c.stat.ensures.«open» c.stat.ensures.same c.stat.ensures.crash)
+
+pub returns-in-Dump-clause-call : goal.returns-in-Dump-clause-call
+returns-in-Dump-clause-call g c =
+    rw c.in-Dump.is (reads_command (state g.S.Store c.args.self.now.connection) (state g.S.Store c.dump.new.connection) c.dump.result c.dump.ensures.«open» c.dump.ensures.same c.dump.ensures.crash)

@@ -4,8 +4,9 @@ use Rattle.sqlite.specs.Held.{state}
 use Rattle.zeb_register.specs.Store.{IsStore}
 use Rattle.zeb_engine.specs.Conditions.{conditions}
 use Rattle.zeb_engine.specs.Image.{IsImage, Keeps}
-use Rattle.zeb_engine.specs.Steps.{Step, holding}
-use Rattle.zeb_engine.proofs.Crashing.{endures}
+use Rattle.zeb_engine.specs.Steps.{holding}
+use Rattle.zeb_engine.proofs.RunCrashes.{did_endures}
+use Rattle.zeb_engine.proofs.Unasked.{did}
 use Rattle.zeb_engine.proofs.Honest.{command_honest}
 use Rattle.zeb_engine.proofs.Serving.{on_ok}
 use Rattle.zeb_engine.proofs.session.Session.command.Goals as goal
@@ -26,10 +27,10 @@ returns-clause-crash g c clean =
     let old = state g.S.Store c.args.self.now.connection in
     let end = c.carry_out-answer.new.self.connection in
     let idle : IsTrue c.is_autocommit-settled.result = search rules in
-    let did = c.carry_out-answer.ensures in
-    endures (Step k c.args.command.now) old (state g.S.Store end) c.carry_out-answer.result clean
+    let done = c.carry_out-answer.ensures in
+    did_endures k c.args.command.now old (state g.S.Store end) c.carry_out-answer.result clean
     (λ is_open db left. g.met.S.Store.settled end.store db is_open left ∙ ap (λ (d : Database). d.trees) (sym (c.is_autocommit-settled.ensures.settled idle is_open)))
-    (did.call.accepted clean) (did.call.endures clean) did.survives (did.serves clean)
+    (did g.S.Store c.args.command.now c.args.self.now.connection end c.carry_out-answer.result done.call) done.survives (done.serves clean)
 
 pub returns-clause-honest : goal.returns-clause-honest
 returns-clause-honest g c clean is before keeps =

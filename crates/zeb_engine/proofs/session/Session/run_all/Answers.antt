@@ -13,6 +13,7 @@ use Rattle.zeb_engine.specs.Works.{FindOpen, Runs, ServesCommand}
 use Rattle.zeb_engine.proofs.RunCommits.{carries, commits_earlier, commits_latest}
 use Rattle.zeb_engine.proofs.RunCrashes.{crash_more}
 use Rattle.zeb_engine.proofs.RunLemmas.{open_before, open_more, refused_more, runs_more}
+use Rattle.zeb_engine.proofs.Unasked.{did, did_endure, did_refuse}
 use Rattle.zeb_engine.proofs.session.Session.run_all.Goals as goal
 use Rattle.zeb_register.specs.Formats.{version_of}
 
@@ -28,6 +29,7 @@ loop-command-preserved g c =
     let now = state g.S.Store c.loop-command.self.connection in
     let next = state g.S.Store c.command.new.self.connection in
     let same = c.loop-command.invariant.under in
+    let it = did g.S.Store item c.loop-command.self.connection c.command.new.self.connection c.command.result c.command.ensures.call in
     let last : take (index + 1) all ≡ take index all ++ item ∷ [] = take_more all index item c.loop-command-test.true ∙ ap (λ x. take index all ++ x ∷ []) (sym c.command-item.is) in
     record {
       count = search rules;
@@ -39,16 +41,16 @@ loop-command-preserved g c =
           subst₂ (λ commands told. Survives old next (CommitsOne k commands told old)) (sym last) (sym (ap (map answer_of) c.push_reserved.ensures.items ∙ map-append answer_of _ _))
           (survives_then old now next _ _ _ (λ _. commits_earlier k old now (take index all) answers item c.command.result)
           (λ clean db. commits_latest k old now (take index all) answers item c.command.result db (c.loop-command.invariant.run (omega (arith, c.command.ensures.survives.clean))))
-          c.loop-command.invariant.survives (carries k item now next c.command.result served c.command.ensures.call.endures took));
+          c.loop-command.invariant.survives (carries k item now next c.command.result served (λ clean. did_endure item now next c.command.result clean it) took));
       refused = λ clean all.
           let was = c.loop-command.invariant.refused (omega (arith, c.command.ensures.survives.clean)) in
-          refused_more old now next c.loop-command.answers.items c.command.result was (c.command.ensures.call.refused clean) (subst (AllByRecursion IsErr) c.push_reserved.ensures.items all);
+          refused_more old now next c.loop-command.answers.items c.command.result was (did_refuse item now next c.command.result clean it) (subst (AllByRecursion IsErr) c.push_reserved.ensures.items all);
       was_open = λ clean.
-          open_before old now next c.command.result (c.loop-command.invariant.was_open (omega (arith, c.command.ensures.survives.clean))) (c.command.ensures.call.accepted clean) (c.command.ensures.call.refused clean);
+          open_before old now next item c.command.result clean (c.loop-command.invariant.was_open (omega (arith, c.command.ensures.survives.clean))) it;
       «open» = λ clean.
           let early : HasCleanDisk now = omega (arith, c.command.ensures.survives.clean) in
-          subst (λ results. FindOpen results old next) (sym c.push_reserved.ensures.items)
-          (open_more old now next c.loop-command.answers.items c.command.result (c.loop-command.invariant.was_open early) (c.loop-command.invariant.«open» early) (c.command.ensures.call.accepted clean));
+          subst₂ (λ commands results. FindOpen commands results old next) (sym last) (sym c.push_reserved.ensures.items)
+          (open_more old now next item c.command.result clean (c.loop-command.invariant.was_open early) it (take index all) c.loop-command.answers.items (c.loop-command.invariant.«open» early));
       crash = λ clean.
           let early : HasCleanDisk now = omega (arith, c.command.ensures.survives.clean) in
           let was = c.loop-command.invariant.run early in
@@ -56,7 +58,7 @@ loop-command-preserved g c =
           let survives = subst₂ (λ p l. Survives now next (CommitsCommand (conditions (version_of g.L.Layout.format) p l) item now)) same.0 same.1 c.command.ensures.survives in
           let more = runs_more k old now next (take index all) answers item c.command.result was served in
           subst₂ (λ commands told. EnduresRun k commands told old next) (sym last) (sym (ap (map answer_of) c.push_reserved.ensures.items ∙ map-append answer_of _ _))
-          (crash_more k old now next (take index all) answers item c.command.result was more served clean (c.command.ensures.durable clean) (c.command.ensures.call.accepted clean) (c.command.ensures.call.endures clean) survives
+          (crash_more k old now next (take index all) answers item c.command.result was more served clean (c.command.ensures.durable clean) it survives
           (c.loop-command.invariant.crash early));
       run = λ clean.
           let was = c.loop-command.invariant.run (omega (arith, c.command.ensures.survives.clean)) in
@@ -85,3 +87,9 @@ returns-clause-survives g c =
     let old = state g.S.Store c.args.self.now.connection in
     let whole : take c.loop-command.command-index c.args.commands.now ≡ c.args.commands.now = take_whole c.args.commands.now c.loop-command.command-index (omega arith) in
     subst (λ commands. Survives old (state g.S.Store c.loop-command.self.connection) (CommitsOne k commands (map answer_of c.loop-command.answers.items) old)) whole c.loop-command.invariant.survives
+
+pub returns-clause-open : goal.returns-clause-open
+returns-clause-open g c clean =
+    let whole : take c.loop-command.command-index c.args.commands.now ≡ c.args.commands.now = take_whole c.args.commands.now c.loop-command.command-index (omega arith) in
+    subst (λ commands. FindOpen commands c.loop-command.answers.items (state g.S.Store c.args.self.now.connection) (state g.S.Store c.loop-command.self.connection)) whole
+    (c.loop-command.invariant.«open» clean)

@@ -23,7 +23,7 @@ invariant-loop-command g l =
           (CommitsOne (conditions (version_of g.L.Layout.format) l.fn.self.profile l.fn.self.limits) (take l.command-index l.commands) (map answer_of l.answers.items) old);
       refused : HasCleanDisk now → AllByRecursion IsErr l.answers.items → ChangesNothing old now;
       was_open : HasCleanDisk now → IsTrue now.is_open → IsTrue old.is_open;
-      «open» : HasCleanDisk now → FindOpen l.answers.items old now;
+      «open» : HasCleanDisk now → FindOpen (take l.command-index l.commands) l.answers.items old now;
       crash : HasCleanDisk now
           → EnduresRun (conditions (version_of g.L.Layout.format) l.fn.self.profile l.fn.self.limits) (take l.command-index l.commands) (map answer_of l.answers.items) old now;
       run : HasCleanDisk now

@@ -1,0 +1,78 @@
+//! Files are analysed, with nothing kept.
+
+use super::{BOOKS, Script, Step, TITLES};
+use crate::samples::{BARE, CUT, MOBY};
+
+/// `MOBY` under `BOOKS`: the register's name, the place of the field, the place in it and the term.
+const MOBY_LINES: &str = "record 1 1 a1
+Title:w 2 2 dick
+Title:w 2 1 moby
+Title:w 3 1 or
+Title:w 3 2 the
+Title:w 3 3 whale
+Title:p 2 1 moby dick
+Date:n 4 1 1851
+Any:w 4 1 c1851
+Any:w 2 2 dick
+Any:w 2 1 moby
+Any:w 3 1 or
+Any:w 3 2 the
+Any:w 3 3 whale
+";
+
+/// Before `init` and after it, and what is kept stays.
+const ASIDE: Script = &[(
+    BOOKS,
+    &[
+        (Step::Analyse(&[&[MOBY]]), MOBY_LINES),
+        (
+            Step::Find("@attr 1=4 whale"),
+            "zebraidx: register not initialised",
+        ),
+        (Step::Init, "ok\n"),
+        (Step::Analyse(&[&[MOBY]]), MOBY_LINES),
+        (
+            Step::Find("@attr 1=4 whale"),
+            "zebraidx: diagnostic 235 at 0: Default",
+        ),
+        (Step::Update(&[&[MOBY]]), "inserted 1 updated 0 deleted 0\n"),
+        (Step::Analyse(&[]), ""),
+        (Step::Find("@attr 1=4 whale"), "hits 1\n1 a1\n"),
+    ],
+)];
+
+/// The first that is refused is told, by its file and its place there.
+const REFUSED: Script = &[(
+    BOOKS,
+    &[
+        (
+            Step::Analyse(&[&[MOBY], &[CUT]]),
+            "zebraidx: file 2 record 1: Truncated",
+        ),
+        (
+            Step::Analyse(&[&[MOBY, BARE], &[CUT]]),
+            "zebraidx: file 1 record 2: NoIdentifier",
+        ),
+        (Step::Init, "ok\n"),
+        (Step::Update(&[&[MOBY]]), "inserted 1 updated 0 deleted 0\n"),
+        (
+            Step::Analyse(&[&[CUT]]),
+            "zebraidx: file 1 record 1: Truncated",
+        ),
+        (Step::Find("@attr 1=4 whale"), "hits 1\n1 a1\n"),
+    ],
+)];
+
+/// Under a profile that is not the register's.
+const UNDER: Script = &[
+    (BOOKS, &[(Step::Init, "ok\n")]),
+    (
+        TITLES,
+        &[(
+            Step::Analyse(&[&[MOBY]]),
+            "record 1 1 a1\nTitle:w 2 2 dick\nTitle:w 2 1 moby\nTitle:w 3 1 or\nTitle:w 3 2 the\nTitle:w 3 3 whale\n",
+        )],
+    ),
+];
+
+pub const SCRIPTS: [Script; 3] = [ASIDE, REFUSED, UNDER];

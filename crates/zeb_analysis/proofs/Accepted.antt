@@ -1,0 +1,80 @@
+-- Files of which nothing is refused.
+use Rattle.std.proofs.Common.{◌≡◌, ◌∙◌, ℕ, ◌+◌, ◌≤◌, ◌<◌, suc, true, false, cond, leb, List, [], ◌∷◌, length, length-append, Option, Some, None, Result, Ok, Err, refl, sym, ap, arith}
+use Rattle.std.specs.List.{AllByRecursion, flat_map}
+use Rattle.std.specs.Option.{option_or}
+use Rattle.std.proofs.lemmas.Bool.{leb-false}
+use Rattle.zeb_profile.specs.declared.directives.Directive.{Directive}
+use Rattle.zeb_marc.specs.declared.faults.MarcFault.{MarcFault}
+use Rattle.zeb_marc.specs.Records.{first_fault}
+use Rattle.zeb_marc.specs.Splits.{split_of}
+use Rattle.zeb_analysis.specs.declared.faults.AnalysisFault.TheVariants.{TooManyRecords}
+use Rattle.zeb_analysis.specs.Analysing.{Analysed, AnalysesTo, Standing, first_refusal, refusal_at, refused_content, refused_record, standing_from, standing_in, standing_in_all}
+use Rattle.zeb_analysis.specs.Laws.{slices_of}
+use Rattle.zeb_analysis.proofs.SoFar.{as_many, refusal-append}
+
+neither : {T : Type 0} (a b : Option T) → option_or a b ≡ None → (a ≡ None) × (b ≡ None)
+neither None b e = (refl, e)
+neither (Some x) b e = absurd (cc)
+
+module _ (profile : List Directive) (limit : ℕ) where
+  content_within : (before file nth : ℕ) (content : Result (List ℕ) MarcFault) → refused_content profile limit before file nth content ≡ None → before < limit
+  content_within before file nth (Err fault) e = absurd (cc)
+  content_within before file nth (Ok bytes) e =
+      elim (leb limit before) as (λ b. leb limit before ≡ b → cond b (Some TooManyRecords) (refused_record profile file nth bytes (first_fault bytes)) ≡ None → before < limit) [
+        | true ↦ λ is e'. absurd (cc)
+        | false ↦ λ is e'. leb-false limit before is
+      ] refl e
+
+  within : (before : ℕ) (standing : Standing) → refusal_at profile limit before standing ≡ None → before < limit
+  unfolding refusal_at
+  within before standing e = content_within before standing.file standing.nth standing.content e
+
+  no_fault_stands : (before file nth : ℕ) (fault : MarcFault) → refusal_at profile limit before (record { file = file; nth = nth; content = Err fault }) ≡ None → ⊥
+  unfolding refusal_at
+  no_fault_stands before file nth fault e = cc
+
+  few_stand : (before : ℕ) (standings : List Standing) → before ≤ limit → first_refusal profile limit before standings ≡ None → before + length standings ≤ limit
+  few_stand before [] le e = omega arith
+  few_stand before (standing ∷ others) le e =
+      let both = neither (refusal_at profile limit before standing) (first_refusal profile limit (before + 1) others) e in
+      let here = within before standing both.0 in
+      omega (arith, few_stand (before + 1) others (omega (arith, here)) both.1)
+
+  as_many_from : (before file nth : ℕ) (slices : List (List ℕ)) (last : Option MarcFault) → first_refusal profile limit before (standing_from file nth slices last) ≡ None
+      → (last ≡ None) × (length (standing_from file nth slices last) ≡ length slices)
+  as_many_from before file nth [] None e = (refl, refl)
+  as_many_from before file nth [] (Some fault) e =
+      absurd (no_fault_stands before file nth fault (neither (refusal_at profile limit before (record { file = file; nth = nth; content = Err fault })) None e).0)
+  as_many_from before file nth (slice ∷ slices) last e =
+      let both = neither (refusal_at profile limit before (record { file = file; nth = nth; content = Ok slice })) (first_refusal profile limit (before + 1) (standing_from file (nth + 1) slices last)) e in
+      let rest = as_many_from (before + 1) file (nth + 1) slices last both.1 in
+      (rest.0, ap suc rest.1)
+
+  as_many_in : (before file : ℕ) (text : List ℕ) → first_refusal profile limit before (standing_in file text) ≡ None
+      → ((split_of text).fault ≡ None) × (length (standing_in file text) ≡ length (slices_of text))
+  unfolding standing_in
+  as_many_in before file text e = as_many_from before file 1 (split_of text).slices (split_of text).fault e
+
+  as_many_in_all : (before file : ℕ) (texts : List (List ℕ)) → first_refusal profile limit before (standing_in_all file texts) ≡ None
+      → AllByRecursion (λ text. (split_of text).fault ≡ None) texts × (length (standing_in_all file texts) ≡ length (flat_map slices_of texts))
+  as_many_in_all before file [] e = (tt, refl)
+  as_many_in_all before file (text ∷ texts) e =
+      let these = standing_in file text in
+      let others = standing_in_all (file + 1) texts in
+      let both = neither (first_refusal profile limit before these) (first_refusal profile limit (before + length these) others) (sym (refusal-append profile limit before these others) ∙ e) in
+      let here = as_many_in before file text both.0 in
+      let rest = as_many_in_all (before + length these) (file + 1) texts both.1 in
+      ((here.0, rest.0), omega (arith, length-append these others, length-append (slices_of text) (flat_map slices_of texts), here.1, rest.1))
+
+  module _ (texts : List (List ℕ)) (analyses : List Analysed) (is : AnalysesTo profile limit texts (Ok analyses)) where
+    all_are : length analyses ≡ length (standing_in_all 1 texts)
+    all_are = as_many profile limit (standing_in_all 1 texts) analyses is.1
+
+    pub one_each : length analyses ≡ length (flat_map slices_of texts)
+    one_each = all_are ∙ (as_many_in_all 0 1 texts is.0).1
+
+    pub few : length analyses ≤ limit
+    few = omega (arith, all_are, few_stand 0 (standing_in_all 1 texts) (omega arith) is.0)
+
+    pub all_sound : AllByRecursion (λ text. (split_of text).fault ≡ None) texts
+    all_sound = (as_many_in_all 0 1 texts is.0).0

@@ -1,0 +1,10 @@
+pub mod Refused
+pub mod SoFar
+pub mod FileWalk
+pub mod FilesWalk
+pub mod PrintedNumbers
+pub mod PrintedLines
+pub mod ToldOnce
+pub mod FirstRefusals
+pub mod RefusalKinds
+pub mod Accepted

@@ -1,0 +1,27 @@
+-- How numbers are printed.
+use Rattle.std.proofs.Common.{◌≡◌, ◌≢◌, ◌==◌, ◌&&◌, ◌<◌, ◌^◌, ℕ, Bool, true, List, length, ap, inl, inr, refl}
+use Rattle.std.specs.Char.{is_ascii_digit}
+use Rattle.std.specs.Fmt.{decimal}
+use Rattle.std.specs.List.{list_all}
+use Rattle.std.specs.Str.Parse.{digits_value}
+use Rattle.std.proofs.lemmas.Bool.{and_parts, and_from, cases_Bool, eqb-true, eq-eqb}
+use Rattle.zeb_text.specs.Numbers.{number_key}
+use Rattle.zeb_text.proofs.KeyLemmas.{value_of_key, digits_of_key, length_of_key, digits_from_all, all_from_digits, is_key}
+use Rattle.zeb_analysis.specs.Printing.{printed_number}
+
+abbrev is_digits : List ℕ → Bool
+is_digits term = length term == 18 && list_all is_ascii_digit term
+
+pub printed_key : (n : ℕ) → n < 10 ^ 18 → printed_number (number_key n) ≡ decimal n
+printed_key n small =
+    let test : is_digits (number_key n) ≡ true = and_from (length (number_key n) == 18) (list_all is_ascii_digit (number_key n)) (eq-eqb (length (number_key n)) 18 (length_of_key n small)) (all_from_digits (number_key n) (digits_of_key n small)) in
+    rw test (ap decimal (value_of_key n small))
+
+pub printed_other : (term : List ℕ) → ((n : ℕ) → n < 10 ^ 18 → term ≢ number_key n) → printed_number term ≡ term
+printed_other term none = elim (cases_Bool (is_digits term)) [
+  | inl is ↦
+      let both = and_parts (length term == 18) (list_all is_ascii_digit term) is in
+      let key = is_key term (digits_from_all term both.1) (eqb-true (length term) 18 both.0) in
+      absurd (none (digits_value 10 term) key.0 key.1)
+  | inr other ↦ rw other refl
+]

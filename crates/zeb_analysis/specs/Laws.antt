@@ -1,0 +1,29 @@
+-- What the laws of an analysis speak of.
+use Rattle.std.specs.Prelude.{◌≡◌, ℕ, ◌<◌, List, Some, None, slice_get, ⊤}
+use Rattle.zeb_profile.specs.declared.directives.Directive.{Directive}
+use Rattle.zeb_marc.specs.Splits.{split_of}
+use Rattle.zeb_marc.specs.declared.faults.MarcFault.TheVariants as marc
+use Rattle.zeb_extract.specs.declared.naming.IdentFault.TheVariants as ident
+use Rattle.zeb_analysis.specs.declared.faults.AnalysisFault.{AnalysisFault}
+use Rattle.zeb_analysis.specs.declared.faults.AnalysisFault.TheVariants.{Marc, Ident, Memory}
+use Rattle.zeb_analysis.specs.Analysing.{Standing, refusal_at}
+
+-- one of what stands there is refused so, and none before it is refused
+pub record IsFirstRefused (profile : List Directive) (limit : ℕ) (standings : List Standing) (fault : AnalysisFault) : Type 0 where
+  pub before : ℕ
+  pub standing : Standing
+  pub there : slice_get standings before ≡ Some standing
+  pub refused : refusal_at profile limit before standing ≡ Some fault
+  pub earlier : (k : ℕ) (other : Standing) → k < before → slice_get standings k ≡ Some other
+      → refusal_at profile limit k other ≡ None
+
+-- a refusal by what files hold, and not by a reader or by want of memory
+abbrev pub IsRefusal : AnalysisFault → Type 0
+IsRefusal (Marc file nth marc.ReadFault) = ⊥
+IsRefusal (Ident file nth ident.Memory) = ⊥
+IsRefusal Memory = ⊥
+IsRefusal fault = ⊤
+
+-- the bytes of the records in a file
+abbrev pub slices_of : List ℕ → List (List ℕ)
+slices_of text = (split_of text).slices

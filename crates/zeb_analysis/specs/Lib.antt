@@ -1,0 +1,5 @@
+pub mod Refusals
+pub mod Analysing
+pub mod PrivateWalk
+pub mod Printing
+pub mod Laws

@@ -1,0 +1,20 @@
+-- How the records of a file are read and analysed, one after the other. No public contract cites this.
+use Rattle.std.specs.Prelude.{◌≡◌, ℕ, true, false, Bool, List, ◌++◌, length, None, Result, Ok, Err}
+use Rattle.zeb_profile.specs.declared.directives.Directive.{Directive}
+use Rattle.zeb_marc.specs.Splits.{Next, at_end, a_slice, a_fault}
+use Rattle.zeb_analysis.specs.declared.faults.AnalysisFault.{AnalysisFault}
+use Rattle.zeb_analysis.specs.declared.faults.AnalysisFault.TheVariants.{Marc}
+use Rattle.zeb_analysis.specs.Analysing.{Analysed, AreAnalysesOf, Standing, first_refusal}
+
+-- whether there is a record where this stands next, what the buffer keeps of it, and what is left unread
+abbrev pub ReadsPlace : ℕ → ℕ → Next → Result Bool AnalysisFault → List ℕ → List ℕ → Type 0
+ReadsPlace file nth at_end answer kept left = answer ≡ Ok false
+ReadsPlace file nth (a_slice slice rest) answer kept left = (answer ≡ Ok true) × (kept ≡ slice) × (left ≡ rest)
+ReadsPlace file nth (a_fault fault) answer kept left = answer ≡ Err (Marc file nth fault)
+
+-- none of these is refused behind the first analyses, and theirs are put behind them
+pub record Extends (profile : List Directive) (limit : ℕ) (these : List Standing) (old new : List Analysed) : Type 0 where
+  pub more : List Analysed
+  pub longer : new ≡ old ++ more
+  pub none_refused : first_refusal profile limit (length old) these ≡ None
+  pub are : AreAnalysesOf profile these more

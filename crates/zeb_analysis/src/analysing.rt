@@ -1,0 +1,154 @@
+//! Files of records, analysed record by record.
+ghost use Rattle.std.specs.Prelude.{◌≡◌, ◌≢◌, List, Result, IfOk, IfErr, MatchResult, OnOk, length, map};
+ghost use Rattle.zeb_marc.specs.Splits.{next_of};
+ghost use Rattle.zeb_analysis.specs.declared.faults.AnalysisFault.{AnalysisFault};
+ghost use Rattle.zeb_analysis.specs.Analysing.{Analysed, AnalysesTo, IsAnalysisOf, analysed, at_place, first_refusal, refusal_at, standing_in};
+ghost use Rattle.zeb_analysis.specs.PrivateWalk.{Extends, ReadsPlace};
+
+use crate::faults::AnalysisFault;
+use std::alloc::Global;
+use zeb_extract::{Occurrence, identifier, occurrences};
+use zeb_marc::{Marc, RecordBuf, Slice, next_record};
+use zeb_profile::Profile;
+
+/// One record's analysis.
+#[derive(Debug, Drop)]
+pub struct Analysis {
+    /// The file that the record stands in, from 1.
+    pub file: u64,
+    /// The record's place in its file, from 1.
+    pub nth: u64,
+    /// Its identifier.
+    pub ident: String,
+    /// What it is found by, in rising order.
+    pub occurrences: Vec<Occurrence>,
+}
+
+/// What the records of all files are analysed by.
+#[derive(Clone, Copy, Debug)]
+struct Setting<'a> {
+    alloc: Global,
+    profile: &'a Profile,
+    limit: u64,
+}
+
+/// One record of a file.
+#[derive(Clone, Copy, Debug)]
+struct Incoming<'a> {
+    file: u64,
+    nth: u64,
+    bytes: &'a [u8],
+}
+
+/// Reads the next record of a file, which is the nth, into the buffer, and says whether there is one.
+fn read_record(
+    left: &mut Slice<'_>,
+    buffer: &mut RecordBuf,
+    file: u64,
+    nth: u64,
+) -> Result<bool, AnalysisFault>
+    ensures { ReadsPlace file nth (next_of left.old) result buffer.new left.new }
+{
+    match next_record(left, buffer) {
+        Ok(found) => Ok(found.is_some()),
+        Err(fault) => Err(AnalysisFault::Marc { file, nth, fault }),
+    }
+}
+
+/// The analysis of a record, before which so many were analysed.
+fn analyse_record(
+    setting: &Setting<'_>,
+    before: u64,
+    incoming: Incoming<'_>,
+) -> Result<Analysis, AnalysisFault>
+    ensures passed { OnOk result (refusal_at setting.now.profile.now setting.now.limit before
+        (at_place incoming.entry.file incoming.entry.nth (Ok incoming.entry.bytes.now)) ≡ None) }
+    ensures ok { IfOk result (λ analysis. IsAnalysisOf setting.now.profile.now
+        (at_place incoming.entry.file incoming.entry.nth (Ok incoming.entry.bytes.now)) (analysed analysis)) }
+    ensures err { IfErr result (λ fault. fault ≢ AnalysisFault.Memory
+        → refusal_at setting.now.profile.now setting.now.limit before
+        (at_place incoming.entry.file incoming.entry.nth (Ok incoming.entry.bytes.now)) ≡ Some fault) }
+{
+    let Incoming { file, nth, bytes } = incoming;
+    if before >= setting.limit {
+        return Err(AnalysisFault::TooManyRecords);
+    }
+    let marc = match Marc::read(bytes) {
+        Ok(marc) => marc,
+        Err(fault) => return Err(AnalysisFault::Marc { file, nth, fault }),
+    };
+    let ident = match identifier(setting.alloc, &marc, setting.profile) {
+        Ok(ident) => ident,
+        Err(fault) => return Err(AnalysisFault::of_identifier(file, nth, fault)),
+    };
+    Ok(Analysis {
+        file,
+        nth,
+        ident,
+        occurrences: occurrences(setting.alloc, &marc, setting.profile)?,
+    })
+}
+
+/// Puts the analyses of one file's records behind the others.
+fn analyse_file(
+    setting: &Setting<'_>,
+    analyses: &mut Vec<Analysis>,
+    buffer: &mut RecordBuf,
+    file: u64,
+    bytes: &[u8],
+) -> Result<(), AnalysisFault>
+    ensures ok { OnOk result (Extends setting.now.profile.now setting.now.limit (standing_in file bytes.now)
+        (map analysed analyses.old.items) (map analysed analyses.new.items)) }
+    ensures err { IfErr result (λ fault. fault ≢ AnalysisFault.Memory
+        → first_refusal setting.now.profile.now setting.now.limit (length (map analysed analyses.old.items))
+        (standing_in file bytes.now) ≡ Some fault) }
+{
+    let mut left = Slice::new(bytes);
+    let mut nth = 1;
+    while read_record(&mut left, buffer, file, nth)? {
+        let incoming = Incoming {
+            file,
+            nth,
+            bytes: buffer.bytes(),
+        };
+        let analysis = analyse_record(setting, analyses.len() as u64, incoming)?;
+        analyses.push(analysis)?;
+        nth += 1;
+    }
+    Ok(())
+}
+
+/// The analyses of the records of files, file after file, each record in its place. Nothing is kept.
+///
+/// `limit`: how many records at most. The first that refuses ends it: record by record `TooManyRecords` where the limit's
+/// number of records stands before it, the record's first fault and the fault of its identifier; and behind a file's last
+/// record the fault that stands there. `Memory` may come of any files, and nothing else but these.
+pub fn analyse(
+    alloc: Global,
+    profile: &Profile,
+    limit: u64,
+    files: &[Vec<u8>],
+) -> Result<Vec<Analysis>, AnalysisFault>
+    ensures ok { IfOk result (λ analyses.
+        AnalysesTo profile.now limit (map (λ file. file.items) files.now) (Ok (map analysed analyses.items))) }
+    ensures err { IfErr result (λ fault. fault ≢ AnalysisFault.Memory
+        → AnalysesTo profile.now limit (map (λ file. file.items) files.now) (Err fault)) }
+    // And nothing else is said of these files.
+    ensures only { (answer : Result (List Analysed) AnalysisFault)
+        → AnalysesTo profile.now limit (map (λ file. file.items) files.now) answer
+        → MatchResult result (λ analyses. answer ≡ Ok (map analysed analyses.items))
+        (λ fault. fault ≢ AnalysisFault.Memory → answer ≡ Err fault) }
+{
+    let setting = Setting {
+        alloc,
+        profile,
+        limit,
+    };
+    let mut buffer = RecordBuf::new(alloc)?;
+    let mut analyses = Vec::new(alloc);
+    for (index, bytes) in files.iter().enumerate() {
+        let file = index as u64 + 1;
+        analyse_file(&setting, &mut analyses, &mut buffer, file, bytes)?;
+    }
+    Ok(analyses)
+}

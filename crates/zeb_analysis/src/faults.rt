@@ -1,0 +1,85 @@
+//! Why an analysis ends.
+ghost use Rattle.std.specs.Prelude.{◌≡◌};
+
+use std::alloc::{AllocError, AllocFailed};
+use std::error::Error;
+use std::fmt;
+use zeb_extract::IdentFault;
+use zeb_marc::MarcFault;
+
+/// Why an analysis ends. Files are counted from 1, and records from 1 in their file.
+#[derive(Clone, Copy, Debug, PartialEq, Eq)]
+pub enum AnalysisFault {
+    /// A record is none, or a fault stands in its place; never `ReadFault`.
+    Marc {
+        file: u64,
+        nth: u64,
+        fault: MarcFault,
+    },
+    /// A record has no sound identifier; never `IdentFault::Memory`.
+    Ident {
+        file: u64,
+        nth: u64,
+        fault: IdentFault,
+    },
+    /// The files have more records than the limit allows.
+    TooManyRecords,
+    /// Memory ran out.
+    Memory,
+}
+
+impl AnalysisFault {
+    ghost use Rattle.zeb_analysis.specs.Refusals.{ident_fault};
+
+    /// The fault of a record's identifier, or want of memory.
+    pub(crate) fn of_identifier(file: u64, nth: u64, fault: IdentFault) -> AnalysisFault
+        ensures { result ≡ ident_fault file nth fault }
+    {
+        match fault {
+            IdentFault::Memory => AnalysisFault::Memory,
+            _ => AnalysisFault::Ident { file, nth, fault },
+        }
+    }
+}
+
+impl fmt::Display for AnalysisFault {
+    ghost use Rattle.std.specs.Prelude.{Some};
+    ghost use Rattle.zeb_analysis.specs.Refusals.{analysis_fault_text};
+
+    ghost output = { λ fault. Some (analysis_fault_text fault) };
+
+    fn fmt<W: fmt::Write>(&self, f: &mut fmt::Formatter<W>) -> fmt::Result {
+        match self {
+            AnalysisFault::Marc { file, nth, fault } => {
+                write!(f, "file {file} record {nth}: {fault}")
+            }
+            AnalysisFault::Ident { file, nth, fault } => {
+                write!(f, "file {file} record {nth}: {fault}")
+            }
+            AnalysisFault::TooManyRecords => f.write_str("too many records"),
+            AnalysisFault::Memory => f.write_str("out of memory"),
+        }
+    }
+}
+
+impl Error for AnalysisFault {}
+
+impl From<AllocError> for AnalysisFault {
+    ghost use Rattle.zeb_analysis.specs.declared.faults.AnalysisFault.TheVariants.{Memory};
+
+    ghost from_gives = { λ _ fault. fault ≡ Memory };
+
+    fn from(_error: AllocError) -> AnalysisFault {
+        AnalysisFault::Memory
+    }
+}
+
+impl<T: Drop> From<AllocFailed<T>> for AnalysisFault {
+    ghost use Rattle.zeb_analysis.specs.declared.faults.AnalysisFault.TheVariants.{Memory};
+
+    ghost from_gives = { λ _ fault. fault ≡ Memory };
+
+    fn from(_error: AllocFailed<T>) -> AnalysisFault {
+        AnalysisFault::Memory
+    }
+}

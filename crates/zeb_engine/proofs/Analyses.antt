@@ -1,0 +1,32 @@
+-- The refusals of an analysis are of the files' texts.
+use Rattle.std.proofs.Common.{ℕ, List, Some, Err}
+use Rattle.zeb_profile.specs.declared.directives.Directive.{Directive}
+use Rattle.zeb_marc.specs.declared.faults.MarcFault.{MarcFault}
+use Rattle.zeb_marc.specs.declared.faults.MarcFault.TheVariants as marc
+use Rattle.zeb_analysis.specs.declared.faults.AnalysisFault.{AnalysisFault}
+use Rattle.zeb_analysis.specs.declared.faults.AnalysisFault.TheVariants.{Marc}
+use Rattle.zeb_analysis.specs.Analysing.{AnalysesTo, standing_in_all}
+use Rattle.zeb_analysis.specs.Laws.{IsRefusal}
+use Rattle.zeb_analysis.proofs.FirstRefusals.{first_counts}
+use Rattle.zeb_analysis.proofs.RefusalKinds.{refusal_at_place}
+use Rattle.zeb_engine.proofs.FaultAnswers.{IsOfText}
+
+pub refusal_of_texts : (profile : List Directive) (limit : ℕ) (texts : List (List ℕ)) (fault : AnalysisFault) → AnalysesTo profile limit texts (Err fault) → IsRefusal fault
+refusal_of_texts profile limit texts fault is =
+    let it = (first_counts profile limit (standing_in_all 1 texts) fault).0 is in
+    refusal_at_place profile limit texts it.before it.standing fault it.there it.refused
+
+pub fault_of_text : (file nth : ℕ) (fault : MarcFault) → IsRefusal (Marc file nth fault) → IsOfText (Some fault)
+fault_of_text file nth marc.LengthDigits is = tt
+fault_of_text file nth marc.LengthRange is = tt
+fault_of_text file nth marc.Truncated is = tt
+fault_of_text file nth marc.NoTerminator is = tt
+fault_of_text file nth marc.LeaderCounts is = tt
+fault_of_text file nth marc.BaseAddress is = tt
+fault_of_text file nth marc.DirectoryLength is = tt
+fault_of_text file nth marc.EntryDigits is = tt
+fault_of_text file nth marc.EntryTag is = tt
+fault_of_text file nth marc.EntryRange is = tt
+fault_of_text file nth marc.FieldEnd is = tt
+fault_of_text file nth marc.TooManySeparators is = tt
+fault_of_text file nth marc.ReadFault is = absurd is

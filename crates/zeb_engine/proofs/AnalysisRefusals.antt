@@ -1,0 +1,36 @@
+-- How an analysis is refused.
+use Rattle.std.proofs.Common.{◌≡◌, ◌≢◌, ◌⊎◌, ℕ, List, Result, Err, inl, inr, refl, subst}
+use Rattle.zeb_profile.specs.declared.directives.Directive.{Directive}
+use Rattle.zeb_analysis.specs.declared.faults.AnalysisFault.{AnalysisFault}
+use Rattle.zeb_analysis.specs.declared.faults.AnalysisFault.TheVariants as analysis
+use Rattle.zeb_analysis.specs.Analysing.{AnalysesTo}
+use Rattle.zeb_analysis.specs.Laws.{IsRefusal}
+use Rattle.zeb_engine.specs.declared.replies.Reply.{Reply}
+use Rattle.zeb_engine.specs.declared.refusals.Refusal.{Refusal}
+use Rattle.zeb_engine.specs.declared.refusals.Refusal.TheVariants as refusal
+use Rattle.zeb_engine.specs.Analysed.{IsAnalysed}
+use Rattle.zeb_engine.specs.Answers.{refused, why_of}
+use Rattle.zeb_engine.specs.Outcomes.{analysis_refusal}
+use Rattle.zeb_engine.proofs.Analyses.{refusal_of_texts}
+use Rattle.zeb_engine.proofs.OwnAnswers.{IsOwn, analysis_own}
+
+own_unread : (fault : AnalysisFault) → IsRefusal fault → (file : ℕ) → ◌≡◌ {A = Result Reply Refusal} (Err (analysis_refusal fault)) (Err (refusal.ReadFault file)) → ⊥
+own_unread fault own file is =
+    let same : analysis_refusal fault ≡ refusal.ReadFault file = cc in
+    subst (λ (r : Refusal). IsOwn (why_of r)) same (analysis_own fault own)
+
+module _ (profile : List Directive) (limit : ℕ) (texts : List (List ℕ)) where
+  -- by what the files hold, or by want of memory
+  pub fault_told : (fault : AnalysisFault) → (fault ≢ analysis.Memory → AnalysesTo profile limit texts (Err fault))
+      → IsAnalysed profile limit texts (refused (why_of (analysis_refusal fault))) ⊎ ◌≡◌ {A = Result Reply Refusal} (Err (analysis_refusal fault)) (Err refusal.Memory)
+  fault_told (analysis.Marc file nth fault) said = inl (Err (analysis.Marc file nth fault), said (λ is. cc), refl)
+  fault_told (analysis.Ident file nth fault) said = inl (Err (analysis.Ident file nth fault), said (λ is. cc), refl)
+  fault_told analysis.TooManyRecords said = inl (Err analysis.TooManyRecords, said (λ is. cc), refl)
+  fault_told analysis.Memory said = inr refl
+
+  pub fault_unread : (fault : AnalysisFault) → (fault ≢ analysis.Memory → AnalysesTo profile limit texts (Err fault)) → (file : ℕ)
+      → ◌≡◌ {A = Result Reply Refusal} (Err (analysis_refusal fault)) (Err (refusal.ReadFault file)) → ⊥
+  fault_unread (analysis.Marc file nth fault) said = own_unread (analysis.Marc file nth fault) (refusal_of_texts profile limit texts (analysis.Marc file nth fault) (said (λ is. cc)))
+  fault_unread (analysis.Ident file nth fault) said = own_unread (analysis.Ident file nth fault) (refusal_of_texts profile limit texts (analysis.Ident file nth fault) (said (λ is. cc)))
+  fault_unread analysis.TooManyRecords said = own_unread analysis.TooManyRecords (refusal_of_texts profile limit texts analysis.TooManyRecords (said (λ is. cc)))
+  fault_unread analysis.Memory said = λ file is. cc
