@@ -1,0 +1,57 @@
+-- What is read of a match.
+use Rattle.std.proofs.Common.{◌≡◌, ℕ, ◌<◌, ◌^◌, List, [], inl, inr, Option, Some, None, Result, Ok, Err, sym, subst, ap, ◌∙◌, option_map}
+use Rattle.std.specs.Prelude.{unwrap_or}
+use Rattle.std.specs.Borrow.{Bor}
+use Rattle.std.specs.Str.Parse.{IsNumeral, ParsesUnsigned, digits_value, without_leading_plus}
+use Rattle.clap.specs.Matches.{ReadsOne}
+use Rattle.clap.specs.Faults.{fault_of}
+use Rattle.clap.specs.Kinds.{HasKind, IsAmong}
+use Rattle.clap.specs.Values.{kind_of}
+use Rattle.clap.specs.declared.error.Error.{Error}
+use Rattle.clap.specs.declared.error.kind.ErrorKind.TheVariants.{DisplayHelp, OutOfMemory}
+use Rattle.zeb_words.specs.declared.words.Usage.{Usage}
+use Rattle.zeb_words.specs.declared.words.Usage.TheVariants.{BadUsage, Refused, Help, Memory}
+use Rattle.zeb_words.specs.Parses.{IsNumberRead, IsOwn, IsRefusedAs, IsUsageOf, program_app}
+
+pub text_read : (r : Option (Bor (List ℕ))) (other : Bor (List ℕ)) (t : Option (List ℕ)) → option_map (λ s. s.now) r ≡ t
+    → (unwrap_or r other).now ≡ unwrap_or t other.now
+text_read None other t e = ap (λ o. unwrap_or o other.now) e
+text_read (Some s) other t e = ap (λ o. unwrap_or o other.now) e
+
+pub number_read : {E : Type 0} (G : List ℕ → Result ℕ E → Type 0) (read : Option (List ℕ)) (r : Option ℕ) (other : ℕ)
+    → (read ≡ None → r ≡ None) → ((t : List ℕ) → read ≡ Some t → ReadsOne G t r)
+    → ((t : List ℕ) (x : Result ℕ E) → G t x → ParsesUnsigned 32 10 t x) → IsNumberRead read other (unwrap_or r other)
+number_read G read r other none value only = record {
+  absent = λ e. ap (λ o. unwrap_or o other) (none e);
+  value = λ t e numeral fits. go r t (value t e) numeral fits;
+}
+  where
+    go : (o : Option ℕ) (t : List ℕ) → ReadsOne G t o → IsNumeral 10 (without_leading_plus t)
+        → digits_value 10 (without_leading_plus t) < 2 ^ 32 → unwrap_or o other ≡ digits_value 10 (without_leading_plus t)
+    go (Some n) t h numeral fits = (only t (Ok n) h).1
+    go None t h numeral fits = absurd (only t (Err h.0) h.1 (numeral, fits))
+
+pub pair_read : {X Y Z : Type 0} (f : X → Y) (g : X → Z) (o : Option X) (y : Y) (z : Z) → Some y ≡ option_map f o
+    → Some z ≡ option_map (λ (p : Y × Z). p.1) (option_map {U = Y × Z} (λ x. (f x, g x)) o) → option_map {U = Y × Z} (λ x. (f x, g x)) o ≡ Some (y, z)
+pair_read f g None y z e h = cc
+pair_read f g (Some x) y z e h =
+    let first : f x ≡ y = cc in
+    let second : g x ≡ z = cc in
+    (λ i. Some (first i, second i))
+
+pub own_refused : (words : List (List ℕ)) (usage : Usage) → fault_of program_app words ≡ [] → IsOwn usage → IsRefusedAs words usage
+own_refused words BadUsage sound own = sound
+own_refused words (Refused text) sound own = absurd own
+own_refused words (Help text) sound own = absurd own
+own_refused words Memory sound own = tt
+
+pub parser_refused : (words : List (List ℕ)) (error : Error) (usage : Usage) → HasKind (fault_of program_app words) error → IsUsageOf error usage
+    → IsRefusedAs words usage
+parser_refused words error BadUsage kind is = absurd is
+parser_refused words error (Refused text) (inl memory) is = absurd (is memory)
+parser_refused words error (Refused text) (inr among) is = λ none. subst (IsAmong (kind_of error)) none among
+parser_refused words error (Help text) (inl memory) is =
+    let bad : DisplayHelp ≡ OutOfMemory = sym is ∙ memory in
+    cc
+parser_refused words error (Help text) (inr among) is = subst (λ k. IsAmong k (fault_of program_app words)) is among
+parser_refused words error Memory kind is = tt

@@ -1,0 +1,30 @@
+use Rattle.std.proofs.Common.{◌∙◌, codes}
+use Rattle.std.specs.Box.{box_value}
+use Rattle.clap.specs.Matches.{found_of}
+use Rattle.clap.specs.Walk.{one_of, rows_of}
+use Rattle.clap.specs.declared.parser.matches.ArgMatches.TheViews.{out-ArgMatches, out-SubCommand}
+use Rattle.clap.proofs.WalkLemmas.{one_text-rows}
+use Rattle.zeb_words.specs.Parses.{IsFlagRead}
+use Rattle.zeb_words.proofs.ReadingLemmas.{pair_read}
+use Rattle.zeb_words.proofs.reading.words_of.Goals as goal
+
+pub returns-clause-value : goal.returns-clause-value
+returns-clause-value c =
+    let m = c.args.matches.now in
+    let same = one_text-rows (found_of m) (codes "shows") in
+    let flag : IsFlagRead (one_of (codes "shows") (rows_of (found_of m))) c.get_flag-shows.result = record {
+      absent = λ e. c.get_flag-shows.ensures.none (same ∙ e);
+      yes = λ e. c.get_flag-shows.ensures.value (same ∙ e);
+      no = λ e. c.get_flag-shows.ensures.other (same ∙ e);
+    } in
+    record {
+      config = c.in_ok-config.ensures.ok ∙ c.text_of.ensures;
+      database = c.in_ok-database.ensures.value ∙ c.text_of-2.ensures;
+      shows = c.get_flag-shows.result;
+      flagged = flag;
+      name = c.in-Some.name.now;
+      given = rows_of (found_of c.in-Some.given.now);
+      is = pair_read (λ b. (out-SubCommand (box_value b)).name.now) (λ b. rows_of (found_of (out-SubCommand (box_value b)).matches))
+          (out-ArgMatches m).subcommand _ _ c.in-Some.ensures.name c.in-Some.ensures.rows;
+      act = c.in_ok-act.ensures.value;
+    }

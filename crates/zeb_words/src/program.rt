@@ -1,0 +1,174 @@
+//! The program's options and commands, as `clap` is told of them.
+
+ghost use Rattle.std.specs.Prelude.{◌≡◌, IfOk, Some, false};
+ghost use Rattle.clap.specs.Simple.{app_of, new_app, new_rule};
+ghost use Rattle.clap.specs.Walk.{rule_of};
+ghost use Rattle.clap.specs.declared.builder.command.Command.TheViews.{out-Command};
+ghost use Rattle.zeb_words.specs.Parses.{changes_app, changing_app, find_app, naming_app, program_app, query_rule, scan_app, shows_rule, top_app};
+
+use clap::builder::ValueParser;
+use clap::{Arg, ArgAction, Command, value_parser};
+use std::alloc::{AllocError, Global};
+
+/// The program, with its options and its twelve commands.
+pub(crate) fn program<'a>(alloc: Global) -> Result<Command<'a>, AllocError>
+    ensures { IfOk result (λ command. app_of command ≡ program_app) }
+{
+    with_changes(alloc)?
+        .subcommand(plain(alloc, "stat", "Count records, terms and occurrences"))?
+        .subcommand(plain(alloc, "dump", "Write the kept records"))?
+        .subcommand(plain(alloc, "check", "Compare the tables with the records"))?
+        .subcommand(finding(alloc)?)?
+        .subcommand(scanning(alloc)?)?
+        .subcommand(plain(alloc, "batch", "Run the lines of the standard input"))
+}
+
+/// The program with its options and the commands that write.
+fn with_changes<'a>(alloc: Global) -> Result<Command<'a>, AllocError>
+    ensures { IfOk result (λ command. app_of command ≡ changes_app) }
+{
+    with_options(alloc)?
+        .subcommand(plain(alloc, "init", "Empty the register"))?
+        .subcommand(naming(alloc, "create", "Make a database")?)?
+        .subcommand(naming(alloc, "drop", "Take a database away")?)?
+        .subcommand(changing(alloc, "update", "Add or replace records")?)?
+        .subcommand(changing(alloc, "delete", "Take records away")?)?
+        .subcommand(changing(alloc, "adelete", "Take records away that are kept")?)
+}
+
+/// The program with its options, and no command yet.
+fn with_options<'a>(alloc: Global) -> Result<Command<'a>, AllocError>
+    ensures { IfOk result (λ command. app_of command ≡ top_app) }
+{
+    Command::new(alloc, "zebraidx")
+        .about("Indexes MARC 21 records and searches them")
+        .no_binary_name(true)
+        .subcommand_required(true)
+        .disable_help_subcommand(true)
+        .arg(option(
+            alloc,
+            "config",
+            'c',
+            "FILE",
+            "The profile's file (zebra.cfg)",
+        ))?
+        .arg(option(alloc, "database", 'd', "NAME", "The database (Default)"))?
+        .arg(shows(alloc))
+}
+
+/// The option of this letter with a value.
+fn option<'a>(alloc: Global, name: &'a str, letter: char, value: &'a str, help: &'a str) -> Arg<'a>
+    ensures rule { rule_of result ≡ record (new_rule name.entry.now) { short = Some letter; value_names = 1 } }
+    ensures local { result.global ≡ false }
+{
+    Arg::new(alloc, name)
+        .short(letter)
+        .value_name(value)
+        .help(help)
+}
+
+/// The flag `-s`.
+fn shows<'a>(alloc: Global) -> Arg<'a>
+    ensures rule { rule_of result ≡ shows_rule }
+    ensures local { result.global ≡ false }
+{
+    Arg::new(alloc, "shows")
+        .short('s')
+        .action(ArgAction::SetTrue)
+        .help("With update: show the records' occurrences and change nothing")
+}
+
+/// A command without arguments.
+fn plain<'a>(alloc: Global, name: &'a str, about: &'a str) -> Command<'a>
+    ensures app { app_of result ≡ new_app name.entry.now }
+    ensures local { (out-Command result).has_globals ≡ false }
+{
+    Command::new(alloc, name).about(about)
+}
+
+/// A command that takes the name of a database.
+fn naming<'a>(alloc: Global, name: &'a str, about: &'a str) -> Result<Command<'a>, AllocError>
+    ensures app { IfOk result (λ command. app_of command ≡ naming_app name.entry.now) }
+    ensures local { IfOk result (λ command. (out-Command command).has_globals ≡ false) }
+{
+    let database = Arg::new(alloc, "name").value_name("NAME").required(true);
+    plain(alloc, name, about).arg(database)
+}
+
+/// A command that takes one path or more.
+fn changing<'a>(alloc: Global, name: &'a str, about: &'a str) -> Result<Command<'a>, AllocError>
+    ensures app { IfOk result (λ command. app_of command ≡ changing_app name.entry.now) }
+    ensures local { IfOk result (λ command. (out-Command command).has_globals ≡ false) }
+{
+    let paths = Arg::new(alloc, "path")
+        .value_name("PATH")
+        .action(ArgAction::Append)
+        .required(true);
+    plain(alloc, name, about).arg(paths)
+}
+
+/// The command `find`.
+fn finding<'a>(alloc: Global) -> Result<Command<'a>, AllocError>
+    ensures app { IfOk result (λ command. app_of command ≡ find_app) }
+    ensures local { IfOk result (λ command. (out-Command command).has_globals ≡ false) }
+{
+    let first = number(
+        alloc,
+        "first",
+        value_parser!(u32).range(1..=999_999_999),
+        "The first record to show, from 1 (1)",
+    );
+    let count = number(
+        alloc,
+        "count",
+        value_parser!(u32).range(0..=1_000_000),
+        "The most records to show (20)",
+    );
+    plain(alloc, "find", "Show the records that a query finds")
+        .arg(first)?
+        .arg(count)?
+        .arg(query(alloc))
+}
+
+/// The command `scan`.
+fn scanning<'a>(alloc: Global) -> Result<Command<'a>, AllocError>
+    ensures app { IfOk result (λ command. app_of command ≡ scan_app) }
+    ensures local { IfOk result (λ command. (out-Command command).has_globals ≡ false) }
+{
+    let terms = number(
+        alloc,
+        "number",
+        value_parser!(u32).range(1..=1000),
+        "The most terms to show (20)",
+    );
+    let position = number(
+        alloc,
+        "position",
+        value_parser!(u32).range(1..=1000),
+        "The start's place among them, from 1 (1)",
+    );
+    plain(alloc, "scan", "Show the terms around a query's")
+        .arg(terms)?
+        .arg(position)?
+        .arg(query(alloc))
+}
+
+/// The option `--name` with a whole number.
+fn number<'a>(alloc: Global, name: &'a str, parser: ValueParser<'a>, help: &'a str) -> Arg<'a>
+    ensures rule { rule_of result ≡ record (new_rule name.entry.now) { long = Some name.entry.now; value_names = 1; parser = Some parser.entry } }
+    ensures local { result.global ≡ false }
+{
+    Arg::new(alloc, name)
+        .long(name)
+        .value_name("NUMBER")
+        .value_parser(parser)
+        .help(help)
+}
+
+/// The word of a query.
+fn query<'a>(alloc: Global) -> Arg<'a>
+    ensures rule { rule_of result ≡ query_rule }
+    ensures local { result.global ≡ false }
+{
+    Arg::new(alloc, "query").value_name("QUERY").required(true)
+}

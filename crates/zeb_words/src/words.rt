@@ -1,0 +1,114 @@
+//! The commands of a command line, and the call that reads them.
+
+ghost use Rattle.std.specs.Prelude.{◌≡◌, IfErr, IfOk, map, string_bytes};
+ghost use Rattle.zeb_words.specs.Parses.{IsParsedAs, IsRefusedAs, IsUsageOf};
+
+use crate::program::program;
+use crate::reading::words_of;
+use clap::Error;
+use clap::error::ErrorKind;
+use std::alloc::{AllocError, Global};
+use zeb_engine::DbName;
+
+/// What a command line names.
+#[derive(Debug, Drop)]
+pub struct Words {
+    /// The path of the profile's file.
+    pub config: String,
+    /// The database.
+    pub database: DbName,
+    /// What is to be done.
+    pub act: Act,
+}
+
+/// What a command line's command is, with its arguments as read.
+#[derive(Debug, Drop)]
+pub enum Act {
+    /// Empties the register.
+    Init,
+    /// Makes an empty database of this name.
+    Create(DbName),
+    /// Takes away the database of this name.
+    Drop(DbName),
+    /// Updates by the records in the files at these paths, of which there is one at least; or only shows
+    /// the occurrences of each record.
+    Update {
+        paths: Vec<String>,
+        shows: bool,
+    },
+    /// Deletes by the records in the files at these paths, of which there is one at least.
+    Delete(Vec<String>),
+    /// The same, where a record that isn't kept is passed over.
+    Adelete(Vec<String>),
+    /// Counts.
+    Stat,
+    /// Writes the kept records.
+    Dump,
+    /// Compares the tables with the kept records.
+    Check,
+    /// The records that a query finds, from the `first`-th on (1 to 999,999,999), at most `count` (0 to
+    /// 1,000,000) of them.
+    Find {
+        query: String,
+        first: u32,
+        count: u32,
+    },
+    /// Terms around a query's: `number` (1 to 1,000) of them, the start at `position` (1 to `number`).
+    Scan {
+        query: String,
+        number: u32,
+        position: u32,
+    },
+    /// Runs the lines of the standard input.
+    Batch,
+}
+
+/// Why words name no command.
+#[derive(Debug, Drop)]
+pub enum Usage {
+    /// A name that no database may have, a position above the number of terms, or `-s` with another
+    /// command than `update`.
+    BadUsage,
+    /// The parser refused the words; its text, which says why.
+    Refused(String),
+    /// Help was asked for; its text.
+    Help(String),
+    /// A growth was refused.
+    Memory,
+}
+
+impl From<AllocError> for Usage {
+    ghost use Rattle.zeb_words.specs.declared.words.Usage.TheVariants.{Memory};
+
+    ghost from_gives = { λ _ usage. usage ≡ Memory };
+
+    fn from(_error: AllocError) -> Usage {
+        Usage::Memory
+    }
+}
+
+/// Reads the words of a command line, the program's name not among them.
+pub fn read_words(alloc: Global, words: &[String]) -> Result<Words, Usage>
+    ensures named { IfOk result (IsParsedAs (map string_bytes words.now)) }
+    ensures refused { IfErr result (IsRefusedAs (map string_bytes words.now)) }
+{
+    let program = program(alloc)?;
+    match program.try_get_matches_from(words) {
+        Ok(matches) => words_of(alloc, &matches),
+        Err(error) => Err(usage_of(alloc, &error)),
+    }
+}
+
+/// What a refusal of the parser's comes to.
+fn usage_of(alloc: Global, error: &Error) -> Usage
+    ensures { IsUsageOf error.now result }
+{
+    if error.kind() == ErrorKind::OutOfMemory {
+        return Usage::Memory;
+    }
+    match format!(in alloc; "{error}") {
+        Ok(text) if error.kind() == ErrorKind::DisplayHelp => Usage::Help(text),
+        Ok(text) => Usage::Refused(text),
+        Err(_) => Usage::Memory,
+    }
+}
