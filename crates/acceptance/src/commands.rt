@@ -12,6 +12,7 @@ use zeb_profile::Profile;
 use zeb_register::Rows;
 
 mod analyses;
+mod beside_slow;
 mod changes;
 mod databases;
 mod failing_disk;

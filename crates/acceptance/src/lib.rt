@@ -3,11 +3,17 @@
 #![tactic(auto)]
 
 #[cfg(test)]
+mod catalogue;
+#[cfg(test)]
 mod commands;
 #[cfg(test)]
 mod disks;
 #[cfg(test)]
+mod query_lists;
+#[cfg(test)]
 mod samples;
+#[cfg(test)]
+mod slow_find;
 #[cfg(test)]
 mod tables;
 #[cfg(test)]
