@@ -66,7 +66,8 @@ fn next_further<'a>(
     all: &'a [Target],
 ) -> Option<((u32, Register), &'a [Target])>
     requires { length names.now < 2 ^ 32 }
-    ensures some { IfSome result (λ next. let pair = pair_of names.now in further_pairs (map pair first.now) (map pair all.now) ≡ next.0 ∷ further_pairs (map pair first.now) (map pair next.1.now)) }
+    ensures some { IfSome result (λ next. let pair = pair_of names.now in further_pairs (map pair first.now) (map pair all.now)
+        ≡ next.0 ∷ further_pairs (map pair first.now) (map pair next.1.now)) }
     ensures none { IfNone result (let pair = pair_of names.now in further_pairs (map pair first.now) (map pair all.now) ≡ []) }
 {
     for (index, target) in all.iter().enumerate() {
