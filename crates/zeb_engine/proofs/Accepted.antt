@@ -1,12 +1,14 @@
 -- An accepted change is a fold of all records of its files.
 use Rattle.std.proofs.Common.{◌≡◌, ℕ, List, Result, Ok, Err, refl}
 use Rattle.zeb_marc.specs.Splits.{Split}
-use Rattle.zeb_engine.specs.declared.commands.Kind.{Kind}
-use Rattle.zeb_engine.specs.Answers.{Why, changed}
-use Rattle.zeb_engine.specs.Conditions.{Conditions}
+use Rattle.zeb_change.specs.declared.settings.Kind.{Kind}
+use Rattle.zeb_change.specs.Refused.{Why}
+use Rattle.zeb_engine.specs.Answers.{changed}
+use Rattle.zeb_change.specs.Conditions.{Conditions}
 use Rattle.zeb_engine.specs.Counts.{IsAccepted}
-use Rattle.zeb_engine.specs.Folding.{Progress, at_first, files_folded}
-use Rattle.zeb_engine.specs.Holdings.{Base, Holdings, base_named}
+use Rattle.zeb_change.specs.Folding.{Progress, at_first, files_folded}
+use Rattle.zeb_change.specs.Base.{Base}
+use Rattle.zeb_engine.specs.Holdings.{Holdings, base_named}
 use Rattle.zeb_engine.specs.Steps.{change_ends, change_from, changed_by_files, ends, ready, start_of, turned, turned_from}
 
 module _ (c : Conditions) (kind : Kind) (name : List ℕ) (files : List Split) (before : Holdings) (inserted updated deleted : ℕ) where

@@ -6,11 +6,12 @@ use Rattle.zeb_analysis.specs.declared.faults.AnalysisFault.TheVariants as analy
 use Rattle.zeb_analysis.specs.Analysing.{AnalysesTo}
 use Rattle.zeb_analysis.specs.Laws.{IsRefusal}
 use Rattle.zeb_engine.specs.declared.replies.Reply.{Reply}
-use Rattle.zeb_engine.specs.declared.refusals.Refusal.{Refusal}
-use Rattle.zeb_engine.specs.declared.refusals.Refusal.TheVariants as refusal
+use Rattle.zeb_change.specs.declared.refusals.Refusal.{Refusal}
+use Rattle.zeb_change.specs.declared.refusals.Refusal.TheVariants as refusal
 use Rattle.zeb_engine.specs.Analysed.{IsAnalysed}
-use Rattle.zeb_engine.specs.Answers.{refused, why_of}
-use Rattle.zeb_engine.specs.Outcomes.{analysis_refusal}
+use Rattle.zeb_engine.specs.Answers.{refused}
+use Rattle.zeb_change.specs.Refused.{why_of}
+use Rattle.zeb_change.specs.Outcomes.{analysis_refusal}
 use Rattle.zeb_engine.proofs.Analyses.{refusal_of_texts}
 use Rattle.zeb_engine.proofs.OwnAnswers.{IsOwn, analysis_own}
 

@@ -9,17 +9,19 @@ use Rattle.zeb_query.specs.Reading.{query_fault}
 use Rattle.zeb_register.specs.Calls.{ChangesNothing}
 use Rattle.zeb_register.specs.Formats.{Format, holds_in}
 use Rattle.zeb_register.proofs.Calls.{store_same}
-use Rattle.zeb_engine.specs.declared.refusals.Refusal.{Refusal}
+use Rattle.zeb_change.specs.declared.refusals.Refusal.{Refusal}
 use Rattle.zeb_engine.specs.declared.replies.Reply.{Reply}
 use Rattle.zeb_engine.specs.Adopting.{StaysOpen}
 use Rattle.zeb_engine.specs.Alone.{Alone, IsSaid, Said}
-use Rattle.zeb_engine.specs.Answers.{Answer, Why, answer_of, refused, diagnostic, why_of, IsFailure}
-use Rattle.zeb_engine.specs.Conditions.{Conditions}
-use Rattle.zeb_engine.specs.Holdings.{Holdings, Base, base_named}
+use Rattle.zeb_engine.specs.Answers.{Answer, answer_of, refused, IsFailure}
+use Rattle.zeb_change.specs.Refused.{Why, diagnostic, why_of, Meets}
+use Rattle.zeb_change.specs.Conditions.{Conditions}
+use Rattle.zeb_engine.specs.Holdings.{Holdings, base_named}
+use Rattle.zeb_change.specs.Base.{Base}
 use Rattle.zeb_engine.specs.Image.{Keeps}
-use Rattle.zeb_engine.specs.Outcomes.{query_refusal}
+use Rattle.zeb_change.specs.Outcomes.{query_refusal}
 use Rattle.zeb_engine.specs.Steps.{AskedAmong, AskedFrom, AskedIn, existing, found_or, no_database, ready}
-use Rattle.zeb_engine.specs.Works.{Asks, Meets}
+use Rattle.zeb_engine.specs.Works.{Asks}
 use Rattle.zeb_engine.proofs.Serving.{keeps_still}
 
 -- ---- the answers

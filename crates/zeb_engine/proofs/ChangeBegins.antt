@@ -5,16 +5,17 @@ use Rattle.zeb_marc.specs.Splits.{Split}
 use Rattle.zeb_register.specs.declared.catalog.Database.{Database}
 use Rattle.zeb_register.specs.Catalog.{IsDatabaseOf}
 use Rattle.zeb_register.specs.Store.{HasDatabase}
-use Rattle.zeb_engine.specs.declared.commands.Kind.{Kind}
-use Rattle.zeb_engine.specs.declared.commands.Kind.TheVariants.{Update}
-use Rattle.zeb_engine.specs.declared.refusals.Refusal.{Refusal}
-use Rattle.zeb_engine.specs.Answers.{Why, why_of, refused, IsFailure}
+use Rattle.zeb_change.specs.declared.settings.Kind.{Kind}
+use Rattle.zeb_change.specs.declared.settings.Kind.TheVariants.{Update}
+use Rattle.zeb_change.specs.declared.refusals.Refusal.{Refusal}
+use Rattle.zeb_change.specs.Refused.{Why, why_of, Meets}
+use Rattle.zeb_engine.specs.Answers.{refused, IsFailure}
 use Rattle.zeb_engine.specs.PrivateChanging.{BeginsWith}
-use Rattle.zeb_engine.specs.Conditions.{Conditions}
-use Rattle.zeb_engine.specs.Holdings.{Holdings, Base, base_named}
+use Rattle.zeb_change.specs.Conditions.{Conditions}
+use Rattle.zeb_engine.specs.Holdings.{Holdings, base_named}
+use Rattle.zeb_change.specs.Base.{Base}
 use Rattle.zeb_engine.specs.Image.{IsImage}
 use Rattle.zeb_engine.specs.Steps.{changed_by_files, ready, start_of, turned}
-use Rattle.zeb_engine.specs.Works.{Meets}
 use Rattle.zeb_engine.proofs.ListedDatabases.{none_named, row_named}
 use Rattle.zeb_engine.proofs.Turns.{step_unbegun}
 use Rattle.zeb_engine.proofs.ReadyImages.{image_some}

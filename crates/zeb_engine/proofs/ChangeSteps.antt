@@ -12,19 +12,21 @@ use Rattle.zeb_register.specs.declared.catalog.Database.{Database}
 use Rattle.zeb_register.specs.Catalog.{PutsDatabase}
 use Rattle.zeb_register.specs.Content.{Content}
 use Rattle.zeb_register.specs.Store.{IsStore, Changes, HasDatabase, KeepsRegisters, databases_tree}
-use Rattle.zeb_engine.specs.declared.changes.Fold.{Fold}
-use Rattle.zeb_engine.specs.declared.commands.Kind.{Kind}
-use Rattle.zeb_engine.specs.declared.refusals.Refusal.{Refusal}
+use Rattle.zeb_change.specs.declared.files.Fold.{Fold}
+use Rattle.zeb_change.specs.declared.settings.Kind.{Kind}
+use Rattle.zeb_change.specs.declared.refusals.Refusal.{Refusal}
 use Rattle.zeb_engine.specs.declared.replies.Reply.TheVariants as reply
-use Rattle.zeb_engine.specs.Answers.{Why, changed, refused, reply_answer, why_of, IsFailure}
+use Rattle.zeb_change.specs.Refused.{Why, why_of, Meets}
+use Rattle.zeb_engine.specs.Answers.{changed, refused, reply_answer, IsFailure}
 use Rattle.zeb_engine.specs.PrivateChanging.{BeginsWith, last_of}
-use Rattle.zeb_engine.specs.Conditions.{Conditions, AreSessions}
+use Rattle.zeb_change.specs.Conditions.{Conditions, AreSessions}
 use Rattle.zeb_engine.specs.Names.{IsDatabaseName}
-use Rattle.zeb_engine.specs.Folding.{Progress, at_first, files_folded}
-use Rattle.zeb_engine.specs.Holdings.{Holdings, Base, new_base, base_named, with_base}
+use Rattle.zeb_change.specs.Folding.{Progress, at_first, files_folded}
+use Rattle.zeb_engine.specs.Holdings.{Holdings, new_base, base_named, with_base}
+use Rattle.zeb_change.specs.Base.{Base}
 use Rattle.zeb_engine.specs.Image.{AreBases, HasTexts, IsImage, IsImageOf}
 use Rattle.zeb_engine.specs.Steps.{changed_by_files, ready, start_of, turned}
-use Rattle.zeb_engine.specs.Works.{IsFolded, IsUnderWay, Meets}
+use Rattle.zeb_change.specs.UnderWay.{IsFolded, IsUnderWay}
 use Rattle.zeb_engine.proofs.Held.{image_numbered}
 use Rattle.zeb_engine.proofs.Bases.{named_found}
 use Rattle.zeb_engine.proofs.Beginning.{texts_still}

@@ -5,20 +5,22 @@ use Rattle.sqlite.specs.State.{State}
 use Rattle.zeb_profile.specs.declared.directives.Directive.{Directive}
 use Rattle.zeb_register.specs.Calls.{ChangesNothing}
 use Rattle.zeb_engine.specs.declared.commands.Command.TheVariants.{Analyse, Find, Scan}
-use Rattle.zeb_engine.specs.declared.commands.Limits.{Limits}
+use Rattle.zeb_change.specs.declared.settings.Limits.{Limits}
 use Rattle.zeb_engine.specs.declared.names.DbName.{DbName}
 use Rattle.zeb_engine.specs.NameOf.{name_bytes}
 use Rattle.zeb_engine.specs.declared.replies.Reply.{Reply}
-use Rattle.zeb_engine.specs.declared.refusals.Refusal.{Refusal}
-use Rattle.zeb_engine.specs.declared.refusals.Refusal.TheVariants as refusal
+use Rattle.zeb_change.specs.declared.refusals.Refusal.{Refusal}
+use Rattle.zeb_change.specs.declared.refusals.Refusal.TheVariants as refusal
 use Rattle.zeb_engine.specs.Analysed.{AnswersAnalysis, IsAnalysed}
-use Rattle.zeb_engine.specs.Answers.{Answer, Why, answer_of, refused, why_of, IsFailure}
-use Rattle.zeb_engine.specs.Conditions.{Conditions}
+use Rattle.zeb_engine.specs.Answers.{Answer, answer_of, refused, IsFailure}
+use Rattle.zeb_change.specs.Refused.{Why, why_of, Meets}
+use Rattle.zeb_change.specs.Conditions.{Conditions}
 use Rattle.zeb_engine.specs.Alone.{Alone, AnswersAlone, FindSays, ScanSays}
-use Rattle.zeb_engine.specs.Holdings.{Holdings, Base}
+use Rattle.zeb_engine.specs.Holdings.{Holdings}
+use Rattle.zeb_change.specs.Base.{Base}
 use Rattle.zeb_engine.specs.Image.{Keeps}
 use Rattle.zeb_engine.specs.Steps.{Turn, Outcome, Ends, OnlyAnswers, FoundFrom, ScannedFrom, ready, turned, waited, waits}
-use Rattle.zeb_engine.specs.Works.{Always, Asks, Finds, ScansFrom, Meets, Serves, ServesBy, ServesCommand}
+use Rattle.zeb_engine.specs.Works.{Always, Asks, Finds, ScansFrom, Serves, ServesBy, ServesCommand}
 use Rattle.zeb_engine.proofs.Serving.{early_serves}
 use Rattle.zeb_engine.proofs.Turns.{turn_refused}
 use Rattle.zeb_register.specs.Formats.{Format}
@@ -85,7 +87,7 @@ module _ (result : Result Reply Refusal) (files : Vec (Vec ℕ Global) Global) (
       → ServesCommand c (Analyse files) s s result
   analysis_serves c s told before keeps = elim (analysis_answers c.profile c.limits told) [
     | inl is ↦ (before, inl (is, refl), keeps)
-    | inr is ↦ (before, inr (inr (ap answer_of is), refl), keeps)
+    | inr is ↦ (before, inr (subst IsFailure (sym (ap answer_of is)) (inr refl), refl), keeps)
   ]
 
 -- ---- by the registers alone

@@ -14,11 +14,11 @@ use Rattle.zeb_register.specs.Store.{IsStore, IsEmptyStore}
 use Rattle.zeb_register.specs.Tables.{no_schema, store_schema}
 use Rattle.zeb_engine.specs.declared.replies.Reply.{Reply}
 use Rattle.zeb_engine.specs.declared.replies.Reply.TheVariants as reply
-use Rattle.zeb_engine.specs.declared.refusals.Refusal.{Refusal}
-use Rattle.zeb_engine.specs.declared.refusals.Refusal.TheVariants as refusal
+use Rattle.zeb_change.specs.declared.refusals.Refusal.{Refusal}
+use Rattle.zeb_change.specs.declared.refusals.Refusal.TheVariants as refusal
 use Rattle.zeb_engine.specs.Adopting.{StaysOpen}
 use Rattle.zeb_engine.specs.Answers.{Answer, reply_answer, IsFailure}
-use Rattle.zeb_engine.specs.Conditions.{Conditions}
+use Rattle.zeb_change.specs.Conditions.{Conditions}
 use Rattle.zeb_engine.specs.Crashes.{Accepts, Bears, KeepsDisk, IsEmptyDisk, IsStoreDisk, Stands, Leaves, Commits, CommitsBy, CommitsAdopted, CommitsTables, Endures}
 use Rattle.zeb_engine.specs.Holdings.{Holdings}
 use Rattle.zeb_engine.specs.Image.{IsImage, Keeps}
@@ -52,14 +52,14 @@ pub keeps_stand : (s : State) (held : Holdings) → IsTrue s.is_open → Keeps s
 keeps_stand s held is_open keeps = let at = (keeps is_open).0 in inl (store_disk s at.0, at.1)
 
 -- an accepted command answers no failure
-no_failure : (answer : Reply) → IsFailure (reply_answer answer) → ⊥
-no_failure reply.Done failed = elim failed [ inl is ↦ absurd cc | inr is ↦ absurd cc ]
-no_failure (reply.Changed inserted updated deleted) failed = elim failed [ inl is ↦ absurd cc | inr is ↦ absurd cc ]
-no_failure (reply.Found hits shown) failed = elim failed [ inl is ↦ absurd cc | inr is ↦ absurd cc ]
-no_failure (reply.Counted records last holdings) failed = elim failed [ inl is ↦ absurd cc | inr is ↦ absurd cc ]
-no_failure (reply.Dumped bytes) failed = elim failed [ inl is ↦ absurd cc | inr is ↦ absurd cc ]
-no_failure (reply.Scanned register entries) failed = elim failed [ inl is ↦ absurd cc | inr is ↦ absurd cc ]
-no_failure (reply.Analysed names records) failed = elim failed [ inl is ↦ absurd cc | inr is ↦ absurd cc ]
+pub no_failure : (answer : Reply) → IsFailure (reply_answer answer) → ⊥
+no_failure reply.Done failed = failed
+no_failure (reply.Changed inserted updated deleted) failed = failed
+no_failure (reply.Found hits shown) failed = failed
+no_failure (reply.Counted records last holdings) failed = failed
+no_failure (reply.Dumped bytes) failed = failed
+no_failure (reply.Scanned register entries) failed = failed
+no_failure (reply.Analysed names records) failed = failed
 
 -- it is accepted, whatever it answers
 reply_accepts : (answer : Reply) → Accepts (reply_answer answer)

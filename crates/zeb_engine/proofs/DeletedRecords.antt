@@ -8,17 +8,17 @@ use Rattle.zeb_marc.specs.Records.{first_fault}
 use Rattle.zeb_marc.specs.Splits.{Split}
 use Rattle.zeb_profile.specs.declared.directives.Directive.{Directive}
 use Rattle.zeb_extract.specs.declared.naming.IdentFault.{IdentFault}
-use Rattle.zeb_engine.specs.declared.commands.Kind.{Kind}
-use Rattle.zeb_engine.specs.declared.commands.Kind.TheVariants.{Update, Delete, Adelete}
-use Rattle.zeb_engine.specs.declared.tally.Fate.TheVariants.{PassedOver}
-use Rattle.zeb_engine.specs.Answers.{Why, unknown}
-use Rattle.zeb_engine.specs.Conditions.{Conditions}
+use Rattle.zeb_change.specs.declared.settings.Kind.{Kind}
+use Rattle.zeb_change.specs.declared.settings.Kind.TheVariants.{Update, Delete, Adelete}
+use Rattle.zeb_change.specs.declared.tally.Fate.TheVariants.{PassedOver}
+use Rattle.zeb_change.specs.Refused.{Why, unknown}
+use Rattle.zeb_change.specs.Conditions.{Conditions}
 use Rattle.zeb_engine.specs.Counts.{FoldsTo}
-use Rattle.zeb_engine.specs.Folding.{Changed, Progress, changed_by, changed_record, deleted, ident_in, with_ident, with_record}
-use Rattle.zeb_engine.specs.Holdings.{Base, Kept, has_ident, kept_as, without_ident}
+use Rattle.zeb_change.specs.Folding.{Changed, Progress, changed_by, changed_record, deleted, ident_in, with_ident, with_record}
+use Rattle.zeb_change.specs.Base.{Base, Kept, has_ident, kept_as, without_ident}
 use Rattle.zeb_engine.specs.Lasting.{NoneHas, slices_in}
 use Rattle.zeb_engine.proofs.Folds.{all_folded}
-use Rattle.zeb_engine.proofs.KeptLemmas.{has_same, is_ident, none_kept, same_has}
+use Rattle.zeb_change.proofs.KeptLemmas.{has_same, is_ident, none_kept, same_has}
 use Rattle.zeb_engine.proofs.Lasting.{in_left, in_right, the_one, none_in_both, none_in_none, none_in_other}
 
 -- the records that are kept still: those whose identifier no slice has

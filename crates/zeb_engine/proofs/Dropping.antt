@@ -12,8 +12,10 @@ use Rattle.zeb_profile.specs.declared.directives.Directive.{Directive}
 use Rattle.zeb_register.specs.Content.{Content, IsRising, IsWithout, posting_cmp, Posting}
 use Rattle.zeb_register.specs.Sql.{Loses}
 use Rattle.zeb_register.specs.Store.{HasDatabase, IsRecordIn, TakesDatabase, record_row}
-use Rattle.zeb_engine.specs.Holdings.{Base, Kept, base_named, without_base}
-use Rattle.zeb_engine.specs.Image.{AreBases, AreListed, AreKept, ArePosted, IsImageOf}
+use Rattle.zeb_change.specs.Base.{Base, Kept}
+use Rattle.zeb_engine.specs.Holdings.{base_named, without_base}
+use Rattle.zeb_engine.specs.Image.{AreBases, AreListed, IsImageOf}
+use Rattle.zeb_change.specs.Stored.{AreKept, ArePosted}
 use Rattle.zeb_engine.proofs.Bases.{named_found, without_base_has, without_base_in_order}
 use Rattle.zeb_engine.proofs.Ids.{id_same, id_other, ids_told}
 use Rattle.zeb_register.specs.Formats.{Format, holds_in}

@@ -20,14 +20,16 @@ use Rattle.zeb_register.specs.Kept.{AreReadable, record_shown}
 use Rattle.zeb_register.specs.Sql.{IsListOf}
 use Rattle.zeb_register.specs.Store.{HasRecord, IsRest, records_tree}
 use Rattle.zeb_register.proofs.ContentLemmas.{ints_order, one_list}
-use Rattle.zeb_engine.specs.declared.refusals.Refusal.{Refusal}
+use Rattle.zeb_change.specs.declared.refusals.Refusal.{Refusal}
 use Rattle.zeb_engine.specs.declared.replies.Reply.{Reply}
-use Rattle.zeb_engine.specs.Answers.{Why, answer_of, refused, why_of, IsFailure}
-use Rattle.zeb_engine.specs.Conditions.{Conditions}
-use Rattle.zeb_engine.specs.Holdings.{Holdings, Base, Kept, base_named}
+use Rattle.zeb_change.specs.Refused.{Why, why_of, Meets}
+use Rattle.zeb_engine.specs.Answers.{answer_of, refused, IsFailure}
+use Rattle.zeb_change.specs.Conditions.{Conditions}
+use Rattle.zeb_engine.specs.Holdings.{Holdings, base_named}
+use Rattle.zeb_change.specs.Base.{Base, Kept}
 use Rattle.zeb_engine.specs.Image.{Keeps}
 use Rattle.zeb_engine.specs.Steps.{dumped_by, dumped_from, dumped_in, existing, found_or, no_database, ready}
-use Rattle.zeb_engine.specs.Works.{Always, Meets, Serves}
+use Rattle.zeb_engine.specs.Works.{Always, Serves}
 use Rattle.zeb_engine.proofs.Held.{IsHeld}
 use Rattle.zeb_engine.proofs.Serving.{early_serves, keeps_still}
 use Rattle.zeb_register.specs.Formats.{Format}

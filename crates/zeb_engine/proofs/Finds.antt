@@ -14,20 +14,25 @@ use Rattle.zeb_query.specs.Plans.{PlanValue, plan_of}
 use Rattle.zeb_extract.specs.declared.keys.Occurrence.{Occurrence}
 use Rattle.zeb_register.specs.Content.{posted}
 use Rattle.zeb_register.specs.Formats.{Format}
-use Rattle.zeb_engine.specs.declared.refusals.Refusal.{Refusal}
-use Rattle.zeb_engine.specs.Answers.{Answer, Why, found, refused, diagnostic, why_of}
-use Rattle.zeb_engine.specs.Finding.{AreShown, IsAnswered, IsNamed, IsPlanned, IsShown, asked_of, has_name, occurs}
+use Rattle.zeb_change.specs.declared.refusals.Refusal.{Refusal}
+use Rattle.zeb_engine.specs.Answers.{Answer, found, refused}
+use Rattle.zeb_change.specs.Refused.{Why, diagnostic, why_of, Meets}
+use Rattle.zeb_engine.specs.Finding.{AreShown, IsAnswered, IsNamed, IsPlanned, IsShown, asked_of, has_name}
+use Rattle.zeb_change.specs.Occurs.{occurs}
 use Rattle.zeb_search.specs.Holds.{TreeHolds}
 use Rattle.zeb_search.specs.Lists.{AreNumbers}
 use Rattle.zeb_search.specs.Registers.{has_ident_in, HasReadableIdents, HoldsIn, is_kept_in}
 use Rattle.zeb_search.proofs.HoldsAlike.{tree_alike}
 use Rattle.zeb_search.proofs.Known.{IsKnown, holder_known}
-use Rattle.zeb_engine.specs.Holdings.{Base, Kept, base_named}
-use Rattle.zeb_engine.specs.Outcomes.{query_refusal}
+use Rattle.zeb_change.specs.Base.{Base, Kept}
+use Rattle.zeb_engine.specs.Holdings.{base_named}
+use Rattle.zeb_change.specs.Outcomes.{query_refusal}
 use Rattle.zeb_engine.specs.Steps.{FindAnswers}
-use Rattle.zeb_engine.specs.Works.{KeepsEach, Meets}
+use Rattle.zeb_engine.specs.Works.{KeepsEach}
 use Rattle.zeb_engine.proofs.Asked.{Ends, said_ends}
-use Rattle.zeb_engine.proofs.Held.{IsHeld, base_numbered, kept_as_named, named_as_kept}
+use Rattle.zeb_engine.proofs.Held.{IsHeld, kept_as_named, named_as_kept}
+use Rattle.zeb_change.proofs.BaseLemmas.{base_numbered}
+use Rattle.zeb_change.proofs.KeptLemmas.{has_taken}
 
 -- ---- sets of the same occurrences
 
@@ -61,12 +66,6 @@ met_view view (Err why) x met = absurd met
 part_if : (b : Bool) (why : Why) (numbers asked : List ℕ) → (if b then Err why else Ok numbers) ≡ Ok asked → numbers ≡ asked
 part_if true why numbers asked is = (let e : ◌≡◌ {A = Result (List ℕ) Why} (Err why) (Ok asked) = is in absurd cc)
 part_if false why numbers asked is = (let e : ◌≡◌ {A = Result (List ℕ) Why} (Ok numbers) (Ok asked) = is in cc)
-
-pub has_taken : {X : Type 0} (n : ℕ) (xs : List X) (x : X) → Has (take n xs) x → Has xs x
-has_taken zero xs x h = absurd h
-has_taken (suc n) [] x h = absurd h
-has_taken (suc n) (y ∷ xs) x (inl same) = inl same
-has_taken (suc n) (y ∷ xs) x (inr later) = inr (has_taken n xs x later)
 
 has_dropped : {X : Type 0} (n : ℕ) (xs : List X) (x : X) → Has (drop n xs) x → Has xs x
 has_dropped zero xs x h = h

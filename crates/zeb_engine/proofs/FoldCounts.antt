@@ -5,15 +5,15 @@ use Rattle.zeb_marc.specs.declared.faults.MarcFault.{MarcFault}
 use Rattle.zeb_marc.specs.Records.{first_fault}
 use Rattle.zeb_marc.specs.Splits.{Split}
 use Rattle.zeb_extract.specs.declared.naming.IdentFault.{IdentFault}
-use Rattle.zeb_engine.specs.declared.commands.Kind.{Kind}
-use Rattle.zeb_engine.specs.declared.commands.Kind.TheVariants.{Update, Delete, Adelete}
-use Rattle.zeb_engine.specs.declared.tally.Fate.{Fate}
-use Rattle.zeb_engine.specs.declared.tally.Fate.TheVariants.{Inserted, Updated, Deleted, PassedOver}
-use Rattle.zeb_engine.specs.Answers.{Why, database_full, too_many_records, unknown}
-use Rattle.zeb_engine.specs.Conditions.{Conditions}
+use Rattle.zeb_change.specs.declared.settings.Kind.{Kind}
+use Rattle.zeb_change.specs.declared.settings.Kind.TheVariants.{Update, Delete, Adelete}
+use Rattle.zeb_change.specs.declared.tally.Fate.{Fate}
+use Rattle.zeb_change.specs.declared.tally.Fate.TheVariants.{Inserted, Updated, Deleted, PassedOver}
+use Rattle.zeb_change.specs.Refused.{Why, database_full, too_many_records, unknown}
+use Rattle.zeb_change.specs.Conditions.{Conditions}
 use Rattle.zeb_engine.specs.Counts.{FoldsTo, records_in}
-use Rattle.zeb_engine.specs.Folding.{Changed, Progress, at_end, at_first, changed_by, changed_record, counted, deleted, file_folded, files_folded, folded, ident_in, slices_folded, updated, with_ident, with_record, ◌then◌}
-use Rattle.zeb_engine.specs.Holdings.{Base, Kept, kept_as, with_new, with_bytes, without_ident}
+use Rattle.zeb_change.specs.Folding.{Changed, Progress, at_end, at_first, changed_by, changed_record, counted, deleted, file_folded, files_folded, folded, ident_in, slices_folded, updated, with_ident, with_record, ◌then◌}
+use Rattle.zeb_change.specs.Base.{Base, Kept, kept_as, with_new, with_bytes, without_ident}
 
 -- ---- one record
 

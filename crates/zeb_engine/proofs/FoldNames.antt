@@ -4,14 +4,14 @@ use Rattle.zeb_marc.specs.declared.faults.MarcFault.{MarcFault}
 use Rattle.zeb_marc.specs.Records.{first_fault}
 use Rattle.zeb_marc.specs.Splits.{Split}
 use Rattle.zeb_extract.specs.declared.naming.IdentFault.{IdentFault}
-use Rattle.zeb_engine.specs.declared.commands.Kind.{Kind}
-use Rattle.zeb_engine.specs.declared.commands.Kind.TheVariants.{Update, Delete, Adelete}
-use Rattle.zeb_engine.specs.declared.tally.Fate.{Fate}
-use Rattle.zeb_engine.specs.declared.tally.Fate.TheVariants.{Inserted, Updated, Deleted, PassedOver}
-use Rattle.zeb_engine.specs.Answers.{Why, database_full, too_many_records, unknown}
-use Rattle.zeb_engine.specs.Conditions.{Conditions}
-use Rattle.zeb_engine.specs.Folding.{Changed, Progress, updated, deleted, changed_by, with_ident, ident_in, with_record, changed_record, counted, ◌then◌, folded, at_end, slices_folded, file_folded, files_folded}
-use Rattle.zeb_engine.specs.Holdings.{Base, Kept, kept_as, with_new}
+use Rattle.zeb_change.specs.declared.settings.Kind.{Kind}
+use Rattle.zeb_change.specs.declared.settings.Kind.TheVariants.{Update, Delete, Adelete}
+use Rattle.zeb_change.specs.declared.tally.Fate.{Fate}
+use Rattle.zeb_change.specs.declared.tally.Fate.TheVariants.{Inserted, Updated, Deleted, PassedOver}
+use Rattle.zeb_change.specs.Refused.{Why, database_full, too_many_records, unknown}
+use Rattle.zeb_change.specs.Conditions.{Conditions}
+use Rattle.zeb_change.specs.Folding.{Changed, Progress, updated, deleted, changed_by, with_ident, ident_in, with_record, changed_record, counted, ◌then◌, folded, at_end, slices_folded, file_folded, files_folded}
+use Rattle.zeb_change.specs.Base.{Base, Kept, kept_as, with_new}
 
 abbrev pub KeepsName : Base → Result Changed Why → Type 0
 KeepsName base said = IfOk said (λ changed. changed.0.name ≡ base.name)

@@ -11,15 +11,15 @@ use Rattle.sqlite_rules.specs.Lists.{Has}
 use Rattle.sqlite_rules.proofs.ListLemmas.{all_has, has_contained, contains_had, has_left, has_either, has_filtered}
 use Rattle.sqlite_rules.proofs.ProbeLemmas.{has_mapped, mapped_has}
 use Rattle.zeb_marc.specs.Splits.{Split}
-use Rattle.zeb_engine.specs.declared.commands.Kind.{Kind}
-use Rattle.zeb_engine.specs.declared.commands.Kind.TheVariants.{Update}
-use Rattle.zeb_engine.specs.Conditions.{Conditions}
+use Rattle.zeb_change.specs.declared.settings.Kind.{Kind}
+use Rattle.zeb_change.specs.declared.settings.Kind.TheVariants.{Update}
+use Rattle.zeb_change.specs.Conditions.{Conditions}
 use Rattle.zeb_engine.specs.Counts.{FoldsTo, HasNamesake}
-use Rattle.zeb_engine.specs.Folding.{Changed, Progress, at_first, counted}
-use Rattle.zeb_engine.specs.Holdings.{Base, Kept, has_ident}
-use Rattle.zeb_engine.specs.Image.{IsBase}
+use Rattle.zeb_change.specs.Folding.{Changed, Progress, at_first, counted}
+use Rattle.zeb_change.specs.Base.{Base, Kept, has_ident}
+use Rattle.zeb_change.specs.Stored.{IsBase}
 use Rattle.zeb_engine.proofs.FoldCounts.{Did, added, renewed, removed, passed, files_keep}
-use Rattle.zeb_engine.proofs.KeptLemmas.{AreRisingKept, is_ident, has_same, none_kept}
+use Rattle.zeb_change.proofs.KeptLemmas.{AreRisingKept, is_ident, has_same, none_kept}
 
 -- ---- no identifier twice
 

@@ -2,12 +2,12 @@
 use Rattle.std.proofs.Common.{◌≡◌, ℕ, ◌+◌, Bool, true, false, cond, List, [], ◌∷◌, ◌++◌, Option, Result, Ok, Err, nat_le, sym, subst}
 use Rattle.zeb_marc.specs.declared.faults.MarcFault.{MarcFault}
 use Rattle.zeb_marc.specs.Splits.{Split}
-use Rattle.zeb_engine.specs.declared.commands.Kind.{Kind}
-use Rattle.zeb_engine.specs.Answers.{Why, too_many_records}
-use Rattle.zeb_engine.specs.Conditions.{Conditions}
+use Rattle.zeb_change.specs.declared.settings.Kind.{Kind}
+use Rattle.zeb_change.specs.Refused.{Why, too_many_records}
+use Rattle.zeb_change.specs.Conditions.{Conditions}
 use Rattle.zeb_engine.specs.Counts.{FoldsTo}
-use Rattle.zeb_engine.specs.Folding.{Changed, Progress, at_first, changed_record, counted, file_folded, files_folded, folded, slices_folded, ◌then◌}
-use Rattle.zeb_engine.specs.Holdings.{Base}
+use Rattle.zeb_change.specs.Folding.{Changed, Progress, at_first, changed_record, counted, file_folded, files_folded, folded, slices_folded, ◌then◌}
+use Rattle.zeb_change.specs.Base.{Base}
 use Rattle.zeb_engine.specs.Lasting.{slices_in}
 use Rattle.zeb_engine.proofs.FoldCounts.{then_ok, ends_still}
 use Rattle.zeb_engine.proofs.FoldNames.{counted_in}

@@ -1,5 +1,5 @@
 -- What the tables of an image hold of one database: its records, and in the registers the occurrences of these.
-use Rattle.std.proofs.Common.{◌≡◌, ◌≢◌, ◌↔◌, ◌⊎◌, ◌∙◌, ◌≤◌, ℕ, ℤ, pos, true, false, List, [], ◌∷◌, find, Option, Some, None, Ok, refl, sym, ap, subst, inl, inr, arith, nat_eq}
+use Rattle.std.proofs.Common.{◌≡◌, ◌≢◌, ◌↔◌, ◌⊎◌, ◌∙◌, ℕ, ℤ, pos, true, false, List, [], ◌∷◌, find, Option, Some, None, Ok, refl, sym, ap, subst, inl, inr, nat_eq}
 use Rattle.std.specs.List.{Contains}
 use Rattle.std.specs.Option.{option_map}
 use Rattle.std.proofs.lemmas.Bool.{cases_Bool}
@@ -15,29 +15,24 @@ use Rattle.zeb_register.specs.Content.{Content, IsStorable, posted}
 use Rattle.zeb_register.specs.Formats.{Format, holds_in}
 use Rattle.zeb_register.specs.Store.{HasDatabase, HasRecord}
 use Rattle.zeb_search.specs.Registers.{has_ident_in}
-use Rattle.zeb_engine.specs.Conditions.{Conditions, AreSessions}
-use Rattle.zeb_engine.specs.Finding.{has_name, occurs}
-use Rattle.zeb_engine.specs.Holdings.{Holdings, Base, Kept, base_named}
-use Rattle.zeb_engine.specs.Image.{IsBase, AreBases, IsImage, IsImageOf}
+use Rattle.zeb_change.specs.Conditions.{Conditions, AreSessions}
+use Rattle.zeb_engine.specs.Finding.{has_name}
+use Rattle.zeb_change.specs.Occurs.{occurs}
+use Rattle.zeb_engine.specs.Holdings.{Holdings, base_named}
+use Rattle.zeb_change.specs.Base.{Base, Kept}
+use Rattle.zeb_change.specs.Stored.{IsBase}
+use Rattle.zeb_engine.specs.Image.{AreBases, IsImage, IsImageOf}
 use Rattle.zeb_engine.specs.Steps.{ready, found_or, existing}
-use Rattle.zeb_engine.specs.Works.{AreNumbered, Meets, with_records}
+use Rattle.zeb_change.specs.UnderWay.{AreNumbered}
+use Rattle.zeb_change.specs.Refused.{Meets}
 use Rattle.zeb_engine.proofs.Bases.{named_found}
-use Rattle.zeb_engine.proofs.KeptLemmas.{one_number}
+use Rattle.zeb_change.proofs.BaseLemmas.{base_numbered}
+use Rattle.zeb_change.proofs.KeptLemmas.{one_number}
 use Rattle.zeb_engine.proofs.ReadyImages.{image_ready}
-use Rattle.zeb_engine.proofs.StoredLemmas.{told_id, at_id, at_other}
-use Rattle.zeb_engine.proofs.TermTexts.{posted_storable}
+use Rattle.zeb_change.proofs.StoredLemmas.{told_id}
+use Rattle.zeb_change.proofs.TermTexts.{posted_storable}
 
 -- ---- numbers
-
-pub base_numbered : (profile : List Directive) (base : Base) → IsBase profile base → (kept : Kept) → Contains base.records kept → (1 ≤ kept.sysno) × (kept.sysno ≤ 999999999)
-base_numbered profile base is kept there = (is.from_one kept there, (let last = is.to_last kept there in let few = is.few in omega arith))
-
--- the records of a database in place of those that it had
-pub with_numbered : (profile : List Directive) (id : ℤ) (records_of : ℤ → List Kept) (base : Base) → IsBase profile base → AreNumbered records_of → AreNumbered (with_records id base.records records_of)
-with_numbered profile id records_of base is others other kept there = elim (told_id other id) [
-  | inl same ↦ base_numbered profile base is kept (subst (λ (l : List Kept). Contains l kept) (at_id id records_of base.records other same) there)
-  | inr differs ↦ others other kept (subst (λ (l : List Kept). Contains l kept) (at_other id records_of base.records other differs) there)
-]
 
 -- which database has the id
 abbrev HasId : (List ℕ → ℤ) → ℤ → List Base → Type 0

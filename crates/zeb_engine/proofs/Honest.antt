@@ -2,15 +2,17 @@
 use Rattle.std.proofs.Common.{◌≡◌, ◌∙◌, ℕ, List, Result, Err, inl, inr, ap, subst, sym}
 use Rattle.sqlite.specs.State.{State}
 use Rattle.zeb_engine.specs.declared.commands.Command.{Command}
-use Rattle.zeb_engine.specs.declared.commands.Kind.{Kind}
-use Rattle.zeb_engine.specs.declared.refusals.Refusal.{Refusal}
-use Rattle.zeb_engine.specs.declared.refusals.Refusal.TheVariants.{Damaged}
+use Rattle.zeb_change.specs.declared.settings.Kind.{Kind}
+use Rattle.zeb_change.specs.declared.refusals.Refusal.{Refusal}
+use Rattle.zeb_change.specs.declared.refusals.Refusal.TheVariants.{Damaged}
 use Rattle.zeb_engine.specs.declared.replies.Reply.{Reply}
-use Rattle.zeb_engine.specs.Answers.{answer_of, damaged, refused, IsFailure}
-use Rattle.zeb_engine.specs.Conditions.{Conditions}
+use Rattle.zeb_engine.specs.Answers.{answer_of, refused, IsFailure}
+use Rattle.zeb_change.specs.Refused.{damaged}
+use Rattle.zeb_change.specs.Conditions.{Conditions}
 use Rattle.zeb_engine.specs.Holdings.{Holdings}
 use Rattle.zeb_engine.specs.Image.{Keeps}
-use Rattle.zeb_engine.specs.Steps.{TakesFiles, changed_by_files, splits_of}
+use Rattle.zeb_engine.specs.Steps.{TakesFiles, changed_by_files}
+use Rattle.zeb_change.specs.Folding.{splits_of}
 use Rattle.zeb_engine.specs.Works.{ServesBy, ServesCommand}
 use Rattle.zeb_engine.proofs.OwnAnswers.{IsOwnAnswer, answers_own, change_own, turned_own}
 use Rattle.zeb_engine.proofs.StepLemmas.{step_told}

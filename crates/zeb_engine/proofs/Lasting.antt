@@ -9,17 +9,17 @@ use Rattle.zeb_marc.specs.Records.{first_fault}
 use Rattle.zeb_marc.specs.Splits.{Split}
 use Rattle.zeb_profile.specs.declared.directives.Directive.{Directive}
 use Rattle.zeb_extract.specs.declared.naming.IdentFault.{IdentFault}
-use Rattle.zeb_engine.specs.declared.commands.Kind.TheVariants.{Update}
-use Rattle.zeb_engine.specs.declared.tally.Fate.TheVariants.{Inserted}
-use Rattle.zeb_engine.specs.Answers.{Why, database_full}
-use Rattle.zeb_engine.specs.Conditions.{Conditions}
+use Rattle.zeb_change.specs.declared.settings.Kind.TheVariants.{Update}
+use Rattle.zeb_change.specs.declared.tally.Fate.TheVariants.{Inserted}
+use Rattle.zeb_change.specs.Refused.{Why, database_full}
+use Rattle.zeb_change.specs.Conditions.{Conditions}
 use Rattle.zeb_engine.specs.Counts.{FoldsTo}
-use Rattle.zeb_engine.specs.Folding.{Changed, Progress, changed_record, ident_in, updated, with_ident, with_record}
-use Rattle.zeb_engine.specs.Holdings.{Base, Kept, kept_as, with_new, with_bytes}
+use Rattle.zeb_change.specs.Folding.{Changed, Progress, changed_record, ident_in, updated, with_ident, with_record}
+use Rattle.zeb_change.specs.Base.{Base, Kept, kept_as, with_new, with_bytes}
 use Rattle.zeb_engine.specs.Lasting.{IsLastOf, KeepsIdent, NoneHas, SomeHas, slices_in}
 use Rattle.zeb_engine.proofs.FoldRecords.{with_other, other_ident}
 use Rattle.zeb_engine.proofs.Folds.{all_folded}
-use Rattle.zeb_engine.proofs.KeptLemmas.{has_same, is_ident, kept_found, none_kept, same_has}
+use Rattle.zeb_change.proofs.KeptLemmas.{has_same, is_ident, kept_found, none_kept, same_has}
 
 -- ---- what stands in a list of slices
 

@@ -8,11 +8,12 @@ use Rattle.zeb_register.specs.Catalog.{AreCountedDatabases, IsDatabaseOf}
 use Rattle.zeb_register.specs.declared.catalog.Database.{Database}
 use Rattle.zeb_register.specs.declared.RegFault.{RegFault}
 use Rattle.zeb_register.specs.declared.RegFault.TheVariants as register
-use Rattle.zeb_engine.specs.Answers.{Why, IsFailure, refused, why_of}
-use Rattle.zeb_engine.specs.Holdings.{Base, base_named}
+use Rattle.zeb_change.specs.Refused.{Why, why_of, Meets}
+use Rattle.zeb_engine.specs.Answers.{IsFailure, refused}
+use Rattle.zeb_change.specs.Base.{Base}
+use Rattle.zeb_engine.specs.Holdings.{base_named}
 use Rattle.zeb_engine.specs.Image.{AreBases, AreListed}
-use Rattle.zeb_engine.specs.Outcomes.{register_refusal}
-use Rattle.zeb_engine.specs.Works.{Meets}
+use Rattle.zeb_change.specs.Outcomes.{register_refusal}
 use Rattle.zeb_engine.proofs.Bases.{named_found, named_there}
 
 -- a fault of the tables that is no damage is a failure

@@ -16,12 +16,15 @@ use Rattle.zeb_register.proofs.RisingLists.{same_list}
 use Rattle.zeb_engine.specs.declared.commands.Command.{Command}
 use Rattle.zeb_engine.specs.declared.commands.Command.TheVariants.{Init, Check, Create, Drop, Stat, Dump, Change, Find, Scan, Analyse}
 use Rattle.zeb_engine.specs.Analysed.{IsAnalysed, analysis_answer}
-use Rattle.zeb_engine.specs.Answers.{Answer, Why, found, scanned}
-use Rattle.zeb_engine.specs.Conditions.{Conditions}
+use Rattle.zeb_engine.specs.Answers.{Answer, found, scanned}
+use Rattle.zeb_change.specs.Refused.{Why}
+use Rattle.zeb_change.specs.Conditions.{Conditions}
 use Rattle.zeb_search.specs.Holds.{TreeHolds}
 use Rattle.zeb_search.specs.Lists.{AreNumbers}
-use Rattle.zeb_engine.specs.Finding.{IsAnswered, IsFound, IsNamed, IsPlanned, IsShown, asked_of, has_name, occurs}
-use Rattle.zeb_engine.specs.Holdings.{Base, Holdings, Kept, base_named}
+use Rattle.zeb_engine.specs.Finding.{IsAnswered, IsFound, IsNamed, IsPlanned, IsShown, asked_of, has_name}
+use Rattle.zeb_change.specs.Occurs.{occurs}
+use Rattle.zeb_change.specs.Base.{Base, Kept}
+use Rattle.zeb_engine.specs.Holdings.{Holdings, base_named}
 use Rattle.zeb_engine.specs.NameOf.{name_bytes}
 use Rattle.zeb_engine.specs.Scanning.{IsScanned, IsScanPlanned, around}
 use Rattle.zeb_engine.specs.Steps.{AskedAmong, AskedFrom, AskedIn, FindAnswers, Outcome, ScanAnswers, ready, Step}

@@ -3,11 +3,13 @@ use Rattle.std.proofs.Common.{◌≡◌, ◌∙◌, ℕ, List, [], ◌∷◌, le
 use Rattle.zeb_profile.specs.declared.directives.Directive.{Directive}
 use Rattle.zeb_extract.specs.declared.keys.Occurrence.{Occurrence}
 use Rattle.zeb_register.proofs.OccurringLemmas.{one_totals}
-use Rattle.zeb_engine.specs.Answers.{Answer, Extent, Why, counted}
-use Rattle.zeb_engine.specs.Conditions.{Conditions}
+use Rattle.zeb_engine.specs.Answers.{Answer, Extent, counted}
+use Rattle.zeb_change.specs.Refused.{Why}
+use Rattle.zeb_change.specs.Conditions.{Conditions}
 use Rattle.zeb_engine.specs.Counting.{IsCounted, IsExtent, Paired, Target, target_list}
-use Rattle.zeb_engine.specs.Finding.{occurs}
-use Rattle.zeb_engine.specs.Holdings.{Base, base_named}
+use Rattle.zeb_change.specs.Occurs.{occurs}
+use Rattle.zeb_change.specs.Base.{Base}
+use Rattle.zeb_engine.specs.Holdings.{base_named}
 use Rattle.zeb_engine.specs.Steps.{CountedFrom, CountedIn}
 
 module _ (O : ℕ → Occurrence → Type 0) (profile : List Directive) where

@@ -8,8 +8,10 @@ use Rattle.zeb_profile.specs.declared.directives.Directive.{Directive}
 use Rattle.zeb_register.specs.Formats.{Format}
 use Rattle.zeb_register.specs.Store.{HasDatabase, HasRecord, meta_tree}
 use Rattle.zeb_register.proofs.RisingLists.{same_list}
-use Rattle.zeb_engine.specs.Holdings.{Base, Holdings, Kept, nothing_yet, under}
-use Rattle.zeb_engine.specs.Image.{AreBases, IsBase, IsImage, IsImageOf, IsImageUnder}
+use Rattle.zeb_change.specs.Base.{Base, Kept}
+use Rattle.zeb_engine.specs.Holdings.{Holdings, nothing_yet, under}
+use Rattle.zeb_engine.specs.Image.{AreBases, IsImage, IsImageOf, IsImageUnder}
+use Rattle.zeb_change.specs.Stored.{IsBase}
 use Rattle.zeb_engine.proofs.OneText.{under_other}
 use Rattle.zeb_engine.proofs.Ready.{none_there, profile_is, version_is}
 

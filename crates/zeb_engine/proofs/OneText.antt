@@ -14,10 +14,11 @@ use Rattle.zeb_profile.proofs.SaysProps.{SaysTheSame-prop}
 use Rattle.zeb_extract.specs.declared.keys.Occurrence.{Occurrence}
 use Rattle.zeb_extract.specs.Identifier.{first_fitting, held_in}
 use Rattle.zeb_register.specs.Content.{Content}
-use Rattle.zeb_engine.specs.Finding.{OccursIn}
-use Rattle.zeb_engine.specs.Folding.{ident_in}
-use Rattle.zeb_engine.specs.Holdings.{Base, Kept}
-use Rattle.zeb_engine.specs.Image.{AreBases, ArePosted, AreStored, IsBase, IsImageOf, IsImageUnder, IsKept}
+use Rattle.zeb_change.specs.Occurs.{OccursIn}
+use Rattle.zeb_change.specs.Folding.{ident_in}
+use Rattle.zeb_change.specs.Base.{Base, Kept}
+use Rattle.zeb_engine.specs.Image.{AreBases, IsImageOf, IsImageUnder}
+use Rattle.zeb_change.specs.Stored.{ArePosted, AreStored, IsBase, IsKept}
 use Rattle.zeb_register.specs.Formats.{Format}
 
 turned_round : (one other : List Directive) → SaysTheSame one other → SaysTheSame other one

@@ -8,10 +8,10 @@ use Rattle.zeb_register.specs.declared.RegFault.{RegFault}
 use Rattle.zeb_register.specs.declared.RegFault.TheVariants as register
 use Rattle.zeb_register.specs.Store.{IsStore, IsValueOf}
 use Rattle.zeb_register.proofs.RowsAreLists.{one_text}
-use Rattle.zeb_engine.specs.declared.refusals.Refusal.{Refusal}
-use Rattle.zeb_engine.specs.declared.refusals.Refusal.TheVariants as refusal
-use Rattle.zeb_engine.specs.Outcomes.{register_refusal}
-use Rattle.zeb_engine.specs.PrivateReadiness.{NeverUnready}
+use Rattle.zeb_change.specs.declared.refusals.Refusal.{Refusal}
+use Rattle.zeb_change.specs.declared.refusals.Refusal.TheVariants as refusal
+use Rattle.zeb_change.specs.Outcomes.{register_refusal}
+use Rattle.zeb_change.specs.Refused.{NeverUnready}
 use Rattle.zeb_engine.specs.Readiness.{GoesByTexts, IsReadyFor, IsRefusedOver, KeepsText}
 
 -- ---- one text

@@ -3,14 +3,16 @@ use Rattle.std.proofs.Common.{◌≡◌, ◌∙◌, ℕ, List, map, Option, Some
 use Rattle.zeb_marc.specs.Splits.{Split}
 use Rattle.zeb_engine.specs.declared.commands.Command.{Command}
 use Rattle.zeb_engine.specs.declared.commands.Command.TheVariants.{Init, Check, Create, Drop, Stat, Dump, Change, Find, Scan, Analyse}
-use Rattle.zeb_engine.specs.declared.commands.Kind.{Kind}
-use Rattle.zeb_engine.specs.Answers.{Answer, Why, refused}
-use Rattle.zeb_engine.specs.Conditions.{Conditions}
+use Rattle.zeb_change.specs.declared.settings.Kind.{Kind}
+use Rattle.zeb_engine.specs.Answers.{Answer, refused}
+use Rattle.zeb_change.specs.Refused.{Why}
+use Rattle.zeb_change.specs.Conditions.{Conditions}
 use Rattle.zeb_engine.specs.Crashes.{Accepts, IsRefused}
-use Rattle.zeb_engine.specs.Folding.{Progress, at_first, files_folded}
-use Rattle.zeb_engine.specs.Holdings.{Base, Holdings, base_named}
+use Rattle.zeb_change.specs.Folding.{Progress, at_first, files_folded, splits_of}
+use Rattle.zeb_change.specs.Base.{Base}
+use Rattle.zeb_engine.specs.Holdings.{Holdings, base_named}
 use Rattle.zeb_engine.specs.NameOf.{name_bytes}
-use Rattle.zeb_engine.specs.Steps.{Turn, change_ends, change_from, changed_by_files, created, created_in, dropped, dropped_in, ends, initialised, ready, splits_of, start_of, turned, turned_from}
+use Rattle.zeb_engine.specs.Steps.{Turn, change_ends, change_from, changed_by_files, created, created_in, dropped, dropped_in, ends, initialised, ready, start_of, turned, turned_from}
 use Rattle.zeb_engine.proofs.StepLemmas.{Answers, after}
 
 -- what a turn answers that is taken is no refusal

@@ -4,29 +4,20 @@ use Rattle.sqlite.specs.Tree.{Trees}
 use Rattle.sqlite.specs.State.{State, HasCleanDisk, Survives}
 use Rattle.zeb_engine.specs.declared.commands.Command.{Command}
 use Rattle.zeb_engine.specs.declared.replies.Reply.{Reply}
-use Rattle.zeb_engine.specs.declared.replies.Reply.TheVariants as reply
-use Rattle.zeb_engine.specs.declared.refusals.Refusal.{Refusal}
-use Rattle.zeb_engine.specs.declared.refusals.Refusal.TheVariants as refusal
-use Rattle.zeb_engine.specs.Answers.{Answer, IsFailure, answer_of, refused, reply_answer, why_of}
-use Rattle.zeb_engine.specs.Conditions.{Conditions}
+use Rattle.zeb_change.specs.declared.refusals.Refusal.{Refusal}
+use Rattle.zeb_change.specs.declared.refusals.Refusal.TheVariants as refusal
+use Rattle.zeb_engine.specs.Answers.{Answer, answer_of, refused, reply_answer}
+use Rattle.zeb_change.specs.Refused.{why_of}
+use Rattle.zeb_change.specs.Conditions.{Conditions}
 use Rattle.zeb_engine.specs.Crashes.{CommitsCommand, CommitsOne, IsCarriedOut, LeavesOne}
 use Rattle.zeb_engine.specs.Holdings.{Holdings}
 use Rattle.zeb_engine.specs.Image.{Keeps}
 use Rattle.zeb_engine.specs.Steps.{Run}
 use Rattle.zeb_engine.specs.Transactions.{EnduresRefusal}
 use Rattle.zeb_engine.specs.Works.{Runs, ServesCommand}
+use Rattle.zeb_engine.proofs.Crashing.{no_failure}
 use Rattle.zeb_engine.proofs.OneAnswer.{steps_once}
 use Rattle.zeb_engine.proofs.RunCrashes.{is_store}
-
--- a reply is no failure
-reply_stands : (it : Reply) → ¬ IsFailure (reply_answer it)
-reply_stands reply.Done failed = elim failed [ inl is ↦ cc | inr is ↦ cc ]
-reply_stands (reply.Changed inserted updated deleted) failed = elim failed [ inl is ↦ cc | inr is ↦ cc ]
-reply_stands (reply.Found hits shown) failed = elim failed [ inl is ↦ cc | inr is ↦ cc ]
-reply_stands (reply.Scanned register entries) failed = elim failed [ inl is ↦ cc | inr is ↦ cc ]
-reply_stands (reply.Counted records last holdings) failed = elim failed [ inl is ↦ cc | inr is ↦ cc ]
-reply_stands (reply.Dumped bytes) failed = elim failed [ inl is ↦ cc | inr is ↦ cc ]
-reply_stands (reply.Analysed names records) failed = elim failed [ inl is ↦ cc | inr is ↦ cc ]
 
 -- what one command may leave, on whatever is held before it
 abbrev Carries : Conditions → Command → State → Result Reply Refusal → Trees → Type 0
@@ -44,7 +35,7 @@ module _ (c : Conditions) (command : Command) (now next : State) where
         made.4,
         inl (elim served.1 [
           | inl step ↦ (steps_once c command mid (reply_answer it) made.0 served.0 made.1 step made.2).0
-          | inr failed ↦ absurd (reply_stands it failed.0)
+          | inr failed ↦ absurd (no_failure it failed.0)
         ]),
       )
 

@@ -14,10 +14,12 @@ use Rattle.zeb_register.specs.Content.{posted}
 use Rattle.zeb_register.specs.Formats.{Format}
 use Rattle.zeb_register.specs.Occurring.{AreTermsBefore, AreTermsFrom, is_before, is_from, last}
 use Rattle.zeb_register.proofs.OccurringLemmas.{one_terms, terms_as}
-use Rattle.zeb_engine.specs.Answers.{Answer, scanned, refused, diagnostic, why_of}
-use Rattle.zeb_engine.specs.Finding.{occurs}
-use Rattle.zeb_engine.specs.Holdings.{Base, base_named}
-use Rattle.zeb_engine.specs.Outcomes.{query_refusal}
+use Rattle.zeb_engine.specs.Answers.{Answer, scanned, refused}
+use Rattle.zeb_change.specs.Refused.{diagnostic, why_of}
+use Rattle.zeb_change.specs.Occurs.{occurs}
+use Rattle.zeb_change.specs.Base.{Base}
+use Rattle.zeb_engine.specs.Holdings.{base_named}
+use Rattle.zeb_change.specs.Outcomes.{query_refusal}
 use Rattle.zeb_engine.specs.Scanning.{AreAround, IsScanPlanned}
 use Rattle.zeb_engine.specs.Steps.{ScanAnswers}
 use Rattle.zeb_engine.proofs.Asked.{Ends, said_ends}

@@ -8,16 +8,17 @@ use Rattle.zeb_register.specs.declared.catalog.Database.{Database}
 use Rattle.zeb_register.specs.Calls.{ChangesNothing}
 use Rattle.zeb_register.specs.Store.{HasDatabase}
 use Rattle.zeb_register.proofs.OccurringLemmas.{totals_as}
-use Rattle.zeb_engine.specs.declared.refusals.Refusal.{Refusal}
+use Rattle.zeb_change.specs.declared.refusals.Refusal.{Refusal}
 use Rattle.zeb_engine.specs.declared.replies.Holding.{Holding}
 use Rattle.zeb_engine.specs.declared.replies.Reply.{Reply}
-use Rattle.zeb_engine.specs.Answers.{Extent, Why, answer_of, extent_of, refused, why_of, IsFailure}
-use Rattle.zeb_engine.specs.Conditions.{Conditions}
+use Rattle.zeb_engine.specs.Answers.{Extent, answer_of, extent_of, refused, IsFailure}
+use Rattle.zeb_change.specs.Refused.{Why, why_of, Meets}
+use Rattle.zeb_change.specs.Conditions.{Conditions}
 use Rattle.zeb_engine.specs.Counting.{IsExtent, Paired, Target}
-use Rattle.zeb_engine.specs.Holdings.{Holdings, Base, base_named}
+use Rattle.zeb_engine.specs.Holdings.{Holdings, base_named}
+use Rattle.zeb_change.specs.Base.{Base}
 use Rattle.zeb_engine.specs.Image.{Keeps}
 use Rattle.zeb_engine.specs.Steps.{CountedFrom, CountedIn, StatAnswers, existing, found_or, no_database, ready}
-use Rattle.zeb_engine.specs.Works.{Meets}
 use Rattle.zeb_engine.proofs.Held.{existing_met}
 use Rattle.zeb_engine.proofs.Serving.{keeps_still}
 

@@ -5,9 +5,10 @@ use Rattle.zeb_engine.specs.declared.commands.Command.TheVariants.{Init, Check, 
 use Rattle.zeb_engine.specs.NameOf.{name_bytes}
 use Rattle.zeb_engine.specs.Analysed.{IsAnalysed}
 use Rattle.zeb_engine.specs.Answers.{Answer}
-use Rattle.zeb_engine.specs.Conditions.{Conditions}
+use Rattle.zeb_change.specs.Conditions.{Conditions}
 use Rattle.zeb_engine.specs.Holdings.{Holdings}
-use Rattle.zeb_engine.specs.Steps.{Outcome, Ends, Step, CountedFrom, FoundFrom, ScannedFrom, changed_by_files, created, dropped, dumped_by, initialised, ready, splits_of, turned, waited}
+use Rattle.zeb_engine.specs.Steps.{Outcome, Ends, Step, CountedFrom, FoundFrom, ScannedFrom, changed_by_files, created, dropped, dumped_by, initialised, ready, turned, waited}
+use Rattle.zeb_change.specs.Folding.{splits_of}
 
 -- What a command answers and leaves. A find, a scan and a stat have none: what they answer is said by the records that are kept; nor has an
 -- analysis, which is said by its files.

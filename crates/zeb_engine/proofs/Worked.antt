@@ -26,19 +26,22 @@ use Rattle.zeb_extract.specs.Sample.{moby_dick, moby_dick_analysis, title_profil
 use Rattle.zeb_extract.proofs.Analysis.{called, members}
 use Rattle.zeb_engine.specs.declared.commands.Command.{Command}
 use Rattle.zeb_engine.specs.declared.commands.Command.TheVariants.{Init, Check, Create, Drop, Stat, Dump, Change, Find, Scan, Analyse}
-use Rattle.zeb_engine.specs.declared.commands.Kind.TheVariants.{Update, Delete, Adelete}
-use Rattle.zeb_engine.specs.declared.commands.Limits.{Limits}
-use Rattle.zeb_engine.specs.declared.faults.RecordFault.TheVariants as fault
-use Rattle.zeb_engine.specs.declared.tally.Fate.TheVariants.{Inserted, Updated}
-use Rattle.zeb_engine.specs.Answers.{Answer, done, changed, refused, found, faulty}
-use Rattle.zeb_engine.specs.Conditions.{Conditions}
+use Rattle.zeb_change.specs.declared.settings.Kind.TheVariants.{Update, Delete, Adelete}
+use Rattle.zeb_change.specs.declared.settings.Limits.{Limits}
+use Rattle.zeb_change.specs.declared.faults.RecordFault.TheVariants as fault
+use Rattle.zeb_change.specs.declared.tally.Fate.TheVariants.{Inserted, Updated}
+use Rattle.zeb_engine.specs.Answers.{Answer, done, changed, refused, found}
+use Rattle.zeb_change.specs.Refused.{faulty}
+use Rattle.zeb_change.specs.Conditions.{Conditions}
 use Rattle.zeb_search.specs.Holds.{TreeHolds}
 use Rattle.zeb_search.specs.Lists.{AreNumbers}
 use Rattle.zeb_search.proofs.PlainWords.{plain_word}
-use Rattle.zeb_engine.specs.Finding.{AreShown, IsFound, IsNamed, OccursIn, has_name, occurs}
-use Rattle.zeb_engine.specs.Folding.{Progress, at_first, counted, folded, ident_in}
-use Rattle.zeb_engine.specs.Holdings.{Holdings, Base, Kept, new_base, with_base, with_new, with_bytes}
-use Rattle.zeb_engine.specs.Steps.{initialised, turned, changed_by_files, splits_of}
+use Rattle.zeb_engine.specs.Finding.{AreShown, IsFound, IsNamed, has_name}
+use Rattle.zeb_change.specs.Occurs.{OccursIn, occurs}
+use Rattle.zeb_change.specs.Folding.{Progress, at_first, counted, folded, ident_in, splits_of}
+use Rattle.zeb_engine.specs.Holdings.{Holdings, new_base, with_base}
+use Rattle.zeb_change.specs.Base.{Base, Kept, with_new, with_bytes}
+use Rattle.zeb_engine.specs.Steps.{initialised, turned, changed_by_files}
 use Rattle.zeb_engine.proofs.StepLemmas.{outcome}
 use Rattle.zeb_engine.proofs.OneAnswer.{found_once, name_once}
 use Rattle.zeb_engine.specs.Worked.{book, book_base, book_conditions, faulty_file, no_books, one_book, title_plan, title_word, IsUpdateBy}

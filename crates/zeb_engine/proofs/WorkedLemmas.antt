@@ -5,16 +5,18 @@ use Rattle.zeb_profile.specs.Canonical.{canonical_text}
 use Rattle.zeb_marc.specs.declared.faults.MarcFault.{MarcFault}
 use Rattle.zeb_marc.specs.Records.{first_fault}
 use Rattle.zeb_marc.specs.Splits.{split_of}
-use Rattle.zeb_engine.specs.declared.commands.Kind.TheVariants.{Update}
-use Rattle.zeb_engine.specs.declared.tally.Fate.TheVariants.{Inserted, Updated}
-use Rattle.zeb_engine.specs.Answers.{Why, why_of, changed, refused}
-use Rattle.zeb_engine.specs.Conditions.{Conditions}
-use Rattle.zeb_engine.specs.Folding.{Changed, Progress, at_first, counted, updated, folded, file_folded, files_folded, ident_in}
-use Rattle.zeb_engine.specs.Holdings.{Base, Kept, kept_as, with_new, with_bytes, with_base, base_named}
-use Rattle.zeb_engine.specs.Outcomes.{marc_refusal}
-use Rattle.zeb_engine.specs.Steps.{ready, holding, turned, changed_by_files, splits_of, start_of}
-use Rattle.zeb_engine.proofs.FoldLemmas.{named_record}
-use Rattle.zeb_engine.proofs.FoldSteps.{folded_ok}
+use Rattle.zeb_change.specs.declared.settings.Kind.TheVariants.{Update}
+use Rattle.zeb_change.specs.declared.tally.Fate.TheVariants.{Inserted, Updated}
+use Rattle.zeb_change.specs.Refused.{Why, why_of}
+use Rattle.zeb_engine.specs.Answers.{changed, refused}
+use Rattle.zeb_change.specs.Conditions.{Conditions}
+use Rattle.zeb_change.specs.Folding.{Changed, Progress, at_first, counted, updated, folded, file_folded, files_folded, ident_in, splits_of}
+use Rattle.zeb_change.specs.Base.{Base, Kept, kept_as, with_new, with_bytes}
+use Rattle.zeb_engine.specs.Holdings.{with_base, base_named}
+use Rattle.zeb_change.specs.Outcomes.{marc_refusal}
+use Rattle.zeb_engine.specs.Steps.{ready, holding, turned, changed_by_files, start_of}
+use Rattle.zeb_change.proofs.FoldLemmas.{named_record}
+use Rattle.zeb_change.proofs.FoldSteps.{folded_ok}
 use Rattle.zeb_engine.proofs.Turns.{step_changed, step_unchanged}
 
 -- what is held under these conditions is ready under them

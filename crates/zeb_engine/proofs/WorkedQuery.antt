@@ -17,10 +17,10 @@ use Rattle.zeb_query.specs.Plans.{leaf_plan, plan_asked, plan_of}
 use Rattle.zeb_extract.specs.Sample.{title_profile}
 use Rattle.zeb_engine.specs.declared.commands.Command.{Command}
 use Rattle.zeb_engine.specs.declared.commands.Command.TheVariants.{Init, Check, Create, Drop, Stat, Dump, Change, Find, Scan, Analyse}
-use Rattle.zeb_engine.specs.declared.commands.Limits.{Limits}
+use Rattle.zeb_change.specs.declared.settings.Limits.{Limits}
 use Rattle.zeb_engine.specs.NameOf.{name_bytes}
 use Rattle.zeb_engine.specs.Answers.{Answer}
-use Rattle.zeb_engine.specs.Conditions.{Conditions}
+use Rattle.zeb_change.specs.Conditions.{Conditions}
 use Rattle.zeb_engine.specs.Finding.{IsPlanned}
 use Rattle.zeb_engine.specs.Holdings.{Holdings}
 use Rattle.zeb_engine.specs.Steps.{AskedAmong, FindAnswers, FoundFrom, ready, Step}

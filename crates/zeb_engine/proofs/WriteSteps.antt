@@ -10,14 +10,15 @@ use Rattle.zeb_register.specs.Content.{Content, IsWithout, TakesWhole}
 use Rattle.zeb_register.specs.Store.{IsStore, Changes, KeepsRegisters, databases_tree}
 use Rattle.zeb_engine.specs.declared.replies.Reply.{Reply}
 use Rattle.zeb_engine.specs.declared.replies.Reply.TheVariants.{Done}
-use Rattle.zeb_engine.specs.declared.refusals.Refusal.{Refusal}
-use Rattle.zeb_engine.specs.Answers.{refused, why_of, reply_answer, IsFailure}
-use Rattle.zeb_engine.specs.Conditions.{Conditions}
+use Rattle.zeb_change.specs.declared.refusals.Refusal.{Refusal}
+use Rattle.zeb_engine.specs.Answers.{refused, reply_answer, IsFailure}
+use Rattle.zeb_change.specs.Refused.{why_of}
+use Rattle.zeb_change.specs.Conditions.{Conditions}
 use Rattle.zeb_engine.specs.Holdings.{Holdings, new_base, with_base, without_base}
 use Rattle.zeb_engine.specs.Names.{IsDatabaseName}
 use Rattle.zeb_engine.specs.Image.{IsImage}
 use Rattle.zeb_engine.specs.Steps.{Outcome, holding, initialised, turned, created, dropped}
-use Rattle.zeb_engine.specs.Transactions.{Stays}
+use Rattle.zeb_change.specs.Inside.{Stays}
 use Rattle.zeb_engine.specs.Works.{Works}
 use Rattle.zeb_engine.specs.PrivateWriting.{AreOf, IsFree, IsKnown}
 use Rattle.zeb_engine.proofs.Beginning.{texts_still}

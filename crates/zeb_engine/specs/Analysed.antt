@@ -7,10 +7,11 @@ use Rattle.zeb_analysis.specs.Analysing.{Analysed, AnalysesTo}
 use Rattle.zeb_engine.specs.declared.commands.Command.{Command}
 use Rattle.zeb_engine.specs.declared.commands.Command.TheVariants.{Analyse}
 use Rattle.zeb_engine.specs.declared.replies.Reply.{Reply}
-use Rattle.zeb_engine.specs.declared.refusals.Refusal.{Refusal}
-use Rattle.zeb_engine.specs.declared.refusals.Refusal.TheVariants.{Memory}
-use Rattle.zeb_engine.specs.Answers.{Answer, analysed, answer_of, refused, why_of}
-use Rattle.zeb_engine.specs.Outcomes.{analysis_refusal}
+use Rattle.zeb_change.specs.declared.refusals.Refusal.{Refusal}
+use Rattle.zeb_change.specs.declared.refusals.Refusal.TheVariants.{Memory}
+use Rattle.zeb_engine.specs.Answers.{Answer, analysed, answer_of, refused}
+use Rattle.zeb_change.specs.Refused.{why_of}
+use Rattle.zeb_change.specs.Outcomes.{analysis_refusal}
 
 -- the analyses under the names of the profile's indexes, or the refusal
 abbrev pub analysis_answer : List Directive → Result (List Analysed) AnalysisFault → Answer

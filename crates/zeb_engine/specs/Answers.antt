@@ -1,11 +1,10 @@
 -- What a command answers.
-use Rattle.std.specs.Prelude.{◌≡◌, ◌⊎◌, ℕ, List, map, Result, Ok, Err, string_bytes}
+use Rattle.std.specs.Prelude.{ℕ, List, map, Result, Ok, Err, string_bytes}
 use Rattle.zeb_profile.specs.declared.registers.Register.{Register}
 use Rattle.zeb_analysis.specs.Analysing.{Analysed}
 use Rattle.zeb_analysis.specs.Analysing as analysing
-use Rattle.zeb_engine.specs.declared.faults.RecordFault.{RecordFault}
-use Rattle.zeb_engine.specs.declared.refusals.Refusal.{Refusal}
-use Rattle.zeb_engine.specs.declared.refusals.Refusal.TheVariants as refusal
+use Rattle.zeb_change.specs.declared.refusals.Refusal.{Refusal}
+use Rattle.zeb_change.specs.Refused.{Why, why_of, IsFailing}
 use Rattle.zeb_engine.specs.declared.replies.Holding.{Holding}
 use Rattle.zeb_engine.specs.declared.replies.Reply.{Reply}
 use Rattle.zeb_engine.specs.declared.replies.Reply.TheVariants as reply
@@ -16,26 +15,6 @@ pub record Extent : Type 0 where
   pub register : Register
   pub terms : ℕ
   pub occurrences : ℕ
-
--- why a command is refused
-pub data Why : Type 0 where
-  not_initialised : Why
-  old_format : Why
-  profile_changed : Why
-  -- number, place, addinfo
-  diagnostic : ℕ → ℕ → List ℕ → Why
-  exists : Why
-  -- file and place in it, both from 1
-  faulty : ℕ → ℕ → RecordFault → Why
-  unknown : ℕ → ℕ → Why
-  database_full : Why
-  too_many_records : Why
-  damaged : Why
-  rule_changed : Why
-  read_fault : ℕ → Why
-  store_failed : Why
-  out_of_memory : Why
-  unsupported : Why
 
 pub data Answer : Type 0 where
   done : Answer
@@ -52,23 +31,6 @@ pub data Answer : Type 0 where
   -- the names of the indexes, each at its number, and records with what each is found by
   analysed : List (List ℕ) → List Analysed → Answer
   refused : Why → Answer
-
-abbrev pub why_of : Refusal → Why
-why_of refusal.NotInitialised = not_initialised
-why_of refusal.OldFormat = old_format
-why_of refusal.ProfileChanged = profile_changed
-why_of (refusal.Diagnostic number place addinfo) = diagnostic number place (string_bytes addinfo)
-why_of refusal.Exists = exists
-why_of (refusal.Record file nth fault) = faulty file nth fault
-why_of (refusal.Unknown file nth) = unknown file nth
-why_of refusal.DatabaseFull = database_full
-why_of refusal.TooManyRecords = too_many_records
-why_of refusal.Damaged = damaged
-why_of refusal.IdentifierRuleChanged = rule_changed
-why_of (refusal.ReadFault file) = read_fault file
-why_of refusal.Store = store_failed
-why_of refusal.Memory = out_of_memory
-why_of refusal.Unsupported = unsupported
 
 abbrev pub extent_of : Holding → Extent
 extent_of holding = record { name = string_bytes holding.index; register = holding.register; terms = holding.terms; occurrences = holding.occurrences }
@@ -88,4 +50,5 @@ answer_of (Err refusal) = refused (why_of refusal)
 
 -- the store or the memory failed
 abbrev pub IsFailure : Answer → Type 0
-IsFailure answer = (answer ≡ refused store_failed) ⊎ (answer ≡ refused out_of_memory)
+IsFailure (refused why) = IsFailing why
+IsFailure answer = ⊥

@@ -2,11 +2,12 @@
 use Rattle.std.specs.Prelude.{◌≡◌, ◌+◌, ℕ, List, length, Ok}
 use Rattle.std.specs.List.{Contains, sum_by}
 use Rattle.zeb_marc.specs.Splits.{Split}
-use Rattle.zeb_engine.specs.declared.commands.Kind.{Kind}
+use Rattle.zeb_change.specs.declared.settings.Kind.{Kind}
 use Rattle.zeb_engine.specs.Answers.{changed}
-use Rattle.zeb_engine.specs.Conditions.{Conditions}
-use Rattle.zeb_engine.specs.Folding.{Progress, at_first, files_folded}
-use Rattle.zeb_engine.specs.Holdings.{Base, Holdings, Kept, base_named, with_base}
+use Rattle.zeb_change.specs.Conditions.{Conditions}
+use Rattle.zeb_change.specs.Folding.{Progress, at_first, files_folded}
+use Rattle.zeb_change.specs.Base.{Base, Kept}
+use Rattle.zeb_engine.specs.Holdings.{Holdings, base_named, with_base}
 use Rattle.zeb_engine.specs.Steps.{Outcome, holding, ready, start_of}
 
 -- all records of the files are folded into the database, with these counts

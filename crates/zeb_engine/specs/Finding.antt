@@ -2,34 +2,22 @@
 -- record has it. Read with the bytes of all kept records, from nothing, it tells what a find answers; read with the postings of the
 -- registers, what it answers by the registers alone.
 use Rattle.std.specs.Prelude.{◌≡◌, ℕ, ◌-◌, List, Some, Result, Ok, Err, length, map, find, take, drop, nat_eq, nat_lt, ◌&&◌, if◌then◌else◌}
-use Rattle.std.specs.List.{Contains}
 use Rattle.std.specs.Option.{option_map}
 use Rattle.std.specs.Fmt.{decimal}
 use Rattle.sqlite_rules.specs.Lists.{Has}
-use Rattle.zeb_marc.specs.Records.{fields_of}
-use Rattle.zeb_marc.specs.Contents.{units_of}
 use Rattle.zeb_profile.specs.declared.directives.Directive.{Directive}
-use Rattle.zeb_profile.specs.Indexes.{unit_targets}
 use Rattle.zeb_query.specs.Faults.{Refusal}
 use Rattle.zeb_query.specs.Queries.{QueryValue}
 use Rattle.zeb_query.specs.Reading.{SpellsQuery}
 use Rattle.zeb_query.specs.Plans.{PlanValue, plan_of}
 use Rattle.zeb_extract.specs.declared.keys.Occurrence.{Occurrence}
-use Rattle.zeb_extract.specs.Occurrences.{IsOccurrence}
 use Rattle.zeb_search.specs.Holds.{TreeHolds}
 use Rattle.zeb_search.specs.Lists.{AreNumbers}
-use Rattle.zeb_engine.specs.Answers.{Answer, Why, found, refused, diagnostic}
-use Rattle.zeb_engine.specs.Holdings.{Kept}
+use Rattle.zeb_engine.specs.Answers.{Answer, found, refused}
+use Rattle.zeb_change.specs.Refused.{Why, diagnostic}
+use Rattle.zeb_change.specs.Base.{Kept}
 
 -- ---- kept records
-
--- an occurrence of a kept record, from its bytes
-abbrev pub OccursIn : List Directive → Kept → Occurrence → Type 0
-OccursIn profile kept o = IsOccurrence (unit_targets profile) (units_of (fields_of kept.bytes)) o
-
--- the set of their occurrences: a kept record of this number has the occurrence
-abbrev pub occurs : List Directive → List Kept → ℕ → Occurrence → Type 0
-occurs profile records n o = (kept : Kept) × Contains records kept × (kept.sysno ≡ n) × OccursIn profile kept o
 
 -- the record of this number has the identifier
 abbrev pub has_name : List Kept → ℕ → List ℕ → Type 0

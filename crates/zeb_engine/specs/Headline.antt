@@ -4,10 +4,10 @@
 use Rattle.std.specs.Prelude.{List, map, Result}
 use Rattle.sqlite.specs.State.{State, HasCleanDisk}
 use Rattle.zeb_engine.specs.declared.commands.Command.{Command}
-use Rattle.zeb_engine.specs.declared.refusals.Refusal.{Refusal}
+use Rattle.zeb_change.specs.declared.refusals.Refusal.{Refusal}
 use Rattle.zeb_engine.specs.declared.replies.Reply.{Reply}
 use Rattle.zeb_engine.specs.Answers.{answer_of}
-use Rattle.zeb_engine.specs.Conditions.{Conditions}
+use Rattle.zeb_change.specs.Conditions.{Conditions}
 use Rattle.zeb_engine.specs.Works.{Runs}
 
 -- From tables that are an image, on a disk that has returned what was written: the answers are those of a run of the commands,

@@ -3,8 +3,8 @@ use Rattle.std.specs.Prelude.{◌≡◌, ◌≢◌, List, [], ◌∷◌, ◌++�
 use Rattle.std.specs.List.{Contains}
 use Rattle.zeb_profile.specs.declared.directives.Directive.{Directive}
 use Rattle.zeb_marc.specs.Splits.{Split}
-use Rattle.zeb_engine.specs.Folding.{ident_in}
-use Rattle.zeb_engine.specs.Holdings.{Base, Kept}
+use Rattle.zeb_change.specs.Folding.{ident_in}
+use Rattle.zeb_change.specs.Base.{Base, Kept}
 
 -- all slices of files, in their order
 abbrev pub slices_in : List Split → List (List ℕ)

@@ -4,10 +4,11 @@ use Rattle.std.specs.Prelude.{◌≡◌, ℕ, pos, List, Option, Some, None, Ok}
 use Rattle.sqlite.specs.Tree.{Trees}
 use Rattle.zeb_register.specs.declared.catalog.Database.{Database}
 use Rattle.zeb_register.specs.Store.{HasDatabase}
-use Rattle.zeb_engine.specs.declared.commands.Kind.{Kind}
-use Rattle.zeb_engine.specs.declared.commands.Kind.TheVariants.{Update}
-use Rattle.zeb_engine.specs.Conditions.{Conditions}
-use Rattle.zeb_engine.specs.Holdings.{Holdings, Base, base_named}
+use Rattle.zeb_change.specs.declared.settings.Kind.{Kind}
+use Rattle.zeb_change.specs.declared.settings.Kind.TheVariants.{Update}
+use Rattle.zeb_change.specs.Conditions.{Conditions}
+use Rattle.zeb_engine.specs.Holdings.{Holdings, base_named}
+use Rattle.zeb_change.specs.Base.{Base}
 use Rattle.zeb_engine.specs.Steps.{ready}
 
 -- the register is ready, and this is what the tables know of the name: a database, or none, with which only an update begins

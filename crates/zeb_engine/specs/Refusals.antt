@@ -1,10 +1,10 @@
 -- The line that is printed for a refusal, without its LF, and the status that goes with it (this program's own).
 use Rattle.std.specs.Prelude.{ℕ, ◌==◌, if◌then◌else◌, List, [], ◌++◌, length, codes, string_bytes}
 use Rattle.std.specs.Fmt.{decimal}
-use Rattle.zeb_engine.specs.declared.faults.RecordFault.{RecordFault}
-use Rattle.zeb_engine.specs.declared.refusals.Refusal.{Refusal}
-use Rattle.zeb_engine.specs.declared.refusals.Refusal.TheVariants.{NotInitialised, OldFormat, ProfileChanged, Diagnostic, Exists, Record, Unknown, DatabaseFull, TooManyRecords, Damaged, IdentifierRuleChanged, ReadFault, Store, Memory, Unsupported}
-use Rattle.zeb_engine.specs.Faults.{fault_name}
+use Rattle.zeb_change.specs.declared.faults.RecordFault.{RecordFault}
+use Rattle.zeb_change.specs.declared.refusals.Refusal.{Refusal}
+use Rattle.zeb_change.specs.declared.refusals.Refusal.TheVariants.{NotInitialised, OldFormat, ProfileChanged, Diagnostic, Exists, Record, Unknown, DatabaseFull, TooManyRecords, Damaged, IdentifierRuleChanged, ReadFault, Store, Memory, Unsupported}
+use Rattle.zeb_change.specs.Faults.{fault_name}
 
 -- the addinfo stands only where there is one
 abbrev pub addinfo_text : List ℕ → List ℕ

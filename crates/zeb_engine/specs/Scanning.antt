@@ -10,7 +10,8 @@ use Rattle.zeb_query.specs.Plans.{ScanValue, scan_of}
 use Rattle.zeb_extract.specs.declared.keys.Occurrence.{Occurrence}
 use Rattle.zeb_register.specs.declared.registers.TermCount.{TermCount}
 use Rattle.zeb_register.specs.Occurring.{AreTermsOf, is_before, is_from, last}
-use Rattle.zeb_engine.specs.Answers.{Answer, scanned, refused, diagnostic}
+use Rattle.zeb_engine.specs.Answers.{Answer, scanned, refused}
+use Rattle.zeb_change.specs.Refused.{diagnostic}
 
 -- The position - 1 nearest terms below the start, as far as there are, and behind them the first ones that are not below it,
 -- number - position + 1 of them.

@@ -6,18 +6,21 @@ use Rattle.std.specs.Str.{bytes_eq}
 use Rattle.zeb_profile.specs.declared.directives.Directive.{Directive}
 use Rattle.zeb_profile.specs.Canonical.{canonical_text}
 use Rattle.zeb_query.specs.Reading.{query_fault}
-use Rattle.zeb_marc.specs.Splits.{Split, split_of}
+use Rattle.zeb_marc.specs.Splits.{Split}
 use Rattle.zeb_engine.specs.declared.commands.Command.{Command}
 use Rattle.zeb_engine.specs.declared.commands.Command.TheVariants.{Init, Check, Create, Drop, Stat, Dump, Change, Find, Scan, Analyse}
-use Rattle.zeb_engine.specs.declared.commands.Kind.{Kind}
-use Rattle.zeb_engine.specs.declared.commands.Kind.TheVariants.{Update, Delete, Adelete}
+use Rattle.zeb_change.specs.declared.settings.Kind.{Kind}
+use Rattle.zeb_change.specs.declared.settings.Kind.TheVariants.{Update, Delete, Adelete}
 use Rattle.zeb_engine.specs.NameOf.{name_bytes}
-use Rattle.zeb_engine.specs.Answers.{Answer, Why, done, changed, dumped, refused, not_initialised, old_format, profile_changed, diagnostic, exists, unsupported, IsFailure}
-use Rattle.zeb_engine.specs.Holdings.{Holdings, nothing_yet, under, Base, new_base, base_named, with_base, without_base}
-use Rattle.zeb_engine.specs.Conditions.{Conditions}
-use Rattle.zeb_engine.specs.Folding.{Progress, at_first, files_folded}
+use Rattle.zeb_engine.specs.Answers.{Answer, done, changed, dumped, refused, IsFailure}
+use Rattle.zeb_change.specs.Refused.{Why, not_initialised, old_format, profile_changed, diagnostic, exists, unsupported}
+use Rattle.zeb_engine.specs.Holdings.{Holdings, nothing_yet, under, new_base, base_named, with_base, without_base}
+use Rattle.zeb_change.specs.Base.{Base}
+use Rattle.zeb_change.specs.Conditions.{Conditions}
+use Rattle.zeb_change.specs.Folding.{Progress, at_first, files_folded, splits_of}
 use Rattle.zeb_engine.specs.Counting.{IsCounted}
-use Rattle.zeb_engine.specs.Finding.{IsAnswered, has_name, occurs}
+use Rattle.zeb_engine.specs.Finding.{IsAnswered, has_name}
+use Rattle.zeb_change.specs.Occurs.{occurs}
 use Rattle.zeb_engine.specs.Scanning.{IsScanned}
 use Rattle.zeb_engine.specs.Analysed.{IsAnalysed}
 
@@ -162,10 +165,6 @@ waits (Ok bases) = refused unsupported
 -- a command that is not there yet, on a register that is ready
 abbrev pub waited : Conditions → Holdings → Outcome
 waited c before = (waits (ready c before), before)
-
--- what a change's files are: slices, and the fault behind them, if there is one
-abbrev pub splits_of : List (List ℕ) → List Split
-splits_of files = map split_of files
 
 -- an outcome that is computed
 abbrev pub Ends : Outcome → Answer → Holdings → Type 0

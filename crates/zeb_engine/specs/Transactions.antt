@@ -1,26 +1,16 @@
 -- What the engine's work does to a connection, whatever it does to rows.
-use Rattle.std.specs.Prelude.{◌≡◌, ◌≢◌, List, IfErr, IsTrue, MatchResult, OnErr, OnOk, Result}
+use Rattle.std.specs.Prelude.{◌≡◌, ◌≢◌, List, IfErr, IsTrue, OnErr, OnOk, Result}
 use Rattle.std.specs.List.{AllByRecursion}
 use Rattle.sqlite.specs.Held.{Held, state}
-use Rattle.sqlite.specs.State.{State, HasCleanDisk, KeepsCommit}
+use Rattle.sqlite.specs.State.{State, HasCleanDisk}
 use Rattle.sqlite.specs.Store.{Ghosts}
 use Rattle.sqlite.specs.Tree.{Trees}
 use Rattle.zeb_register.specs.Calls.{ChangesNothing}
 use Rattle.zeb_engine.specs.Adopting.{StaysOpen}
 use Rattle.zeb_engine.specs.declared.commands.Command.{Command}
 use Rattle.zeb_engine.specs.declared.commands.Command.TheVariants.{Analyse}
-use Rattle.zeb_engine.specs.declared.refusals.Refusal.{Refusal}
-use Rattle.zeb_engine.specs.declared.refusals.Refusal.TheVariants.{Store}
-
--- Inside a transaction: nothing is committed, the transaction goes on, and an open connection stays open.
-pub record Continues (old new : State) : Type 0 where
-  pub kept : KeepsCommit old new
-  pub mode : IsTrue new.in_transaction
-  pub stays_open : IsTrue old.is_open → IsTrue new.is_open
-
--- Inside a transaction, what work did that was done or refused: a refusal leaves nothing committed.
-abbrev pub Stays : {T E : Type 0} → State → State → Result T E → Type 0
-Stays old new result = MatchResult result (λ _. Continues old new) (λ _. KeepsCommit old new)
+use Rattle.zeb_change.specs.declared.refusals.Refusal.{Refusal}
+use Rattle.zeb_change.specs.declared.refusals.Refusal.TheVariants.{Store}
 
 -- Outside a transaction, while the connection is open: a crash leaves the rows that are shown, and no others.
 abbrev pub IsDurable : State → Type 0

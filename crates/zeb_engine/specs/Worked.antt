@@ -10,12 +10,13 @@ use Rattle.zeb_extract.specs.declared.keys.Key.{Key}
 use Rattle.zeb_extract.specs.Sample.{title_profile}
 use Rattle.zeb_engine.specs.declared.commands.Command.{Command}
 use Rattle.zeb_engine.specs.declared.commands.Command.TheVariants.{Change, Find}
-use Rattle.zeb_engine.specs.declared.commands.Kind.TheVariants.{Update}
-use Rattle.zeb_engine.specs.declared.commands.Limits.{Limits}
+use Rattle.zeb_change.specs.declared.settings.Kind.TheVariants.{Update}
+use Rattle.zeb_change.specs.declared.settings.Limits.{Limits}
 use Rattle.zeb_engine.specs.Answers.{Answer}
 use Rattle.zeb_engine.specs.NameOf.{name_bytes}
-use Rattle.zeb_engine.specs.Conditions.{Conditions, conditions}
-use Rattle.zeb_engine.specs.Holdings.{Holdings, under, Base, Kept}
+use Rattle.zeb_change.specs.Conditions.{Conditions, conditions}
+use Rattle.zeb_engine.specs.Holdings.{Holdings, under}
+use Rattle.zeb_change.specs.Base.{Base, Kept}
 
 -- a session under the profile of titles, dates and any words
 abbrev pub book_conditions : List ℕ → Limits → Conditions

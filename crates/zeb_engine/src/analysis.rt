@@ -4,13 +4,12 @@ ghost use Rattle.std.specs.Prelude.{◌≡◌, ◌⊎◌, Err, IfOk, map, string
 ghost use Rattle.zeb_profile.specs.Indexes as indexes;
 ghost use Rattle.zeb_engine.specs.Analysed.{IsAnalysed};
 ghost use Rattle.zeb_engine.specs.Answers.{answer_of};
-ghost use Rattle.zeb_engine.specs.Reading.{NoReadFault};
+ghost use Rattle.zeb_change.specs.Reading.{NoReadFault};
 
-use crate::commands::Limits;
-use crate::refusals::Refusal;
 use crate::replies::Reply;
 use std::alloc::{AllocError, Global};
 use zeb_analysis::analyse;
+use zeb_change::{Limits, Refusal};
 use zeb_profile::Profile;
 
 /// The names of a profile's indexes, each at its number.

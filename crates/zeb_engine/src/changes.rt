@@ -1,180 +1,33 @@
-//! Updates and deletes: the records of files, folded into a database in one transaction.
+//! Updates and deletes: the records of files are folded into a database in one transaction.
 
-ghost use Rattle.std.specs.Prelude.{◌≡◌, ◌⊎◌, ◌+◌, ℕ, ℤ, List, map, Some, Ok, Err, true, false, IsTrue, IfErr, OnOk};
+ghost use Rattle.std.specs.Prelude.{◌≡◌, ℕ, List, map, Some, Ok, Err, false, IsTrue};
 ghost use Rattle.sqlite.specs.Held.{state};
 ghost use Rattle.sqlite.specs.State.{HasCleanDisk, Survives};
 ghost use Rattle.zeb_register.specs.Calls.{ChangesNothing};
 ghost use Rattle.zeb_register.specs.Formats.{version_of};
-ghost use Rattle.zeb_marc.specs.Splits.{next_of, split_of};
 ghost use Rattle.zeb_engine.specs.PrivateChanging.{BeginsWith, last_of};
-ghost use Rattle.zeb_engine.specs.Conditions.{Conditions};
+ghost use Rattle.zeb_change.specs.Conditions.{Conditions};
 ghost use Rattle.zeb_engine.specs.Crashes.{Commits};
-ghost use Rattle.zeb_engine.specs.Folding.{Progress as FoldProgress, folded, file_folded, files_folded};
-ghost use Rattle.zeb_engine.specs.Holdings.{Base, Holdings, Kept, base_named};
+ghost use Rattle.zeb_change.specs.Folding.{splits_of};
+ghost use Rattle.zeb_change.specs.Base.{Base};
+ghost use Rattle.zeb_engine.specs.Holdings.{Holdings, base_named};
 ghost use Rattle.zeb_engine.specs.Image.{Keeps};
 ghost use Rattle.zeb_engine.specs.NameOf.{name_bytes};
-ghost use Rattle.zeb_engine.specs.PrivateReadiness.{NeverUnready};
-ghost use Rattle.zeb_engine.specs.Reading.{HasFailedAt, NamesFailed, NoneFailed, NoReadFault, ReadsNext};
-ghost use Rattle.zeb_engine.specs.Steps.{changed_by_files, ready, splits_of, start_of, turned};
-ghost use Rattle.zeb_engine.specs.Transactions.{Commanded, Stays};
-ghost use Rattle.zeb_engine.specs.Works.{IsFolded, IsReady, IsUnderWay, Meets, Serves, StandsFor, Works, conditions_of};
+ghost use Rattle.zeb_change.specs.Refused.{NeverUnready, Meets};
+ghost use Rattle.zeb_change.specs.Reading.{HasFailedAt, NoneFailed, NoReadFault};
+ghost use Rattle.zeb_engine.specs.Steps.{changed_by_files, ready, start_of, turned};
+ghost use Rattle.zeb_engine.specs.Transactions.{Commanded};
+ghost use Rattle.zeb_change.specs.Inside.{Stays};
+ghost use Rattle.zeb_change.specs.UnderWay.{conditions_of};
+ghost use Rattle.zeb_engine.specs.Works.{IsReady, Serves, Works};
 
-use crate::commands::Kind;
 use crate::names::DbName;
 use crate::readiness::existing_database;
-use crate::records::{Incoming, Progress, Setting, change_record};
-use crate::refusals::Refusal;
 use crate::replies::Reply;
-use crate::tally::Tally;
 use sqlite::{Alter, Connection, Transaction};
-use zeb_marc::{RecordBuf, Source, next_record};
+use zeb_change::{Fold, Kind, Progress, Refusal, Setting, Tally, fold_files};
+use zeb_marc::{RecordBuf, Source};
 use zeb_register::{Database, Layout, Work, database_of, database_put};
-
-/// Reads a file's next record into the buffer, and says whether there is one.
-fn read_record<R: Source>(
-    reader: &mut R,
-    buffer: &mut RecordBuf,
-    file: u64,
-    nth: u64,
-) -> Result<bool, Refusal>
-    ensures told { (text : List ℕ) → R.remaining reader.old ≡ Some text → R.has_failed reader.new ≡ false
-        → ReadsNext file nth (next_of text) result buffer.new (R.remaining reader.new) }
-    ensures failed { R.has_failed reader.new ≡ true → result ≡ Err (Refusal.ReadFault file) }
-    ensures fault { (other : ℕ) → result ≡ Err (Refusal.ReadFault other) → (other ≡ file) × (R.has_failed reader.new ≡ true) }
-    ensures ready { NeverUnready result }
-{
-    if reader.has_failed() {
-        return Err(Refusal::ReadFault { file });
-    }
-    match next_record(reader, buffer) {
-        Ok(found) => Ok(found.is_some()),
-        Err(fault) => Err(Refusal::of_marc(file, nth, fault)),
-    }
-}
-
-/// Refused where a reader has failed already: no record is to be read then.
-pub(crate) fn check_readers<R: Source>(readers: &[R]) -> Result<(), Refusal>
-    ensures none { OnOk result (NoneFailed R.has_failed readers.now) }
-    ensures named { IfErr result (λ refusal. NamesFailed R.has_failed readers.now refusal) }
-{
-    for (index, reader) in readers.iter().enumerate() {
-        if reader.has_failed() {
-            return Err(Refusal::ReadFault {
-                file: index as u64 + 1,
-            });
-        }
-    }
-    Ok(())
-}
-
-/// A change on its way: how far it has come, and what became of its records.
-#[derive(Clone, Copy, Debug)]
-struct Fold {
-    progress: Progress,
-    tally: Tally,
-}
-
-/// Folds in one record, which is one of those that the limits allow.
-fn take_record<S: Alter, L: Layout>(
-    tx: &mut Transaction<'_, S>,
-    setting: &Setting<'_>,
-    fold: &mut Fold,
-    incoming: Incoming<'_>,
-) -> Result<(), Refusal>
-    ensures same { tx.new.conn.ghost_name ≡ tx.old.conn.ghost_name }
-    ensures stays { HasCleanDisk (state S.Store tx.new.conn.now) → IsTrue (state S.Store tx.old.conn.now).in_transaction
-        → Stays (state S.Store tx.old.conn.now) (state S.Store tx.new.conn.now) result }
-    ensures database { fold.new.progress.database ≡ fold.old.progress.database }
-    ensures counted { OnOk result (fold.new.tally.records ≡ fold.old.tally.records + 1) }
-    ensures folded { HasCleanDisk (state S.Store tx.new.conn.now) → IsTrue (state S.Store tx.old.conn.now).in_transaction
-        → (version : List ℕ) (records_of : ℤ → List Kept) (p : FoldProgress) → StandsFor fold.old p
-        → IsUnderWay L.format setting.now.profile.now fold.old.progress.database.0 records_of (state S.Store tx.old.conn.now) p.base
-        → Meets (λ after _. IsFolded L.format setting.now.profile.now fold.old.progress.database.0 records_of
-        (state S.Store tx.old.conn.now) (state S.Store tx.new.conn.now) fold.new after)
-        (folded (conditions_of version setting.now) setting.now.kind incoming.entry.file incoming.entry.nth incoming.entry.bytes.now p)
-        result }
-    ensures unread { NoReadFault result }
-    ensures ready { NeverUnready result }
-    ensures crash { Survives (state S.Store tx.old.conn.now) (state S.Store tx.new.conn.now) (λ _. ⊥) }
-{
-    if fold.tally.records >= setting.limits.records {
-        return Err(Refusal::TooManyRecords);
-    }
-    let fate = change_record::<S, L>(tx, setting, &mut fold.progress, incoming)?;
-    fold.tally.count(fate);
-    Ok(())
-}
-
-/// Folds in the records of one file, each before the next is read.
-fn fold_file<S: Alter, L: Layout, R: Source>(
-    tx: &mut Transaction<'_, S>,
-    setting: &Setting<'_>,
-    fold: &mut Fold,
-    buffer: &mut RecordBuf,
-    reader: &mut R,
-    file: u64,
-) -> Result<(), Refusal>
-    ensures same { tx.new.conn.ghost_name ≡ tx.old.conn.ghost_name }
-    ensures stays { HasCleanDisk (state S.Store tx.new.conn.now) → IsTrue (state S.Store tx.old.conn.now).in_transaction
-        → Stays (state S.Store tx.old.conn.now) (state S.Store tx.new.conn.now) result }
-    ensures database { fold.new.progress.database ≡ fold.old.progress.database }
-    ensures folded { HasCleanDisk (state S.Store tx.new.conn.now) → IsTrue (state S.Store tx.old.conn.now).in_transaction
-        → (text : List ℕ) → R.remaining reader.old ≡ Some text → R.has_failed reader.new ≡ false
-        → (version : List ℕ) (records_of : ℤ → List Kept) (p : FoldProgress) → StandsFor fold.old p
-        → IsUnderWay L.format setting.now.profile.now fold.old.progress.database.0 records_of (state S.Store tx.old.conn.now) p.base
-        → Meets (λ after _. IsFolded L.format setting.now.profile.now fold.old.progress.database.0 records_of
-        (state S.Store tx.old.conn.now) (state S.Store tx.new.conn.now) fold.new after)
-        (file_folded (conditions_of version setting.now) setting.now.kind file (split_of text) p) result }
-    ensures failed { R.has_failed reader.new ≡ true → result ≡ Err (Refusal.ReadFault file) }
-    ensures fault { (other : ℕ) → result ≡ Err (Refusal.ReadFault other) → (other ≡ file) × (R.has_failed reader.new ≡ true) }
-    ensures ready { NeverUnready result }
-    ensures crash { Survives (state S.Store tx.old.conn.now) (state S.Store tx.new.conn.now) (λ _. ⊥) }
-{
-    for nth in 1..u64::MAX {
-        if !read_record(reader, buffer, file, nth)? {
-            return Ok(());
-        }
-        let incoming = Incoming {
-            bytes: buffer.bytes(),
-            file,
-            nth,
-        };
-        take_record::<S, L>(tx, setting, fold, incoming)?;
-    }
-    Ok(())
-}
-
-/// Folds in the records of all files, in their order.
-fn fold_files<S: Alter, L: Layout, R: Source>(
-    tx: &mut Transaction<'_, S>,
-    setting: &Setting<'_>,
-    fold: &mut Fold,
-    buffer: &mut RecordBuf,
-    readers: &mut [R],
-) -> Result<(), Refusal>
-    ensures same { tx.new.conn.ghost_name ≡ tx.old.conn.ghost_name }
-    ensures stays { HasCleanDisk (state S.Store tx.new.conn.now) → IsTrue (state S.Store tx.old.conn.now).in_transaction
-        → Stays (state S.Store tx.old.conn.now) (state S.Store tx.new.conn.now) result }
-    ensures database { fold.new.progress.database ≡ fold.old.progress.database }
-    ensures folded { HasCleanDisk (state S.Store tx.new.conn.now) → IsTrue (state S.Store tx.old.conn.now).in_transaction
-        → (texts : List (List ℕ)) → map R.remaining readers.old ≡ map Some texts → NoneFailed R.has_failed readers.new
-        → (version : List ℕ) (records_of : ℤ → List Kept) (p : FoldProgress) → StandsFor fold.old p
-        → IsUnderWay L.format setting.now.profile.now fold.old.progress.database.0 records_of (state S.Store tx.old.conn.now) p.base
-        → Meets (λ after _. IsFolded L.format setting.now.profile.now fold.old.progress.database.0 records_of
-        (state S.Store tx.old.conn.now) (state S.Store tx.new.conn.now) fold.new after)
-        (files_folded (conditions_of version setting.now) setting.now.kind 1 (splits_of texts) p) result }
-    ensures failed { NoneFailed R.has_failed readers.old → (file : ℕ) → HasFailedAt R.has_failed readers.new file
-        → result ≡ Err (Refusal.ReadFault file) }
-    ensures fault { (file : ℕ) → result ≡ Err (Refusal.ReadFault file) → HasFailedAt R.has_failed readers.new file }
-    ensures ready { NeverUnready result }
-    ensures crash { Survives (state S.Store tx.old.conn.now) (state S.Store tx.new.conn.now) (λ _. ⊥) }
-{
-    for (index, reader) in readers.iter_mut().enumerate() {
-        let file = index as u64 + 1;
-        fold_file::<S, L, R>(tx, setting, fold, buffer, reader, file)?;
-    }
-    Ok(())
-}
 
 /// A change of one database, which is made where it is absent.
 #[derive(Clone, Copy)]
@@ -190,6 +43,17 @@ impl Change<'_> {
         ensures { result ≡ last_of self.now.found }
     {
         self.found.map_or(0, |database| database.last)
+    }
+}
+
+/// What a change answers that has done so much.
+fn changed(tally: Tally) -> Reply
+    ensures { result ≡ Reply.Changed tally.inserted tally.updated tally.deleted }
+{
+    Reply::Changed {
+        inserted: tally.inserted,
+        updated: tally.updated,
+        deleted: tally.deleted,
     }
 }
 
@@ -235,7 +99,7 @@ fn apply<S: Alter, L: Layout, R: Source>(
     fold_files::<S, L, R>(tx, &change.setting, &mut fold, buffer, readers)?;
     database_put(tx, name, fold.progress.last)?;
     *work = fold.progress.work;
-    Ok(fold.tally.reply())
+    Ok(changed(fold.tally))
 }
 
 /// The reply is there before the commit, which is the last that the store is asked.

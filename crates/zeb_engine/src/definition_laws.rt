@@ -9,17 +9,22 @@ ghost use Rattle.zeb_profile.specs.Laws.{IsProfile};
 ghost use Rattle.zeb_profile.specs.declared.registers.Register.TheVariants.{Word};
 ghost use Rattle.zeb_register.specs.Occurring.{TermIn};
 ghost use Rattle.zeb_search.specs.Holds.{TreeHolds};
-ghost use Rattle.zeb_engine.specs.Answers.{Answer, changed, refused, damaged, store_failed, out_of_memory, read_fault};
-ghost use Rattle.zeb_engine.specs.Conditions.{Conditions};
+ghost use Rattle.zeb_engine.specs.Answers.{Answer, changed, refused};
+ghost use Rattle.zeb_change.specs.Refused.{damaged, store_failed, out_of_memory, read_fault};
+ghost use Rattle.zeb_change.specs.Conditions.{Conditions};
 ghost use Rattle.zeb_engine.specs.Counts.{FoldsTo, HasNamesake, IsAccepted, records_in, told};
-ghost use Rattle.zeb_engine.specs.Finding.{IsNamed, has_name, occurs};
+ghost use Rattle.zeb_engine.specs.Finding.{IsNamed, has_name};
+ghost use Rattle.zeb_change.specs.Occurs.{occurs};
 ghost use Rattle.zeb_engine.specs.Worked.{word_plan};
-ghost use Rattle.zeb_engine.specs.Folding.{Progress};
-ghost use Rattle.zeb_engine.specs.Holdings.{Base, Holdings, Kept};
-ghost use Rattle.zeb_engine.specs.Image.{IsBase, IsImage, IsImageUnder};
+ghost use Rattle.zeb_change.specs.Folding.{Progress};
+ghost use Rattle.zeb_change.specs.Base.{Base, Kept};
+ghost use Rattle.zeb_engine.specs.Holdings.{Holdings};
+ghost use Rattle.zeb_change.specs.Stored.{IsBase};
+ghost use Rattle.zeb_engine.specs.Image.{IsImage, IsImageUnder};
 ghost use Rattle.zeb_engine.specs.Steps.{Step, changed_by_files, turned};
 
-use crate::commands::{Command, Kind};
+use crate::commands::Command;
+use zeb_change::Kind;
 
 /// No answer that the definition names is damage, or a failure of the store, of the memory or of a reader, whatever is
 /// held and whatever is asked. So such an answer always tells of the machine or of the tables, and never of the command:

@@ -7,20 +7,20 @@ ghost use Rattle.sqlite.specs.State.{HasCleanDisk, Survives};
 ghost use Rattle.zeb_register.specs.Calls.{ChangesNothing};
 ghost use Rattle.zeb_register.specs.Formats.{version_of};
 ghost use Rattle.zeb_engine.specs.Adopting.{StaysOpen};
-ghost use Rattle.zeb_engine.specs.Conditions.{conditions};
-ghost use Rattle.zeb_engine.specs.declared.commands.Limits.{Limits};
+ghost use Rattle.zeb_change.specs.Conditions.{conditions};
+ghost use Rattle.zeb_change.specs.declared.settings.Limits.{Limits};
 ghost use Rattle.zeb_engine.specs.NameOf.{name_bytes};
 ghost use Rattle.zeb_engine.specs.Readiness.{GoesByTexts};
-ghost use Rattle.zeb_engine.specs.Reading.{NoReadFault};
+ghost use Rattle.zeb_change.specs.Reading.{NoReadFault};
 ghost use Rattle.zeb_engine.specs.Steps.{dumped_by};
 ghost use Rattle.zeb_engine.specs.Works.{Always, Serves};
 
 use crate::names::DbName;
 use crate::readiness::{check_ready, existing_database};
-use crate::refusals::Refusal;
 use crate::replies::Reply;
 use sqlite::{Alter, Connection};
 use std::alloc::{AllocError, Global};
+use zeb_change::Refusal;
 use zeb_profile::Profile;
 use zeb_register::{Layout, Record, records};
 

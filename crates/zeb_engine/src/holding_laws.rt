@@ -5,13 +5,14 @@ ghost use Rattle.std.specs.List.Sorted.{IsStrictlySortedBy};
 ghost use Rattle.std.specs.Ordering.{nat_cmp};
 ghost use Rattle.std.specs.Cmp.Lexicographic.{slice_cmp};
 ghost use Rattle.zeb_marc.specs.Splits.{Split};
-ghost use Rattle.zeb_engine.specs.Conditions.{Conditions};
+ghost use Rattle.zeb_change.specs.Conditions.{Conditions};
 ghost use Rattle.zeb_engine.specs.Counts.{FoldsTo};
-ghost use Rattle.zeb_engine.specs.Folding.{Progress};
-ghost use Rattle.zeb_engine.specs.Holdings.{Base, Kept, base_named, with_base};
+ghost use Rattle.zeb_change.specs.Folding.{Progress};
+ghost use Rattle.zeb_change.specs.Base.{Base, Kept};
+ghost use Rattle.zeb_engine.specs.Holdings.{base_named, with_base};
 ghost use Rattle.zeb_engine.specs.Lasting.{IsLastOf, KeepsIdent, NoneHas, SomeHas, slices_in};
 
-use crate::commands::Kind;
+use zeb_change::Kind;
 
 /// A database that is put among others is there, under its name; each of another name stays as it was, and the elder of its
 /// name is gone. Names that rise rise still, so that no name is there twice. So a change of one database is no change of

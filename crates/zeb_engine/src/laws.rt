@@ -2,15 +2,17 @@
 ghost use Rattle.std.specs.Prelude.{◌≡◌, ◌↔◌, ℕ, List, [], ◌∷◌, codes};
 ghost use Rattle.zeb_marc.specs.Worked.{worked_record};
 ghost use Rattle.zeb_extract.specs.Sample.{title_profile};
-ghost use Rattle.zeb_engine.specs.Answers.{Answer, done, changed, refused, found, faulty};
-ghost use Rattle.zeb_engine.specs.Finding.{IsFound, has_name, occurs};
+ghost use Rattle.zeb_engine.specs.Answers.{Answer, done, changed, refused, found};
+ghost use Rattle.zeb_change.specs.Refused.{faulty};
+ghost use Rattle.zeb_engine.specs.Finding.{IsFound, has_name};
+ghost use Rattle.zeb_change.specs.Occurs.{occurs};
 ghost use Rattle.zeb_register.specs.Occurring.{HasKey};
 ghost use Rattle.zeb_engine.specs.Holdings.{Holdings, nothing_yet};
 ghost use Rattle.zeb_engine.specs.Steps.{Run, Step};
 ghost use Rattle.zeb_engine.specs.Worked.{book_base, book_conditions, faulty_file, no_books, one_book, title_plan, title_word, IsFindBy, IsJust, IsUpdateBy};
 
-use crate::commands::{Command, Limits};
-use crate::faults::RecordFault;
+use crate::commands::Command;
+use zeb_change::{Limits, RecordFault};
 
 /// A whole example, by the definitions alone, under a profile of titles, dates and any words. `Init` leaves no database. An
 /// update by a file with "Moby Dick" keeps it under number 1, and a second one keeps that number. A file in which five

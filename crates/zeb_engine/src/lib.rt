@@ -3,36 +3,32 @@
 #![tactic(auto)]
 
 mod analysis;
-mod changed_keys;
 mod changes;
 mod commands;
 mod definition_laws;
 mod dump;
-mod faults;
 mod find;
 mod holding_laws;
 mod laws;
 mod names;
 mod readiness;
-mod records;
 mod refusals;
 mod replies;
 mod scan;
 mod session;
 mod stat;
 mod tables;
-mod tally;
 mod writes;
 
-pub use commands::{Command, Kind, Limits};
+pub use commands::Command;
 pub use definition_laws::{
     a_command_has_one_answer, a_word_is_found_where_it_stands, an_image_is_of_one_holding,
     counts_add_up, no_definition_answers_damage, numbers_stay, one_text_one_image,
 };
-pub use faults::RecordFault;
 pub use holding_laws::{a_database_is_in_its_place, the_last_record_stays};
 pub use laws::worked_examples;
 pub use names::DbName;
-pub use refusals::{Refusal, refusal_line, status};
+pub use refusals::{refusal_line, status};
 pub use replies::{Hit, Holding, Reply, render};
 pub use session::Session;
+pub use zeb_change::{Kind, Limits, RecordFault, Refusal};

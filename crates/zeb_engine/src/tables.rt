@@ -10,8 +10,8 @@ ghost use Rattle.zeb_register.specs.Calls.{ChangesNothing};
 ghost use Rattle.zeb_register.specs.Sql.{KeepsTables};
 ghost use Rattle.zeb_register.specs.Tables.{no_schema, store_schema};
 
-use crate::refusals::Refusal;
 use sqlite::{Alter, Connection};
+use zeb_change::Refusal;
 use zeb_register::make_tables;
 
 /// Makes the tables that are absent, in one transaction. No row changes.

@@ -9,12 +9,12 @@ use Rattle.std.specs.Io.KnownBytes.{Appends, Keeps}
 use Rattle.sqlite.specs.Tree.{Trees}
 use Rattle.sqlite.specs.State.{State}
 use Rattle.zeb_register.specs.Content.{Content}
-use Rattle.zeb_engine.specs.Conditions.{Conditions, conditions}
-use Rattle.zeb_engine.specs.declared.commands.Limits.{Limits}
+use Rattle.zeb_change.specs.Conditions.{Conditions, conditions}
+use Rattle.zeb_change.specs.declared.settings.Limits.{Limits}
 use Rattle.zeb_engine.specs.Holdings.{nothing_yet}
 use Rattle.zeb_engine.specs.Image.{Keeps as Holding}
-use Rattle.zeb_engine.specs.declared.refusals.Refusal.{Refusal}
-use Rattle.zeb_engine.specs.declared.refusals.Refusal.TheVariants.{Store, Memory}
+use Rattle.zeb_change.specs.declared.refusals.Refusal.{Refusal}
+use Rattle.zeb_change.specs.declared.refusals.Refusal.TheVariants.{Store, Memory}
 use Rattle.zeb_engine.specs.Refusals.{refusal_text, status_of}
 use Rattle.zeb_profile.specs.declared.directives.Directive.{Directive}
 use Rattle.zeb_profile.specs.declared.faults.ProfileFault.{ProfileFault}

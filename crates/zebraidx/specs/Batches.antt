@@ -7,8 +7,8 @@ use Rattle.zeb_engine.specs.NameOf.{name_bytes}
 use Rattle.zeb_engine.specs.declared.names.DbName.{DbName}
 use Rattle.zeb_engine.specs.declared.commands.Command.{Command}
 use Rattle.zeb_engine.specs.declared.commands.Command.TheVariants.{Init, Create, Drop, Stat, Dump, Change, Find, Scan}
-use Rattle.zeb_engine.specs.declared.commands.Kind.{Kind}
-use Rattle.zeb_engine.specs.declared.commands.Kind.TheVariants.{Update, Delete, Adelete}
+use Rattle.zeb_change.specs.declared.settings.Kind.{Kind}
+use Rattle.zeb_change.specs.declared.settings.Kind.TheVariants.{Update, Delete, Adelete}
 use Rattle.zebraidx.specs.Numbers.{number_of}
 use Rattle.zebraidx.specs.Words.{first_word, after_first_word}
 

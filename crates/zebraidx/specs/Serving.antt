@@ -3,7 +3,7 @@ use Rattle.std.specs.Prelude.{ℕ, List, Option}
 use Rattle.sqlite.specs.Tree.{Trees}
 use Rattle.sqlite.specs.State.{State}
 use Rattle.zeb_register.specs.Content.{Content}
-use Rattle.zeb_engine.specs.Conditions.{Conditions}
+use Rattle.zeb_change.specs.Conditions.{Conditions}
 use Rattle.zeb_engine.specs.Holdings.{Holdings}
 use Rattle.zeb_engine.specs.Image.{Keeps}
 use Rattle.zebraidx.specs.Answers.{Writes}

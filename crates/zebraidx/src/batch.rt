@@ -4,7 +4,7 @@ ghost use Rattle.std.specs.Prelude.{◌≡◌, ◌≤◌, ◌++◌, ◌∷◌, [
 ghost use Rattle.zeb_register.specs.Formats.{version_of};
 ghost use Rattle.sqlite.specs.Held.{state};
 ghost use Rattle.sqlite.specs.State.{HasCleanDisk};
-ghost use Rattle.zeb_engine.specs.Conditions.{conditions};
+ghost use Rattle.zeb_change.specs.Conditions.{conditions};
 ghost use Rattle.zeb_engine.specs.Refusals.{refusal_text, status_of};
 ghost use Rattle.zebraidx.specs.ScriptAnswers.{AnswersOpened, AnswersStopped};
 ghost use Rattle.zebraidx.specs.Answers.{Writes, IsAnswer, AnswersLine, AnswersBatch, AnswersPart};

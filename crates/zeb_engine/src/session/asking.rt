@@ -6,10 +6,10 @@ ghost use Rattle.sqlite.specs.State.{HasCleanDisk, Survives};
 ghost use Rattle.zeb_register.specs.Calls.{ChangesNothing};
 ghost use Rattle.zeb_register.specs.Formats.{version_of};
 ghost use Rattle.zeb_engine.specs.Alone.{Alone, FindSays, ScanSays};
-ghost use Rattle.zeb_engine.specs.Conditions.{conditions};
+ghost use Rattle.zeb_change.specs.Conditions.{conditions};
 ghost use Rattle.zeb_engine.specs.NameOf.{name_bytes};
 ghost use Rattle.zeb_engine.specs.Readiness.{GoesByTexts};
-ghost use Rattle.zeb_engine.specs.Reading.{NoReadFault};
+ghost use Rattle.zeb_change.specs.Reading.{NoReadFault};
 ghost use Rattle.zeb_engine.specs.Transactions.{Commanded};
 ghost use Rattle.zeb_engine.specs.Steps.{waited};
 ghost use Rattle.zeb_engine.specs.Works.{Always, Finds, ScansFrom, Serves};
@@ -17,11 +17,11 @@ ghost use Rattle.zeb_engine.specs.Works.{Always, Finds, ScansFrom, Serves};
 use crate::find::{Question, find};
 use crate::names::DbName;
 use crate::readiness::check_ready;
-use crate::refusals::Refusal;
 use crate::replies::Reply;
 use crate::scan::{Around, scan};
 use crate::session::Session;
 use sqlite::Alter;
+use zeb_change::Refusal;
 use zeb_register::Layout;
 
 impl<S: Alter, L: Layout> Session<S, L> {

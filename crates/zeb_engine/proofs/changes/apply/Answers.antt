@@ -3,19 +3,20 @@ use Rattle.sqlite.specs.Held.{state}
 use Rattle.sqlite.specs.State.{HasCleanDisk, KeepsCommit}
 use Rattle.zeb_register.specs.Catalog.{PutsDatabase}
 use Rattle.zeb_register.specs.Store.{Changes, databases_tree}
-use Rattle.zeb_engine.specs.declared.refusals.Refusal.{Refusal}
-use Rattle.zeb_engine.specs.declared.refusals.Refusal.TheVariants.{ReadFault}
+use Rattle.zeb_change.specs.declared.refusals.Refusal.{Refusal}
+use Rattle.zeb_change.specs.declared.refusals.Refusal.TheVariants.{ReadFault}
 use Rattle.zeb_engine.specs.declared.replies.Reply.TheVariants as reply
 use Rattle.zeb_engine.specs.PrivateChanging.{BeginsWith, last_of}
-use Rattle.zeb_engine.specs.Conditions.{AreSessions}
-use Rattle.zeb_engine.specs.Folding.{at_first, Progress}
+use Rattle.zeb_change.specs.Conditions.{AreSessions}
+use Rattle.zeb_change.specs.Folding.{at_first, Progress, splits_of}
 use Rattle.zeb_engine.specs.NameOf.{name_bytes}
-use Rattle.zeb_engine.specs.Outcomes.{register_refusal}
-use Rattle.zeb_engine.specs.Steps.{changed_by_files, splits_of, turned}
-use Rattle.zeb_engine.specs.Works.{IsFolded, Works, conditions_of}
+use Rattle.zeb_change.specs.Outcomes.{register_refusal}
+use Rattle.zeb_engine.specs.Steps.{changed_by_files, turned}
+use Rattle.zeb_change.specs.UnderWay.{IsFolded, conditions_of}
+use Rattle.zeb_engine.specs.Works.{Works}
 use Rattle.zeb_engine.proofs.ChangeSteps.{begun, first_way, fold_refused, fold_done, change_leads}
-use Rattle.zeb_engine.proofs.TransactionLemmas.{kept_then, goes_on}
-use Rattle.zeb_engine.proofs.UnderWay.{fault_fails}
+use Rattle.zeb_change.proofs.TransactionLemmas.{kept_then, goes_on}
+use Rattle.zeb_change.proofs.UnderWay.{fault_fails}
 use Rattle.zeb_engine.proofs.WriteSteps.{Leads}
 use Rattle.zeb_engine.proofs.changes.apply.Goals as goal
 use Rattle.zeb_register.specs.Formats.{version_of}
@@ -104,7 +105,7 @@ returns-clause-works g c = λ clean inside opened texts told fine.
     let on = c.in_ok-database.ensures.call.ok first inside in
     let further = c.in_ok-fold_files.ensures.stays second on.mode in
     let last_on = c.in_ok-database_put.ensures.call.ok clean further.mode in
-    let said : c.reply.result ≡ reply.Changed fold.tally.inserted fold.tally.updated fold.tally.deleted = c.reply.ensures in (
+    let said : c.changed.result ≡ reply.Changed fold.tally.inserted fold.tally.updated fold.tally.deleted = c.changed.ensures in (
       record {
         was_open = on.was_open;
         is_open = last_on.is_open;

@@ -3,12 +3,15 @@ use Rattle.sqlite.specs.Effect.{Database as Contents}
 use Rattle.sqlite.specs.Held.{state}
 use Rattle.sqlite.specs.State.{HasCleanDisk}
 use Rattle.zeb_register.specs.declared.catalog.Database.{Database}
-use Rattle.zeb_engine.specs.declared.refusals.Refusal.TheVariants.{Memory}
+use Rattle.zeb_change.specs.declared.refusals.Refusal.TheVariants.{Memory}
 use Rattle.zeb_engine.specs.PrivateChanging.{BeginsWith}
-use Rattle.zeb_engine.specs.Holdings.{Base, base_named}
+use Rattle.zeb_change.specs.Base.{Base}
+use Rattle.zeb_engine.specs.Holdings.{base_named}
 use Rattle.zeb_engine.specs.NameOf.{name_bytes}
-use Rattle.zeb_engine.specs.Steps.{changed_by_files, splits_of, start_of, turned}
-use Rattle.zeb_engine.specs.Works.{IsReady, Serves, conditions_of}
+use Rattle.zeb_engine.specs.Steps.{changed_by_files, start_of, turned}
+use Rattle.zeb_change.specs.Folding.{splits_of}
+use Rattle.zeb_engine.specs.Works.{IsReady, Serves}
+use Rattle.zeb_change.specs.UnderWay.{conditions_of}
 use Rattle.zeb_engine.proofs.ChangeBegins.{start_met, start_refused}
 use Rattle.zeb_engine.proofs.Crashing.{survives_after}
 use Rattle.zeb_engine.proofs.Readers.{no_file_failed}

@@ -1,16 +1,18 @@
 use Rattle.std.proofs.Common.{◌≡◌, ◌∙◌, ℕ, List, map, Some, Result, Ok, Err, IsTrue, rules, arith, refl, sym, subst, subst₂}
 use Rattle.sqlite.specs.Held.{Held, state}
 use Rattle.sqlite.specs.State.{HasCleanDisk, Survives}
-use Rattle.zeb_engine.specs.declared.refusals.Refusal.{Refusal}
-use Rattle.zeb_engine.specs.declared.refusals.Refusal.TheVariants.{ReadFault}
+use Rattle.zeb_change.specs.declared.refusals.Refusal.{Refusal}
+use Rattle.zeb_change.specs.declared.refusals.Refusal.TheVariants.{ReadFault}
 use Rattle.zeb_engine.specs.declared.replies.Reply.{Reply}
 use Rattle.zeb_engine.specs.PrivateChanging.{BeginsWith}
-use Rattle.zeb_engine.specs.Conditions.{Conditions}
+use Rattle.zeb_change.specs.Conditions.{Conditions}
 use Rattle.zeb_engine.specs.Crashes.{Commits}
 use Rattle.zeb_engine.specs.NameOf.{name_bytes}
-use Rattle.zeb_engine.specs.Reading.{NoneFailed}
-use Rattle.zeb_engine.specs.Steps.{changed_by_files, splits_of, turned}
-use Rattle.zeb_engine.specs.Works.{Serves, conditions_of}
+use Rattle.zeb_change.specs.Reading.{NoneFailed}
+use Rattle.zeb_engine.specs.Steps.{changed_by_files, turned}
+use Rattle.zeb_change.specs.Folding.{splits_of}
+use Rattle.zeb_engine.specs.Works.{Serves}
+use Rattle.zeb_change.specs.UnderWay.{conditions_of}
 use Rattle.zeb_engine.proofs.Crashing.{commit_stands, commit_survives}
 use Rattle.zeb_engine.proofs.Serving.{refusal_serves, reply_serves}
 use Rattle.zeb_register.specs.Formats.{version_of}

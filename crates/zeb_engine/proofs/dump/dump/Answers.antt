@@ -12,10 +12,10 @@ use Rattle.zeb_register.specs.declared.catalog.Database.{Database}
 use Rattle.zeb_register.specs.declared.kept.Record.{Record}
 use Rattle.zeb_engine.specs.declared.replies.Reply.TheVariants.{Dumped}
 use Rattle.zeb_engine.specs.Answers.{dumped}
-use Rattle.zeb_engine.specs.Conditions.{conditions}
-use Rattle.zeb_engine.specs.Holdings.{Base}
+use Rattle.zeb_change.specs.Conditions.{conditions}
+use Rattle.zeb_change.specs.Base.{Base}
 use Rattle.zeb_engine.specs.NameOf.{name_bytes}
-use Rattle.zeb_engine.specs.Outcomes.{register_refusal}
+use Rattle.zeb_change.specs.Outcomes.{register_refusal}
 use Rattle.zeb_engine.specs.Steps.{dumped_by, dumped_in, ready}
 use Rattle.zeb_engine.specs.Works.{Always, Serves}
 use Rattle.zeb_engine.proofs.Commanding.{ready_met}

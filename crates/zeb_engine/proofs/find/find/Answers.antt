@@ -11,14 +11,14 @@ use Rattle.zeb_register.specs.declared.catalog.Database.{Database}
 use Rattle.zeb_search.specs.Lists.{AreNumbers}
 use Rattle.zeb_search.specs.Registers.{has_ident_in, HasReadableIdents, HoldsIn}
 use Rattle.zeb_engine.specs.declared.replies.Reply.{Reply}
-use Rattle.zeb_engine.specs.declared.refusals.Refusal.{Refusal}
+use Rattle.zeb_change.specs.declared.refusals.Refusal.{Refusal}
 use Rattle.zeb_engine.specs.Answers.{answer_of}
-use Rattle.zeb_engine.specs.Conditions.{conditions}
+use Rattle.zeb_change.specs.Conditions.{conditions}
 use Rattle.zeb_engine.specs.Finding.{asked_of}
 use Rattle.zeb_engine.specs.NameOf.{name_bytes}
-use Rattle.zeb_engine.specs.Outcomes.{query_refusal, register_refusal}
+use Rattle.zeb_change.specs.Outcomes.{query_refusal, register_refusal}
 use Rattle.zeb_engine.specs.Steps.{FindAnswers}
-use Rattle.zeb_engine.specs.Works.{Meets}
+use Rattle.zeb_change.specs.Refused.{Meets}
 use Rattle.zeb_engine.proofs.Asked.{Ends, existing_ends}
 use Rattle.zeb_engine.proofs.Finds.{asked_ends, asked_kept, found_ends, hits_answered, idents_readable, met_view, plan_ends}
 use Rattle.zeb_engine.proofs.Held.{looked_up}

@@ -9,7 +9,7 @@ use Rattle.std.proofs.lemmas.List.{map-append}
 use Rattle.zeb_search.specs.Registers.{has_ident_in}
 use Rattle.zeb_engine.specs.declared.replies.Hit.{Hit}
 use Rattle.zeb_engine.specs.Finding.{AreShown}
-use Rattle.zeb_engine.specs.Outcomes.{register_refusal}
+use Rattle.zeb_change.specs.Outcomes.{register_refusal}
 use Rattle.zeb_query.proofs.HoldingLemmas.{take_whole}
 use Rattle.zeb_engine.proofs.ListedDatabases.{fault_fails}
 use Rattle.zeb_engine.proofs.Showing.{still_shows, shown_more, ident_stored, each_kept, each_readable}

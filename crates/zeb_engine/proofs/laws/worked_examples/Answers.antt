@@ -1,6 +1,7 @@
 use Rattle.zeb_engine.specs.declared.commands.Command.TheVariants.{Init}
-use Rattle.zeb_engine.specs.declared.faults.RecordFault.TheVariants as fault
-use Rattle.zeb_engine.specs.Answers.{done, changed, faulty, refused}
+use Rattle.zeb_change.specs.declared.faults.RecordFault.TheVariants as fault
+use Rattle.zeb_engine.specs.Answers.{done, changed, refused}
+use Rattle.zeb_change.specs.Refused.{faulty}
 use Rattle.zeb_engine.specs.Worked.{book_conditions, no_books, one_book}
 use Rattle.zeb_engine.proofs.StepLemmas.{step_is}
 use Rattle.zeb_engine.proofs.Worked.{begun, kept, again, refused_new, refused_old, has_no_other, word_found, word_not_found}

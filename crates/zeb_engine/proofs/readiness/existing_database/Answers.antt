@@ -5,12 +5,11 @@ use Rattle.zeb_register.specs.declared.RegFault.TheVariants as register
 use Rattle.zeb_register.specs.declared.catalog.Database.{Database}
 use Rattle.zeb_register.specs.Catalog.{IsDatabaseOf}
 use Rattle.zeb_register.specs.Store.{HasDatabase}
-use Rattle.zeb_engine.specs.Answers.{diagnostic}
-use Rattle.zeb_engine.specs.Holdings.{Base}
+use Rattle.zeb_change.specs.Refused.{diagnostic, Meets}
+use Rattle.zeb_change.specs.Base.{Base}
 use Rattle.zeb_engine.specs.NameOf.{name_bytes}
-use Rattle.zeb_engine.specs.Outcomes.{register_refusal}
+use Rattle.zeb_change.specs.Outcomes.{register_refusal}
 use Rattle.zeb_engine.specs.Steps.{found_or, existing}
-use Rattle.zeb_engine.specs.Works.{Meets}
 use Rattle.zeb_engine.proofs.ListedDatabases.{fault_meets, fault_fails_or, counted, row_named, none_named}
 use Rattle.zeb_engine.proofs.ReadyImages.{image_some}
 use Rattle.zeb_engine.proofs.readiness.existing_database.Goals as goal

@@ -7,11 +7,11 @@ use Rattle.zeb_register.specs.Content.{posted}
 use Rattle.zeb_register.specs.Store.{HasDatabase}
 use Rattle.zeb_register.specs.declared.catalog.Database.{Database}
 use Rattle.zeb_engine.specs.declared.replies.Reply.{Reply}
-use Rattle.zeb_engine.specs.declared.refusals.Refusal.{Refusal}
+use Rattle.zeb_change.specs.declared.refusals.Refusal.{Refusal}
 use Rattle.zeb_engine.specs.Answers.{answer_of}
-use Rattle.zeb_engine.specs.Conditions.{conditions}
+use Rattle.zeb_change.specs.Conditions.{conditions}
 use Rattle.zeb_engine.specs.NameOf.{name_bytes}
-use Rattle.zeb_engine.specs.Outcomes.{query_refusal}
+use Rattle.zeb_change.specs.Outcomes.{query_refusal}
 use Rattle.zeb_engine.specs.Steps.{ScanAnswers}
 use Rattle.zeb_engine.proofs.Asked.{Ends, existing_ends}
 use Rattle.zeb_engine.proofs.Held.{looked_up}

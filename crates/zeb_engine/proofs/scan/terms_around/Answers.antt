@@ -5,7 +5,7 @@ use Rattle.sqlite.specs.State.{HasCleanDisk}
 use Rattle.zeb_query.specs.Plans.{scan_value}
 use Rattle.zeb_register.specs.Content.{posted}
 use Rattle.zeb_register.proofs.Calls.{store_same}
-use Rattle.zeb_engine.specs.Outcomes.{register_refusal}
+use Rattle.zeb_change.specs.Outcomes.{register_refusal}
 use Rattle.zeb_engine.proofs.ListedDatabases.{fault_fails}
 use Rattle.zeb_engine.proofs.Scans.{around_lists}
 use Rattle.zeb_engine.proofs.scan.terms_around.Goals as goal

@@ -12,12 +12,12 @@ use Rattle.zeb_register.specs.Store.{HasDatabase, IsRest, records_tree}
 use Rattle.zeb_register.specs.declared.catalog.Database.{Database}
 use Rattle.zeb_engine.specs.declared.replies.Reply.TheVariants.{Counted}
 use Rattle.zeb_engine.specs.Answers.{counted, extent_of}
-use Rattle.zeb_engine.specs.Conditions.{conditions}
+use Rattle.zeb_change.specs.Conditions.{conditions}
 use Rattle.zeb_engine.specs.Counting.{IsExtent, Paired, Target}
-use Rattle.zeb_engine.specs.Finding.{occurs}
-use Rattle.zeb_engine.specs.Holdings.{Base}
+use Rattle.zeb_change.specs.Occurs.{occurs}
+use Rattle.zeb_change.specs.Base.{Base}
 use Rattle.zeb_engine.specs.NameOf.{name_bytes}
-use Rattle.zeb_engine.specs.Outcomes.{register_refusal}
+use Rattle.zeb_change.specs.Outcomes.{register_refusal}
 use Rattle.zeb_engine.specs.Steps.{ready}
 use Rattle.zeb_engine.proofs.Commanding.{ready_met}
 use Rattle.zeb_engine.proofs.Dumps.{all_readable, as_many}

@@ -4,8 +4,8 @@ use Rattle.sqlite.specs.State.{HasCleanDisk}
 use Rattle.sqlite.specs.Held.{state}
 use Rattle.zeb_register.specs.declared.catalog.Database.{Database}
 use Rattle.zeb_register.specs.Store.{HasDatabase}
-use Rattle.zeb_engine.specs.Answers.{why_of}
-use Rattle.zeb_engine.specs.Holdings.{Base}
+use Rattle.zeb_change.specs.Refused.{why_of}
+use Rattle.zeb_change.specs.Base.{Base}
 use Rattle.zeb_engine.specs.NameOf.{name_bytes}
 use Rattle.zeb_engine.specs.Steps.{turned, dropped}
 use Rattle.zeb_engine.specs.Works.{IsReady, Serves}

@@ -4,8 +4,8 @@ use Rattle.zeb_profile.specs.Canonical.{pattern_text}
 use Rattle.zeb_profile.specs.Indexes.{identifier_pattern}
 use Rattle.sqlite.specs.Held.{state}
 use Rattle.zeb_register.specs.Store.{IsStore}
-use Rattle.zeb_engine.specs.declared.commands.Limits.{Limits}
-use Rattle.zeb_engine.specs.Conditions.{Conditions, conditions}
+use Rattle.zeb_change.specs.declared.settings.Limits.{Limits}
+use Rattle.zeb_change.specs.Conditions.{Conditions, conditions}
 use Rattle.zeb_engine.specs.Image.{IsImage}
 use Rattle.zeb_engine.specs.Steps.{holding}
 use Rattle.zeb_engine.specs.PrivateWriting.{AreOf}

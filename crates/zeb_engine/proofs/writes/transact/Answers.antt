@@ -2,9 +2,9 @@ use Rattle.std.proofs.Common.{◌≡◌, Ok, Err, inl, rules, arith, refl, sym, 
 use Rattle.sqlite.specs.State.{HasCleanDisk, Survives}
 use Rattle.sqlite.specs.Held.{state}
 use Rattle.zeb_register.specs.Calls.{ChangesNothing}
-use Rattle.zeb_engine.specs.declared.refusals.Refusal.TheVariants.{Store}
+use Rattle.zeb_change.specs.declared.refusals.Refusal.TheVariants.{Store}
 use Rattle.zeb_engine.specs.Crashes.{Commits}
-use Rattle.zeb_engine.specs.Conditions.{Conditions}
+use Rattle.zeb_change.specs.Conditions.{Conditions}
 use Rattle.zeb_engine.specs.Works.{Serves}
 use Rattle.zeb_engine.specs.PrivateWriting.{Begins, Fits, IsReached, written}
 use Rattle.zeb_engine.proofs.Crashing.{write_survives}

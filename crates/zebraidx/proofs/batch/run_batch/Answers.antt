@@ -5,8 +5,8 @@ use Rattle.sqlite.specs.Held.{state}
 use Rattle.sqlite.specs.State.{HasCleanDisk}
 use Rattle.sqlite.specs.Steps.{over_memory}
 use Rattle.zeb_engine.specs.Holdings.{nothing_yet}
-use Rattle.zeb_engine.specs.Conditions.{conditions}
-use Rattle.zeb_engine.specs.declared.refusals.Refusal.TheVariants.{Store}
+use Rattle.zeb_change.specs.Conditions.{conditions}
+use Rattle.zeb_change.specs.declared.refusals.Refusal.TheVariants.{Store}
 use Rattle.zebraidx.proofs.ScriptAnswerLemmas.{script_conditions, refused_opening, opened_batch, stopped_batch}
 use Rattle.zebraidx.proofs.batch.run_batch.Goals as goal
 

@@ -1,7 +1,7 @@
 use Rattle.std.proofs.Common.{subst}
 use Rattle.sqlite.specs.Held.{state}
 use Rattle.sqlite.specs.State.{HasCleanDisk}
-use Rattle.zeb_engine.specs.Conditions.{conditions}
+use Rattle.zeb_change.specs.Conditions.{conditions}
 use Rattle.zebraidx.specs.Says.{Says}
 use Rattle.zebraidx.proofs.ServingLemmas.{ordered_line, remark_line}
 use Rattle.zebraidx.proofs.batch.run_line.Goals as goal

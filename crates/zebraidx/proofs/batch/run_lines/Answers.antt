@@ -2,7 +2,7 @@ use Rattle.std.proofs.Common.{◌∙◌, ◌+◌, arith, ap, length, subst, subs
 use Rattle.std.specs.Str.{IsUtf8}
 use Rattle.sqlite.specs.Held.{state}
 use Rattle.sqlite.specs.State.{HasCleanDisk}
-use Rattle.zeb_engine.specs.Conditions.{conditions}
+use Rattle.zeb_change.specs.Conditions.{conditions}
 use Rattle.zebraidx.specs.Answers.{AnswersLine}
 use Rattle.zebraidx.specs.Serving.{Leads}
 use Rattle.zebraidx.proofs.ServingLemmas.{reaches_line, reaches_end, reaches_failure}

@@ -1,7 +1,7 @@
 use Rattle.std.proofs.Common.{◌≡◌, ◌+◌, ◌<◌, ◌≤◌, ◌^◌, false, length}
 use Rattle.sqlite.specs.Held.{state}
 use Rattle.sqlite.specs.State.{HasCleanDisk}
-use Rattle.zeb_engine.specs.Conditions.{conditions}
+use Rattle.zeb_change.specs.Conditions.{conditions}
 use Rattle.zebraidx.proofs.ServingLemmas.{Reaches}
 use denote.Text.{Utf8}
 use denote.Shadow.{shadow}

@@ -2,9 +2,9 @@ use Rattle.std.proofs.Common.{◌≡◌, ◌∙◌, [], ap, map, refl, rules, st
 use Rattle.sqlite.specs.Held.{state}
 use Rattle.sqlite.specs.State.{Survives}
 use Rattle.zeb_register.specs.Store.{IsStore}
-use Rattle.zeb_engine.specs.declared.commands.Limits.{Limits}
+use Rattle.zeb_change.specs.declared.settings.Limits.{Limits}
 use Rattle.zeb_engine.specs.Alone.{Alone, StatSays}
-use Rattle.zeb_engine.specs.Conditions.{conditions}
+use Rattle.zeb_change.specs.Conditions.{conditions}
 use Rattle.zeb_engine.specs.Crashes.{Commits, CommitsBy}
 use Rattle.zeb_engine.specs.Image.{IsImage}
 use Rattle.zeb_engine.specs.NameOf.{name_bytes}

@@ -1,12 +1,13 @@
 use Rattle.std.proofs.Common.{◌≡◌, Err, IsErrAnd, IsTrue, List, inr, refl, rules, arith, sym, subst}
 use Rattle.sqlite.specs.Held.{state}
 use Rattle.sqlite.specs.State.{HasCleanDisk}
-use Rattle.zeb_engine.specs.Conditions.{conditions}
-use Rattle.zeb_engine.specs.Holdings.{Base}
+use Rattle.zeb_change.specs.Conditions.{conditions}
+use Rattle.zeb_change.specs.Base.{Base}
 use Rattle.zeb_engine.specs.NameOf.{name_bytes}
 use Rattle.zeb_engine.specs.Readiness.{IsRefusedOver}
-use Rattle.zeb_engine.specs.Reading.{NamesFailed}
-use Rattle.zeb_engine.specs.Steps.{TakesFiles, changed_by_files, ready, splits_of, turned}
+use Rattle.zeb_change.specs.Reading.{NamesFailed}
+use Rattle.zeb_engine.specs.Steps.{TakesFiles, changed_by_files, ready, turned}
+use Rattle.zeb_change.specs.Folding.{splits_of}
 use Rattle.zeb_engine.specs.Works.{ServesBy}
 use Rattle.zeb_engine.proofs.Commanding.{ends_serve, ready_met, unready_serves}
 use Rattle.zeb_engine.proofs.Crashing.{survives_after}

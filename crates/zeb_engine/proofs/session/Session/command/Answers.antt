@@ -2,7 +2,7 @@ use Rattle.std.proofs.Common.{◌∙◌, [], rules, sym, ap, IsTrue}
 use Rattle.sqlite.specs.Effect.{Database}
 use Rattle.sqlite.specs.Held.{state}
 use Rattle.zeb_register.specs.Store.{IsStore}
-use Rattle.zeb_engine.specs.Conditions.{conditions}
+use Rattle.zeb_change.specs.Conditions.{conditions}
 use Rattle.zeb_engine.specs.Image.{IsImage, Keeps}
 use Rattle.zeb_engine.specs.Steps.{holding}
 use Rattle.zeb_engine.proofs.RunCrashes.{did_endures}

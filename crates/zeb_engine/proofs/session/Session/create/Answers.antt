@@ -1,8 +1,8 @@
 use Rattle.std.proofs.Common.{◌≡◌, Err, IsTrue, List, rules, arith, sym, subst}
 use Rattle.sqlite.specs.Held.{state}
 use Rattle.sqlite.specs.State.{HasCleanDisk}
-use Rattle.zeb_engine.specs.Conditions.{conditions}
-use Rattle.zeb_engine.specs.Holdings.{Base}
+use Rattle.zeb_change.specs.Conditions.{conditions}
+use Rattle.zeb_change.specs.Base.{Base}
 use Rattle.zeb_engine.specs.NameOf.{name_bytes}
 use Rattle.zeb_engine.specs.Steps.{ready, turned, created}
 use Rattle.zeb_engine.specs.Works.{Always, Serves}

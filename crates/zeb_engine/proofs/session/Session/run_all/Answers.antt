@@ -7,7 +7,7 @@ use Rattle.sqlite.specs.State.{HasCleanDisk, Survives}
 use Rattle.sqlite.proofs.StateLemmas.{survives_then}
 use Rattle.zeb_query.proofs.HoldingLemmas.{take_whole}
 use Rattle.zeb_engine.specs.Answers.{answer_of}
-use Rattle.zeb_engine.specs.Conditions.{conditions}
+use Rattle.zeb_change.specs.Conditions.{conditions}
 use Rattle.zeb_engine.specs.Crashes.{CommitsCommand, CommitsOne, EnduresRun}
 use Rattle.zeb_engine.specs.Works.{FindOpen, Runs, ServesCommand}
 use Rattle.zeb_engine.proofs.RunCommits.{carries, commits_earlier, commits_latest}

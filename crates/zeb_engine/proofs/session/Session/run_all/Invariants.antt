@@ -5,7 +5,7 @@ use Rattle.sqlite.specs.Held.{state}
 use Rattle.sqlite.specs.State.{HasCleanDisk, Survives}
 use Rattle.zeb_register.specs.Calls.{ChangesNothing}
 use Rattle.zeb_engine.specs.Answers.{answer_of}
-use Rattle.zeb_engine.specs.Conditions.{conditions}
+use Rattle.zeb_change.specs.Conditions.{conditions}
 use Rattle.zeb_engine.specs.Crashes.{CommitsOne, EnduresRun}
 use Rattle.zeb_engine.specs.Works.{FindOpen, Runs}
 use Rattle.zeb_engine.proofs.session.Session.run_all.Given as goal

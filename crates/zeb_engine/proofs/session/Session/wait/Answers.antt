@@ -1,6 +1,6 @@
 use Rattle.std.proofs.Common.{◌≡◌, Err, rules, sym, subst}
 use Rattle.sqlite.specs.Held.{state}
-use Rattle.zeb_engine.specs.Conditions.{conditions}
+use Rattle.zeb_change.specs.Conditions.{conditions}
 use Rattle.zeb_engine.specs.Steps.{waited}
 use Rattle.zeb_engine.specs.Works.{Always, Serves}
 use Rattle.zeb_engine.proofs.Commanding.{unready_waits}

@@ -1,0 +1,72 @@
+-- A record that is replaced by the same bytes: it has the occurrences that it had, so no key is changed.
+use Rattle.std.proofs.Common.{◌≡◌, ◌∙◌, ℕ, List, [], ◌∷◌, Option, Some, None, Result, Ok, Err, IfOk, inl, refl, sym, ap}
+use Rattle.std.specs.Cmp.{IsTotalOrder, then_total, on_total, nat_cmp_total}
+use Rattle.std.specs.List.{Contains}
+use Rattle.sqlite.specs.Effect.{Database}
+use Rattle.sqlite.specs.State.{State}
+use Rattle.sqlite_rules.proofs.ListLemmas.{has_contained, contains_had}
+use Rattle.zeb_profile.specs.declared.directives.Directive.{Directive}
+use Rattle.zeb_extract.specs.declared.keys.Occurrence.{Occurrence}
+use Rattle.zeb_register.specs.declared.kept.Elder.{Elder}
+use Rattle.zeb_register.specs.declared.registers.Place.{Place}
+use Rattle.zeb_register.specs.Content.{place_cmp}
+use Rattle.zeb_register.proofs.RisingLists.{same_list}
+use Rattle.zeb_change.specs.declared.changed_keys.ChangedKey.{ChangedKey}
+use Rattle.zeb_change.specs.declared.refusals.Refusal.{Refusal}
+use Rattle.zeb_change.specs.declared.tally.Fate.{Fate}
+use Rattle.zeb_change.specs.PrivateChangedKeys.{AreChangedKeys, AreTheSame, key_in, occurrence_at}
+use Rattle.zeb_change.specs.Folding.{ident_in}
+use Rattle.zeb_change.specs.Base.{Base, Kept, kept_as}
+use Rattle.zeb_change.specs.Stored.{IsBase}
+use Rattle.zeb_change.specs.PrivateRecords.{AreOccurrencesOf, IsElderAs, IsIdle}
+use Rattle.zeb_change.proofs.BaseLemmas.{one_ident}
+use Rattle.zeb_change.proofs.KeptLemmas.{one_found}
+
+place_total : IsTotalOrder place_cmp
+place_total = then_total (on_total (λ (p : Place). p.seq) nat_cmp_total) (on_total (λ (p : Place). p.pos) nat_cmp_total)
+
+-- no key is changed where the occurrences are the same
+pub none_changed : (elder newer : List Occurrence) (changed : List ChangedKey) → AreChangedKeys elder newer changed → AreTheSame elder newer → changed ≡ []
+none_changed elder newer [] are same = refl
+none_changed elder newer (c ∷ changed) are same =
+    let there = contains_had (c ∷ changed) c (inl refl) in
+    let old = are.old c there in
+    let new = are.new c there in
+    absurd (are.differ c there (same_list place_total c.old.items c.new.items old.rising new.rising
+    (λ place h. (new.each place).1 ((same (occurrence_at (key_in c) place)).0 ((old.each place).0 h)))
+    (λ place h. (old.each place).1 ((same (occurrence_at (key_in c) place)).1 ((new.each place).0 h)))))
+
+-- the same bytes have the same occurrences
+pub one_analysis : (profile : List Directive) (bytes : List ℕ) (one two : List Occurrence) → AreOccurrencesOf profile bytes one → AreOccurrencesOf profile bytes two → AreTheSame one two
+one_analysis profile bytes one two left right o = (λ h. (right.each o).1 ((left.each o).0 h), λ h. (left.each o).1 ((right.each o).0 h))
+
+module _ (profile : List Directive) (base : Base) (is : IsBase profile base) (ident bytes : List ℕ) (named : ident_in profile bytes ≡ Ok ident)
+    (kept : Kept) (there : Contains base.records kept) (alike : kept.bytes ≡ bytes) where
+  same_ident : kept.ident ≡ ident
+  same_ident = let both : Ok kept.ident ≡ Ok ident = sym (is.sound kept there).named ∙ ap (ident_in profile) alike ∙ named in cc
+
+  kept_it : kept_as ident base ≡ Some kept
+  kept_it = one_found ident base kept (has_contained base.records kept there) same_ident (one_ident profile base is)
+
+  -- where the database keeps a record of these bytes, it is the elder
+  pub elder_alike : (found : Option Elder) → IsElderAs ident base found → (elder : Elder) × (found ≡ Some elder) × (elder.bytes.items ≡ bytes)
+  elder_alike None none = let e = sym none ∙ kept_it in absurd (cc)
+  elder_alike (Some elder) (found, is_found, number, its_bytes) =
+      let one : Some found ≡ Some kept = sym is_found ∙ kept_it in
+      let same : found ≡ kept = cc in
+      (elder, refl, sym its_bytes ∙ ap (λ (k : Kept). k.bytes) same ∙ alike)
+
+-- it is idle too where the elder was looked for before, which changes nothing
+pub idle_after : (old mid new : State) (Stays : Type 0) (result : Result Fate Refusal) → mid.now ≡ old.now → IfOk result (λ fate. IsIdle mid new fate × Stays) → IfOk result (λ fate. IsIdle old new fate × Stays)
+idle_after old mid new Stays (Ok fate) same idle = (
+  (
+    idle.0.0,
+    (
+      idle.0.1.0 ∙ ap (λ (db : Database). db.trees 7) same,
+      idle.0.1.1 ∙ ap (λ (db : Database). db.trees 9) same,
+      idle.0.1.2 ∙ ap (λ (db : Database). db.trees 11) same,
+    ),
+  ),
+  idle.1,
+)
+idle_after old mid new Stays (Err refusal) same idle = idle

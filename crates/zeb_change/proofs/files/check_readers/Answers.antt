@@ -1,0 +1,5 @@
+use Rattle.std.proofs.Common.{arith}
+use Rattle.zeb_change.proofs.files.check_readers.Goals as goal
+
+pub loop-index-init : goal.loop-index-init
+loop-index-init g c = record { fine = λ j none d. absurd (omega (arith, none)) }

@@ -1,0 +1,99 @@
+use Rattle.std.proofs.Common.{rules, arith, ◌≡◌, true, false, inl, inr, refl, sym, Ok, Err, ap, subst, subst₂}
+use Rattle.sqlite.specs.Held.{state}
+use Rattle.sqlite.specs.State.{HasCleanDisk}
+use Rattle.zeb_marc.specs.Splits.{next_of, split_of}
+use Rattle.zeb_change.specs.Refused.{why_of, Meets}
+use Rattle.zeb_change.specs.Folding.{Progress, folded, file_folded}
+use Rattle.zeb_change.specs.Reading.{ReadsNext}
+use Rattle.zeb_change.specs.UnderWay.{IsFolded, IsUnderWay, conditions_of}
+use Rattle.zeb_change.proofs.FoldFiles.{Good, at_first, ended, faulty, record_refused, record_taken, sound}
+use Rattle.zeb_change.proofs.files.fold_file.Goals as goal
+
+pub loop-nth-init : goal.loop-nth-init
+loop-nth-init g c = record {
+  same = refl;
+  crash = search rules;
+  stays = search rules;
+  database = refl;
+  counted = refl;
+  under = λ clean mode text told version records_of p stands under_way.
+      at_first g.L.Layout.format (conditions_of version c.args.setting.now) c.args.setting.now.kind c.args.file c.args.fold.now.progress.database.0 records_of text
+      (g.R.Source.remaining c.args.reader.now) (state g.S.Store c.args.tx.now.conn.now) c.args.fold.now p told stands under_way;
+}
+
+pub returns-in_err-read_record-clause-folded : goal.returns-in_err-read_record-clause-folded
+returns-in_err-read_record-clause-folded g c = λ clean mode text told sound version records_of p stands under_way.
+    let under = c.loop-nth.invariant.under clean mode text told version records_of p stands under_way in
+    let read = c.in_err-read_record.ensures.told under.left under.remains sound in
+    let said = file_folded (conditions_of version c.args.setting.now) c.args.setting.now.kind c.args.file (split_of text) p in
+    let is : said ≡ Err (why_of c.in_err-read_record.field-0.0) =
+    faulty g.L.Layout.format (conditions_of version c.args.setting.now) c.args.setting.now.kind c.args.file c.loop-nth.nth c.args.fold.now.progress.database.0 records_of said
+    (g.R.Source.remaining c.loop-nth.reader) (state g.S.Store c.args.tx.now.conn.now) (state g.S.Store c.loop-nth.tx.conn.now) c.loop-nth.fold under c.in_err-read_record.field-0.0 c.read_record.new.buffer
+    (g.R.Source.remaining c.read_record.new.reader) read in
+    let result : c.from_residual.result ≡ Err c.in_err-read_record.field-0.0 = search rules in
+    subst (λ r. Meets {A = Progress} {X = Unit {0}} (Good g.L.Layout.format (conditions_of version c.args.setting.now) c.args.fold.now.progress.database.0 records_of (state g.S.Store c.args.tx.now.conn.now) (state g.S.Store c.loop-nth.tx.conn.now) c.loop-nth.fold) said r)
+    (sym result) (inr is)
+
+pub returns-then-not-branch-clause-folded : goal.returns-then-not-branch-clause-folded
+returns-then-not-branch-clause-folded g c = λ clean mode text told sound version records_of p stands under_way.
+    let under = c.loop-nth.invariant.under clean mode text told version records_of p stands under_way in
+    let none : c.in_ok-read_record.field-0 ≡ false = search rules in
+    let read = subst (λ b. ReadsNext c.args.file c.loop-nth.nth (next_of under.left) (Ok b) c.read_record.new.buffer (g.R.Source.remaining c.read_record.new.reader)) none (c.in_ok-read_record.ensures.told under.left under.remains sound) in
+    let said = file_folded (conditions_of version c.args.setting.now) c.args.setting.now.kind c.args.file (split_of text) p in
+    ended g.L.Layout.format (conditions_of version c.args.setting.now) c.args.setting.now.kind c.args.file c.loop-nth.nth c.args.fold.now.progress.database.0 records_of said
+    (g.R.Source.remaining c.loop-nth.reader) (state g.S.Store c.args.tx.now.conn.now) (state g.S.Store c.loop-nth.tx.conn.now) c.loop-nth.fold under c.read_record.new.buffer (g.R.Source.remaining c.read_record.new.reader) read
+
+pub returns-in_err-take_record-clause-folded : goal.returns-in_err-take_record-clause-folded
+returns-in_err-take_record-clause-folded g c = λ clean mode text told sound version records_of p stands under_way.
+    let setting = c.args.setting.now in
+    let conditions = conditions_of version setting in
+    let old = state g.S.Store c.args.tx.now.conn.now in
+    let now = state g.S.Store c.loop-nth.tx.conn.now in
+    let next = state g.S.Store c.take_record.new.tx.conn.now in
+    let id = c.args.fold.now.progress.database.0 in
+    let was : HasCleanDisk now = omega (arith, c.take_record.ensures.crash.clean) in
+    let under = c.loop-nth.invariant.under was mode text told version records_of p stands under_way in
+    let some : c.in_ok-read_record.field-0 ≡ true = search rules in
+    let read = subst (λ b. ReadsNext c.args.file c.loop-nth.nth (next_of under.left) (Ok b) c.read_record.new.buffer (g.R.Source.remaining c.read_record.new.reader)) some (c.in_ok-read_record.ensures.told under.left under.remains sound) in
+    let same_id : c.loop-nth.fold.progress.database.0 ≡ id = ap (λ d. d.0) c.loop-nth.invariant.database in
+    let way = subst (λ i. IsUnderWay g.L.Layout.format setting.profile.now i records_of now under.progress.base) (sym same_id) under.is_folded.under_way in
+    let took = c.in_err-take_record.ensures.folded clean (c.loop-nth.invariant.stays was mode).mode version records_of under.progress under.is_folded.stands way in
+    let said = file_folded conditions setting.kind c.args.file (split_of text) p in
+    let result : c.from_residual-in_err-take_record.result ≡ Err c.in_err-take_record.field-0.0 = search rules in
+    subst (λ r. Meets {A = Progress} {X = Unit {0}} (Good g.L.Layout.format conditions id records_of old next c.take_record.new.fold) said r) (sym result)
+    (elim took [
+      | inl failed ↦ inl failed
+      | inr why ↦ inr (record_refused g.L.Layout.format conditions setting.kind c.args.file c.loop-nth.nth id records_of said (g.R.Source.remaining c.loop-nth.reader) old now c.loop-nth.fold under
+          c.read_record.new.buffer (g.R.Source.remaining c.read_record.new.reader) read _
+          (subst (λ bytes. folded conditions setting.kind c.args.file c.loop-nth.nth bytes under.progress ≡ Err (why_of c.in_err-take_record.field-0.0)) c.bytes.ensures why))
+    ])
+
+pub loop-nth-preserved : goal.loop-nth-preserved
+loop-nth-preserved g c =
+    let old = state g.S.Store c.args.tx.now.conn.now in
+    let now = state g.S.Store c.loop-nth.tx.conn.now in
+    let next = state g.S.Store c.take_record.new.tx.conn.now in
+    let setting = c.args.setting.now in
+    let id = c.args.fold.now.progress.database.0 in
+    record {
+      same = search rules;
+      crash = search rules;
+      stays = search rules;
+      database = search rules;
+      counted = omega (arith, c.loop-nth.invariant.counted, c.in_ok-take_record.ensures.counted);
+      under = λ clean mode text told version records_of p stands under_way.
+          let conditions = conditions_of version setting in
+          let was : HasCleanDisk now = omega (arith, c.take_record.ensures.crash.clean) in
+          let under = c.loop-nth.invariant.under was mode text told version records_of p stands under_way in
+          let some : c.in_ok-read_record.field-0 ≡ true = search rules in
+          let fine : g.R.Source.has_failed c.read_record.new.reader ≡ false = sound (g.R.Source.has_failed c.read_record.new.reader) (λ failed. let no = c.in_ok-read_record.ensures.failed failed in absurd (cc)) in
+          let read = subst (λ b. ReadsNext c.args.file c.loop-nth.nth (next_of under.left) (Ok b) c.read_record.new.buffer (g.R.Source.remaining c.read_record.new.reader)) some (c.in_ok-read_record.ensures.told under.left under.remains fine) in
+          let same_id : c.loop-nth.fold.progress.database.0 ≡ id = ap (λ d. d.0) c.loop-nth.invariant.database in
+          let way = subst (λ i. IsUnderWay g.L.Layout.format setting.profile.now i records_of now under.progress.base) (sym same_id) under.is_folded.under_way in
+          let took = c.in_ok-take_record.ensures.folded clean (c.loop-nth.invariant.stays was mode).mode version records_of under.progress under.is_folded.stands way in
+          let said = file_folded conditions setting.kind c.args.file (split_of text) p in
+          record_taken g.L.Layout.format conditions setting.kind c.args.file c.loop-nth.nth id records_of said (g.R.Source.remaining c.loop-nth.reader) old now c.loop-nth.fold under
+          c.read_record.new.buffer (g.R.Source.remaining c.read_record.new.reader) read next c.take_record.new.fold
+          (subst₂ (λ i bytes. Meets {A = Progress} {X = Unit {0}} (λ q _. IsFolded g.L.Layout.format setting.profile.now i records_of now next c.take_record.new.fold q) (folded conditions setting.kind c.args.file c.loop-nth.nth bytes under.progress) (Ok tt))
+          same_id c.bytes.ensures took);
+    }

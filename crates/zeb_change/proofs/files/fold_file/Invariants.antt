@@ -1,0 +1,27 @@
+use Rattle.std.proofs.Common.{◌≡◌, ◌+◌, ℕ, ℤ, List, Some, IsTrue}
+use Rattle.sqlite.specs.Held.{state}
+use Rattle.sqlite.specs.State.{HasCleanDisk, Survives}
+use Rattle.zeb_marc.specs.Splits.{split_of}
+use Rattle.zeb_change.specs.Folding.{Progress, file_folded}
+use Rattle.zeb_change.specs.Base.{Kept}
+use Rattle.zeb_change.specs.Inside.{Continues}
+use Rattle.zeb_change.specs.UnderWay.{IsUnderWay, StandsFor, conditions_of}
+use Rattle.zeb_change.proofs.FoldFiles.{Under}
+use Rattle.zeb_change.proofs.files.fold_file.Given as goal
+
+abbrev pub invariant-loop-nth : goal.invariant-loop-nth
+invariant-loop-nth g l =
+    let old = state g.S.Store l.fn.tx.conn.now in
+    let now = state g.S.Store l.tx.conn.now in
+    let id = l.fn.fold.progress.database.0 in
+    record {
+      same : l.tx.conn.ghost_name ≡ l.fn.tx.conn.ghost_name;
+      crash : Survives old now (λ _. ⊥);
+      stays : HasCleanDisk now → IsTrue old.in_transaction → Continues old now;
+      database : l.fold.progress.database ≡ l.fn.fold.progress.database;
+      counted : l.fold.tally.records + 1 ≡ l.fn.fold.tally.records + l.nth;
+      under : HasCleanDisk now → IsTrue old.in_transaction → (text : List ℕ) → g.R.Source.remaining l.fn.reader ≡ Some text
+          → (version : List ℕ) (records_of : ℤ → List Kept) (p : Progress) → StandsFor l.fn.fold p → IsUnderWay g.L.Layout.format l.setting.profile.now id records_of old p.base
+          → Under g.L.Layout.format (conditions_of version l.setting) l.setting.kind l.file l.nth id records_of (file_folded (conditions_of version l.setting) l.setting.kind l.file (split_of text) p)
+          (g.R.Source.remaining l.reader) old now l.fold;
+    }

@@ -1,0 +1,13 @@
+-- What work inside a transaction does to a connection, whatever it does to rows.
+use Rattle.std.specs.Prelude.{IsTrue, MatchResult, Result}
+use Rattle.sqlite.specs.State.{State, KeepsCommit}
+
+-- Inside a transaction: nothing is committed, the transaction goes on, and an open connection stays open.
+pub record Continues (old new : State) : Type 0 where
+  pub kept : KeepsCommit old new
+  pub mode : IsTrue new.in_transaction
+  pub stays_open : IsTrue old.is_open → IsTrue new.is_open
+
+-- Inside a transaction, what work did that was done or refused: a refusal leaves nothing committed.
+abbrev pub Stays : {T E : Type 0} → State → State → Result T E → Type 0
+Stays old new result = MatchResult result (λ _. Continues old new) (λ _. KeepsCommit old new)

@@ -1,0 +1,15 @@
+pub mod Faults
+pub mod Refused
+pub mod Outcomes
+pub mod Base
+pub mod Conditions
+pub mod Folding
+pub mod Occurs
+pub mod Stored
+pub mod Inside
+pub mod Reading
+pub mod UnderWay
+pub mod PrivateKeyRuns
+pub mod PrivateChangedKeys
+pub mod PrivateTallies
+pub mod PrivateRecords

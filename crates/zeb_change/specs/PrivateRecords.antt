@@ -1,0 +1,50 @@
+-- What only the contracts of private functions speak of; no public clause reaches it.
+-- One record of a change, beside what a database keeps.
+use Rattle.std.specs.Prelude.{◌≡◌, ◌↔◌, ℕ, ℤ, List, Option, Some, None, Result, Ok, IsUtf8}
+use Rattle.std.specs.List.{Contains}
+use Rattle.sqlite.specs.State.{State}
+use Rattle.zeb_marc.specs.Records.{first_fault, fields_of}
+use Rattle.zeb_marc.specs.Contents.{units_of}
+use Rattle.zeb_profile.specs.declared.directives.Directive.{Directive}
+use Rattle.zeb_profile.specs.Indexes.{unit_targets}
+use Rattle.zeb_extract.specs.declared.keys.Occurrence.{Occurrence}
+use Rattle.zeb_extract.specs.Occurrences.{IsOccurrence}
+use Rattle.zeb_extract.specs.Order.{IsRising}
+use Rattle.zeb_register.specs.declared.kept.Elder.{Elder}
+use Rattle.zeb_register.specs.Store.{KeepsRegisters}
+use Rattle.zeb_change.specs.declared.refusals.Refusal.{Refusal}
+use Rattle.zeb_change.specs.declared.tally.Fate.{Fate}
+use Rattle.zeb_change.specs.declared.tally.Fate.TheVariants.{Updated}
+use Rattle.zeb_change.specs.Refused.{Why, Meets}
+use Rattle.zeb_change.specs.Folding.{Changed, ident_in}
+use Rattle.zeb_change.specs.Base.{Base, Kept, kept_as}
+use Rattle.zeb_change.specs.UnderWay.{IsTaken, IsUnderWay}
+use Rattle.zeb_register.specs.Formats.{Format}
+
+-- the occurrences of the record with these bytes, rising
+pub record AreOccurrencesOf (profile : List Directive) (bytes : List ℕ) (occurrences : List Occurrence) : Type 0 where
+  pub rising : IsRising occurrences
+  pub each : (o : Occurrence) → Contains occurrences o ↔ IsOccurrence (unit_targets profile) (units_of (fields_of bytes)) o
+
+-- a record of ISO 2709 with its identifier and its occurrences
+pub record IsNewer (profile : List Directive) (ident bytes : List ℕ) (occurrences : List Occurrence) : Type 0 where
+  pub whole : first_fault bytes ≡ None
+  pub named : ident_in profile bytes ≡ Ok ident
+  pub text : IsUtf8 ident
+  pub found : AreOccurrencesOf profile bytes occurrences
+
+-- the record of this identifier in the database, if there is one
+abbrev pub IsElderAs : List ℕ → Base → Option Elder → Type 0
+IsElderAs ident base None = kept_as ident base ≡ None
+IsElderAs ident base (Some elder) = (kept : Kept) × (kept_as ident base ≡ Some kept) × (elder.sysno ≡ kept.sysno) × (kept.bytes ≡ elder.bytes.items)
+
+-- One record of a change is taken as the definition says of each database that fits; `last` and `after` are the last numbers before
+-- it and after it.
+abbrev pub Takes : (format : Format) → List Directive → ℤ → State → State → ℕ → ℕ → (Base → Type 0) → (Base → Result Changed Why) → Result Fate Refusal → Type 0
+Takes format profile id old new last after Fits said result =
+    (records_of : ℤ → List Kept) (base : Base) → last ≡ base.last → IsUnderWay format profile id records_of old base → Fits base
+    → Meets (IsTaken format profile id records_of old new after) (said base) result
+
+-- a record that is replaced by the same bytes counts as updated, and each table of the registers has the rows that it had
+abbrev pub IsIdle : State → State → Fate → Type 0
+IsIdle old new fate = (fate ≡ Updated) × KeepsRegisters old.now.trees new.now.trees

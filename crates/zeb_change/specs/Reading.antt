@@ -1,0 +1,34 @@
+-- How the records of a file are read, one after the other.
+use Rattle.std.specs.Prelude.{◌≡◌, ◌≢◌, ◌+◌, ◌<◌, ℕ, Bool, true, false, List, length, slice_index_or, Option, Some, Result, Ok, Err}
+use Rattle.std.specs.List.{AllByRecursion}
+use Rattle.zeb_marc.specs.Splits.{Next, at_end, a_slice, a_fault}
+use Rattle.zeb_change.specs.declared.refusals.Refusal.{Refusal}
+use Rattle.zeb_change.specs.declared.refusals.Refusal.TheVariants.{ReadFault}
+use Rattle.zeb_change.specs.Outcomes.{marc_refusal}
+
+-- whether there is a record where this stands next, what the buffer keeps of it, and what is left unread
+abbrev pub ReadsNext : ℕ → ℕ → Next → Result Bool Refusal → List ℕ → Option (List ℕ) → Type 0
+ReadsNext file nth at_end answer kept left = answer ≡ Ok false
+ReadsNext file nth (a_slice slice rest) answer kept left = (answer ≡ Ok true) × (kept ≡ slice) × (left ≡ Some rest)
+ReadsNext file nth (a_fault fault) answer kept left = answer ≡ Err (marc_refusal file nth fault)
+
+-- no read of these has failed
+abbrev pub NoneFailed : {R : Type 0} → (R → Bool) → List R → Type 0
+NoneFailed has_failed = AllByRecursion (λ reader. has_failed reader ≡ false)
+
+-- The reader of this file has failed; files are counted from 1.
+pub record HasFailedAt {R : Type 0} (has_failed : R → Bool) (readers : List R) (file : ℕ) : Type 0 where
+  pub index : ℕ
+  pub reader : R
+  pub within : index < length readers
+  pub there : reader ≡ slice_index_or readers index reader
+  pub numbered : file ≡ index + 1
+  pub failed : has_failed reader ≡ true
+
+-- this refusal names the file of a reader that has failed
+abbrev pub NamesFailed : {R : Type 0} → (R → Bool) → List R → Refusal → Type 0
+NamesFailed has_failed readers refusal = (file : ℕ) × HasFailedAt has_failed readers file × (refusal ≡ ReadFault file)
+
+-- this is no refusal for a reader that failed
+abbrev pub NoReadFault : {T : Type 0} → Result T Refusal → Type 0
+NoReadFault result = (file : ℕ) → result ≢ Err (ReadFault file)

@@ -1,0 +1,103 @@
+//! The keys whose places differ between two lists of occurrences.
+
+ghost use Rattle.std.specs.Prelude.{◌≡◌, ◌+◌, ◌≤◌, ◌<◌, ◌⊎◌, length, map, take, drop, IfOk, OnOk, IfSome, IfNone, []};
+ghost use Rattle.zeb_extract.specs.Order.{IsRising as AreRising};
+ghost use Rattle.zeb_change.specs.PrivateChangedKeys.{AreChangedKeys, IsNoted, place_in};
+ghost use Rattle.zeb_change.specs.PrivateKeyRuns.{BeginsWithKey, AreOfKey, Stops, IsNotAbove};
+
+use std::alloc::{AllocError, Global};
+use std::cmp::Ordering;
+use zeb_extract::{Key, Occurrence, order_is_by_parts};
+use zeb_register::Place;
+
+/// A key with its places in the elder record and in the newer one.
+#[derive(Drop)]
+pub(crate) struct ChangedKey<'a> {
+    pub key: &'a Key,
+    pub old: Vec<Place>,
+    pub new: Vec<Place>,
+}
+
+/// How many of the first occurrences are of this key.
+fn run_length(occurrences: &[Occurrence], key: &Key) -> usize
+    ensures within { result ≤ length occurrences.now }
+    ensures run { AreOfKey key.now (take result occurrences.now) }
+    ensures stops { Stops key.now (drop result occurrences.now) }
+    ensures some { BeginsWithKey key.now occurrences.now → 1 ≤ result }
+{
+    for (index, occurrence) in occurrences.iter().enumerate() {
+        if occurrence.key != *key {
+            return index;
+        }
+    }
+    occurrences.len()
+}
+
+/// The places of some occurrences, in their order.
+fn places_of(alloc: Global, occurrences: &[Occurrence]) -> Result<Vec<Place>, AllocError>
+    ensures { IfOk result (λ places. places.items ≡ map place_in occurrences.now) }
+{
+    occurrences
+        .iter()
+        .map(|occurrence| Place {
+            seq: occurrence.seq,
+            pos: occurrence.pos,
+        })
+        .collect(alloc)
+}
+
+/// The lesser of the keys that two lists begin with.
+fn lesser_key<'a>(old: &'a [Occurrence], new: &'a [Occurrence]) -> Option<&'a Key>
+    ensures found { IfSome result (λ key. BeginsWithKey key.now old.now ⊎ BeginsWithKey key.now new.now) }
+    ensures lesser { IfSome result (λ key. IsNotAbove key.now old.now × IsNotAbove key.now new.now) }
+    ensures none { IfNone result ((old.now ≡ []) × (new.now ≡ [])) }
+{
+    order_is_by_parts();
+    match (old.first(), new.first()) {
+        (Some(elder), Some(newer)) => match elder.key.cmp(&newer.key) {
+            Ordering::Greater => Some(&newer.key),
+            Ordering::Less | Ordering::Equal => Some(&elder.key),
+        },
+        (Some(elder), None) => Some(&elder.key),
+        (None, Some(newer)) => Some(&newer.key),
+        (None, None) => None,
+    }
+}
+
+/// Notes a key with its places in either record, where they differ.
+fn note<'a>(
+    changed: &mut Vec<ChangedKey<'a>>,
+    key: &'a Key,
+    old: Vec<Place>,
+    new: Vec<Place>,
+) -> Result<(), AllocError>
+    ensures { OnOk result (IsNoted key.now old.items new.items changed.old.items changed.new.items) }
+{
+    if old != new {
+        changed.push(ChangedKey { key, old, new })?;
+    }
+    Ok(())
+}
+
+/// The keys, in their order, whose places differ between two rising lists of occurrences.
+pub(crate) fn changed_keys<'a>(
+    alloc: Global,
+    elder: &'a [Occurrence],
+    newer: &'a [Occurrence],
+) -> Result<Vec<ChangedKey<'a>>, AllocError>
+    ensures { AreRising elder.now → AreRising newer.now → IfOk result (λ changed. AreChangedKeys elder.now newer.now changed.items) }
+{
+    let mut changed = Vec::new(alloc);
+    let mut elder = elder;
+    let mut newer = newer;
+    while let Some(key) = lesser_key(elder, newer) {
+        let (in_elder, elder_rest) = elder.split_at(run_length(elder, key));
+        let (in_newer, newer_rest) = newer.split_at(run_length(newer, key));
+        let old = places_of(alloc, in_elder)?;
+        let new = places_of(alloc, in_newer)?;
+        note(&mut changed, key, old, new)?;
+        elder = elder_rest;
+        newer = newer_rest;
+    }
+    Ok(changed)
+}

@@ -1,0 +1,171 @@
+//! The records of files, folded into a database inside a transaction.
+
+ghost use Rattle.std.specs.Prelude.{◌≡◌, ◌+◌, ℕ, ℤ, List, map, Some, Ok, Err, true, false, IsTrue, IfErr, OnOk};
+ghost use Rattle.sqlite.specs.Held.{state};
+ghost use Rattle.sqlite.specs.State.{HasCleanDisk, Survives};
+ghost use Rattle.zeb_marc.specs.Splits.{next_of, split_of};
+ghost use Rattle.zeb_change.specs.Folding.{Progress as FoldProgress, folded, file_folded, files_folded, splits_of};
+ghost use Rattle.zeb_change.specs.Base.{Kept};
+ghost use Rattle.zeb_change.specs.Refused.{NeverUnready, Meets};
+ghost use Rattle.zeb_change.specs.Reading.{HasFailedAt, NamesFailed, NoneFailed, NoReadFault, ReadsNext};
+ghost use Rattle.zeb_change.specs.Inside.{Stays};
+ghost use Rattle.zeb_change.specs.UnderWay.{IsFolded, IsUnderWay, StandsFor, conditions_of};
+
+use crate::records::{Incoming, Progress, change_record};
+use crate::refusals::Refusal;
+use crate::settings::Setting;
+use crate::tally::Tally;
+use sqlite::{Alter, Transaction};
+use zeb_marc::{RecordBuf, Source, next_record};
+use zeb_register::Layout;
+
+/// Reads a file's next record into the buffer, and says whether there is one.
+fn read_record<R: Source>(
+    reader: &mut R,
+    buffer: &mut RecordBuf,
+    file: u64,
+    nth: u64,
+) -> Result<bool, Refusal>
+    ensures told { (text : List ℕ) → R.remaining reader.old ≡ Some text → R.has_failed reader.new ≡ false
+        → ReadsNext file nth (next_of text) result buffer.new (R.remaining reader.new) }
+    ensures failed { R.has_failed reader.new ≡ true → result ≡ Err (Refusal.ReadFault file) }
+    ensures fault { (other : ℕ) → result ≡ Err (Refusal.ReadFault other) → (other ≡ file) × (R.has_failed reader.new ≡ true) }
+    ensures ready { NeverUnready result }
+{
+    if reader.has_failed() {
+        return Err(Refusal::ReadFault { file });
+    }
+    match next_record(reader, buffer) {
+        Ok(found) => Ok(found.is_some()),
+        Err(fault) => Err(Refusal::of_marc(file, nth, fault)),
+    }
+}
+
+/// Refused with `ReadFault` where a reader has failed already, by the number of such a file, counted from 1: no record is
+/// to be read then. Nothing is read.
+pub fn check_readers<R: Source>(readers: &[R]) -> Result<(), Refusal>
+    ensures none { OnOk result (NoneFailed R.has_failed readers.now) }
+    ensures named { IfErr result (λ refusal. NamesFailed R.has_failed readers.now refusal) }
+{
+    for (index, reader) in readers.iter().enumerate() {
+        if reader.has_failed() {
+            return Err(Refusal::ReadFault {
+                file: index as u64 + 1,
+            });
+        }
+    }
+    Ok(())
+}
+
+/// A change on its way: how far it has come, and what became of its records.
+#[derive(Clone, Copy, Debug)]
+pub struct Fold {
+    pub progress: Progress,
+    pub tally: Tally,
+}
+
+/// Folds in one record, which is one of those that the limits allow.
+fn take_record<S: Alter, L: Layout>(
+    tx: &mut Transaction<'_, S>,
+    setting: &Setting<'_>,
+    fold: &mut Fold,
+    incoming: Incoming<'_>,
+) -> Result<(), Refusal>
+    ensures same { tx.new.conn.ghost_name ≡ tx.old.conn.ghost_name }
+    ensures stays { HasCleanDisk (state S.Store tx.new.conn.now) → IsTrue (state S.Store tx.old.conn.now).in_transaction
+        → Stays (state S.Store tx.old.conn.now) (state S.Store tx.new.conn.now) result }
+    ensures database { fold.new.progress.database ≡ fold.old.progress.database }
+    ensures counted { OnOk result (fold.new.tally.records ≡ fold.old.tally.records + 1) }
+    ensures folded { HasCleanDisk (state S.Store tx.new.conn.now) → IsTrue (state S.Store tx.old.conn.now).in_transaction
+        → (version : List ℕ) (records_of : ℤ → List Kept) (p : FoldProgress) → StandsFor fold.old p
+        → IsUnderWay L.format setting.now.profile.now fold.old.progress.database.0 records_of (state S.Store tx.old.conn.now) p.base
+        → Meets (λ after _. IsFolded L.format setting.now.profile.now fold.old.progress.database.0 records_of
+        (state S.Store tx.old.conn.now) (state S.Store tx.new.conn.now) fold.new after)
+        (folded (conditions_of version setting.now) setting.now.kind incoming.entry.file incoming.entry.nth incoming.entry.bytes.now p)
+        result }
+    ensures unread { NoReadFault result }
+    ensures ready { NeverUnready result }
+    ensures crash { Survives (state S.Store tx.old.conn.now) (state S.Store tx.new.conn.now) (λ _. ⊥) }
+{
+    if fold.tally.records >= setting.limits.records {
+        return Err(Refusal::TooManyRecords);
+    }
+    let fate = change_record::<S, L>(tx, setting, &mut fold.progress, incoming)?;
+    fold.tally.count(fate);
+    Ok(())
+}
+
+/// Folds in the records of one file, each before the next is read.
+fn fold_file<S: Alter, L: Layout, R: Source>(
+    tx: &mut Transaction<'_, S>,
+    setting: &Setting<'_>,
+    fold: &mut Fold,
+    buffer: &mut RecordBuf,
+    reader: &mut R,
+    file: u64,
+) -> Result<(), Refusal>
+    ensures same { tx.new.conn.ghost_name ≡ tx.old.conn.ghost_name }
+    ensures stays { HasCleanDisk (state S.Store tx.new.conn.now) → IsTrue (state S.Store tx.old.conn.now).in_transaction
+        → Stays (state S.Store tx.old.conn.now) (state S.Store tx.new.conn.now) result }
+    ensures database { fold.new.progress.database ≡ fold.old.progress.database }
+    ensures folded { HasCleanDisk (state S.Store tx.new.conn.now) → IsTrue (state S.Store tx.old.conn.now).in_transaction
+        → (text : List ℕ) → R.remaining reader.old ≡ Some text → R.has_failed reader.new ≡ false
+        → (version : List ℕ) (records_of : ℤ → List Kept) (p : FoldProgress) → StandsFor fold.old p
+        → IsUnderWay L.format setting.now.profile.now fold.old.progress.database.0 records_of (state S.Store tx.old.conn.now) p.base
+        → Meets (λ after _. IsFolded L.format setting.now.profile.now fold.old.progress.database.0 records_of
+        (state S.Store tx.old.conn.now) (state S.Store tx.new.conn.now) fold.new after)
+        (file_folded (conditions_of version setting.now) setting.now.kind file (split_of text) p) result }
+    ensures failed { R.has_failed reader.new ≡ true → result ≡ Err (Refusal.ReadFault file) }
+    ensures fault { (other : ℕ) → result ≡ Err (Refusal.ReadFault other) → (other ≡ file) × (R.has_failed reader.new ≡ true) }
+    ensures ready { NeverUnready result }
+    ensures crash { Survives (state S.Store tx.old.conn.now) (state S.Store tx.new.conn.now) (λ _. ⊥) }
+{
+    for nth in 1..u64::MAX {
+        if !read_record(reader, buffer, file, nth)? {
+            return Ok(());
+        }
+        let incoming = Incoming {
+            bytes: buffer.bytes(),
+            file,
+            nth,
+        };
+        take_record::<S, L>(tx, setting, fold, incoming)?;
+    }
+    Ok(())
+}
+
+/// Folds in the records of all files, in their order, inside the caller's transaction. Files are counted from 1, and
+/// records from 1 within their file. It ends at the first that is refused: `ReadFault` of a reader that fails, `Record` of
+/// a record or an identifier at fault, `Unknown` of a strict delete that finds none, `TooManyRecords` and `DatabaseFull`
+/// at the limits, `Damaged` of tables that no command leaves, and `Store` and `Memory`. The transaction then holds what
+/// the records before it made, and is to be given up.
+pub fn fold_files<S: Alter, L: Layout, R: Source>(
+    tx: &mut Transaction<'_, S>,
+    setting: &Setting<'_>,
+    fold: &mut Fold,
+    buffer: &mut RecordBuf,
+    readers: &mut [R],
+) -> Result<(), Refusal>
+    ensures same { tx.new.conn.ghost_name ≡ tx.old.conn.ghost_name }
+    ensures stays { HasCleanDisk (state S.Store tx.new.conn.now) → IsTrue (state S.Store tx.old.conn.now).in_transaction
+        → Stays (state S.Store tx.old.conn.now) (state S.Store tx.new.conn.now) result }
+    ensures database { fold.new.progress.database ≡ fold.old.progress.database }
+    ensures folded { HasCleanDisk (state S.Store tx.new.conn.now) → IsTrue (state S.Store tx.old.conn.now).in_transaction
+        → (texts : List (List ℕ)) → map R.remaining readers.old ≡ map Some texts → NoneFailed R.has_failed readers.new
+        → (version : List ℕ) (records_of : ℤ → List Kept) (p : FoldProgress) → StandsFor fold.old p
+        → IsUnderWay L.format setting.now.profile.now fold.old.progress.database.0 records_of (state S.Store tx.old.conn.now) p.base
+        → Meets (λ after _. IsFolded L.format setting.now.profile.now fold.old.progress.database.0 records_of
+        (state S.Store tx.old.conn.now) (state S.Store tx.new.conn.now) fold.new after)
+        (files_folded (conditions_of version setting.now) setting.now.kind 1 (splits_of texts) p) result }
+    ensures failed { NoneFailed R.has_failed readers.old → (file : ℕ) → HasFailedAt R.has_failed readers.new file
+        → result ≡ Err (Refusal.ReadFault file) }
+    ensures fault { (file : ℕ) → result ≡ Err (Refusal.ReadFault file) → HasFailedAt R.has_failed readers.new file }
+    ensures ready { NeverUnready result }
+    ensures crash { Survives (state S.Store tx.old.conn.now) (state S.Store tx.new.conn.now) (λ _. ⊥) }
+{
+    for (index, reader) in readers.iter_mut().enumerate() {
+        let file = index as u64 + 1;
+        fold_file::<S, L, R>(tx, setting, fold, buffer, reader, file)?;
+    }
+    Ok(())
+}

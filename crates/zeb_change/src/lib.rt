@@ -1,0 +1,17 @@
+//! One database changed inside a transaction: the records of files are folded into it, one by one.
+#![tactic(auto)]
+
+mod changed_keys;
+mod faults;
+mod files;
+mod records;
+mod refusals;
+mod settings;
+mod tally;
+
+pub use faults::RecordFault;
+pub use files::{Fold, check_readers, fold_files};
+pub use records::Progress;
+pub use refusals::Refusal;
+pub use settings::{Kind, Limits, Setting};
+pub use tally::{Fate, Tally};

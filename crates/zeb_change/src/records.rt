@@ -1,0 +1,317 @@
+//! One record of a change: it is added, replaces a kept one, or takes it away.
+
+ghost use Rattle.std.specs.Prelude.{◌≡◌, ◌⊎◌, ℕ, ℤ, List, Some, None, Result, Ok, Err, string_bytes, IsTrue, OnOk, IfOk, IfErr};
+ghost use Rattle.std.specs.List.{Contains};
+ghost use Rattle.sqlite.specs.Held.{state};
+ghost use Rattle.sqlite.specs.State.{HasCleanDisk, KeepsCounts, Survives};
+ghost use Rattle.zeb_marc.specs.Records.{first_fault, IsRecord};
+ghost use Rattle.zeb_extract.specs.Order.{IsRising as AreRising};
+ghost use Rattle.zeb_register.specs.Content.{Content, IsRising, IsStorable};
+ghost use Rattle.zeb_register.specs.Formats.{holds_in};
+ghost use Rattle.zeb_register.specs.Store.{IsStore, KeepsLists};
+ghost use Rattle.zeb_change.specs.PrivateChangedKeys.{ArePostingsOf, AreTheSame, CanBeStored, IsReposted};
+ghost use Rattle.zeb_change.specs.Refused.{Why, why_of, IsFailing, NeverUnready, Meets};
+ghost use Rattle.zeb_change.specs.Folding.{Changed, changed_record, updated, deleted, ident_in};
+ghost use Rattle.zeb_change.specs.Base.{Base, Kept, kept_as};
+ghost use Rattle.zeb_change.specs.Reading.{NoReadFault};
+ghost use Rattle.zeb_change.specs.PrivateRecords.{AreOccurrencesOf, IsElderAs, IsIdle, IsNewer, Takes};
+ghost use Rattle.zeb_change.specs.Inside.{Stays};
+ghost use Rattle.zeb_change.specs.UnderWay.{IsTaken, IsUnderWay, conditions_of};
+
+use crate::changed_keys::changed_keys;
+use crate::refusals::Refusal;
+use crate::settings::{Kind, Setting};
+use crate::tally::Fate;
+use sqlite::{Alter, Transaction};
+use std::alloc::Global;
+use zeb_extract::{Occurrence, identifier, occurrences};
+use zeb_marc::Marc;
+use zeb_profile::Profile;
+use zeb_register::{DatabaseId, Elder, Layout, Work, record_of_ident, record_put, record_take};
+
+/// How far a change has come: the database with its last system number, and the work on its registers.
+#[derive(Clone, Copy, Debug)]
+pub struct Progress {
+    pub database: DatabaseId,
+    /// The last system number that the database has given, 0 before the first.
+    pub last: u64,
+    pub work: Work,
+}
+
+/// One record of a file. Files are counted from 1, and records from 1 within their file.
+#[derive(Clone, Copy, Debug)]
+pub(crate) struct Incoming<'a> {
+    pub bytes: &'a [u8],
+    pub file: u64,
+    pub nth: u64,
+}
+
+/// A record that is to be kept.
+#[derive(Drop)]
+struct Newer<'a> {
+    ident: &'a str,
+    bytes: &'a [u8],
+    occurrences: Vec<Occurrence>,
+}
+
+/// Writes the lists of just those keys whose places changed, for the record with this number.
+fn change_keys<S: Alter, L: Layout>(
+    tx: &mut Transaction<'_, S>,
+    alloc: Global,
+    progress: &mut Progress,
+    sysno: u64,
+    elder: &[Occurrence],
+    newer: &[Occurrence],
+) -> Result<(), Refusal>
+    ensures same { tx.new.conn.ghost_name ≡ tx.old.conn.ghost_name }
+    ensures stays { HasCleanDisk (state S.Store tx.new.conn.now) → IsTrue (state S.Store tx.old.conn.now).in_transaction
+        → Stays (state S.Store tx.old.conn.now) (state S.Store tx.new.conn.now) result }
+    ensures place { (progress.new.database ≡ progress.old.database) × (progress.new.last ≡ progress.old.last) }
+    ensures moved { HasCleanDisk (state S.Store tx.new.conn.now) → IsTrue (state S.Store tx.old.conn.now).in_transaction
+        → IsStore (state S.Store tx.old.conn.now)
+        → AreRising elder.now → AreRising newer.now
+        → OnOk result (IsStore (state S.Store tx.new.conn.now)
+        × KeepsLists (state S.Store tx.old.conn.now).now.trees (state S.Store tx.new.conn.now).now.trees
+        × ((before after : Content) → holds_in L.format (state S.Store tx.old.conn.now).now.trees before → IsRising before
+        → ArePostingsOf sysno elder.now (before progress.old.database.0)
+        → IsReposted progress.old.database.0 sysno newer.now before after
+        → holds_in L.format (state S.Store tx.new.conn.now).now.trees after)) }
+    ensures fails { IfErr result (λ refusal. (refusal ≡ Refusal.Damaged) ⊎ IsFailing (why_of refusal)) }
+    ensures honest { HasCleanDisk (state S.Store tx.new.conn.now) → IsTrue (state S.Store tx.old.conn.now).in_transaction
+        → IsStore (state S.Store tx.old.conn.now)
+        → AreRising elder.now → AreRising newer.now → result ≡ Err Refusal.Damaged → CanBeStored sysno newer.now
+        → (content : Content) → IsStorable content → holds_in L.format (state S.Store tx.old.conn.now).now.trees content
+        → IsRising content → ¬ ArePostingsOf sysno elder.now (content progress.old.database.0) }
+    ensures crash { Survives (state S.Store tx.old.conn.now) (state S.Store tx.new.conn.now) (λ _. ⊥) }
+    ensures idle { AreRising elder.now → AreRising newer.now → AreTheSame elder.now newer.now
+        → ((state S.Store tx.new.conn.now).now ≡ (state S.Store tx.old.conn.now).now)
+        × KeepsCounts (state S.Store tx.old.conn.now) (state S.Store tx.new.conn.now) × (progress.new ≡ progress.old) }
+{
+    let changed_keys = changed_keys(alloc, elder, newer)?;
+    for changed in &changed_keys {
+        L::key_change(
+            tx,
+            &mut progress.work,
+            progress.database,
+            changed.key,
+            sysno,
+            &changed.old,
+            &changed.new,
+        )?;
+    }
+    Ok(())
+}
+
+/// The occurrences of a kept record, computed again from its bytes.
+fn kept_occurrences(setting: &Setting<'_>, elder: &Elder) -> Result<Vec<Occurrence>, Refusal>
+    ensures found { IfOk result (λ found. AreOccurrencesOf setting.now.profile.now elder.now.bytes.items found.items) }
+    ensures fails { IfErr result (λ refusal. first_fault elder.now.bytes.items ≡ None → refusal ≡ Refusal.Memory) }
+    ensures unread { NoReadFault result }
+    ensures ready { NeverUnready result }
+{
+    match Marc::read(&elder.bytes) {
+        Ok(record) => Ok(occurrences(setting.alloc, &record, setting.profile)?),
+        Err(_) => Err(Refusal::Damaged),
+    }
+}
+
+/// The record is kept under the number after the last; `DatabaseFull` where the limits leave none.
+fn insert<S: Alter, L: Layout>(
+    tx: &mut Transaction<'_, S>,
+    setting: &Setting<'_>,
+    progress: &mut Progress,
+    newer: &Newer<'_>,
+) -> Result<Fate, Refusal>
+    ensures same { tx.new.conn.ghost_name ≡ tx.old.conn.ghost_name }
+    ensures stays { HasCleanDisk (state S.Store tx.new.conn.now) → IsTrue (state S.Store tx.old.conn.now).in_transaction
+        → Stays (state S.Store tx.old.conn.now) (state S.Store tx.new.conn.now) result }
+    ensures place { progress.new.database ≡ progress.old.database }
+    ensures taken { HasCleanDisk (state S.Store tx.new.conn.now) → IsTrue (state S.Store tx.old.conn.now).in_transaction
+        → (version : List ℕ) → IsNewer setting.now.profile.now newer.now.ident.now newer.now.bytes.now newer.now.occurrences.items
+        → Takes L.format setting.now.profile.now progress.old.database.0 (state S.Store tx.old.conn.now)
+        (state S.Store tx.new.conn.now) progress.old.last progress.new.last
+        (λ base. IsElderAs newer.now.ident.now base None) (λ base. updated
+        (conditions_of version setting.now) newer.now.ident.now newer.now.bytes.now base (kept_as newer.now.ident.now base)) result }
+    ensures unread { NoReadFault result }
+    ensures ready { NeverUnready result }
+    ensures crash { Survives (state S.Store tx.old.conn.now) (state S.Store tx.new.conn.now) (λ _. ⊥) }
+{
+    if progress.last >= setting.limits.numbers {
+        return Err(Refusal::DatabaseFull);
+    }
+    progress.last += 1;
+    let sysno = progress.last;
+    record_put(tx, progress.database, sysno, newer.ident, newer.bytes)?;
+    change_keys::<S, L>(tx, setting.alloc, progress, sysno, &[], &newer.occurrences)?;
+    Ok(Fate::Inserted)
+}
+
+/// The record takes its elder's place, under the same number.
+fn replace<S: Alter, L: Layout>(
+    tx: &mut Transaction<'_, S>,
+    setting: &Setting<'_>,
+    progress: &mut Progress,
+    elder: &Elder,
+    newer: &Newer<'_>,
+) -> Result<Fate, Refusal>
+    ensures same { tx.new.conn.ghost_name ≡ tx.old.conn.ghost_name }
+    ensures stays { HasCleanDisk (state S.Store tx.new.conn.now) → IsTrue (state S.Store tx.old.conn.now).in_transaction
+        → Stays (state S.Store tx.old.conn.now) (state S.Store tx.new.conn.now) result }
+    ensures place { progress.new.database ≡ progress.old.database }
+    ensures taken { HasCleanDisk (state S.Store tx.new.conn.now) → IsTrue (state S.Store tx.old.conn.now).in_transaction
+        → (version : List ℕ) → IsNewer setting.now.profile.now newer.now.ident.now newer.now.bytes.now newer.now.occurrences.items
+        → Takes L.format setting.now.profile.now progress.old.database.0 (state S.Store tx.old.conn.now)
+        (state S.Store tx.new.conn.now) progress.old.last progress.new.last
+        (λ base. IsElderAs newer.now.ident.now base (Some elder.now))
+        (λ base. updated (conditions_of version setting.now) newer.now.ident.now newer.now.bytes.now base
+        (kept_as newer.now.ident.now base)) result }
+    ensures unread { NoReadFault result }
+    ensures ready { NeverUnready result }
+    ensures crash { Survives (state S.Store tx.old.conn.now) (state S.Store tx.new.conn.now) (λ _. ⊥) }
+    ensures idle { HasCleanDisk (state S.Store tx.new.conn.now) → IsTrue (state S.Store tx.old.conn.now).in_transaction
+        → IsStore (state S.Store tx.old.conn.now)
+        → IsNewer setting.now.profile.now newer.now.ident.now newer.now.bytes.now newer.now.occurrences.items
+        → elder.now.bytes.items ≡ newer.now.bytes.now
+        → IfOk result (λ fate. IsIdle (state S.Store tx.old.conn.now) (state S.Store tx.new.conn.now) fate
+        × (progress.new ≡ progress.old)) }
+{
+    let old = kept_occurrences(setting, elder)?;
+    let sysno = elder.sysno;
+    record_put(tx, progress.database, sysno, newer.ident, newer.bytes)?;
+    change_keys::<S, L>(tx, setting.alloc, progress, sysno, &old, &newer.occurrences)?;
+    Ok(Fate::Updated)
+}
+
+/// The record is kept no longer.
+fn withdraw<S: Alter, L: Layout>(
+    tx: &mut Transaction<'_, S>,
+    setting: &Setting<'_>,
+    progress: &mut Progress,
+    elder: &Elder,
+) -> Result<Fate, Refusal>
+    ensures same { tx.new.conn.ghost_name ≡ tx.old.conn.ghost_name }
+    ensures stays { HasCleanDisk (state S.Store tx.new.conn.now) → IsTrue (state S.Store tx.old.conn.now).in_transaction
+        → Stays (state S.Store tx.old.conn.now) (state S.Store tx.new.conn.now) result }
+    ensures place { progress.new.database ≡ progress.old.database }
+    ensures taken { HasCleanDisk (state S.Store tx.new.conn.now) → IsTrue (state S.Store tx.old.conn.now).in_transaction
+        → (ident : List ℕ) (absent : Result Changed Why)
+        → Takes L.format setting.now.profile.now progress.old.database.0 (state S.Store tx.old.conn.now)
+        (state S.Store tx.new.conn.now) progress.old.last progress.new.last
+        (λ base. IsElderAs ident base (Some elder.now)) (λ base. deleted absent ident base (kept_as ident base)) result }
+    ensures unread { NoReadFault result }
+    ensures ready { NeverUnready result }
+    ensures crash { Survives (state S.Store tx.old.conn.now) (state S.Store tx.new.conn.now) (λ _. ⊥) }
+{
+    let old = kept_occurrences(setting, elder)?;
+    let sysno = elder.sysno;
+    record_take(tx, progress.database, sysno)?;
+    change_keys::<S, L>(tx, setting.alloc, progress, sysno, &old, &[])?;
+    Ok(Fate::Deleted)
+}
+
+/// Keeps a record: in its elder's place where there is one.
+fn keep<S: Alter, L: Layout>(
+    tx: &mut Transaction<'_, S>,
+    setting: &Setting<'_>,
+    progress: &mut Progress,
+    elder: Option<Elder>,
+    newer: &Newer<'_>,
+) -> Result<Fate, Refusal>
+    ensures same { tx.new.conn.ghost_name ≡ tx.old.conn.ghost_name }
+    ensures stays { HasCleanDisk (state S.Store tx.new.conn.now) → IsTrue (state S.Store tx.old.conn.now).in_transaction
+        → Stays (state S.Store tx.old.conn.now) (state S.Store tx.new.conn.now) result }
+    ensures place { progress.new.database ≡ progress.old.database }
+    ensures taken { HasCleanDisk (state S.Store tx.new.conn.now) → IsTrue (state S.Store tx.old.conn.now).in_transaction
+        → (version : List ℕ) → IsNewer setting.now.profile.now newer.now.ident.now newer.now.bytes.now newer.now.occurrences.items
+        → Takes L.format setting.now.profile.now progress.old.database.0 (state S.Store tx.old.conn.now)
+        (state S.Store tx.new.conn.now) progress.old.last progress.new.last
+        (λ base. IsElderAs newer.now.ident.now base elder) (λ base. updated
+        (conditions_of version setting.now) newer.now.ident.now newer.now.bytes.now base (kept_as newer.now.ident.now base)) result }
+    ensures unread { NoReadFault result }
+    ensures ready { NeverUnready result }
+    ensures crash { Survives (state S.Store tx.old.conn.now) (state S.Store tx.new.conn.now) (λ _. ⊥) }
+    ensures idle { HasCleanDisk (state S.Store tx.new.conn.now) → IsTrue (state S.Store tx.old.conn.now).in_transaction
+        → IsStore (state S.Store tx.old.conn.now)
+        → IsNewer setting.now.profile.now newer.now.ident.now newer.now.bytes.now newer.now.occurrences.items
+        → (same : Elder) → elder ≡ Some same → same.bytes.items ≡ newer.now.bytes.now
+        → IfOk result (λ fate. IsIdle (state S.Store tx.old.conn.now) (state S.Store tx.new.conn.now) fate
+        × (progress.new ≡ progress.old)) }
+{
+    match elder {
+        Some(elder) => replace::<S, L>(tx, setting, progress, &elder, newer),
+        None => insert::<S, L>(tx, setting, progress, newer),
+    }
+}
+
+/// The record that the bytes are, with its identifier under the profile.
+fn sound_record<'a>(
+    setting: &Setting<'_>,
+    incoming: Incoming<'a>,
+) -> Result<(Marc<'a>, String), Refusal>
+    ensures whole { IfOk result (λ sound. IsRecord incoming.entry.bytes.now sound.0) }
+    ensures named { IfOk result (λ sound. ident_in setting.now.profile.now incoming.entry.bytes.now ≡ Ok (string_bytes sound.1)) }
+    ensures refused { IfErr result (λ refusal. (version : List ℕ) (kind : Kind) (base : Base) → IsFailing (why_of refusal)
+        ⊎ (changed_record
+        (conditions_of version setting.now) kind incoming.entry.file incoming.entry.nth incoming.entry.bytes.now base ≡ Err
+        (why_of refusal))) }
+    ensures unread { NoReadFault result }
+    ensures ready { NeverUnready result }
+{
+    let Incoming { bytes, file, nth } = incoming;
+    let record = match Marc::read(bytes) {
+        Ok(record) => record,
+        Err(fault) => return Err(Refusal::of_marc(file, nth, fault)),
+    };
+    match identifier(setting.alloc, &record, setting.profile) {
+        Ok(ident) => Ok((record, ident)),
+        Err(fault) => Err(Refusal::of_identifier(file, nth, fault)),
+    }
+}
+
+/// Does with one record what the change's kind says.
+pub(crate) fn change_record<S: Alter, L: Layout>(
+    tx: &mut Transaction<'_, S>,
+    setting: &Setting<'_>,
+    progress: &mut Progress,
+    incoming: Incoming<'_>,
+) -> Result<Fate, Refusal>
+    ensures same { tx.new.conn.ghost_name ≡ tx.old.conn.ghost_name }
+    ensures stays { HasCleanDisk (state S.Store tx.new.conn.now) → IsTrue (state S.Store tx.old.conn.now).in_transaction
+        → Stays (state S.Store tx.old.conn.now) (state S.Store tx.new.conn.now) result }
+    ensures database { progress.new.database ≡ progress.old.database }
+    ensures taken { HasCleanDisk (state S.Store tx.new.conn.now) → IsTrue (state S.Store tx.old.conn.now).in_transaction
+        → (version : List ℕ) (records_of : ℤ → List Kept) (base : Base) → progress.old.last ≡ base.last
+        → IsUnderWay L.format setting.now.profile.now progress.old.database.0 records_of (state S.Store tx.old.conn.now) base
+        → Meets (IsTaken L.format setting.now.profile.now progress.old.database.0 records_of (state S.Store tx.old.conn.now)
+        (state S.Store tx.new.conn.now) progress.new.last)
+        (changed_record
+        (conditions_of version setting.now) setting.now.kind incoming.entry.file incoming.entry.nth incoming.entry.bytes.now base) result }
+    ensures unread { NoReadFault result }
+    ensures ready { NeverUnready result }
+    ensures crash { Survives (state S.Store tx.old.conn.now) (state S.Store tx.new.conn.now) (λ _. ⊥) }
+    ensures idle { HasCleanDisk (state S.Store tx.new.conn.now) → IsTrue (state S.Store tx.old.conn.now).in_transaction
+        → setting.now.kind ≡ Kind.Update
+        → (records_of : ℤ → List Kept) (base : Base)
+        → IsUnderWay L.format setting.now.profile.now progress.old.database.0 records_of (state S.Store tx.old.conn.now) base
+        → (kept : Kept) → Contains base.records kept → kept.bytes ≡ incoming.entry.bytes.now
+        → IfOk result (λ fate. IsIdle (state S.Store tx.old.conn.now) (state S.Store tx.new.conn.now) fate
+        × (progress.new ≡ progress.old)) }
+{
+    let Incoming { bytes, file, nth } = incoming;
+    let (record, ident) = sound_record(setting, incoming)?;
+    let elder = record_of_ident(tx, progress.database, ident.as_str())?;
+    match (setting.kind, elder) {
+        (Kind::Update, elder) => {
+            let newer = Newer {
+                ident: ident.as_str(),
+                bytes,
+                occurrences: occurrences(setting.alloc, &record, setting.profile)?,
+            };
+            keep::<S, L>(tx, setting, progress, elder, &newer)
+        }
+        (Kind::Delete, Some(elder)) => withdraw::<S, L>(tx, setting, progress, &elder),
+        (Kind::Adelete, Some(elder)) => withdraw::<S, L>(tx, setting, progress, &elder),
+        (Kind::Delete, None) => Err(Refusal::Unknown { file, nth }),
+        (Kind::Adelete, None) => Ok(Fate::PassedOver),
+    }
+}

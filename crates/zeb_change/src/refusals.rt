@@ -1,0 +1,169 @@
+//! Why a command is refused.
+
+ghost use Rattle.std.specs.Prelude.{◌≡◌};
+
+use crate::faults::RecordFault;
+use std::alloc::AllocError;
+use zeb_analysis::AnalysisFault;
+use zeb_extract::IdentFault;
+use zeb_marc::MarcFault;
+use zeb_query::QueryFault;
+use zeb_register::RegFault;
+
+/// Why a command is refused. The tables are then as before it. Files and records are counted from 1, records
+/// within their file.
+#[derive(Debug, Drop)]
+pub enum Refusal {
+    /// The register was never initialised.
+    NotInitialised,
+    /// The register has another layout's format.
+    OldFormat,
+    /// The register was initialised under another profile.
+    ProfileChanged,
+    /// A diagnostic of Bib-1: its number, the byte of the query that it is about, and the text that it names.
+    Diagnostic {
+        number: u32,
+        place: usize,
+        addinfo: String,
+    },
+    /// A database of that name is there.
+    Exists,
+    /// A record is no record, or has no identifier.
+    Record {
+        file: u64,
+        nth: u64,
+        fault: RecordFault,
+    },
+    /// No record with that record's identifier is kept.
+    Unknown {
+        file: u64,
+        nth: u64,
+    },
+    /// No system number is left.
+    DatabaseFull,
+    /// One command has too many records.
+    TooManyRecords,
+    /// The tables hold what no commands leave.
+    Damaged,
+    /// The rule for identifiers differs from the register's.
+    IdentifierRuleChanged,
+    /// A reader failed.
+    ReadFault {
+        file: u64,
+    },
+    /// The store failed.
+    Store,
+    /// Memory ran out.
+    Memory,
+    /// A command or a query that is not there yet.
+    Unsupported,
+}
+
+impl From<AllocError> for Refusal {
+    ghost use Rattle.zeb_change.specs.declared.refusals.Refusal.TheVariants.{Memory};
+
+    ghost from_gives = { λ _ refusal. refusal ≡ Memory };
+
+    fn from(_error: AllocError) -> Refusal {
+        Refusal::Memory
+    }
+}
+
+/// The engine itself asks only a commit of the store, so the reason is left out.
+impl From<sqlite::Error> for Refusal {
+    ghost use Rattle.zeb_change.specs.declared.refusals.Refusal.TheVariants.{Store};
+
+    ghost from_gives = { λ _ refusal. refusal ≡ Store };
+
+    fn from(_error: sqlite::Error) -> Refusal {
+        Refusal::Store
+    }
+}
+
+impl From<RegFault> for Refusal {
+    ghost use Rattle.zeb_change.specs.Outcomes.{register_refusal};
+
+    ghost from_gives = { λ fault refusal. refusal ≡ register_refusal fault };
+
+    fn from(fault: RegFault) -> Refusal {
+        match fault {
+            RegFault::Damaged => Refusal::Damaged,
+            RegFault::Store => Refusal::Store,
+            RegFault::Memory => Refusal::Memory,
+        }
+    }
+}
+
+impl From<QueryFault> for Refusal {
+    ghost use Rattle.zeb_change.specs.Outcomes.{query_refusal};
+
+    ghost from_gives = { λ fault refusal. refusal ≡ query_refusal fault };
+
+    fn from(fault: QueryFault) -> Refusal {
+        match fault {
+            QueryFault::Diagnostic {
+                number,
+                place,
+                addinfo,
+            } => Refusal::Diagnostic {
+                number,
+                place,
+                addinfo,
+            },
+            QueryFault::Memory => Refusal::Memory,
+        }
+    }
+}
+
+impl From<AnalysisFault> for Refusal {
+    ghost use Rattle.zeb_change.specs.Outcomes.{analysis_refusal};
+
+    ghost from_gives = { λ fault refusal. refusal ≡ analysis_refusal fault };
+
+    fn from(fault: AnalysisFault) -> Refusal {
+        match fault {
+            AnalysisFault::Marc { file, nth, fault } => Refusal::of_marc(file, nth, fault),
+            AnalysisFault::Ident { file, nth, fault } => Refusal::of_identifier(file, nth, fault),
+            AnalysisFault::TooManyRecords => Refusal::TooManyRecords,
+            AnalysisFault::Memory => Refusal::Memory,
+        }
+    }
+}
+
+impl Refusal {
+    ghost use Rattle.zeb_change.specs.Outcomes.{marc_refusal, identifier_refusal};
+
+    /// The refusal of a record whose bytes are at fault, or could not be read.
+    pub(crate) fn of_marc(file: u64, nth: u64, fault: MarcFault) -> Refusal
+        ensures { result ≡ marc_refusal file nth fault }
+    {
+        let fault = match fault {
+            MarcFault::ReadFault => return Refusal::ReadFault { file },
+            MarcFault::LengthDigits => RecordFault::LengthDigits,
+            MarcFault::LengthRange => RecordFault::LengthRange,
+            MarcFault::Truncated => RecordFault::Truncated,
+            MarcFault::NoTerminator => RecordFault::NoTerminator,
+            MarcFault::LeaderCounts => RecordFault::LeaderCounts,
+            MarcFault::BaseAddress => RecordFault::BaseAddress,
+            MarcFault::DirectoryLength => RecordFault::DirectoryLength,
+            MarcFault::EntryDigits => RecordFault::EntryDigits,
+            MarcFault::EntryTag => RecordFault::EntryTag,
+            MarcFault::EntryRange => RecordFault::EntryRange,
+            MarcFault::FieldEnd => RecordFault::FieldEnd,
+            MarcFault::TooManySeparators => RecordFault::TooManySeparators,
+        };
+        Refusal::Record { file, nth, fault }
+    }
+
+    /// The refusal of a record that has no sound identifier.
+    pub(crate) fn of_identifier(file: u64, nth: u64, fault: IdentFault) -> Refusal
+        ensures { result ≡ identifier_refusal file nth fault }
+    {
+        let fault = match fault {
+            IdentFault::Memory => return Refusal::Memory,
+            IdentFault::NoIdentifier => RecordFault::NoIdentifier,
+            IdentFault::BadIdentifier => RecordFault::BadIdentifier,
+        };
+        Refusal::Record { file, nth, fault }
+    }
+}

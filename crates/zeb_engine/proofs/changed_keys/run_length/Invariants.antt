@@ -1,6 +1,0 @@
-use Rattle.std.proofs.Common.{take}
-use Rattle.zeb_engine.specs.PrivateKeyRuns.{AreOfKey}
-use Rattle.zeb_engine.proofs.changed_keys.run_length.Given as goal
-
-abbrev pub invariant-loop-index : goal.invariant-loop-index
-invariant-loop-index l = record { so_far : AreOfKey l.key (take l.index l.occurrences) }

@@ -1,5 +1,0 @@
-use Rattle.std.proofs.Common.{arith}
-use Rattle.zeb_engine.proofs.changes.check_readers.Goals as goal
-
-pub loop-index-init : goal.loop-index-init
-loop-index-init g c = record { fine = λ j none d. absurd (omega (arith, none)) }
