@@ -35,6 +35,7 @@ pub mod TermRows
 pub mod PackedLemmas
 pub mod PackedLists
 pub mod PackedTerms
+pub mod PackedTotals
 pub mod PlaceLemmas
 pub mod RecordLemmas
 pub mod Refusals

@@ -14,6 +14,7 @@ mod lists;
 mod meta;
 mod occurring;
 mod packed;
+mod packed_totals;
 mod plain;
 mod registers;
 mod statements;

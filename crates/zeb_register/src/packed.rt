@@ -61,7 +61,7 @@ pub(crate) fn postings_packed<S: Alter>(
 }
 
 /// The rows of a term's blocks, by the numbers of the blocks.
-fn key_rows<S: Alter>(
+pub(crate) fn key_rows<S: Alter>(
     conn: &mut Connection<S>,
     db: DatabaseId,
     index: u32,
@@ -77,7 +77,7 @@ fn key_rows<S: Alter>(
 }
 
 /// A count with so many rows more; it stays at its greatest value.
-fn counted(count: u64, rows: usize) -> u64
+pub(crate) fn counted(count: u64, rows: usize) -> u64
     ensures rises { Rises rows count result }
     ensures keeps { count ≤ result }
 {
