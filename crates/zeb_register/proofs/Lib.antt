@@ -38,4 +38,5 @@ pub mod PackedTerms
 pub mod PackedTotals
 pub mod PlaceLemmas
 pub mod RecordLemmas
+pub mod RecordReadings
 pub mod Refusals

@@ -41,7 +41,7 @@ pub records_keys : HasKeys store_schema records ((1 ∷ 2 ∷ []) ∷ (1 ∷ 3 �
 records_keys = record { are = λ r new. refl; comparable = refl }
 
 -- a row of the table, whose columns are known
-row_of : (r : Row) → map code r ≡ codes_of records → (id : ℤ) × (db : ℤ) × (sysno : ℤ) × (ident : List ℕ) × (bytes : List ℕ) × (r ≡ Int id ∷ record_row db sysno ident bytes)
+pub row_of : (r : Row) → map code r ≡ codes_of records → (id : ℤ) × (db : ℤ) × (sysno : ℤ) × (ident : List ℕ) × (bytes : List ℕ) × (r ≡ Int id ∷ record_row db sysno ident bytes)
 row_of r typed =
     let id = int_of (column r 0) (code_at r (codes_of records) 0 typed) in
     let db = int_of (column r 1) (code_at r (codes_of records) 1 typed) in

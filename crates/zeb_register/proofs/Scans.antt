@@ -56,7 +56,7 @@ strictly_mapped R S f (x ∷ xs) so up = (
   strictly_mapped R S f xs (λ a b h k. so a b (inr h) (inr k)) up.1,
 )
 
-distinct_mapped : {X Y : Type 0} (L : X → X → Type 0) (e : Y → Y → Bool) (f : X → Y) (xs : List X) → ((a b : X) → Has xs a → Has xs b → L a b → e (f a) (f b) ≡ false) → IsAscending L xs → IsDistinct e (map f xs)
+pub distinct_mapped : {X Y : Type 0} (L : X → X → Type 0) (e : Y → Y → Bool) (f : X → Y) (xs : List X) → ((a b : X) → Has xs a → Has xs b → L a b → e (f a) (f b) ≡ false) → IsAscending L xs → IsDistinct e (map f xs)
 unfolding IsDistinct
 distinct_mapped L e f [] so up = tt
 distinct_mapped L e f (x ∷ xs) so up = (
@@ -64,7 +64,7 @@ distinct_mapped L e f (x ∷ xs) so up = (
   distinct_mapped L e f xs (λ a b h k. so a b (inr h) (inr k)) up.1,
 )
 
-tied : (o : Ordering) → is_eq o ≡ true → o ≡ Equal
+pub tied : (o : Ordering) → is_eq o ≡ true → o ≡ Equal
 tied Less h = absurd cc
 tied Equal h = refl
 tied Greater h = absurd cc
@@ -80,7 +80,7 @@ read_by params r (place ∷ order) = ap (λ vs. column r place ∷ vs) (read_by 
 -- ---- answers
 
 -- each row that passes, beside the parameters
-matched : (wheres : List Condition) (params : Row) (lost : Value) (db : Trees) (rows : List Row)
+pub matched : (wheres : List Condition) (params : Row) (lost : Value) (db : Trees) (rows : List Row)
     → flat_map (λ r. matches_as lost db (map term_of wheres) end (params ∷ r ∷ [])) rows ≡ map (λ r. params ∷ r ∷ []) (filter (passes wheres params) rows)
 matched wheres params lost db [] = refl
 matched wheres params lost db (r ∷ rows) = elim (cases_Bool (passes wheres params r)) [
@@ -89,7 +89,7 @@ matched wheres params lost db (r ∷ rows) = elim (cases_Bool (passes wheres par
 ]
 
 -- with no table of a WITH, a tree is that of the store
-plain : (db : Trees) (tree : ℕ) → overlay db [] tree ≡ db tree
+pub plain : (db : Trees) (tree : ℕ) → overlay db [] tree ≡ db tree
 plain db tree = elim (cases_Bool (leb (2 ^ 31) tree)) [ inl is ↦ rw is | inr is_not ↦ rw is_not ]
 
 pub reads : (schema_db : Database) (tree : ℕ) (wheres : List Condition) (project : List Term) (keys : List (Term × Key)) (limit : Term) (params : Row) (rows : List Row)

@@ -35,10 +35,10 @@ use Rattle.zeb_register.proofs.TermsAmong.{terms_among}
 
 -- ---- rows one after the other
 
-int_at : (m n : ℕ) → value_cmp (Int (pos m)) (Int (pos n)) ≡ nat_cmp m n
+pub int_at : (m n : ℕ) → value_cmp (Int (pos m)) (Int (pos n)) ≡ nat_cmp m n
 int_at m n = value_cmp-Int (pos m) (pos n) ∙ ints_order m n
 
-up_to : (m n : ℕ) (o : Ordering) → ordering_then (nat_cmp m n) o ≡ Less → m ≤ n
+pub up_to : (m n : ℕ) (o : Ordering) → ordering_then (nat_cmp m n) o ≡ Less → m ≤ n
 up_to m n o h = from (nat_cmp m n) refl h
   where
     from : (k : Ordering) → nat_cmp m n ≡ k → ordering_then (nat_cmp m n) o ≡ Less → m ≤ n

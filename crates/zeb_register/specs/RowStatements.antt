@@ -1,15 +1,17 @@
 -- Steps of private functions, which no public clause speaks of: the rows that single statements show, and what they write.
-use Rattle.std.specs.Prelude.{◌≡◌, ◌≢◌, ◌↔◌, ◌⊎◌, ℕ, ℤ, pos, List, [], ◌∷◌, IsTrue, IsUtf8}
+use Rattle.std.specs.Prelude.{◌≡◌, ◌≢◌, ◌↔◌, ◌⊎◌, ℕ, ℤ, pos, false, List, [], ◌∷◌, IsTrue, IsUtf8}
 use Rattle.std.specs.List.{AllByRecursion}
+use Rattle.std.specs.Ordering.{is_lt}
 use Rattle.sqlite.specs.declared.types.Value.TheVariants.{Int, Text, Blob}
 use Rattle.sqlite.specs.Effect.{IsDatabase}
-use Rattle.sqlite.specs.Order.{Row, column}
+use Rattle.sqlite.specs.Order.{Row, column, value_cmp}
 use Rattle.sqlite.specs.Schema.{Schema}
 use Rattle.sqlite.specs.State.{State, IsUnchanged}
 use Rattle.sqlite.specs.Tree.{Trees}
 use Rattle.zeb_register.specs.Calls.{OnlyReads}
+use Rattle.zeb_register.specs.Kept.{IsRecordCount}
 use Rattle.zeb_register.specs.Sql.{HasRow, IsListOf}
-use Rattle.zeb_register.specs.Store.{HasDatabase, HasRecord, IsStore, entry, meta_tree}
+use Rattle.zeb_register.specs.Store.{HasDatabase, HasRecord, IsRest, IsStore, entry, meta_tree}
 
 -- the table has one row more
 abbrev pub Gains : Row → ℕ → Trees → Trees → Type 0
@@ -76,3 +78,13 @@ IsPlaceOf db idx reg term sysno columns =
 -- a row that shows a record
 abbrev pub IsRecordShown : Row → Type 0
 IsRecordShown row = (n : ℕ) × (t : List ℕ) × (b : List ℕ) × (row ≡ Int (pos n) ∷ Text t ∷ Blob b ∷ []) × IsUtf8 t
+
+-- ---- counts, and one row after the other
+
+-- one row that shows how many records the database has
+abbrev pub ShowsCount : ℤ → Trees → List Row → Type 0
+ShowsCount db trees rows = (count : ℕ) × IsRecordCount trees db count × (rows ≡ (Int (pos count) ∷ []) ∷ [])
+
+-- a row that follows these columns in some row of a table, and whose number isn't below the start
+abbrev pub IsRestAtLeast : ℕ → Row → ℤ → Trees → Row → Type 0
+IsRestAtLeast tree front start trees row = IsRest tree front trees row × (is_lt (value_cmp (column row 0) (Int start)) ≡ false)

@@ -9,12 +9,14 @@ ghost use Rattle.zeb_register.specs.Store.{IsStore, records_tree, record_row, Ha
 ghost use Rattle.sqlite_rules.specs.Lists.{Has};
 ghost use Rattle.zeb_register.specs.RowPlaces.{first_three};
 ghost use Rattle.zeb_register.specs.Kept.{IsElderOf, IsIdentOf, AreNumbered, AreReadableIdents, AreReadable, record_shown};
+ghost use Rattle.zeb_register.specs.Kept.{IsFirstFrom, IsRecordCount};
 ghost use Rattle.zeb_register.specs.RowStatements.{IsRecordShown};
 ghost use Rattle.zeb_register.specs.Calls.{OnlyReads, Alters, Inside, Reading, MayRefuse};
 
 use crate::statements::postings::nothing_of;
 use crate::statements::records::{
-    elder_rows, ident_rows, record_keep, record_remove, record_rows, records_clear,
+    count_rows, elder_rows, ident_rows, record_keep, record_remove, record_rows, records_clear,
+    rows_from,
 };
 use crate::values::{read, stored};
 use crate::{DatabaseId, RegFault};
@@ -130,6 +132,57 @@ pub fn ident_of<S: Alter>(
     let rows = ident_rows(conn, db.column(), sysno)?;
     match rows.first() {
         Some(row) => Ok(Some(read(row, 0)?)),
+        None => Ok(None),
+    }
+}
+
+/// How many records a database has; `2^63 - 1`, the greatest number that a column stores, where there are more.
+///
+/// No record is read for it, and no memory is held. It changes nothing.
+pub fn record_count<S: Alter>(conn: &mut Connection<S>, db: DatabaseId) -> Result<u64, RegFault>
+    ensures call { Reading (state S.Store conn.old) (state S.Store conn.new) result (λ _. IsUnchanged) }
+    ensures value { HasCleanDisk (state S.Store conn.new) → IsStore (state S.Store conn.old)
+        → IfOk result (IsRecordCount (state S.Store conn.old).now.trees db.0) }
+    ensures honest { HasCleanDisk (state S.Store conn.new) → IsStore (state S.Store conn.old) → result ≢ Err RegFault.Damaged }
+    ensures opened { HasCleanDisk (state S.Store conn.new) → result ≡ Err RegFault.Damaged → IsTrue (state S.Store conn.old).is_open }
+{
+    let rows = count_rows(conn, db.column())?;
+    match rows.first() {
+        Some(row) => read(row, 0),
+        // A count has one row, whatever the tables are.
+        None => Err(RegFault::Damaged),
+    }
+}
+
+/// The record with the least system number that is not below `start`, or `None`. So records are read one after the other.
+///
+/// `None` also where `start` is above `2^63 - 1`, which no column stores. `Damaged` where the identifier is no UTF-8. It changes
+/// nothing.
+pub fn record_from<S: Alter>(
+    conn: &mut Connection<S>,
+    db: DatabaseId,
+    start: u64,
+) -> Result<Option<Record>, RegFault>
+    ensures call { Reading (state S.Store conn.old) (state S.Store conn.new) result (λ _. IsUnchanged) }
+    ensures value { HasCleanDisk (state S.Store conn.new) → IsStore (state S.Store conn.old) → start < 2 ^ 63
+        → IfOk result (IsFirstFrom (state S.Store conn.old).now.trees db.0 start) }
+    ensures large { 2 ^ 63 ≤ start → IfOk result (λ found. found ≡ None) }
+    ensures honest { HasCleanDisk (state S.Store conn.new) → IsStore (state S.Store conn.old) → result ≡ Err RegFault.Damaged
+        → ¬ AreReadable (state S.Store conn.old).now.trees db.0 }
+    ensures opened { HasCleanDisk (state S.Store conn.new) → result ≡ Err RegFault.Damaged → IsTrue (state S.Store conn.old).is_open }
+    ensures refused { HasCleanDisk (state S.Store conn.new) → IsStore (state S.Store conn.old) → result ≡ Err RegFault.Store
+        → MayRefuse (state S.Store conn.old) (state S.Store conn.new) }
+{
+    // What is seen outside a transaction is what was committed.
+    let _idle = conn.is_autocommit();
+    let Ok(start) = stored(start) else {
+        // A closed connection is refused for such a number too.
+        nothing_of(conn)?;
+        return Ok(None);
+    };
+    let rows = rows_from(conn, db.column(), start)?;
+    match rows.first() {
+        Some(row) => Ok(Some(record_of(row)?)),
         None => Ok(None),
     }
 }

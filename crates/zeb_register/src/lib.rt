@@ -25,7 +25,10 @@ mod wiping;
 
 pub use catalog::{Database, DatabaseId, database_of, database_put};
 pub use faults::RegFault;
-pub use kept::{Elder, Record, ident_of, record_of_ident, record_put, record_take, records};
+pub use kept::{
+    Elder, Record, ident_of, record_count, record_from, record_of_ident, record_put, record_take,
+    records,
+};
 pub use lists::rows_are_lists;
 pub use meta::{meta_of, meta_put};
 pub use occurring::{OccurrenceSet, occurrences_have_one_list_of_terms};

@@ -1,12 +1,13 @@
 //! Statements on the table `records`.
 
-ghost use Rattle.std.specs.Prelude.{◌≡◌, [], ◌∷◌, IfErr};
+ghost use Rattle.std.specs.Prelude.{◌≡◌, List, [], ◌∷◌, take, IfErr};
 ghost use Rattle.sqlite.specs.Held.{state};
 ghost use Rattle.sqlite.specs.State.{HasCleanDisk};
 ghost use Rattle.sqlite.specs.declared.types.Value.TheVariants.{Int};
-ghost use Rattle.zeb_register.specs.Sql.{Loses, Replaces};
+ghost use Rattle.zeb_register.specs.Sql.{IsListOf, Loses, Replaces};
 ghost use Rattle.zeb_register.specs.Store.{IsStore, records_tree, record_row, HasNumber, SharesRecord, IsRecordIn, IsRest};
-ghost use Rattle.zeb_register.specs.RowStatements.{IsElderRow, IsIdentRow, Lists, ListsInside};
+ghost use Rattle.zeb_register.specs.RowStatements.{IsElderRow, IsIdentRow, IsRestAtLeast, Lists, ListsInside, ShowsCount};
+ghost use Rattle.zeb_register.specs.RowTerms.{Reads};
 ghost use Rattle.zeb_register.specs.Faults.{fault_of};
 ghost use Rattle.zeb_register.specs.Calls.{Alters, Inside, Reading, MayRefuse};
 
@@ -97,5 +98,35 @@ pub(crate) fn record_rows<S: Alter>(conn: &mut Connection<S>, db: i64) -> Result
     conn.query_all(
         "SELECT sysno, ident, bytes FROM records WHERE db = ?1 ORDER BY sysno",
         params![db],
+    )
+}
+
+/// How many records a database has: one row, with one number.
+pub(crate) fn count_rows<S: Alter>(conn: &mut Connection<S>, db: i64) -> Result<Vec<Row>, Error>
+    ensures call { Reading (state S.Store conn.old) (state S.Store conn.new) result
+        (λ rows a b. Reads (ShowsCount db) a b rows.items) }
+{
+    // What is seen outside a transaction is what was committed.
+    let _idle = conn.is_autocommit();
+    conn.query_all("SELECT count(*) FROM records WHERE db = ?1", params![db])
+}
+
+/// The record with the least number that is not below `start`: at most one row.
+pub(crate) fn rows_from<S: Alter>(
+    conn: &mut Connection<S>,
+    db: i64,
+    start: i64,
+) -> Result<Vec<Row>, Error>
+    ensures call { Reading (state S.Store conn.old) (state S.Store conn.new) result
+        (λ rows a b. Reads (λ trees rows. (all : List _) × IsListOf (IsRestAtLeast records_tree (Int db ∷ []) start trees) all
+        × (rows ≡ take 1 all)) a b rows.items) }
+    ensures err { HasCleanDisk (state S.Store conn.new) → IsStore (state S.Store conn.old)
+        → IfErr result (λ e. fault_of e ≡ RegFault.Store → MayRefuse (state S.Store conn.old) (state S.Store conn.new)) }
+{
+    // What is seen outside a transaction is what was committed.
+    let _idle = conn.is_autocommit();
+    conn.query_all(
+        "SELECT sysno, ident, bytes FROM records WHERE db = ?1 AND sysno >= ?2 ORDER BY sysno LIMIT 1",
+        params![db, start],
     )
 }
