@@ -1,15 +1,13 @@
 -- What a find, a scan and a stat answer by the registers alone: their definitions, read with the postings that the tables hold and
 -- with the identifiers in them, whatever records the tables keep.
-use Rattle.std.specs.Prelude.{◌≡◌, ℕ, ℤ, pos, List, [], ◌∷◌, length, Result, string_bytes, OnOk}
-use Rattle.sqlite.specs.declared.types.Value.TheVariants.{Int}
-use Rattle.sqlite.specs.Order.{Row}
+use Rattle.std.specs.Prelude.{◌≡◌, ℕ, ℤ, pos, List, Result, string_bytes, OnOk}
 use Rattle.sqlite.specs.Tree.{Trees}
 use Rattle.sqlite.specs.State.{State}
 use Rattle.zeb_profile.specs.declared.directives.Directive.{Directive}
 use Rattle.zeb_register.specs.Content.{Content, posted}
 use Rattle.zeb_register.specs.Formats.{Format, holds_in}
-use Rattle.zeb_register.specs.Sql.{IsListOf}
-use Rattle.zeb_register.specs.Store.{IsStore, HasDatabase, IsRest, records_tree}
+use Rattle.zeb_register.specs.Kept.{IsRecordCount}
+use Rattle.zeb_register.specs.Store.{IsStore, HasDatabase}
 use Rattle.zeb_search.specs.Registers.{has_ident_in}
 use Rattle.zeb_engine.specs.declared.commands.Command.{Command}
 use Rattle.zeb_engine.specs.declared.commands.Command.TheVariants.{Find, Scan, Stat}
@@ -31,10 +29,10 @@ FindSays profile text first count trees content db last = IsAnswered (posted con
 abbrev pub ScanSays : List Directive → List ℕ → ℕ → ℕ → Said
 ScanSays profile text number position trees content db last = IsScanned (posted content db) profile text number position
 
--- its records are counted by their rows
+-- its records are counted, and none of them is read
 abbrev pub StatSays : List Directive → Said
 StatSays profile trees content db last answer =
-    (rows : List Row) × (given : ℕ) × IsListOf (IsRest records_tree (Int db ∷ []) trees) rows × (last ≡ pos given) × IsCounted (posted content db) profile (length rows) given answer
+    (kept : ℕ) × (given : ℕ) × IsRecordCount trees db kept × (last ≡ pos given) × IsCounted (posted content db) profile kept given answer
 
 -- there is a database of this name, and the answer is one of it
 abbrev pub IsSaid : Said → List ℕ → Trees → Content → Answer → Type 0

@@ -17,6 +17,7 @@ pub mod Works
 pub mod Readiness
 pub mod PrivateWriting
 pub mod PrivateChanging
+pub mod PrivateDumping
 pub mod Headline
 pub mod Adopting
 pub mod Worked

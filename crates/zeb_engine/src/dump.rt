@@ -1,36 +1,65 @@
 //! What is kept of a database, as it came in.
 
-ghost use Rattle.std.specs.Prelude.{◌≡◌, false, OnOk, IfOk};
+ghost use Rattle.std.specs.Prelude.{◌≡◌, List, false, IsTrue, IfErr, IfOk, OnOk};
 ghost use Rattle.std.specs.List.{flat_map};
 ghost use Rattle.sqlite.specs.Held.{state};
 ghost use Rattle.sqlite.specs.State.{HasCleanDisk, Survives};
+ghost use Rattle.sqlite.specs.Tree.{Trees};
 ghost use Rattle.zeb_register.specs.Calls.{ChangesNothing};
 ghost use Rattle.zeb_register.specs.Formats.{version_of};
 ghost use Rattle.zeb_engine.specs.Adopting.{StaysOpen};
+ghost use Rattle.zeb_engine.specs.Answers.{IsFailure, refused};
+ghost use Rattle.zeb_change.specs.Refused.{why_of};
 ghost use Rattle.zeb_change.specs.Conditions.{conditions};
 ghost use Rattle.zeb_change.specs.declared.settings.Limits.{Limits};
+ghost use Rattle.zeb_change.specs.Base.{Kept};
 ghost use Rattle.zeb_engine.specs.NameOf.{name_bytes};
+ghost use Rattle.zeb_engine.specs.PrivateDumping.{KeepsBase};
+ghost use Rattle.zeb_change.specs.Refused.{NeverUnready};
 ghost use Rattle.zeb_engine.specs.Readiness.{GoesByTexts};
 ghost use Rattle.zeb_change.specs.Reading.{NoReadFault};
 ghost use Rattle.zeb_engine.specs.Steps.{dumped_by};
-ghost use Rattle.zeb_engine.specs.Works.{Always, Serves};
+ghost use Rattle.zeb_engine.specs.Works.{Always, Serves, ShowsStore};
 
 use crate::names::DbName;
 use crate::readiness::{check_ready, existing_database};
 use crate::replies::Reply;
 use sqlite::{Alter, Connection};
-use std::alloc::{AllocError, Global};
+use std::alloc::Global;
 use zeb_change::Refusal;
 use zeb_profile::Profile;
-use zeb_register::{Layout, Record, records};
+use zeb_register::{DatabaseId, Layout, record_from};
 
-/// The bytes of the records, one after the other.
-fn joined(alloc: Global, records: &[Record]) -> Result<Vec<u8>, AllocError>
-    ensures { IfOk result (λ bytes. bytes.items ≡ flat_map (λ kept. kept.bytes.items) records.now) }
+/// The bytes of a database's records, in rising order of their system numbers. One record is held at a time.
+fn bytes_of<S: Alter>(
+    alloc: Global,
+    connection: &mut Connection<S>,
+    database: DatabaseId,
+) -> Result<Vec<u8>, Refusal>
+    requires idle { connection.old.in_transaction ≡ false }
+    ensures idle { connection.new.in_transaction ≡ false }
+    ensures open { HasCleanDisk (state S.Store connection.new)
+        → OnOk result (IsTrue (state S.Store connection.old).is_open → IsTrue (state S.Store connection.new).is_open) }
+    ensures same { HasCleanDisk (state S.Store connection.new)
+        → ChangesNothing (state S.Store connection.old) (state S.Store connection.new) }
+    ensures joined { HasCleanDisk (state S.Store connection.new) → (trees : Trees) → ShowsStore (state S.Store connection.old) trees
+        → IsTrue (state S.Store connection.old).is_open → (records : List Kept) → KeepsBase trees database.0 records
+        → IfOk result (λ bytes. bytes.items ≡ flat_map (λ kept. kept.bytes) records) }
+    ensures failed { HasCleanDisk (state S.Store connection.new) → (trees : Trees) → ShowsStore (state S.Store connection.old) trees
+        → IsTrue (state S.Store connection.old).is_open → (records : List Kept) → KeepsBase trees database.0 records
+        → IfErr result (λ refusal. IsFailure (refused (why_of refusal))) }
+    ensures crash { Survives (state S.Store connection.old) (state S.Store connection.new) (λ _. ⊥) }
+    ensures unread { NoReadFault result }
+    ensures ready { NeverUnready result }
 {
     let mut bytes = Vec::new(alloc);
-    for kept in records {
-        bytes.extend_from_slice(&kept.bytes)?;
+    let mut next: u64 = 0;
+    for _turn in 0..u64::MAX {
+        let Some(record) = record_from(connection, database, next)? else {
+            break;
+        };
+        bytes.extend_from_slice(&record.bytes)?;
+        next = record.sysno.saturating_add(1);
     }
     Ok(bytes)
 }
@@ -60,6 +89,6 @@ pub(crate) fn dump<S: Alter, L: Layout>(
     profile.is_of_some_text();
     check_ready::<S, L>(connection, profile)?;
     let database = existing_database::<S, L>(alloc, connection, name)?;
-    let kept = records(alloc, connection, database.id)?;
-    Ok(Reply::Dumped(joined(alloc, &kept)?))
+    let bytes = bytes_of(alloc, connection, database.id)?;
+    Ok(Reply::Dumped(bytes))
 }

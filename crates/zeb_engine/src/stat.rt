@@ -28,7 +28,7 @@ use sqlite::{Alter, Connection};
 use std::alloc::{AllocError, Global};
 use zeb_change::Refusal;
 use zeb_profile::{Profile, Register};
-use zeb_register::{DatabaseId, Layout, Totals, Work, records};
+use zeb_register::{DatabaseId, Layout, Totals, Work, record_count};
 
 /// The register is added where some line has it as a target.
 fn add_target(
@@ -146,11 +146,11 @@ pub(crate) fn stat<S: Alter, L: Layout>(
     profile.is_of_some_text();
     check_ready::<S, L>(connection, profile)?;
     let database = existing_database::<S, L>(alloc, connection, name)?;
-    let kept = records(alloc, connection, database.id)?;
+    let kept = record_count(connection, database.id)?;
     let targets = targets_of(alloc, profile)?;
     let holdings = holdings_of::<S, L>(alloc, connection, work, profile, database.id, &targets)?;
     Ok(Reply::Counted {
-        records: kept.len() as u64,
+        records: kept,
         last: database.last,
         holdings,
     })

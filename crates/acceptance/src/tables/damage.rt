@@ -49,6 +49,10 @@ const IDENT: Script = &[
         ),
         (Step::Read(Read::Ident(1)), "Damaged"),
         (Step::Read(Read::Records), "Damaged"),
+        (Step::Read(Read::FirstFrom(1)), "Damaged"),
+        // Neither reads the damaged record.
+        (Step::Read(Read::FirstFrom(2)), "2 b2 64"),
+        (Step::Read(Read::Count), "2"),
         (Step::Read(Read::Ident(2)), "b2"),
         (Step::Commit(Call::Elder("b2")), "2 64"),
     ],
@@ -65,6 +69,9 @@ const NUMBER: Script = &[
         ),
         (Step::Commit(Call::Elder("a1")), "Damaged"),
         (Step::Read(Read::Records), "Damaged"),
+        // A number below 0 is passed over, and its row is counted.
+        (Step::Read(Read::FirstFrom(0)), "2 b2 64"),
+        (Step::Read(Read::Count), "2"),
         (Step::Read(Read::Ident(2)), "b2"),
         (Step::Commit(Call::Elder("b2")), "2 64"),
     ],

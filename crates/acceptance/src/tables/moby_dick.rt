@@ -158,6 +158,11 @@ pub const ANSWERS: &[Row<'static>] = &[
     (Step::Read(Read::Ident(2)), "b2"),
     (Step::Read(Read::Ident(3)), "none"),
     (Step::Read(Read::Records), "1 a1 109,2 b2 64,"),
+    (Step::Read(Read::Count), "2"),
+    (Step::Read(Read::FirstFrom(0)), "1 a1 109"),
+    (Step::Read(Read::FirstFrom(1)), "1 a1 109"),
+    (Step::Read(Read::FirstFrom(2)), "2 b2 64"),
+    (Step::Read(Read::FirstFrom(3)), "none"),
     (
         Step::Read(Read::List((0, Register::Word, "moby"))),
         "1:2.1,",

@@ -39,6 +39,11 @@ pub const GREATEST: Script = &[&[
         Step::Read(Read::Records),
         "999999999 a1 0,9223372036854775807 b2 1,",
     ),
+    (Step::Read(Read::Count), "2"),
+    (
+        Step::Read(Read::FirstFrom(1_000_000_000)),
+        "9223372036854775807 b2 1",
+    ),
     (
         Step::Commit(Call::Places(UNDER, 999_999_999, PLACES, &[])),
         "",
@@ -65,6 +70,7 @@ pub const TOO_GREAT: Script = &[&[
     ),
     // No record has such a number.
     (Step::Read(Read::Ident(OVER)), "none"),
+    (Step::Read(Read::FirstFrom(OVER)), "none"),
     (Step::Rows(POSTINGS), ""),
     (
         Step::Rows("SELECT name, last FROM databases"),

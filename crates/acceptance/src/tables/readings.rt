@@ -7,7 +7,8 @@ use std::fmt::Write;
 use zeb_extract::Key;
 use zeb_profile::Register;
 use zeb_register::{
-    DatabaseId, Layout, RegFault, Rows, TermCount, Work, database_of, ident_of, meta_of, records,
+    DatabaseId, Layout, RegFault, Rows, TermCount, Work, database_of, ident_of, meta_of,
+    record_count, record_from, records,
 };
 
 /// A register of an index.
@@ -21,6 +22,10 @@ pub enum Read<'a> {
     Ident(u64),
     /// Each record's number and identifier, and how many bytes it has.
     Records,
+    /// How many records there are.
+    Count,
+    /// The first record from this number on: its number, its identifier, and how many bytes it has.
+    FirstFrom(u64),
     /// Whether the record at this place of the list has these bytes.
     Bytes(usize, &'a [u8]),
     /// Each posting as `1:2.3`, the number of the record, of the unit and of the word in it.
@@ -66,6 +71,32 @@ fn all_records<S: Alter>(
     for record in records(alloc, conn, db)? {
         let (ident, length) = (record.ident.as_str(), record.bytes.len());
         write!(text, "{} {ident} {length},", record.sysno)?;
+    }
+    Ok(())
+}
+
+fn count<S: Alter>(
+    conn: &mut Connection<S>,
+    db: DatabaseId,
+    text: &mut String,
+) -> Result<(), RegFault> {
+    let count = record_count(conn, db)?;
+    write!(text, "{count}")?;
+    Ok(())
+}
+
+fn first_from<S: Alter>(
+    conn: &mut Connection<S>,
+    db: DatabaseId,
+    start: u64,
+    text: &mut String,
+) -> Result<(), RegFault> {
+    match record_from(conn, db, start)? {
+        Some(record) => {
+            let (ident, length) = (record.ident.as_str(), record.bytes.len());
+            write!(text, "{} {ident} {length}", record.sysno)?;
+        }
+        None => text.push_str("none")?,
     }
     Ok(())
 }
@@ -165,6 +196,8 @@ pub fn tell<S: Alter>(
         Read::Last(name) => last(conn, name, text),
         Read::Ident(sysno) => show(ident_of(conn, db, *sysno)?, text),
         Read::Records => all_records(alloc, conn, db, text),
+        Read::Count => count(conn, db, text),
+        Read::FirstFrom(start) => first_from(conn, db, *start, text),
         Read::Bytes(place, bytes) => has_bytes(alloc, conn, db, *place, bytes, text),
         Read::List(under) => list(alloc, conn, db, &key(alloc, under)?, text),
         Read::Terms(register) => counts(terms_of(alloc, conn, db, *register)?, text),

@@ -92,6 +92,7 @@ const LIMITED: &[Row<'static>] = &[
     (Step::Commit(Call::Elder("w1500")), "1500 1"),
     (Step::Commit(Call::Elder("w0007")), "7 2"),
     (Step::Read(Read::Ident(1_500)), "w1500"),
+    (Step::Read(Read::FirstFrom(1_500)), "1500 w1500 1"),
     (
         Step::Read(Read::List((0, Register::Word, "w1500"))),
         "1500:2.1,",

@@ -1,32 +1,24 @@
-use Rattle.std.proofs.Common.{rules, ◌≡◌, ◌∙◌, ◌∷◌, [], pos, List, map, Err, Ok, IsTrue, arith, refl, sym, ap, subst}
-use Rattle.std.specs.List.{flat_map}
-use Rattle.sqlite.specs.declared.types.Value.TheVariants.{Int}
+use Rattle.std.proofs.Common.{rules, ◌≡◌, ◌∙◌, pos, List, Err, Ok, IsTrue, arith, refl, sym, ap, subst}
 use Rattle.sqlite.specs.Held.{state}
 use Rattle.sqlite.specs.State.{HasCleanDisk}
-use Rattle.sqlite.specs.Tree.{Trees}
 use Rattle.zeb_register.proofs.Calls.{nothing_then}
-use Rattle.zeb_register.specs.Kept.{AreReadable, record_shown}
-use Rattle.zeb_register.specs.Sql.{IsListOf}
-use Rattle.zeb_register.specs.Store.{HasDatabase, IsRest, records_tree}
+use Rattle.zeb_register.specs.Store.{HasDatabase}
 use Rattle.zeb_register.specs.declared.catalog.Database.{Database}
-use Rattle.zeb_register.specs.declared.kept.Record.{Record}
 use Rattle.zeb_engine.specs.declared.replies.Reply.TheVariants.{Dumped}
 use Rattle.zeb_engine.specs.Answers.{dumped}
 use Rattle.zeb_change.specs.Conditions.{conditions}
 use Rattle.zeb_change.specs.Base.{Base}
 use Rattle.zeb_engine.specs.NameOf.{name_bytes}
-use Rattle.zeb_change.specs.Outcomes.{register_refusal}
 use Rattle.zeb_engine.specs.Steps.{dumped_by, dumped_in, ready}
 use Rattle.zeb_engine.specs.Works.{Always, Serves}
 use Rattle.zeb_engine.proofs.Commanding.{ready_met}
-use Rattle.zeb_engine.proofs.Dumps.{Dumps, all_readable, bytes_same, dump_fails, dump_told, dump_unknown, unready_dumps}
+use Rattle.zeb_engine.proofs.Dumps.{Dumps, base_kept, dump_fails, dump_told, dump_unknown, unready_dumps}
 use Rattle.zeb_engine.proofs.Held.{looked_up}
-use Rattle.zeb_engine.proofs.ListedDatabases.{fault_fails}
 use Rattle.zeb_engine.proofs.Serving.{keeps_still}
 use Rattle.zeb_engine.proofs.Showing.{still_shows}
 use Rattle.zeb_engine.proofs.dump.dump.Goals as goal
 use Rattle.zeb_register.specs.Formats.{version_of}
-use Rattle.zeb_engine.proofs.ReadyTexts.{fault_texts, ready_then}
+use Rattle.zeb_engine.proofs.ReadyTexts.{ready_then}
 
 pub returns-in_err-check_ready-clause-serves : goal.returns-in_err-check_ready-clause-serves
 returns-in_err-check_ready-clause-serves g c clean limits =
@@ -55,28 +47,28 @@ returns-in_err-database-clause-serves g c clean limits before fits keeps =
     (dump_unknown g.L.Layout.format k name s0 s2 (nothing_then s0 s1 s2 (c.check_ready.ensures.same clean1) (c.existing_database.ensures.same clean)) before met.0 met.1 keeps
     {X = Database} (λ base d. HasDatabase s1.now.trees d.id.0 base.name (pos base.last) × (d.last ≡ base.last) × IsTrue s2.is_open) refusal (c.in_err-database.ensures.exists clean met.2.1 k before met.0 met.1 keeps1))
 
-pub returns-in_err-kept-clause-serves : goal.returns-in_err-kept-clause-serves
-returns-in_err-kept-clause-serves g c clean limits before fits keeps =
+pub returns-in_err-bytes-clause-serves : goal.returns-in_err-bytes-clause-serves
+returns-in_err-bytes-clause-serves g c clean limits before fits keeps =
     let k = conditions (version_of g.L.Layout.format) c.args.profile.now limits in
     let name = name_bytes c.args.name.now in
     let s0 = state g.S.Store c.args.connection.now in
     let s1 = state g.S.Store c.check_ready.new.connection in
     let s2 = state g.S.Store c.existing_database.new.connection in
-    let s3 = state g.S.Store c.records.new.conn in
-    let clean2 : HasCleanDisk s2 = omega (arith, c.records.ensures.call.crash.clean) in
+    let s3 = state g.S.Store c.bytes_of.new.connection in
+    let clean2 : HasCleanDisk s2 = omega (arith, c.bytes_of.ensures.crash.clean) in
     let clean1 : HasCleanDisk s1 = omega (arith, clean2, c.existing_database.ensures.crash.clean) in
     let met = ready_met {X = Unit {0}} (λ (bases : List Base) x. IsTrue s0.is_open × IsTrue s1.is_open) (ready k before) tt (c.in_ok-check_ready.ensures.ready clean1 limits before keeps) in
     let keeps1 = keeps_still before s0 s1 (c.check_ready.ensures.same clean1) keeps in
     let database = c.in_ok-database.database in
     let seen = (keeps1 met.2.1).0 in
     let base = looked_up g.L.Layout.format k (record { version_is = refl; sound = c.is_of_some_text.ensures }) s1 before met.0 name database (IsTrue s2.is_open) met.1 seen.1 (c.in_ok-database.ensures.exists clean2 met.2.1 k before met.0 met.1 keeps1) in
-    let there = still_shows s1 s2 s1.now.trees (c.existing_database.ensures.same clean2) (λ _. (seen.0, refl)) base.3 in
-    let readable = all_readable g.L.Layout.format c.args.profile.now s1.now.trees database.id.0 base.0 base.2 in
-    let nothing = nothing_then s0 s2 s3 (nothing_then s0 s1 s2 (c.check_ready.ensures.same clean1) (c.existing_database.ensures.same clean2)) (c.records.ensures.call.same clean c.existing_database.ensures.idle) in
-    let fault = c.in_err-kept.field-0.0 in
-    let told : c.from_residual-in_err-kept.result ≡ Err (register_refusal fault) = search rules in
-    subst (Dumps g.L.Layout.format k name s0 s3 nothing before met.0 met.1 keeps) (sym told) (dump_fails g.L.Layout.format k name s0 s3 nothing before met.0 met.1 keeps (Err (register_refusal fault))
-    (fault_fails fault (λ is_damaged. c.in_err-kept.ensures.honest clean there.0 (ap Err is_damaged) (subst (λ (t : Trees). AreReadable t database.id.0) (sym there.1) readable))))
+    let at = still_shows s1 s2 s1.now.trees (c.existing_database.ensures.same clean2) (λ _. (seen.0, refl)) in
+    let kept = base_kept g.L.Layout.format c.args.profile.now s1.now.trees database.id.0 base.0 base.2 in
+    let nothing = nothing_then s0 s2 s3 (nothing_then s0 s1 s2 (c.check_ready.ensures.same clean1) (c.existing_database.ensures.same clean2)) (c.bytes_of.ensures.same clean) in
+    let refusal = c.in_err-bytes.field-0.0 in
+    let told : c.from_residual-in_err-bytes.result ≡ Err refusal = search rules in
+    subst (Dumps g.L.Layout.format k name s0 s3 nothing before met.0 met.1 keeps) (sym told) (dump_fails g.L.Layout.format k name s0 s3 nothing before met.0 met.1 keeps (Err refusal)
+    (c.in_err-bytes.ensures.failed clean s1.now.trees at base.3 base.0.records kept))
 
 pub returns-clause-serves : goal.returns-clause-serves
 returns-clause-serves g c clean limits before fits keeps =
@@ -85,22 +77,20 @@ returns-clause-serves g c clean limits before fits keeps =
     let s0 = state g.S.Store c.args.connection.now in
     let s1 = state g.S.Store c.check_ready.new.connection in
     let s2 = state g.S.Store c.existing_database.new.connection in
-    let s3 = state g.S.Store c.records.new.conn in
-    let clean2 : HasCleanDisk s2 = omega (arith, c.records.ensures.call.crash.clean) in
+    let s3 = state g.S.Store c.bytes_of.new.connection in
+    let clean2 : HasCleanDisk s2 = omega (arith, c.bytes_of.ensures.crash.clean) in
     let clean1 : HasCleanDisk s1 = omega (arith, clean2, c.existing_database.ensures.crash.clean) in
     let met = ready_met {X = Unit {0}} (λ (bases : List Base) x. IsTrue s0.is_open × IsTrue s1.is_open) (ready k before) tt (c.in_ok-check_ready.ensures.ready clean1 limits before keeps) in
     let keeps1 = keeps_still before s0 s1 (c.check_ready.ensures.same clean1) keeps in
     let database = c.in_ok-database.database in
     let seen = (keeps1 met.2.1).0 in
     let base = looked_up g.L.Layout.format k (record { version_is = refl; sound = c.is_of_some_text.ensures }) s1 before met.0 name database (IsTrue s2.is_open) met.1 seen.1 (c.in_ok-database.ensures.exists clean2 met.2.1 k before met.0 met.1 keeps1) in
-    let there = still_shows s1 s2 s1.now.trees (c.existing_database.ensures.same clean2) (λ _. (seen.0, refl)) base.3 in
-    let kept = c.in_ok-kept.kept.items in
-    let are = subst (λ (t : Trees). IsListOf (IsRest records_tree (Int database.id.0 ∷ []) t) (map record_shown kept)) there.1 (c.in_ok-kept.ensures.value clean there.0) in
-    let same = bytes_same g.L.Layout.format c.args.profile.now s1.now.trees database.id.0 base.0 base.2 kept are in
-    let nothing = nothing_then s0 s2 s3 (nothing_then s0 s1 s2 (c.check_ready.ensures.same clean1) (c.existing_database.ensures.same clean2)) (c.records.ensures.call.same clean c.existing_database.ensures.idle) in
-    let bytes = c.in_ok-joined.field-0 in
-    let told : bytes.items ≡ flat_map (λ (r : Record). r.bytes.items) kept = c.in_ok-joined.ensures ∙ ap (flat_map (λ (r : Record). r.bytes.items)) c.deref.ensures.value in
-    dump_told g.L.Layout.format k name s0 s3 nothing before met.0 met.1 keeps (Ok (Dumped bytes)) (ap (dumped_in name) base.1 ∙ ap dumped (sym (told ∙ same)))
+    let at = still_shows s1 s2 s1.now.trees (c.existing_database.ensures.same clean2) (λ _. (seen.0, refl)) in
+    let kept = base_kept g.L.Layout.format c.args.profile.now s1.now.trees database.id.0 base.0 base.2 in
+    let nothing = nothing_then s0 s2 s3 (nothing_then s0 s1 s2 (c.check_ready.ensures.same clean1) (c.existing_database.ensures.same clean2)) (c.bytes_of.ensures.same clean) in
+    let bytes = c.in_ok-bytes.bytes in
+    let told = c.in_ok-bytes.ensures.joined clean s1.now.trees at base.3 base.0.records kept in
+    dump_told g.L.Layout.format k name s0 s3 nothing before met.0 met.1 keeps (Ok (Dumped bytes)) (ap (dumped_in name) base.1 ∙ ap dumped (sym told))
 
 pub returns-in_err-check_ready-clause-ready : goal.returns-in_err-check_ready-clause-ready
 returns-in_err-check_ready-clause-ready g c clean =
@@ -113,13 +103,15 @@ returns-in_err-database-clause-ready g c clean =
     let told : c.from_residual-in_err-database.result ≡ Err c.in_err-database.field-0.0 = search rules in
     rw told (ready_then (version_of g.L.Layout.format) c.args.profile.now {X = Unit {0}} (state g.S.Store c.args.connection.now) tt (c.in_ok-check_ready.ensures.texts first) (Err c.in_err-database.field-0.0) c.in_err-database.ensures.ready)
 
-pub returns-in_err-kept-clause-ready : goal.returns-in_err-kept-clause-ready
-returns-in_err-kept-clause-ready g c clean =
-    let told : c.from_residual-in_err-kept.result ≡ Err (register_refusal c.in_err-kept.field-0.0) = search rules in
-    rw told (λ store. fault_texts (version_of g.L.Layout.format) c.args.profile.now (state g.S.Store c.args.connection.now).now.trees c.in_err-kept.field-0.0)
+pub returns-in_err-bytes-clause-ready : goal.returns-in_err-bytes-clause-ready
+returns-in_err-bytes-clause-ready g c clean =
+    let clean2 : HasCleanDisk (state g.S.Store c.existing_database.new.connection) = omega (arith, c.bytes_of.ensures.crash.clean) in
+    let clean1 : HasCleanDisk (state g.S.Store c.check_ready.new.connection) = omega (arith, clean2, c.existing_database.ensures.crash.clean) in
+    let told : c.from_residual-in_err-bytes.result ≡ Err c.in_err-bytes.field-0.0 = search rules in
+    rw told (ready_then (version_of g.L.Layout.format) c.args.profile.now {X = Unit {0}} (state g.S.Store c.args.connection.now) tt (c.in_ok-check_ready.ensures.texts clean1) (Err c.in_err-bytes.field-0.0) c.in_err-bytes.ensures.ready)
 
 pub returns-clause-ready : goal.returns-clause-ready
 returns-clause-ready g c clean =
-    let clean2 : HasCleanDisk (state g.S.Store c.existing_database.new.connection) = omega (arith, c.records.ensures.call.crash.clean) in
+    let clean2 : HasCleanDisk (state g.S.Store c.existing_database.new.connection) = omega (arith, c.bytes_of.ensures.crash.clean) in
     let clean1 : HasCleanDisk (state g.S.Store c.check_ready.new.connection) = omega (arith, clean2, c.existing_database.ensures.crash.clean) in
     c.in_ok-check_ready.ensures.texts clean1

@@ -1,14 +1,11 @@
 use Rattle.std.proofs.Common.{rules, ◌≡◌, ◌∙◌, ◌∷◌, [], ℕ, pos, List, length, map, Err, Ok, IsTrue, arith, refl, sym, ap, ap₂, subst}
-use Rattle.sqlite.specs.declared.types.Value.TheVariants.{Int}
-use Rattle.std.proofs.lemmas.List.{length-map}
 use Rattle.sqlite.specs.Held.{state}
 use Rattle.sqlite.specs.State.{HasCleanDisk}
 use Rattle.sqlite.specs.Tree.{Trees}
 use Rattle.zeb_register.proofs.Calls.{nothing_then}
 use Rattle.zeb_register.specs.Content.{posted}
-use Rattle.zeb_register.specs.Kept.{AreReadable, record_shown}
-use Rattle.zeb_register.specs.Sql.{IsListOf}
-use Rattle.zeb_register.specs.Store.{HasDatabase, IsRest, records_tree}
+use Rattle.zeb_register.specs.Kept.{IsRecordCount}
+use Rattle.zeb_register.specs.Store.{HasDatabase}
 use Rattle.zeb_register.specs.declared.catalog.Database.{Database}
 use Rattle.zeb_engine.specs.declared.replies.Reply.TheVariants.{Counted}
 use Rattle.zeb_engine.specs.Answers.{counted, extent_of}
@@ -20,7 +17,7 @@ use Rattle.zeb_engine.specs.NameOf.{name_bytes}
 use Rattle.zeb_change.specs.Outcomes.{register_refusal}
 use Rattle.zeb_engine.specs.Steps.{ready}
 use Rattle.zeb_engine.proofs.Commanding.{ready_met}
-use Rattle.zeb_engine.proofs.Dumps.{all_readable, as_many}
+use Rattle.zeb_engine.proofs.Dumps.{as_many}
 use Rattle.zeb_engine.proofs.Held.{looked_up}
 use Rattle.zeb_engine.proofs.ListedDatabases.{fault_fails}
 use Rattle.zeb_engine.proofs.Serving.{keeps_still}
@@ -66,8 +63,8 @@ returns-in_err-kept-clause-serves g c clean limits before keeps =
     let s0 = state g.S.Store c.args.connection.now in
     let s1 = state g.S.Store c.check_ready.new.connection in
     let s2 = state g.S.Store c.existing_database.new.connection in
-    let s3 = state g.S.Store c.records.new.conn in
-    let clean2 : HasCleanDisk s2 = omega (arith, c.records.ensures.call.crash.clean) in
+    let s3 = state g.S.Store c.record_count.new.conn in
+    let clean2 : HasCleanDisk s2 = omega (arith, c.record_count.ensures.call.crash.clean) in
     let clean1 : HasCleanDisk s1 = omega (arith, clean2, c.existing_database.ensures.crash.clean) in
     let met = ready_met {X = Unit {0}} (λ (bases : List Base) x. IsTrue s0.is_open × IsTrue s1.is_open) (ready k before) tt (c.in_ok-check_ready.ensures.ready clean1 limits before keeps) in
     let keeps1 = keeps_still before s0 s1 (c.check_ready.ensures.same clean1) keeps in
@@ -75,12 +72,11 @@ returns-in_err-kept-clause-serves g c clean limits before keeps =
     let seen = (keeps1 met.2.1).0 in
     let base = looked_up g.L.Layout.format k (record { version_is = refl; sound = c.is_of_some_text.ensures }) s1 before met.0 name database (IsTrue s2.is_open) met.1 seen.1 (c.in_ok-database.ensures.exists clean2 met.2.1 k before met.0 met.1 keeps1) in
     let there = still_shows s1 s2 s1.now.trees (c.existing_database.ensures.same clean2) (λ _. (seen.0, refl)) base.3 in
-    let readable = all_readable g.L.Layout.format c.args.profile.now s1.now.trees database.id.0 base.0 base.2 in
-    let nothing = nothing_then s0 s2 s3 (nothing_then s0 s1 s2 (c.check_ready.ensures.same clean1) (c.existing_database.ensures.same clean2)) (c.records.ensures.call.same clean c.existing_database.ensures.idle) in
+    let nothing = nothing_then s0 s2 s3 (nothing_then s0 s1 s2 (c.check_ready.ensures.same clean1) (c.existing_database.ensures.same clean2)) (c.record_count.ensures.call.same clean c.existing_database.ensures.idle) in
     let fault = c.in_err-kept.field-0.0 in
     let told : c.from_residual-in_err-kept.result ≡ Err (register_refusal fault) = search rules in
     subst (Counts k name s0 s3 nothing before) (sym told) (count_fails k name s0 s3 nothing before met.0 met.1 keeps (Err (register_refusal fault))
-    (fault_fails fault (λ is_damaged. c.in_err-kept.ensures.honest clean there.0 (ap Err is_damaged) (subst (λ (t : Trees). AreReadable t database.id.0) (sym there.1) readable))))
+    (fault_fails fault (λ is_damaged. c.in_err-kept.ensures.honest clean there.0 (ap Err is_damaged))))
 
 pub returns-in_err-holdings-clause-serves : goal.returns-in_err-holdings-clause-serves
 returns-in_err-holdings-clause-serves g c clean limits before keeps =
@@ -89,10 +85,10 @@ returns-in_err-holdings-clause-serves g c clean limits before keeps =
     let s0 = state g.S.Store c.args.connection.now in
     let s1 = state g.S.Store c.check_ready.new.connection in
     let s2 = state g.S.Store c.existing_database.new.connection in
-    let s3 = state g.S.Store c.records.new.conn in
+    let s3 = state g.S.Store c.record_count.new.conn in
     let s4 = state g.S.Store c.holdings_of.new.connection in
     let clean3 : HasCleanDisk s3 = omega (arith, c.holdings_of.ensures.crash.clean) in
-    let clean2 : HasCleanDisk s2 = omega (arith, clean3, c.records.ensures.call.crash.clean) in
+    let clean2 : HasCleanDisk s2 = omega (arith, clean3, c.record_count.ensures.call.crash.clean) in
     let clean1 : HasCleanDisk s1 = omega (arith, clean2, c.existing_database.ensures.crash.clean) in
     let met = ready_met {X = Unit {0}} (λ (bases : List Base) x. IsTrue s0.is_open × IsTrue s1.is_open) (ready k before) tt (c.in_ok-check_ready.ensures.ready clean1 limits before keeps) in
     let keeps1 = keeps_still before s0 s1 (c.check_ready.ensures.same clean1) keeps in
@@ -100,7 +96,7 @@ returns-in_err-holdings-clause-serves g c clean limits before keeps =
     let seen = (keeps1 met.2.1).0 in
     let base = looked_up g.L.Layout.format k (record { version_is = refl; sound = c.is_of_some_text.ensures }) s1 before met.0 name database (IsTrue s2.is_open) met.1 seen.1 (c.in_ok-database.ensures.exists clean2 met.2.1 k before met.0 met.1 keeps1) in
     let held = base.2 in
-    let records_same = c.records.ensures.call.same clean3 c.existing_database.ensures.idle in
+    let records_same = c.record_count.ensures.call.same clean3 c.existing_database.ensures.idle in
     let at2 = still_shows s1 s2 s1.now.trees (c.existing_database.ensures.same clean2) (λ _. (seen.0, refl)) in
     let at3 = still_shows s2 s3 s1.now.trees records_same at2 in
     let nothing = nothing_then s0 s3 s4 (nothing_then s0 s2 s3 (nothing_then s0 s1 s2 (c.check_ready.ensures.same clean1) (c.existing_database.ensures.same clean2)) records_same) (c.holdings_of.ensures.same clean) in
@@ -117,10 +113,10 @@ returns-clause-serves g c clean limits before keeps =
     let s0 = state g.S.Store c.args.connection.now in
     let s1 = state g.S.Store c.check_ready.new.connection in
     let s2 = state g.S.Store c.existing_database.new.connection in
-    let s3 = state g.S.Store c.records.new.conn in
+    let s3 = state g.S.Store c.record_count.new.conn in
     let s4 = state g.S.Store c.holdings_of.new.connection in
     let clean3 : HasCleanDisk s3 = omega (arith, c.holdings_of.ensures.crash.clean) in
-    let clean2 : HasCleanDisk s2 = omega (arith, clean3, c.records.ensures.call.crash.clean) in
+    let clean2 : HasCleanDisk s2 = omega (arith, clean3, c.record_count.ensures.call.crash.clean) in
     let clean1 : HasCleanDisk s1 = omega (arith, clean2, c.existing_database.ensures.crash.clean) in
     let met = ready_met {X = Unit {0}} (λ (bases : List Base) x. IsTrue s0.is_open × IsTrue s1.is_open) (ready k before) tt (c.in_ok-check_ready.ensures.ready clean1 limits before keeps) in
     let keeps1 = keeps_still before s0 s1 (c.check_ready.ensures.same clean1) keeps in
@@ -129,24 +125,22 @@ returns-clause-serves g c clean limits before keeps =
     let said = c.in_ok-database.ensures.exists clean2 met.2.1 k before met.0 met.1 keeps1 in
     let base = looked_up g.L.Layout.format k (record { version_is = refl; sound = c.is_of_some_text.ensures }) s1 before met.0 name database (IsTrue s2.is_open) met.1 seen.1 said in
     let held = base.2 in
-    let records_same = c.records.ensures.call.same clean3 c.existing_database.ensures.idle in
+    let records_same = c.record_count.ensures.call.same clean3 c.existing_database.ensures.idle in
     let at2 = still_shows s1 s2 s1.now.trees (c.existing_database.ensures.same clean2) (λ _. (seen.0, refl)) in
     let at3 = still_shows s2 s3 s1.now.trees records_same at2 in
     let nothing = nothing_then s0 s3 s4 (nothing_then s0 s2 s3 (nothing_then s0 s1 s2 (c.check_ready.ensures.same clean1) (c.existing_database.ensures.same clean2)) records_same) (c.holdings_of.ensures.same clean) in
     let opened = (c.in_ok-kept.ensures.call.ok clean3).0.is_open in
-    let kept = c.in_ok-kept.kept.items in
     let there = at2 base.3 in
-    let are = subst (λ (t : Trees). IsListOf (IsRest records_tree (Int database.id.0 ∷ []) t) (map record_shown kept)) there.1 (c.in_ok-kept.ensures.value clean3 there.0) in
-    let many = as_many g.L.Layout.format c.args.profile.now s1.now.trees database.id.0 base.0 held kept are in
+    let kept = subst (λ (t : Trees). IsRecordCount t database.id.0 c.in_ok-kept.kept) there.1 (c.in_ok-kept.ensures.value clean3 there.0) in
+    let many = as_many g.L.Layout.format c.args.profile.now s1.now.trees database.id.0 base.0 held c.in_ok-kept.kept kept in
     let last = last_named name met.0 database s1.now.trees (IsTrue s2.is_open) said base.0 base.1 in
     let holdings = c.in_ok-holdings.holdings in
     let targets = c.deref.ensures.value ∙ c.in_ok-targets.ensures in
     let paired = subst (λ (l : List Target). Paired (λ target holding. IsExtent (posted held.content database.id.0) c.args.profile.now target (extent_of holding)) l holdings.items) targets (c.in_ok-holdings.ensures.held clean s1.now.trees at3 opened held.content held.held) in
-    let counted_are : c.len.result ≡ length kept = search rules in
-    count_known k name s0 s4 nothing before met.0 met.1 keeps base.0 base.1 (Ok (Counted c.len.result database.last holdings)) (
+    count_known k name s0 s4 nothing before met.0 met.1 keeps base.0 base.1 (Ok (Counted c.in_ok-kept.kept database.last holdings)) (
       map extent_of holdings.items,
       extents_as (posted held.content database.id.0) (occurs c.args.profile.now base.0.records) held.occurring c.args.profile.now _ holdings.items paired,
-      ap₂ (λ (m n : ℕ). counted m n (map extent_of holdings.items)) (counted_are ∙ many) last,
+      ap₂ (λ (m n : ℕ). counted m n (map extent_of holdings.items)) many last,
     )
 
 pub returns-clause-alone : goal.returns-clause-alone
@@ -155,36 +149,34 @@ returns-clause-alone g c clean store content has =
     let s0 = state g.S.Store c.args.connection.now in
     let s1 = state g.S.Store c.check_ready.new.connection in
     let s2 = state g.S.Store c.existing_database.new.connection in
-    let s3 = state g.S.Store c.records.new.conn in
+    let s3 = state g.S.Store c.record_count.new.conn in
     let clean3 : HasCleanDisk s3 = omega (arith, c.holdings_of.ensures.crash.clean) in
-    let clean2 : HasCleanDisk s2 = omega (arith, clean3, c.records.ensures.call.crash.clean) in
+    let clean2 : HasCleanDisk s2 = omega (arith, clean3, c.record_count.ensures.call.crash.clean) in
     let clean1 : HasCleanDisk s1 = omega (arith, clean2, c.existing_database.ensures.crash.clean) in
     let at1 = still_shows s0 s1 s0.now.trees (c.check_ready.ensures.same clean1) (λ _. (store, refl)) in
     let at2 = still_shows s1 s2 s0.now.trees (c.existing_database.ensures.same clean2) at1 in
-    let at3 = still_shows s2 s3 s0.now.trees (c.records.ensures.call.same clean3 c.existing_database.ensures.idle) at2 in
+    let at3 = still_shows s2 s3 s0.now.trees (c.record_count.ensures.call.same clean3 c.existing_database.ensures.idle) at2 in
     let first = at1 (c.in_ok-database.ensures.found clean2).0 in
     let read = (c.in_ok-kept.ensures.call.ok clean3).0 in
     let second = at2 read.was_open in
     let database = c.in_ok-database.database in
     let row = subst (λ (t : Trees). HasDatabase t database.id.0 (name_bytes c.args.name.now) (pos database.last)) first.1 (c.in_ok-database.ensures.row clean2 first.0) in
-    let kept = c.in_ok-kept.kept.items in
-    let are = subst (λ (t : Trees). IsListOf (IsRest records_tree (Int database.id.0 ∷ []) t) (map record_shown kept)) second.1 (c.in_ok-kept.ensures.value clean3 second.0) in
+    let kept = subst (λ (t : Trees). IsRecordCount t database.id.0 c.in_ok-kept.kept) second.1 (c.in_ok-kept.ensures.value clean3 second.0) in
     let holdings = c.in_ok-holdings.holdings in
     let targets = c.deref.ensures.value ∙ c.in_ok-targets.ensures in
-    let paired = subst (λ (l : List Target). Paired (λ target holding. IsExtent (posted content database.id.0) profile target (extent_of holding)) l holdings.items) targets (c.in_ok-holdings.ensures.held clean s0.now.trees at3 read.is_open content has) in
-    let counted_are : c.len.result ≡ length kept = search rules in (
+    let paired = subst (λ (l : List Target). Paired (λ target holding. IsExtent (posted content database.id.0) profile target (extent_of holding)) l holdings.items) targets (c.in_ok-holdings.ensures.held clean s0.now.trees at3 read.is_open content has) in (
       database.id.0,
       pos database.last,
       row,
       (
-        map record_shown kept,
+        c.in_ok-kept.kept,
         database.last,
-        are,
+        kept,
         refl,
         (
           map extent_of holdings.items,
           extents_as (posted content database.id.0) (posted content database.id.0) (λ n o. (λ h. h, λ h. h)) profile _ holdings.items paired,
-          ap (λ (m : ℕ). counted m database.last (map extent_of holdings.items)) (counted_are ∙ sym (length-map kept record_shown)),
+          refl,
         ),
       ),
     )
@@ -207,15 +199,15 @@ returns-in_err-kept-clause-ready g c clean =
 
 pub returns-in_err-holdings-clause-ready : goal.returns-in_err-holdings-clause-ready
 returns-in_err-holdings-clause-ready g c clean =
-    let clean3 : HasCleanDisk (state g.S.Store c.records.new.conn) = omega (arith, c.holdings_of.ensures.crash.clean) in
-    let clean2 : HasCleanDisk (state g.S.Store c.existing_database.new.connection) = omega (arith, clean3, c.records.ensures.call.crash.clean) in
+    let clean3 : HasCleanDisk (state g.S.Store c.record_count.new.conn) = omega (arith, c.holdings_of.ensures.crash.clean) in
+    let clean2 : HasCleanDisk (state g.S.Store c.existing_database.new.connection) = omega (arith, clean3, c.record_count.ensures.call.crash.clean) in
     let clean1 : HasCleanDisk (state g.S.Store c.check_ready.new.connection) = omega (arith, clean2, c.existing_database.ensures.crash.clean) in
     let told : c.from_residual-in_err-holdings.result ≡ Err c.in_err-holdings.field-0.0 = search rules in
     rw told (ready_then (version_of g.L.Layout.format) c.args.profile.now {X = Unit {0}} (state g.S.Store c.args.connection.now) tt (c.in_ok-check_ready.ensures.texts clean1) (Err c.in_err-holdings.field-0.0) c.in_err-holdings.ensures.ready)
 
 pub returns-clause-ready : goal.returns-clause-ready
 returns-clause-ready g c clean =
-    let clean3 : HasCleanDisk (state g.S.Store c.records.new.conn) = omega (arith, c.holdings_of.ensures.crash.clean) in
-    let clean2 : HasCleanDisk (state g.S.Store c.existing_database.new.connection) = omega (arith, clean3, c.records.ensures.call.crash.clean) in
+    let clean3 : HasCleanDisk (state g.S.Store c.record_count.new.conn) = omega (arith, c.holdings_of.ensures.crash.clean) in
+    let clean2 : HasCleanDisk (state g.S.Store c.existing_database.new.connection) = omega (arith, clean3, c.record_count.ensures.call.crash.clean) in
     let clean1 : HasCleanDisk (state g.S.Store c.check_ready.new.connection) = omega (arith, clean2, c.existing_database.ensures.crash.clean) in
     c.in_ok-check_ready.ensures.texts clean1

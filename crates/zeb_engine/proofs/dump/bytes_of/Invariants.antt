@@ -1,0 +1,24 @@
+use Rattle.std.proofs.Common.{◌≡◌, ◌≤◌, false, List, IsTrue}
+use Rattle.std.specs.List.{flat_map}
+use Rattle.sqlite.specs.Held.{state}
+use Rattle.sqlite.specs.State.{HasCleanDisk, Survives}
+use Rattle.sqlite.specs.Tree.{Trees}
+use Rattle.zeb_register.specs.Calls.{ChangesNothing}
+use Rattle.zeb_change.specs.Base.{Kept}
+use Rattle.zeb_engine.specs.PrivateDumping.{KeepsBase}
+use Rattle.zeb_engine.specs.Works.{ShowsStore}
+use Rattle.zeb_change.proofs.KeyChanges.{below}
+use Rattle.zeb_engine.proofs.dump.bytes_of.Given as goal
+
+abbrev pub invariant-loop-turn : goal.invariant-loop-turn
+invariant-loop-turn g l =
+    let old = state g.S.Store l.fn.connection in
+    let now = state g.S.Store l.connection in
+    record {
+      idle : l.connection.in_transaction ≡ false;
+      crash : Survives old now (λ _. ⊥);
+      open_still : HasCleanDisk now → IsTrue old.is_open → IsTrue now.is_open;
+      same : HasCleanDisk now → ChangesNothing old now;
+      read : HasCleanDisk now → (trees : Trees) → ShowsStore old trees → IsTrue old.is_open → (records : List Kept) → KeepsBase trees l.database.0 records
+          → (l._turn ≤ l.next) × (l.next ≤ 1000000000) × (l.bytes.items ≡ flat_map (λ (k : Kept). k.bytes) (below l.next records));
+    }
