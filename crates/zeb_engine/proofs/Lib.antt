@@ -50,3 +50,8 @@ pub mod Lasting
 pub mod DeletedRecords
 pub mod OneCount
 pub mod RunCommits
+pub mod EveryAnswerHolds
+pub mod EveryAnswerLists
+pub mod EveryAnswerTerms
+pub mod EveryAnswerAnalyses
+pub mod EveryAnswer

@@ -53,6 +53,14 @@ pub fn a_command_has_one_answer()
         → Step c command before other right → (one ≡ other) × (left ≡ right) }
 {}
 
+/// The definition leaves no command without an answer: whatever is held, whatever is asked and under whatever conditions, there is an
+/// answer, and something that is held then. Nothing is asked of what is held, nor of the profile. So with at most one of each there is
+/// just one: what a find, a scan, a stat and an analysis answer is described, and no description is one that nothing meets.
+pub fn a_command_has_an_answer()
+    ensures { (c : Conditions) (command : Command) (before : Holdings)
+        → (answer : Answer) × (later : Holdings) × Step c command before answer later }
+{}
+
 /// A find of one word without stars holds of a record just where the word itself stands in that index of it: what a pattern matches is
 /// then one entry of the register, and so a reader can check a find's answer against the records' texts, without a register in mind.
 pub fn a_word_is_found_where_it_stands()
