@@ -21,7 +21,7 @@ use Rattle.sqlite.specs.Effect.{Database, IsDatabase}
 use Rattle.zeb_register.specs.Tables.{store_schema}
 use Rattle.zeb_register.specs.Sql.{IsKeyed, KeepsOthers, IsListOf}
 use Rattle.zeb_register.specs.Store.{IsStore, Changes}
-use Rattle.zeb_register.specs.Calls.{GoesOn, OnlyReads, ChangesNothing, Alters}
+use Rattle.zeb_register.specs.Calls.{GoesOn, OnlyReads, ChangesNothing, Alters, Inside}
 use Rattle.zeb_register.specs.RowStatements.{Lists, ListsInside}
 use Rattle.zeb_register.specs.RowTerms.{Reads}
 
@@ -210,3 +210,18 @@ changes_after tree Rows a b c reads inside done = record {
 
 pub changes_so : (tree : ℕ) (P Q : ℕ → Trees → Trees → Type 0) (a b : State) → (P tree a.now.trees b.now.trees → Q tree a.now.trees b.now.trees) → Changes tree P a b → Changes tree Q a b
 changes_so tree P Q a b so done = record { layout = done.layout; mode = done.mode; rows = so done.rows; others = done.others }
+
+pub alters_so : (tree : ℕ) (P Q : ℕ → Trees → Trees → Type 0) (a b : State) → (P tree a.now.trees b.now.trees → Q tree a.now.trees b.now.trees) → Alters tree P a b → Alters tree Q a b
+alters_so tree P Q a b so done = record { on = done.on; rows = λ store. changes_so tree P Q a b so (done.rows store) }
+
+pub inside_so : {A E : Type 0} (old new : State) (r : Result A E) (P Q : A → State → State → Type 0) → ((a : A) → P a old new → Q a old new) → Inside old new r P → Inside old new r Q
+inside_so old new (Ok a) P Q so it = record { ok = λ clean inside. so a (it.ok clean inside); err = it.err; crash = it.crash }
+inside_so old new (Err e) P Q so it = record { ok = it.ok; err = it.err; crash = it.crash }
+
+pub on_err_so : {A E : Type 0} (r : Result A E) (P Q : Type 0) → (P → Q) → OnErr r P → OnErr r Q
+on_err_so (Ok a) P Q so h = tt
+on_err_so (Err e) P Q so h = so h
+
+pub on_ok_so : {A E : Type 0} (r : Result A E) (P Q : Type 0) → (P → Q) → OnOk r P → OnOk r Q
+on_ok_so (Ok a) P Q so h = so h
+on_ok_so (Err e) P Q so h = tt

@@ -43,7 +43,7 @@ postings_apart p q e =
     same p q a b c i = record { sysno = a i; seq = b i; pos = c i }
 
 -- the list of this key in this database, or another
-told_spot : (d db : ℤ) (k key : Key) → ((d ≡ db) × (k ≡ key)) ⊎ ¬ ((d ≡ db) × (k ≡ key))
+pub told_spot : (d db : ℤ) (k key : Key) → ((d ≡ db) × (k ≡ key)) ⊎ ¬ ((d ≡ db) × (k ≡ key))
 told_spot d db k key = elim (told_by int_cmp_total integers_apart d db) [
   | inr other ↦ inr (λ h. other h.0)
   | inl one ↦ elim (told_by key_total keys_apart k key) [ inr other ↦ inr (λ h. other h.1) | inl two ↦ inl (one, two) ]

@@ -6,7 +6,7 @@ use Rattle.std.specs.List.Sorted.{IsStrictlySortedBy}
 use Rattle.std.proofs.lemmas.Cmp.{ranked, tied_itself}
 use Rattle.std.proofs.lemmas.Bool.Decides.{nat_tests}
 use Rattle.sqlite_rules.specs.Lists.{Has}
-use Rattle.sqlite_rules.proofs.ListLemmas.{has_left, has_right, has_either}
+use Rattle.sqlite_rules.proofs.ListLemmas.{all_has, has_left, has_right, has_either}
 use Rattle.zeb_register.specs.declared.registers.TermCount.{TermCount}
 use Rattle.zeb_register.specs.Occurring.{IsCount, AreCounts, term_cmp}
 use Rattle.zeb_register.specs.RowTerms.{IsCountedIn, term_with}
@@ -25,7 +25,7 @@ is_less m n h = ranked m n Less (sym h)
 pub not_same : (s t : List ℕ) → slice_cmp nat_cmp s t ≡ Less → s ≢ t
 not_same s t h same = let e : Less ≡ Equal = sym h ∙ ap (λ u. slice_cmp nat_cmp u t) same ∙ tied_itself nat_list_cmp_total t in cc
 
-has_end : {X : Type 0} (xs : List X) (x z : X) → Has (xs ++ x ∷ []) z → Has xs z ⊎ (z ≡ x)
+pub has_end : {X : Type 0} (xs : List X) (x z : X) → Has (xs ++ x ∷ []) z → Has xs z ⊎ (z ≡ x)
 has_end xs x z h = elim (has_either xs (x ∷ []) z h) [ inl there ↦ inl there | inr last ↦ elim last [ inl same ↦ inr same | inr none ↦ absurd none ] ]
 
 -- ---- numbers
@@ -60,6 +60,18 @@ counted_none P count n it zero' p = from it.numbers refl
     from : (ns : List ℕ) → it.numbers ≡ ns → ⊥
     from [] is = subst (λ ns. Has ns n) is ((it.each n).1 p)
     from (m ∷ ns) is = omega (arith, it.count_is, ap length is)
+
+upto_length : (ns : List ℕ) (low most : ℕ) → IsStrictlySortedBy nat_cmp ns → ((n : ℕ) → Has ns n → (low < n) × (n ≤ most)) → low ≤ most → low + length ns ≤ most
+unfolding IsStrictlySortedBy
+upto_length [] low most up between few = omega (arith, few)
+upto_length (n ∷ ns) low most up between few =
+    let first = between n (inl refl) in
+    omega (arith, first.0, upto_length ns n most up.1 (λ m h. (is_less n m (all_has (λ z. nat_cmp n z ≡ Less) ns m up.0 h), (between m (inr h)).1)) first.1)
+
+-- of the numbers from 1 on there are no more than the greatest
+pub count_upto : (P : ℕ → Type 0) (count most : ℕ) → IsCount P count → ((n : ℕ) → P n → (1 ≤ n) × (n ≤ most)) → count ≤ most
+count_upto P count most it between =
+    omega (arith, it.count_is, upto_length it.numbers 0 most it.rising (λ n h. let b = between n ((it.each n).0 h) in (omega (arith, b.0), b.1)) (omega arith))
 
 -- the newest of the numbers, where there is one
 abbrev pub IsNewest : (ℕ → Type 0) → ℕ → Type 0

@@ -21,6 +21,7 @@ pub mod RowsAreLists
 pub mod PostingStatements
 pub mod TermStatements
 pub mod PackedStatements
+pub mod PackedRowStatements
 pub mod WipeStatements
 pub mod LookUps
 pub mod FormatLemmas
@@ -35,8 +36,12 @@ pub mod TermRows
 pub mod PackedLemmas
 pub mod PackedLists
 pub mod PackedTerms
+pub mod PackedReads
+pub mod PackedWrites
+pub mod PackedParts
 pub mod PackedTotals
 pub mod PlaceLemmas
+pub mod PackedChanges
 pub mod RecordLemmas
 pub mod RecordReadings
 pub mod Refusals

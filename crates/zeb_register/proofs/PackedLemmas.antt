@@ -187,7 +187,7 @@ key_elsewhere : (d db : ℤ) (key : Key) (rest row : Row) → ¬ IsPostingIn db 
 key_elsewhere d db key rest row other is same = other (ap (λ (r : Row). column r 0) is ∙ ap Int same)
 
 -- records have the key by one list as by the other
-keys_as : (one two : Content) (db : ℤ) (key : Key) → one db key ≡ two db key → (n : ℕ) → HasKey (posted one db) key n ↔ HasKey (posted two db) key n
+pub keys_as : (one two : Content) (db : ℤ) (key : Key) → one db key ≡ two db key → (n : ℕ) → HasKey (posted one db) key n ↔ HasKey (posted two db) key n
 keys_as one two db key same n = (
   λ h. (key_posted two db key n).1 (subst (λ (l : List Posting). IsInRecord l n) same ((key_posted one db key n).0 h)),
   λ h. (key_posted one db key n).1 (subst (λ (l : List Posting). IsInRecord l n) (sym same) ((key_posted two db key n).0 h)),

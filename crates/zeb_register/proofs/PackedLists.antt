@@ -17,8 +17,8 @@ use Rattle.zeb_blocks.specs.declared.postings.Posting.{Posting}
 use Rattle.zeb_blocks.specs.Blocks.{BlockSpells, spelled_from, start_of}
 use Rattle.zeb_extract.specs.declared.keys.Key.{Key}
 use Rattle.zeb_register.specs.Content.{Content, posting_cmp}
-use Rattle.zeb_register.specs.PackedBlocks.{HoldsBlocks, blocks_of, part_in}
-use Rattle.zeb_register.specs.PackedRows.{AreSpelled, SpellsPart}
+use Rattle.zeb_register.specs.PackedBlocks.{HoldsBlocks, SpellsPart, blocks_of, part_in}
+use Rattle.zeb_register.specs.PackedRows.{AreSpelled}
 use Rattle.zeb_register.specs.PlainRows.{key_row}
 use Rattle.zeb_register.specs.Sql.{IsListOf}
 use Rattle.zeb_register.specs.Store.{IsRest, blocks_tree}

@@ -27,7 +27,7 @@ then_less o p is = ap (λ q. ordering_then q p) is
 
 -- ---- the blocks of a key
 
-blocks_keys : HasKeys store_schema blocks ((1 ∷ 2 ∷ 3 ∷ 4 ∷ 5 ∷ []) ∷ [])
+pub blocks_keys : HasKeys store_schema blocks ((1 ∷ 2 ∷ 3 ∷ 4 ∷ 5 ∷ []) ∷ [])
 blocks_keys = record { are = λ r new. refl; comparable = refl }
 
 abbrev pub key_text : List ℕ
@@ -62,7 +62,7 @@ lists_blocks db idx reg term old new rows store shown =
 
 -- ---- the terms of a register
 
-dict_keys : HasKeys store_schema dict ((1 ∷ 2 ∷ 3 ∷ 4 ∷ []) ∷ [])
+pub dict_keys : HasKeys store_schema dict ((1 ∷ 2 ∷ 3 ∷ 4 ∷ []) ∷ [])
 dict_keys = record { are = λ r new. refl; comparable = refl }
 
 abbrev dict_columns : List ℕ

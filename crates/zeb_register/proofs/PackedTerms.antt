@@ -13,6 +13,7 @@ use Rattle.sqlite_rules.proofs.ListLemmas.{all_has, has_either, has_filtered, ha
 use Rattle.sqlite_rules.proofs.ProbeLemmas.{has_mapped, mapped_has}
 use Rattle.sqlite_value.proofs.OrderLemmas.{row_cmp_total, value_cmp-Text}
 use Rattle.zeb_blocks.specs.declared.postings.Posting.{Posting}
+use Rattle.zeb_extract.specs.declared.keys.Key.{Key}
 use Rattle.zeb_profile.specs.declared.Register.{Register}
 use Rattle.zeb_register.specs.declared.registers.TermCount.{TermCount}
 use Rattle.zeb_register.specs.Content.{Content, IsStorable, posted}
@@ -25,7 +26,7 @@ use Rattle.zeb_register.specs.Sql.{IsListOf}
 use Rattle.zeb_register.specs.Store.{IsRest, dict_tree}
 use Rattle.zeb_register.specs.Tallies.{Rises, RisesUpTo}
 use Rattle.zeb_register.proofs.ContentLemmas.{one_list, same_key}
-use Rattle.zeb_register.proofs.CountLemmas.{one_count, term_total}
+use Rattle.zeb_register.proofs.CountLemmas.{count_upto, counted_none, one_count, term_total}
 use Rattle.zeb_register.proofs.OccurringLemmas.{key_posted}
 use Rattle.zeb_register.proofs.PackedLemmas.{blocks_have_terms, not_empty}
 use Rattle.zeb_register.proofs.RisingLists.{kept_rises, pushed_rises, same_list}
@@ -59,6 +60,22 @@ some_posting (p ∷ list) some = (p, inl refl)
 
 count_less : (s t : TermCount) → term_cmp s t ≡ Less → row_cmp (count_row s) (count_row t) ≡ Less
 count_less s t less = ap (λ o. ordering_then o (row_cmp (Int (pos s.records) ∷ []) (Int (pos t.records) ∷ []))) (value_cmp-Text s.term t.term ∙ less)
+
+-- as many records as have a key that one has, of a content that a layout can store
+pub records_number : (content : Content) (db : ℤ) (key : Key) (records : ℕ) → IsStorable content → IsCount (HasKey (posted content db) key) records → content db key ≢ [] → (1 ≤ records) × (records ≤ 999999999)
+records_number content db key records storable count some =
+    let p = some_posting (content db key) some in
+    let has = (key_posted content db key p.0.sysno).1 (p.0, p.1, refl) in (
+      from records refl has,
+      count_upto (HasKey (posted content db) key) records 999999999 count (λ n h.
+          let q = (key_posted content db key n).0 h in
+          let stored = storable db key q.0 q.1 in
+          (omega (arith, stored.sysno.0, q.2), omega (arith, stored.sysno.1, q.2))),
+    )
+  where
+    from : (n : ℕ) → records ≡ n → HasKey (posted content db) key (some_posting (content db key) some).0.sysno → 1 ≤ n
+    from zero none has = absurd (counted_none (HasKey (posted content db) key) records _ count none has)
+    from (suc n) more has = omega arith
 
 -- ---- parts of mapped lists
 
@@ -255,5 +272,7 @@ module _ (trees : Trees) (content : Content) (db : ℤ) (index : ℕ) (register 
   pub rows_counted : IsStorable content → (row : Row) → IsRest dict_tree front trees row → IsCountRow row
   rows_counted storable row there =
       let it = dict_row_of row there in
-      let p = (key_posted content db (key_in index register it.0.term) it.2.0).0 it.2.1 in
-      (it.0.term, it.0.records, it.1, (storable db (key_in index register it.0.term) p.0 p.1).text)
+      let key = key_in index register it.0.term in
+      let p = (key_posted content db key it.2.0).0 it.2.1 in
+      let number = records_number content db key it.0.records storable it.3 (λ none. not_empty (content db key) p.0 p.1 none) in
+      (it.0.term, it.0.records, it.1, (storable db key p.0 p.1).text, number.0, number.1)

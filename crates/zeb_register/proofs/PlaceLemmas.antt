@@ -186,7 +186,7 @@ same_or_not a b exact alike = from (value_cmp a b) refl
     from Less is = inr (λ same. let e : Less ≡ Equal = sym is ∙ ap (λ v. value_cmp v b) same ∙ tied_itself value_cmp_total b in absurd (cc))
     from Greater is = inr (λ same. let e : Greater ≡ Equal = sym is ∙ ap (λ v. value_cmp v b) same ∙ tied_itself value_cmp_total b in absurd (cc))
 
-told : (d db : ℤ) (k key : Key) (m n : ℕ) → ((d ≡ db) × (k ≡ key) × (m ≡ n)) ⊎ ¬ ((d ≡ db) × (k ≡ key) × (m ≡ n))
+pub told : (d db : ℤ) (k key : Key) (m n : ℕ) → ((d ≡ db) × (k ≡ key) × (m ≡ n)) ⊎ ¬ ((d ≡ db) × (k ≡ key) × (m ≡ n))
 told d db k key m n = elim (same_or_not (Int d) (Int db) refl refl) [
   | inr no' ↦ inr (λ h. no' (ap Int h.0))
   | inl one ↦ elim (same_or_not (Int (pos k.index)) (Int (pos key.index)) refl refl) [

@@ -1,5 +1,5 @@
 -- Lists that rise in an order that tells values apart: each is told by its members, and for each list of members there is one.
-use Rattle.std.proofs.Common.{◌≡◌, ◌≢◌, ◌↔◌, ◌⊎◌, ◌∙◌, Bool, true, false, cond, List, [], ◌∷◌, ◌++◌, refl, sym, ap, ap₂, subst, inl, inr, Ordering, Less, Equal, Greater, filter}
+use Rattle.std.proofs.Common.{◌≡◌, ◌≢◌, ◌↔◌, ◌⊎◌, ◌∙◌, Bool, true, false, cond, suc, length, List, [], ◌∷◌, ◌++◌, refl, sym, ap, ap₂, subst, inl, inr, Ordering, Less, Equal, Greater, filter}
 use Rattle.std.specs.Ordering.{ordering_reverse}
 use Rattle.std.specs.Cmp.{IsTotalOrder}
 use Rattle.std.specs.List.Sorted.{IsStrictlySortedBy}
@@ -135,6 +135,17 @@ module _ {K : Type 0} {R : K → K → Ordering} (o : IsTotalOrder R) where
     unfolding with_one
     one_rises x [] up = alone x
     one_rises x (y ∷ ys) up = step_rises (R x y) x y ys (with_one x ys) refl up (one_rises x ys (tail_rises y ys up)) (λ z h. (one_has x ys z).0 h)
+
+    -- which makes the list longer
+    pub one_longer : (x : K) (ys : List K) → ¬ Has ys x → length (with_one x ys) ≡ suc (length ys)
+    unfolding with_one step
+    one_longer x [] out = refl
+    one_longer x (y ∷ ys) out = from (R x y) refl (λ off. one_longer x ys off)
+      where
+        from : (r : Ordering) → R x y ≡ r → (¬ Has ys x → length (with_one x ys) ≡ suc (length ys)) → length (step r x y ys (with_one x ys)) ≡ suc (length (y ∷ ys))
+        from Less is rest = refl
+        from Equal is rest = absurd (out (inl (apart x y is)))
+        from Greater is rest = ap suc (rest (λ h. out (inr h)))
 
     -- with all values of a list
     pub with_all : List K → List K → List K

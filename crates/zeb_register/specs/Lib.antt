@@ -14,4 +14,5 @@ pub mod RowStatements
 pub mod RowTerms
 pub mod RowPlaces
 pub mod PackedRows
+pub mod PackedChanges
 pub mod Formats

@@ -1,14 +1,14 @@
 -- Version 2, the layout with packed blocks: which rows hold a content. Such tables and blocks are this project's own.
 use Rattle.std.specs.Prelude.{◌≡◌, ◌≢◌, ◌↔◌, ◌+◌, ◌/◌, ◌==◌, if◌then◌else◌, ℕ, ℤ, pos, List, [], ◌∷◌, ◌++◌, filter}
 use Rattle.sqlite.specs.declared.types.Value.TheVariants.{Int, Blob}
-use Rattle.sqlite.specs.Order.{Row}
+use Rattle.sqlite.specs.Order.{Row, column}
 use Rattle.sqlite.specs.Tree.{Trees}
 use Rattle.sqlite_rules.specs.Lists.{Has}
 use Rattle.zeb_blocks.specs.declared.postings.Posting.{Posting}
 use Rattle.zeb_blocks.specs.Blocks.{BlockSpells, IsNumbered}
 use Rattle.zeb_extract.specs.declared.keys.Key.{Key}
 use Rattle.zeb_register.specs.Sql.{HasRow}
-use Rattle.zeb_register.specs.Store.{postings_tree, blocks_tree, dict_tree}
+use Rattle.zeb_register.specs.Store.{IsRest, postings_tree, blocks_tree, dict_tree}
 use Rattle.zeb_register.specs.Content.{Content, IsRising, posted}
 use Rattle.zeb_register.specs.Occurring.{IsCount, HasKey}
 use Rattle.zeb_register.specs.PlainRows.{key_row}
@@ -51,3 +51,11 @@ abbrev pub blocks_of : List Posting → ℕ
 blocks_of [] = 0
 blocks_of (p ∷ []) = 1
 blocks_of (p ∷ q ∷ list) = (if p.sysno / 256 == q.sysno / 256 then 0 else 1) + blocks_of (q ∷ list)
+
+-- the row shows a block and bytes that spell these postings in it
+abbrev pub SpellsPart : Row → List Posting → Type 0
+SpellsPart row part = (block : ℕ) × (bytes : List ℕ) × (column row 0 ≡ Int (pos block)) × (column row 1 ≡ Blob bytes) × BlockSpells block part bytes
+
+-- each row of `blocks` that begins with these columns spells some postings
+abbrev pub AreAllSpelled : Trees → Row → Type 0
+AreAllSpelled trees front = (row : Row) → IsRest blocks_tree front trees row → (part : List Posting) × SpellsPart row part

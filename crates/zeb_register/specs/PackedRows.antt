@@ -1,18 +1,19 @@
 -- Steps of private functions, which no public clause speaks of: postings and terms as rows of the packed tables show them.
-use Rattle.std.specs.Prelude.{◌≡◌, ◌↔◌, ℕ, ℤ, pos, true, false, List, [], ◌∷◌, ◌++◌, IsUtf8}
+use Rattle.std.specs.Prelude.{◌≡◌, ◌↔◌, ◌≤◌, ℕ, ℤ, pos, true, false, List, [], ◌∷◌, ◌++◌, IsUtf8}
 use Rattle.std.specs.Ordering.{is_lt}
 use Rattle.std.specs.List.Sorted.{IsStrictlySortedBy}
-use Rattle.sqlite.specs.declared.types.Value.TheVariants.{Int, Text, Blob}
+use Rattle.sqlite.specs.declared.types.Value.{Value}
+use Rattle.sqlite.specs.declared.types.Value.TheVariants.{Int, Text}
 use Rattle.sqlite.specs.Order.{Row, column, row_cmp, value_cmp}
 use Rattle.sqlite.specs.State.{State, IsUnchanged}
 use Rattle.sqlite.specs.Tree.{Trees}
 use Rattle.sqlite_sql.specs.Query.{as_count, limited}
 use Rattle.sqlite_rules.specs.Lists.{Has}
 use Rattle.zeb_blocks.specs.declared.postings.Posting.{Posting}
-use Rattle.zeb_blocks.specs.Blocks.{BlockSpells}
 use Rattle.zeb_register.specs.declared.registers.TermCount.{TermCount}
+use Rattle.zeb_register.specs.PackedBlocks.{SpellsPart}
 use Rattle.zeb_register.specs.Sql.{IsListOf}
-use Rattle.zeb_register.specs.Store.{IsStore, IsRest, blocks_tree}
+use Rattle.zeb_register.specs.Store.{IsStore, IsRest}
 
 -- ---- what statements list
 
@@ -39,18 +40,10 @@ IsRestBefore tree front start trees row = IsRest tree front trees row × (is_lt 
 
 -- ---- blocks
 
--- the row shows a block and bytes that spell these postings in it
-abbrev pub SpellsPart : Row → List Posting → Type 0
-SpellsPart row part = (block : ℕ) × (bytes : List ℕ) × (column row 0 ≡ Int (pos block)) × (column row 1 ≡ Blob bytes) × BlockSpells block part bytes
-
 -- each row spells some postings, and these are they, one part behind the other
 abbrev pub AreSpelled : List Row → List Posting → Type 0
 AreSpelled [] list = list ≡ []
 AreSpelled (row ∷ rows) list = (part : List Posting) × (rest : List Posting) × SpellsPart row part × AreSpelled rows rest × (list ≡ part ++ rest)
-
--- each row of `blocks` that begins with these columns spells some postings
-abbrev pub AreAllSpelled : Trees → Row → Type 0
-AreAllSpelled trees front = (row : Row) → IsRest blocks_tree front trees row → (part : List Posting) × SpellsPart row part
 
 -- ---- terms
 
@@ -58,6 +51,10 @@ AreAllSpelled trees front = (row : Row) → IsRest blocks_tree front trees row �
 abbrev pub count_row : TermCount → Row
 count_row t = Text t.term ∷ Int (pos t.records) ∷ []
 
--- a row of a text of UTF-8 and a number of 0 or more
+-- a number of records: each has a number of 1 to 999,999,999
+abbrev pub IsRecordNumber : Value → Type 0
+IsRecordNumber value = (records : ℕ) × (value ≡ Int (pos records)) × (1 ≤ records) × (records ≤ 999999999)
+
+-- a row of a text of UTF-8 and a number of records
 abbrev pub IsCountRow : Row → Type 0
-IsCountRow row = (term : List ℕ) × (records : ℕ) × (row ≡ Text term ∷ Int (pos records) ∷ []) × IsUtf8 term
+IsCountRow row = (term : List ℕ) × (records : ℕ) × (row ≡ Text term ∷ Int (pos records) ∷ []) × IsUtf8 term × (1 ≤ records) × (records ≤ 999999999)

@@ -6,6 +6,7 @@
 //! before it began.
 #![tactic(auto)]
 
+mod blocks;
 mod catalog;
 mod dropping;
 mod faults;
@@ -14,6 +15,8 @@ mod lists;
 mod meta;
 mod occurring;
 mod packed;
+mod packed_changes;
+mod packed_parts;
 mod packed_totals;
 mod plain;
 mod registers;
@@ -23,6 +26,7 @@ mod terms;
 mod values;
 mod wiping;
 
+pub use blocks::Blocks;
 pub use catalog::{Database, DatabaseId, database_of, database_put};
 pub use faults::RegFault;
 pub use kept::{

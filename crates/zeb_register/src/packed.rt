@@ -1,18 +1,19 @@
 //! Registers packed in blocks: a row of `blocks` for each block of a key's postings, and a row of `dict` for each key.
 
-ghost use Rattle.std.specs.Prelude.{◌≡◌, ◌≢◌, ◌^◌, ◌<◌, ◌≤◌, ◌++◌, List, length, map, take, IfOk, OnOk, FitsSigned};
+ghost use Rattle.std.specs.Prelude.{◌≡◌, ◌≢◌, ◌^◌, ◌<◌, ◌≤◌, ◌++◌, List, length, map, pos, take, IfOk, OnOk, FitsSigned};
 ghost use Rattle.std.specs.Int.{w64};
 ghost use Rattle.sqlite.specs.Held.{state};
 ghost use Rattle.sqlite.specs.State.{HasCleanDisk, IsUnchanged};
-ghost use Rattle.sqlite.specs.Order.{Row as Columns};
+ghost use Rattle.sqlite.specs.Order.{Row as Columns, column};
 ghost use Rattle.sqlite.specs.declared.types.Value.TheVariants.{Int};
 ghost use Rattle.sqlite_rules.specs.Lists.{Has};
 ghost use Rattle.sqlite_sql.specs.Query.{as_count, limited};
 ghost use Rattle.zeb_register.specs.Calls.{Reading};
 ghost use Rattle.zeb_register.specs.Content.{Content, IsStorable, posted};
 ghost use Rattle.zeb_register.specs.Occurring.{AreTermsBefore, AreTermsFrom, AreTermsOf, key_in};
-ghost use Rattle.zeb_register.specs.PackedBlocks.{HoldsBlocks, blocks_of};
-ghost use Rattle.zeb_register.specs.PackedRows.{AreAllSpelled, AreSpelled, IsCountRow, SpellsPart, count_row};
+ghost use Rattle.zeb_register.specs.PackedBlocks.{AreAllSpelled, HoldsBlocks, SpellsPart, blocks_of};
+ghost use Rattle.zeb_register.specs.PackedRows.{AreSpelled, IsCountRow, IsRecordNumber, count_row};
+ghost use Rattle.zeb_blocks.specs.Blocks.{BlockSpells};
 ghost use Rattle.zeb_register.specs.PlainRows.{key_row};
 ghost use Rattle.zeb_register.specs.RowPlaces.{first_two};
 ghost use Rattle.zeb_register.specs.RowStatements.{Lists};
@@ -29,6 +30,9 @@ use std::alloc::Global;
 use zeb_blocks::{Posting, Postings};
 use zeb_extract::Term;
 use zeb_profile::Register;
+
+/// How many records a database has at most, since each has a number of 1 to this.
+const MOST_RECORDS: u64 = 999_999_999;
 
 /// The postings of a term, rising. `Damaged` exactly where a row of its blocks spells none. `work` counts these rows.
 pub(crate) fn postings_packed<S: Alter>(
@@ -103,7 +107,19 @@ fn add_part(postings: &mut Vec<Posting>, row: &Row) -> Result<(), RegFault>
 {
     let block: u64 = read(row, 0)?;
     let bytes: Vec<u8> = read(row, 1)?;
-    let Ok(part) = Postings::read(block, &bytes) else {
+    add_spelled(postings, block, &bytes)
+}
+
+/// Puts the postings that bytes spell in a block behind those before them.
+pub(crate) fn add_spelled(
+    postings: &mut Vec<Posting>,
+    block: u64,
+    bytes: &[u8],
+) -> Result<(), RegFault>
+    ensures ok { OnOk result ((part : List _) × BlockSpells block part bytes.now × (postings.new.items ≡ postings.old.items ++ part)) }
+    ensures honest { result ≡ Err RegFault.Damaged → (part : List _) → ¬ BlockSpells block part bytes.now }
+{
+    let Ok(part) = Postings::read(block, bytes) else {
         return Err(RegFault::Damaged);
     };
     for posting in part {
@@ -217,9 +233,22 @@ fn count_of(row: &Row) -> Result<TermCount, RegFault>
     ensures honest { result ≡ Err RegFault.Damaged → ¬ IsCountRow row.now }
 {
     let term: String = read(row, 0)?;
-    let records: u64 = read(row, 1)?;
+    let records = records_at(row, 1)?;
     Ok(TermCount {
         term: Term::new(term),
         records,
     })
+}
+
+/// The number of records at this place of a row. `Damaged` where it isn't 1 to 999,999,999, as every number of records is.
+pub(crate) fn records_at(row: &Row, at: usize) -> Result<u64, RegFault>
+    ensures ok { IfOk result (λ records. (column row.now at ≡ Int (pos records)) × (1 ≤ records) × (records ≤ 999999999)) }
+    ensures honest { result ≡ Err RegFault.Damaged → at < length row.now → ¬ IsRecordNumber (column row.now at) }
+    ensures unstored { result ≢ Err RegFault.Store }
+{
+    let records: u64 = read(row, at)?;
+    if records == 0 || records > MOST_RECORDS {
+        return Err(RegFault::Damaged);
+    }
+    Ok(records)
 }

@@ -78,7 +78,8 @@ pub trait Layout {
 
     /// Puts the places `new` of a key in a record where `old` stood. Both lists rise.
     ///
-    /// `Damaged` where the register holds other places there than `old`, `Store` also where a number is above `2^63 - 1`.
+    /// `Damaged` where the register holds other places there than `old`. `Store` also where `sysno` or a number of `new` is above
+    /// `2^63 - 1`, and in packed blocks where one is 0 or `new` doesn't rise.
     fn key_change<S: Alter>(
         tx: &mut Transaction<'_, S>,
         work: &mut Work,

@@ -2,6 +2,7 @@
 
 pub(crate) mod databases;
 pub(crate) mod packed;
+pub(crate) mod packed_changes;
 pub(crate) mod postings;
 pub(crate) mod records;
 pub(crate) mod texts;

@@ -1,0 +1,169 @@
+-- The statements on one row of the packed tables, each with what it is compiled to.
+use Rattle.std.proofs.Common.{◌≡◌, ℕ, ℤ, false, List, [], ◌∷◌, codes, inl, inr, refl, sym, subst, Ok}
+use Rattle.sqlite.specs.declared.types.Value.TheVariants.{Null}
+use Rattle.sqlite.specs.Order.{Row}
+use Rattle.sqlite.specs.State.{State, Executes, Shown}
+use Rattle.sqlite.specs.Command.TheVariants.{Select, Delete, InsertOr}
+use Rattle.sqlite.specs.Source.TheVariants.{Values}
+use Rattle.sqlite.specs.Term.{Term, lit, col}
+use Rattle.sqlite_schema.specs.declared.command.Conflict.TheVariants.{Replace}
+use Rattle.sqlite.specs.Listing.{understood, reads_listing}
+use Rattle.sqlite.proofs.Callers.{IsPlain, command_of}
+use Rattle.sqlite_tied.specs.Compute.{everything}
+use Rattle.zeb_register.specs.PackedChanges.{IsBlockOf, IsRowOf, block_columns, block_key, dict_columns}
+use Rattle.zeb_register.specs.Sql.{IsListOf, Loses, Replaces}
+use Rattle.zeb_register.specs.Store.{Changes, IsRest, IsStore, blocks_tree, dict_tree, key_of}
+use Rattle.zeb_register.specs.Tables.{store_schema}
+use Rattle.zeb_register.proofs.Calls.{IsSilent}
+use Rattle.zeb_register.proofs.PackedStatements.{blocks_keys, dict_keys}
+use Rattle.zeb_register.proofs.PostingStatements.{blocks, blocks_static, dict, dict_static}
+use Rattle.zeb_register.proofs.Prefix.{IsAfter, lists_after}
+use Rattle.zeb_register.proofs.Selects.{list_so}
+use Rattle.zeb_register.proofs.StatementForms.{Condition, alone, equals, keyed_from, no_limit, reading, shows}
+use Rattle.zeb_register.proofs.Writes.{deletes, loses, replaces, takes_place}
+
+-- ---- SELECT
+
+abbrev pub block_text : List ℕ
+block_text = codes "SELECT data FROM blocks WHERE db = ?1 AND idx = ?2 AND reg = ?3 AND term = ?4 AND block = ?5"
+
+block_is : command_of (understood store_schema block_text) ≡ Select (alone (reading 9 (keyed_from 1 0 5) (shows (6 ∷ [])) [] no_limit)) (codes "data" ∷ [])
+unfolding understood everything
+block_is = refl
+
+block_plain : IsPlain (understood store_schema block_text) × (reads_listing store_schema block_text ≡ false)
+unfolding understood everything
+block_plain = ((refl, refl), refl)
+
+pub block_silent : IsSilent block_text
+unfolding everything
+block_silent = λ schema base. refl
+
+pub lists_block : (db idx reg : ℤ) (term : List ℕ) (block : ℤ) (old new : State) (rows : List Row) → IsStore old → Shown block_text (block_key db idx reg term block) old new rows
+    → IsListOf (IsRest blocks_tree (block_key db idx reg term block) old.now.trees) rows
+lists_block db idx reg term block old new rows store shown =
+    let key = block_key db idx reg term block in
+    let P = IsAfter (old.now.trees 9) key [] [] in
+    let got = lists_after store_schema 4 blocks blocks_static _ blocks_keys block_text key [] [] 1 [] no_limit _ block_is block_plain.0 block_plain.1 refl refl refl refl (λ r s lower. absurd cc) old new rows store shown in
+    list_so P (IsRest 9 key old.now.trees) rows (λ x. (λ h. (h.0, h.1), λ h. (h.0, h.1, tt))) (subst (IsListOf P) (sym got.2) got.1)
+
+abbrev pub records_text : List ℕ
+records_text = codes "SELECT records FROM dict WHERE db = ?1 AND idx = ?2 AND reg = ?3 AND term = ?4"
+
+records_is : command_of (understood store_schema records_text) ≡ Select (alone (reading 11 (keyed_from 1 0 4) (shows (5 ∷ [])) [] no_limit)) (codes "records" ∷ [])
+unfolding understood everything
+records_is = refl
+
+records_plain : IsPlain (understood store_schema records_text) × (reads_listing store_schema records_text ≡ false)
+unfolding understood everything
+records_plain = ((refl, refl), refl)
+
+pub records_silent : IsSilent records_text
+unfolding everything
+records_silent = λ schema base. refl
+
+pub lists_records : (db idx reg : ℤ) (term : List ℕ) (old new : State) (rows : List Row) → IsStore old → Shown records_text (key_of db idx reg term) old new rows
+    → IsListOf (IsRest dict_tree (key_of db idx reg term) old.now.trees) rows
+lists_records db idx reg term old new rows store shown =
+    let key = key_of db idx reg term in
+    let P = IsAfter (old.now.trees 11) key [] [] in
+    let got = lists_after store_schema 5 dict dict_static _ dict_keys records_text key [] [] 1 [] no_limit _ records_is records_plain.0 records_plain.1 refl refl refl refl (λ r s lower. absurd cc) old new rows store shown in
+    list_so P (IsRest 11 key old.now.trees) rows (λ x. (λ h. (h.0, h.1), λ h. (h.0, h.1, tt))) (subst (IsListOf P) (sym got.2) got.1)
+
+-- ---- INSERT OR REPLACE
+
+abbrev pub keep_block_text : List ℕ
+keep_block_text = codes "INSERT OR REPLACE INTO blocks VALUES (?1, ?2, ?3, ?4, ?5, ?6)"
+
+abbrev keep_block_terms : List Term
+keep_block_terms = lit Null ∷ col 0 0 ∷ col 0 1 ∷ col 0 2 ∷ col 0 3 ∷ col 0 4 ∷ col 0 5 ∷ []
+
+keep_block_is : command_of (understood store_schema keep_block_text) ≡ InsertOr 4 Replace (Values keep_block_terms 7) []
+unfolding understood everything
+keep_block_is = refl
+
+keep_block_plain : IsPlain (understood store_schema keep_block_text)
+unfolding understood everything
+keep_block_plain = (refl, refl)
+
+pub keeps_block : (db idx reg : ℤ) (term : List ℕ) (block : ℤ) (bytes : List ℕ) (old new : State) (count : ℕ) → IsStore old → Executes keep_block_text (block_columns db idx reg term block bytes) old new (Ok count)
+    → Changes blocks_tree (Replaces (IsBlockOf db idx reg term block) (block_columns db idx reg term block bytes)) old new
+keeps_block db idx reg term block bytes old new count store ran =
+    let row = block_columns db idx reg term block bytes in
+    let keys = (1 ∷ 2 ∷ 3 ∷ 4 ∷ 5 ∷ []) ∷ [] in
+    takes_place store_schema 9 old new keys (IsBlockOf db idx reg term block) row (λ id other columns. (
+      λ h. elim h [ inl m ↦ (m.0, m.1.0, m.1.1.0, m.1.1.1.0, m.1.1.1.1.0) | inr none ↦ absurd none ],
+      λ m. inl (m.0, (m.1, (m.2, (m.3, (m.4, tt))))),
+    )) (replaces store_schema 4 blocks blocks_static keep_block_text row keep_block_terms 7 row keys keep_block_is keep_block_plain refl refl (λ id. refl) blocks_keys old new count store ran).0
+
+abbrev pub keep_dict_text : List ℕ
+keep_dict_text = codes "INSERT OR REPLACE INTO dict VALUES (?1, ?2, ?3, ?4, ?5)"
+
+abbrev keep_dict_terms : List Term
+keep_dict_terms = lit Null ∷ col 0 0 ∷ col 0 1 ∷ col 0 2 ∷ col 0 3 ∷ col 0 4 ∷ []
+
+keep_dict_is : command_of (understood store_schema keep_dict_text) ≡ InsertOr 5 Replace (Values keep_dict_terms 6) []
+unfolding understood everything
+keep_dict_is = refl
+
+keep_dict_plain : IsPlain (understood store_schema keep_dict_text)
+unfolding understood everything
+keep_dict_plain = (refl, refl)
+
+pub keeps_dict : (db idx reg : ℤ) (term : List ℕ) (records : ℤ) (old new : State) (count : ℕ) → IsStore old → Executes keep_dict_text (dict_columns db idx reg term records) old new (Ok count)
+    → Changes dict_tree (Replaces (IsRowOf db idx reg term) (dict_columns db idx reg term records)) old new
+keeps_dict db idx reg term records old new count store ran =
+    let row = dict_columns db idx reg term records in
+    let keys = (1 ∷ 2 ∷ 3 ∷ 4 ∷ []) ∷ [] in
+    takes_place store_schema 11 old new keys (IsRowOf db idx reg term) row (λ id other columns. (
+      λ h. elim h [ inl m ↦ (m.0, m.1.0, m.1.1.0, m.1.1.1.0) | inr none ↦ absurd none ],
+      λ m. inl (m.0, (m.1, (m.2, (m.3, tt)))),
+    )) (replaces store_schema 5 dict dict_static keep_dict_text row keep_dict_terms 6 row keys keep_dict_is keep_dict_plain refl refl (λ id. refl) dict_keys old new count store ran).0
+
+-- ---- DELETE
+
+abbrev pub remove_block_text : List ℕ
+remove_block_text = codes "DELETE FROM blocks WHERE db = ?1 AND idx = ?2 AND reg = ?3 AND term = ?4 AND block = ?5"
+
+abbrev block_wheres : List Condition
+block_wheres = equals 1 0 ∷ equals 2 1 ∷ equals 3 2 ∷ equals 4 3 ∷ equals 5 4 ∷ []
+
+remove_block_is : command_of (understood store_schema remove_block_text) ≡ Delete 4 (alone (reading 9 block_wheres (shows (0 ∷ [])) [] no_limit))
+unfolding understood everything
+remove_block_is = refl
+
+remove_block_plain : IsPlain (understood store_schema remove_block_text)
+unfolding understood everything
+remove_block_plain = (refl, refl)
+
+pub removes_block : (db idx reg : ℤ) (term : List ℕ) (block : ℤ) (old new : State) (count : ℕ) → IsStore old → Executes remove_block_text (block_key db idx reg term block) old new (Ok count)
+    → Changes blocks_tree (Loses (IsBlockOf db idx reg term block)) old new
+removes_block db idx reg term block old new count store ran =
+    let key = block_key db idx reg term block in
+    loses store_schema 9 old new key block_wheres (IsBlockOf db idx reg term block) (λ id columns. (
+      λ m. (m.0, m.1.0, m.1.1.0, m.1.1.1.0, m.1.1.1.1.0),
+      λ m. (m.0, (m.1, (m.2, (m.3, (m.4, tt))))),
+    )) (deletes store_schema 4 blocks blocks_static remove_block_text key block_wheres remove_block_is remove_block_plain refl old new count store ran)
+
+abbrev pub remove_dict_text : List ℕ
+remove_dict_text = codes "DELETE FROM dict WHERE db = ?1 AND idx = ?2 AND reg = ?3 AND term = ?4"
+
+abbrev dict_wheres : List Condition
+dict_wheres = equals 1 0 ∷ equals 2 1 ∷ equals 3 2 ∷ equals 4 3 ∷ []
+
+remove_dict_is : command_of (understood store_schema remove_dict_text) ≡ Delete 5 (alone (reading 11 dict_wheres (shows (0 ∷ [])) [] no_limit))
+unfolding understood everything
+remove_dict_is = refl
+
+remove_dict_plain : IsPlain (understood store_schema remove_dict_text)
+unfolding understood everything
+remove_dict_plain = (refl, refl)
+
+pub removes_dict : (db idx reg : ℤ) (term : List ℕ) (old new : State) (count : ℕ) → IsStore old → Executes remove_dict_text (key_of db idx reg term) old new (Ok count)
+    → Changes dict_tree (Loses (IsRowOf db idx reg term)) old new
+removes_dict db idx reg term old new count store ran =
+    let key = key_of db idx reg term in
+    loses store_schema 11 old new key dict_wheres (IsRowOf db idx reg term) (λ id columns. (
+      λ m. (m.0, m.1.0, m.1.1.0, m.1.1.1.0),
+      λ m. (m.0, (m.1, (m.2, (m.3, tt)))),
+    )) (deletes store_schema 5 dict dict_static remove_dict_text key dict_wheres remove_dict_is remove_dict_plain refl old new count store ran)

@@ -1,0 +1,103 @@
+-- Steps of private functions, which no public clause speaks of: one record's part of a key's block changed, and what is written of it.
+use Rattle.std.specs.Prelude.{◌≡◌, ◌≢◌, ◌↔◌, ◌⊎◌, ◌+◌, ◌<◌, ◌≤◌, ◌^◌, ◌==◌, ℕ, ℤ, pos, nat_lt, List, [], ◌∷◌, filter, map}
+use Rattle.std.specs.List.{AllByRecursion}
+use Rattle.std.specs.List.Sorted.{IsStrictlySortedBy}
+use Rattle.sqlite.specs.declared.types.Value.TheVariants.{Int, Text, Blob}
+use Rattle.sqlite.specs.Order.{Row, column}
+use Rattle.sqlite.specs.State.{State}
+use Rattle.sqlite.specs.Tree.{Trees}
+use Rattle.sqlite_rules.specs.Lists.{Has}
+use Rattle.zeb_blocks.specs.declared.postings.Posting.{Posting}
+use Rattle.zeb_blocks.specs.Blocks.{BlockSpells}
+use Rattle.zeb_extract.specs.declared.keys.Key.{Key}
+use Rattle.zeb_register.specs.declared.registers.Place.{Place}
+use Rattle.zeb_register.specs.declared.packed_parts.Parted.{Parted}
+use Rattle.zeb_register.specs.declared.packed_parts.Held.{Held}
+use Rattle.zeb_register.specs.Content.{ArePlacesOf, Content, place_cmp, posted, posting_at, posting_cmp}
+use Rattle.zeb_register.specs.Occurring.{HasKey, IsCount}
+use Rattle.zeb_register.specs.PackedBlocks.{block_row, dict_row, part_in}
+use Rattle.zeb_register.specs.PlainRows.{code_of_register}
+use Rattle.zeb_register.specs.Sql.{HasRow}
+use Rattle.zeb_register.specs.Store.{IsStore, KeepsLists, blocks_tree, dict_tree, postings_tree}
+
+-- ---- the row of a key and a block, and the row of a key
+
+abbrev pub block_key : ℤ → ℤ → ℤ → List ℕ → ℤ → Row
+block_key db idx reg term block = Int db ∷ Int idx ∷ Int reg ∷ Text term ∷ Int block ∷ []
+
+abbrev pub block_columns : ℤ → ℤ → ℤ → List ℕ → ℤ → List ℕ → Row
+block_columns db idx reg term block bytes = Int db ∷ Int idx ∷ Int reg ∷ Text term ∷ Int block ∷ Blob bytes ∷ []
+
+abbrev pub dict_columns : ℤ → ℤ → ℤ → List ℕ → ℤ → Row
+dict_columns db idx reg term records = Int db ∷ Int idx ∷ Int reg ∷ Text term ∷ Int records ∷ []
+
+abbrev pub IsRowOf : ℤ → ℤ → ℤ → List ℕ → Row → Type 0
+IsRowOf db idx reg term columns = (column columns 0 ≡ Int db) × (column columns 1 ≡ Int idx) × (column columns 2 ≡ Int reg) × (column columns 3 ≡ Text term)
+
+abbrev pub IsBlockOf : ℤ → ℤ → ℤ → List ℕ → ℤ → Row → Type 0
+IsBlockOf db idx reg term block columns =
+    (column columns 0 ≡ Int db) × (column columns 1 ≡ Int idx) × (column columns 2 ≡ Int reg) × (column columns 3 ≡ Text term) × (column columns 4 ≡ Int block)
+
+abbrev pub IsDictIn : ℤ → Key → Row → Type 0
+IsDictIn db key = IsRowOf db (pos key.index) (pos (code_of_register key.register)) key.term
+
+abbrev pub IsBlockIn : ℤ → Key → ℕ → Row → Type 0
+IsBlockIn db key block = IsBlockOf db (pos key.index) (pos (code_of_register key.register)) key.term (pos block)
+
+-- the row of the key and the block spells the list, and there is none where the list is empty
+abbrev pub PutsBlock : ℤ → Key → ℕ → List Posting → ℕ → Trees → Trees → Type 0
+PutsBlock db key block list tree old new =
+    (row : Row) → HasRow new tree row
+    ↔ ((HasRow old tree row × ¬ IsBlockIn db key block row) ⊎ ((bytes : List ℕ) × BlockSpells block list bytes × (row ≡ block_row db key block bytes)))
+
+-- the row of the key says how many records have it, and there is none where none has
+abbrev pub PutsCount : ℤ → Key → ℕ → ℕ → Trees → Trees → Type 0
+PutsCount db key records tree old new =
+    (row : Row) → HasRow new tree row ↔ ((HasRow old tree row × ¬ IsDictIn db key row) ⊎ ((records ≢ 0) × (row ≡ dict_row db key records)))
+
+-- the row shows bytes that spell the list in the block
+abbrev pub SpellsIn : ℕ → Row → List Posting → Type 0
+SpellsIn block row list = (bytes : List ℕ) × (column row 0 ≡ Blob bytes) × BlockSpells block list bytes
+
+-- ---- one record's part of a list
+
+-- the postings of a list, parted at a record
+pub record IsParted (sysno : ℕ) (list : List Posting) (parted : Parted) : Type 0 where
+  pub before : parted.before.items ≡ filter (λ p. nat_lt p.sysno sysno) list
+  pub own : map (posting_at sysno) parted.own.items ≡ filter (λ p. p.sysno == sysno) list
+  pub behind : parted.behind.items ≡ filter (λ p. nat_lt sysno p.sysno) list
+
+-- the record's part of the list is changed to these places, and nothing else
+pub record IsSplicedAt (sysno : ℕ) (places : List Place) (old new : List Posting) : Type 0 where
+  pub rising : IsStrictlySortedBy posting_cmp new
+  pub part : ArePlacesOf sysno places new
+  pub others : (p : Posting) → p.sysno ≢ sysno → Has new p ↔ Has old p
+
+-- so many records have a key before and after one record's places are changed
+abbrev pub CountsOn : List Place → List Place → ℕ → ℕ → Type 0
+CountsOn [] [] old new = new ≡ old
+CountsOn [] (p ∷ ps) old new = new ≡ old + 1
+CountsOn (p ∷ ps) [] old new = old ≡ new + 1
+CountsOn (p ∷ ps) (q ∷ qs) old new = new ≡ old
+
+-- what the tables hold of a key: its postings in a block, and how many records have it at all
+pub record IsHeld (content : Content) (db : ℤ) (key : Key) (block : ℕ) (held : Held) : Type 0 where
+  pub part : held.list.items ≡ part_in block (content db key)
+  pub count : IsCount (HasKey (posted content db) key) held.records
+
+-- a place whose numbers a column stores, and of which none is 0
+pub record IsStorablePlace (place : Place) : Type 0 where
+  pub seq : (1 ≤ place.seq) × (place.seq < 2 ^ 63)
+  pub pos : (1 ≤ place.pos) × (place.pos < 2 ^ 63)
+
+-- such places, rising
+abbrev pub AreStorablePlaces : List Place → Type 0
+AreStorablePlaces places = IsStrictlySortedBy place_cmp places × AllByRecursion IsStorablePlace places
+
+-- the rows of a key are written, that of one block and that of the number of its records, and every other row is as it was
+pub record PutsKey (db : ℤ) (key : Key) (block : ℕ) (held : Held) (old new : State) : Type 0 where
+  pub store : IsStore new
+  pub lists : KeepsLists old.now.trees new.now.trees
+  pub postings : new.now.trees postings_tree ≡ old.now.trees postings_tree
+  pub blocks : PutsBlock db key block held.list.items blocks_tree old.now.trees new.now.trees
+  pub dict : PutsCount db key held.records dict_tree old.now.trees new.now.trees

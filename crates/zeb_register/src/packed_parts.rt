@@ -1,0 +1,183 @@
+//! What the packed tables hold of a key in one block, and what they hold of it after one record's places are changed.
+
+ghost use Rattle.std.specs.Prelude.{◌≡◌, ◌≢◌, ◌<◌, ◌≤◌, ◌/◌, ◌++◌, ◌^◌, ◌==◌, ◌∷◌, [], ℕ, ℤ, List};
+ghost use Rattle.std.specs.Prelude.{filter, map, true, false, IfOk, MatchOption, OnOk};
+ghost use Rattle.std.specs.declared.cmp.Ordering.TheVariants.{Less};
+ghost use Rattle.std.specs.List.Sorted.{IsStrictlySortedBy};
+ghost use Rattle.zeb_blocks.specs.Blocks.{LiesIn};
+ghost use Rattle.zeb_blocks.specs.declared.postings.Posting.{Posting};
+ghost use Rattle.zeb_extract.specs.declared.keys.Key.{Key};
+ghost use Rattle.zeb_register.specs.Content.{ArePlacesOf, Content, IsRising, place_cmp, posting_at};
+ghost use Rattle.zeb_register.specs.PackedChanges.{AreStorablePlaces, CountsOn, IsHeld, IsParted, IsSplicedAt, IsStorablePlace};
+
+use crate::RegFault;
+use crate::registers::Place;
+use crate::values::stored;
+use std::alloc::Global;
+use zeb_blocks::Posting;
+
+/// What the tables hold of a key: its postings in one block, and how many records have it at all.
+#[derive(Debug, Drop)]
+pub(crate) struct Held {
+    pub(crate) list: Vec<Posting>,
+    pub(crate) records: u64,
+}
+
+impl Held {
+    /// What is held after the record's places `old` are changed to `new`.
+    ///
+    /// `Damaged` where the record has other places than `old`, or where no record has a key with a posting.
+    pub(crate) fn changed(&self, sysno: u64, old: &[Place], new: &[Place]) -> Result<Held, RegFault>
+        requires lies { LiesIn (sysno / 256) self.now.list.items }
+        requires few { self.now.records ≤ 999999999 }
+        requires number { 1 ≤ sysno }
+        requires stored { AreStorablePlaces new.now }
+        ensures list { IfOk result (λ held. IsSplicedAt sysno new.now self.now.list.items held.list.items) }
+        ensures lies { IfOk result (λ held. LiesIn (sysno / 256) held.list.items) }
+        ensures own { OnOk result (map (posting_at sysno) old.now ≡ filter (λ p. p.sysno == sysno) self.now.list.items) }
+        ensures count { IfOk result (λ held. CountsOn old.now new.now self.now.records held.records) }
+        ensures damaged { result ≡ Err RegFault.Damaged → IsStrictlySortedBy place_cmp old.now → (content : Content) (db : ℤ) (key : Key)
+            → IsRising content → IsHeld content db key (sysno / 256) self.now → ¬ ArePlacesOf sysno old.now (content db key) }
+    {
+        let parted = parted_at(*self.list.allocator(), &self.list, sysno)?;
+        if !are_same(&parted.own, old) || self.lacks_records() {
+            return Err(RegFault::Damaged);
+        }
+        let Some(records) = records_after(self.records, old, new) else {
+            return Err(RegFault::Damaged);
+        };
+        let list = joined(parted.before, sysno, new, &parted.behind)?;
+        let held = Held { list, records };
+        if held.lacks_records() {
+            return Err(RegFault::Damaged);
+        }
+        Ok(held)
+    }
+
+    /// Whether no record has the key, though it has a posting.
+    fn lacks_records(&self) -> bool
+        ensures lacks { result ≡ true → (self.now.records ≡ 0) × (self.now.list.items ≢ []) }
+        ensures has { result ≡ false → self.now.list.items ≢ [] → 1 ≤ self.now.records }
+    {
+        self.records == 0 && !self.list.is_empty()
+    }
+}
+
+/// Postings parted at a record: those of the records before it, its own places, and the postings of the records behind it.
+#[derive(Debug, Drop)]
+struct Parted {
+    before: Vec<Posting>,
+    own: Vec<Place>,
+    behind: Vec<Posting>,
+}
+
+impl Parted {
+    /// Puts a posting that stands behind the others.
+    fn put(&mut self, posting: Posting, sysno: u64) -> Result<(), RegFault>
+        ensures parted { OnOk result ((list : List Posting) → IsParted sysno list self.old
+            → IsParted sysno (list ++ posting ∷ []) self.new) }
+        ensures honest { result ≢ Err RegFault.Damaged }
+    {
+        if posting.sysno < sysno {
+            self.before.push(posting)?;
+        } else if posting.sysno == sysno {
+            self.own.push(Place {
+                seq: posting.seq,
+                pos: posting.pos,
+            })?;
+        } else {
+            self.behind.push(posting)?;
+        }
+        Ok(())
+    }
+}
+
+/// The postings of a list, parted at a record.
+fn parted_at(alloc: Global, list: &[Posting], sysno: u64) -> Result<Parted, RegFault>
+    ensures parted { IfOk result (IsParted sysno list.now) }
+    ensures honest { result ≢ Err RegFault.Damaged }
+{
+    let mut parted = Parted {
+        before: Vec::new(alloc),
+        own: Vec::new(alloc),
+        behind: Vec::new(alloc),
+    };
+    for posting in list {
+        parted.put(*posting, sysno)?;
+    }
+    Ok(parted)
+}
+
+/// Whether two lists have the same places, in the same order.
+fn are_same(one: &[Place], two: &[Place]) -> bool
+    ensures same { result ≡ true → one.now ≡ two.now }
+    ensures other { result ≡ false → one.now ≢ two.now }
+{
+    one == two
+}
+
+/// The postings before a record, those of its places, and those behind it.
+fn joined(
+    before: Vec<Posting>,
+    sysno: u64,
+    places: &[Place],
+    behind: &[Posting],
+) -> Result<Vec<Posting>, RegFault>
+    ensures list { IfOk result (λ list. list.items ≡ before.items ++ (map (posting_at sysno) places.now ++ behind.now)) }
+    ensures honest { result ≢ Err RegFault.Damaged }
+{
+    let mut list = before;
+    for place in places {
+        list.push(Posting {
+            sysno,
+            seq: place.seq,
+            pos: place.pos,
+        })?;
+    }
+    list.extend_from_slice(behind)?;
+    Ok(list)
+}
+
+/// How many records have a key after one record's places are changed; `None` where none had it, and this one did.
+fn records_after(records: u64, old: &[Place], new: &[Place]) -> Option<u64>
+    requires { records ≤ 999999999 }
+    ensures { MatchOption result ((after : ℕ) → ¬ CountsOn old.now new.now records after) (CountsOn old.now new.now records) }
+{
+    match (old.is_empty(), new.is_empty()) {
+        (true, false) => Some(records + 1),
+        (false, true) => records.checked_sub(1),
+        _ => Some(records),
+    }
+}
+
+/// Refuses what no row has, as `Store`: a number of 0 or above `2^63 - 1`, and places that don't rise.
+pub(crate) fn check_numbers(sysno: u64, places: &[Place]) -> Result<(), RegFault>
+    ensures number { OnOk result ((1 ≤ sysno) × (sysno < 2 ^ 63)) }
+    ensures stored { OnOk result (AreStorablePlaces places.now) }
+    ensures honest { result ≢ Err RegFault.Damaged }
+{
+    stored(sysno)?;
+    if sysno == 0 {
+        return Err(RegFault::Store);
+    }
+    let mut before = Place { seq: 0, pos: 0 };
+    for place in places {
+        check_place(before, *place)?;
+        before = *place;
+    }
+    Ok(())
+}
+
+/// Refuses a place that isn't above the one before it, or that no column stores.
+fn check_place(before: Place, place: Place) -> Result<(), RegFault>
+    ensures ok { OnOk result (IsStorablePlace place × (place_cmp before place ≡ Less)) }
+    ensures honest { result ≢ Err RegFault.Damaged }
+{
+    stored(place.seq)?;
+    stored(place.pos)?;
+    let rises = before.seq < place.seq || (before.seq == place.seq && before.pos < place.pos);
+    if place.seq == 0 || place.pos == 0 || !rises {
+        return Err(RegFault::Store);
+    }
+    Ok(())
+}
