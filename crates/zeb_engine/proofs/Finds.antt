@@ -21,7 +21,8 @@ use Rattle.zeb_engine.specs.Finding.{AreShown, IsAnswered, IsNamed, IsPlanned, I
 use Rattle.zeb_change.specs.Occurs.{occurs}
 use Rattle.zeb_search.specs.Holds.{TreeHolds}
 use Rattle.zeb_search.specs.Lists.{AreNumbers}
-use Rattle.zeb_search.specs.Registers.{has_ident_in, HasReadableIdents, HoldsIn, is_kept_in}
+use Rattle.zeb_search.specs.Registers.{has_ident_in, HoldsIn, is_kept_in, NamesReadable}
+use Rattle.zeb_search.proofs.ReadableNames.{names_readable}
 use Rattle.zeb_search.proofs.HoldsAlike.{tree_alike}
 use Rattle.zeb_search.proofs.Known.{IsKnown, holder_known}
 use Rattle.zeb_change.specs.Base.{Base, Kept}
@@ -97,8 +98,8 @@ module _ (format : Format) (profile : List Directive) (trees : Trees) (id : ℤ)
       )
 
   -- each identifier in the tables is UTF-8
-  pub idents_readable : HasReadableIdents trees id
-  idents_readable n ident bytes row = (let k = (held.kept (pos n) ident bytes).0 row in subst IsUtf8 (sym k.3) (held.sound.sound k.0 k.1).text)
+  pub idents_readable : (plan : PlanValue) → NamesReadable trees id plan
+  idents_readable = names_readable trees id (λ n ident bytes row. let k = (held.kept (pos n) ident bytes).0 row in subst IsUtf8 (sym k.3) (held.sound.sound k.0 k.1).text)
 
   -- ---- the answers
 

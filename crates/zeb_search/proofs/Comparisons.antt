@@ -1,10 +1,13 @@
 -- Texts compared by their bytes.
-use Rattle.std.proofs.Common.{◌≡◌, ◌↔◌, ◌∙◌, ℕ, List, IsTrue, refl, sym, ap, inl, inr, Ordering, Less, Equal, Greater}
+use Rattle.std.proofs.Common.{◌≡◌, ◌↔◌, ◌⊎◌, ◌∙◌, ◌++◌, ◌<◌, ℕ, List, [], ◌∷◌, IsTrue, true, false, refl, sym, ap, inl, inr, Ordering, Less, Equal, Greater, arith}
 use Rattle.std.specs.Cmp.Lexicographic.{slice_cmp, nat_list_cmp_total}
-use Rattle.std.specs.Ordering.{nat_cmp, is_le, is_ge, is_gt, ordering_reverse}
+use Rattle.std.specs.Ordering.{nat_cmp, is_lt, is_le, is_ge, is_gt, ordering_reverse, ordering_then}
+use Rattle.std.proofs.lemmas.Bool.Decides.{nat_tests}
 use Rattle.std.proofs.lemmas.Cmp.{tied_itself}
 use Rattle.zeb_query.specs.declared.plans.Order.TheVariants as in_order
+use Rattle.zeb_register.proofs.RisingLists.{never_back, never_itself}
 use Rattle.zeb_register.proofs.RowLemmas.{same_bytes}
+use Rattle.zeb_register.proofs.TermLists.{above_least}
 use Rattle.zeb_search.specs.Comparing.{Precedes, StandsInOrder}
 
 pub turned : (a b : List ℕ) → slice_cmp nat_cmp a b ≡ Greater → Precedes b a
@@ -32,3 +35,53 @@ pub gt_stands : (a b : List ℕ) (o : Ordering) → o ≡ slice_cmp nat_cmp a b 
 gt_stands a b Less e = (λ h. absurd (cc), λ h. absurd (let t = turned_back a b h in cc))
 gt_stands a b Equal e = (λ h. absurd (cc), λ h. absurd (let t = turned_back a b h in cc))
 gt_stands a b Greater e = (λ _. turned a b (sym e), λ _. refl)
+
+-- ---- the first numbers and bytes that differ decide
+
+pub ranked_numbers : (a b : ℕ) (rest : Ordering) → ordering_then (nat_cmp a b) rest ≡ Less → (a < b) ⊎ ((a ≡ b) × (rest ≡ Less))
+ranked_numbers a b rest h = go (nat_cmp a b) refl h
+  where
+    go : (o : Ordering) → nat_cmp a b ≡ o → ordering_then o rest ≡ Less → (a < b) ⊎ ((a ≡ b) × (rest ≡ Less))
+    go Less is said = inl (grind (arith, nat_tests))
+    go Equal is said = inr ((let e : a ≡ b = grind (arith, nat_tests) in e), said)
+    go Greater is said = absurd (cc)
+
+-- ---- texts in order
+
+pub never_after : (a b : List ℕ) → Precedes a b → ¬ Precedes b a
+never_after = never_back nat_list_cmp_total
+
+pub never_before_itself : (a : List ℕ) → ¬ Precedes a a
+never_before_itself = never_itself nat_list_cmp_total
+
+pub precedes_then : (a b c : List ℕ) → Precedes a b → Precedes b c → Precedes a c
+precedes_then = nat_list_cmp_total.trans
+
+-- the empty text comes first
+pub none_before : (a : List ℕ) → ¬ Precedes a []
+none_before [] h = let e : Equal ≡ Less = h in cc
+none_before (x ∷ xs) h = let e : Greater ≡ Less = h in cc
+
+-- between a text and the one with a NUL behind it there is none
+pub none_between : (a b : List ℕ) → Precedes a b → ¬ Precedes b (a ++ 0 ∷ [])
+none_between a b up h = let e : true ≡ false = sym (ap is_lt h) ∙ above_least b a up in cc
+
+-- a text doesn't come before what it begins with
+pub not_before_front : (front rest : List ℕ) → ¬ Precedes (front ++ rest) front
+not_before_front [] rest h = none_before rest h
+not_before_front (c ∷ front) rest h = elim (ranked_numbers c c (slice_cmp nat_cmp (front ++ rest) front) h) [ inl low ↦ omega (arith, low) | inr same ↦ not_before_front front rest same.1 ]
+
+-- what stands between a text and one that begins with it begins with it too
+pub begins_between : (front between rest : List ℕ) → Precedes front between → Precedes between (front ++ rest) → (more : List ℕ) × (between ≡ front ++ more)
+begins_between [] between rest up down = (between, refl)
+begins_between (c ∷ front) [] rest up down = absurd (let e : Greater ≡ Less = up in cc)
+begins_between (c ∷ front) (d ∷ between) rest up down =
+    elim (ranked_numbers c d (slice_cmp nat_cmp front between) up) [
+      | inl low ↦ elim (ranked_numbers d c (slice_cmp nat_cmp between (front ++ rest)) down) [ inl back ↦ absurd (omega (arith, low, back)) | inr same ↦ absurd (omega (arith, low, same.0)) ]
+      | inr same ↦ elim (ranked_numbers d c (slice_cmp nat_cmp between (front ++ rest)) down) [
+        | inl back ↦ absurd (omega (arith, same.0, back))
+        | inr alike ↦
+            let inner = begins_between front between rest same.1 alike.1 in
+            (inner.0, ap (λ x. x ∷ between) (sym same.0) ∙ ap (λ l. c ∷ l) inner.1)
+      ]
+    ]

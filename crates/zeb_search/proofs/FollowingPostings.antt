@@ -1,5 +1,5 @@
 -- The postings of a list behind which one of another list stands, found in one walk over both, which rise.
-use Rattle.std.proofs.Common.{◌≡◌, ◌∙◌, ◌↔◌, ◌⊎◌, ◌≤◌, ◌<◌, ℕ, zero, suc, ◌+◌, Bool, true, false, cond, length, get_or, take, List, [], ◌∷◌, ◌++◌, IsTrue, Option, Some, None, ◌-◌, Ordering, Less, Equal, Greater, refl, sym, ap, subst, inl, inr, arith}
+use Rattle.std.proofs.Common.{◌≡◌, ◌∙◌, ◌↔◌, ◌⊎◌, ◌≤◌, ◌<◌, ℕ, zero, suc, ◌+◌, Bool, true, false, cond, length, get_or, take, List, [], ◌∷◌, ◌++◌, IsTrue, Option, Some, None, ◌-◌, Ordering, Less, refl, sym, ap, subst, inl, inr, arith}
 use Rattle.std.specs.List.Sorted.{IsStrictlySortedBy}
 use Rattle.std.specs.Ordering.{nat_cmp, ordering_then}
 use Rattle.std.proofs.lemmas.Bool.{cases_lt}
@@ -14,6 +14,7 @@ use Rattle.zeb_register.proofs.TermRows.{taken_below, taken_more}
 use Rattle.zeb_search.specs.Lists.{ArePostings}
 use Rattle.zeb_search.specs.declared.lists.Words.{Words}
 use Rattle.zeb_search.specs.PrivateWalks.{HasWithin, IsBefore, IsBehind, IsUpTo, IsWithin}
+use Rattle.zeb_search.proofs.Comparisons.{ranked_numbers}
 
 -- ---- postings in order
 
@@ -30,14 +31,6 @@ rises_at R (x ∷ xs) (suc i) (suc j) d e up before within = rises_at R xs i j d
 
 abbrev Precedes : Posting → Posting → Type 0
 Precedes p q = (p.sysno < q.sysno) ⊎ ((p.sysno ≡ q.sysno) × ((p.seq < q.seq) ⊎ ((p.seq ≡ q.seq) × (p.pos < q.pos))))
-
-ranked_numbers : (a b : ℕ) (rest : Ordering) → ordering_then (nat_cmp a b) rest ≡ Less → (a < b) ⊎ ((a ≡ b) × (rest ≡ Less))
-ranked_numbers a b rest h = go (nat_cmp a b) refl h
-  where
-    go : (o : Ordering) → nat_cmp a b ≡ o → ordering_then o rest ≡ Less → (a < b) ⊎ ((a ≡ b) × (rest ≡ Less))
-    go Less is said = inl (grind (arith, nat_tests))
-    go Equal is said = inr ((let e : a ≡ b = grind (arith, nat_tests) in e), said)
-    go Greater is said = absurd (cc)
 
 lower_number : (a b : ℕ) → nat_cmp a b ≡ Less → a < b
 lower_number a b h = grind (arith, nat_tests)

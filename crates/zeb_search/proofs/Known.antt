@@ -1,5 +1,5 @@
 -- A query holds on no record but those that have an occurrence or are kept.
-use Rattle.std.proofs.Common.{◌≡◌, ◌⊎◌, ℕ, List, [], ◌∷◌, Some, None, inl, inr, refl}
+use Rattle.std.proofs.Common.{◌⊎◌, ℕ, List, [], ◌∷◌, Some, None, inl, inr, refl}
 use Rattle.zeb_profile.specs.declared.Register.{Register}
 use Rattle.zeb_text.specs.Symbols.{Symbol}
 use Rattle.zeb_query.specs.declared.plans.Operator.TheVariants as operator

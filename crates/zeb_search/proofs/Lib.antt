@@ -1,4 +1,5 @@
 pub mod Comparisons
+pub mod CountedLemmas
 pub mod FollowingPostings
 pub mod Gathering
 pub mod HoldsAlike
@@ -6,9 +7,12 @@ pub mod JoinedLists
 pub mod JustLemmas
 pub mod Known
 pub mod OrderedLists
+pub mod PageLemmas
 pub mod PlainWords
 pub mod PlanLemmas
 pub mod PostingLemmas
+pub mod RangeLemmas
 pub mod ReadLemmas
+pub mod ReadableNames
 pub mod SeparatedPostings
 pub mod TermLemmas

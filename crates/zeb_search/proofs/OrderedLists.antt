@@ -12,9 +12,9 @@ use Rattle.sqlite_rules.proofs.ProbeLemmas.{has_mapped, mapped_has}
 use Rattle.zeb_extract.specs.Order.{TellsApart}
 use Rattle.zeb_extract.proofs.Ordered.{rising_from_dedup, members_from_dedup}
 use Rattle.zeb_register.specs.Content.{posting_cmp, Posting}
-use Rattle.zeb_register.specs.RowTerms.{IsInRecord}
 use Rattle.zeb_register.proofs.ContentChanges.{posting_total, postings_apart, numbers_apart}
 use Rattle.zeb_search.specs.Lists.{AreJust, AreNumbers, ArePostings}
+use Rattle.zeb_search.specs.PrivateTerms.{HasPosting}
 
 -- ---- after a sort
 
@@ -79,7 +79,7 @@ numbers_sorted (p ∷ (q ∷ rest)) up zero d from within =
 numbers_sorted (p ∷ (q ∷ rest)) up (suc k) d from within = (let next : suc k + 1 ≡ suc (k + 1) = omega arith in rw next (numbers_sorted (q ∷ rest) up.1 k d (omega arith) (omega (arith, within))))
 
 pub numbers_from_dedup : (postings : List Posting) (all numbers : List ℕ) → all ≡ map (λ (p : Posting). p.sysno) postings → IsFiltered (DiffersFromLast nat_eq) [] all numbers
-    → IsStrictlySortedBy posting_cmp postings → AreNumbers (IsInRecord postings) numbers
+    → IsStrictlySortedBy posting_cmp postings → AreNumbers (HasPosting postings) numbers
 numbers_from_dedup postings all numbers mapped filtered up =
     let number = λ (p : Posting). p.sysno in
     let sorted : IsSorted nat_cmp all = rw mapped (numbers_sorted postings up) in

@@ -1,5 +1,5 @@
 -- A phrase of one word without stars holds where the record has the word's key.
-use Rattle.std.proofs.Common.{◌≡◌, ◌≢◌, ◌↔◌, ◌∙◌, ℕ, false, Bool, true, List, [], ◌∷◌, IsUtf8, chars, encode_utf8_all, refl, sym, ap, subst}
+use Rattle.std.proofs.Common.{◌≡◌, ◌↔◌, ◌∙◌, ℕ, false, Bool, true, List, [], ◌∷◌, IsUtf8, chars, encode_utf8_all, refl, sym, ap, subst}
 use Rattle.std.proofs.lemmas.Str.{encodes-chars}
 use Rattle.zeb_text.specs.Symbols.{Symbol, literal}
 use Rattle.zeb_text.proofs.MatchLemmas.{literal-same, same-literal}
@@ -7,7 +7,7 @@ use Rattle.zeb_profile.specs.declared.Register.TheVariants as register
 use Rattle.zeb_query.specs.Plans.{PhraseOf}
 use Rattle.zeb_extract.specs.declared.keys.Key.{Key}
 use Rattle.zeb_extract.specs.declared.keys.Occurrence.{Occurrence}
-use Rattle.zeb_register.specs.Occurring.{TermIn, key_in}
+use Rattle.zeb_register.specs.Occurring.{TermIn}
 use Rattle.zeb_search.specs.Holds.{Fits, TermHolds}
 
 -- a text that a pattern without stars matches is the pattern's

@@ -1,5 +1,5 @@
 -- What the places of words tell of the records on which a plan holds.
-use Rattle.std.proofs.Common.{◌≡◌, ◌≢◌, ◌↔◌, ◌⊎◌, ◌∙◌, ℕ, ℤ, pos, Option, Some, None, String, string_bytes, ◌+◌, ◌<◌, ◌≤◌, Bool, true, false, ◌==◌, List, [], ◌∷◌, Ordering, filter, length, get_or, take, arith, refl, sym, ap, subst, inl, inr, eqb-true, eq-eqb}
+use Rattle.std.proofs.Common.{◌≡◌, ◌≢◌, ◌⊎◌, ◌∙◌, ℕ, ℤ, pos, Option, Some, None, String, string_bytes, ◌+◌, ◌<◌, true, false, ◌==◌, List, [], ◌∷◌, Ordering, filter, length, get_or, take, arith, refl, sym, ap, subst, inl, inr, eqb-true, eq-eqb}
 use Rattle.std.specs.declared.alloc.Global.{Global}
 use Rattle.std.specs.List.Sorted.{IsStrictlySortedBy}
 use Rattle.sqlite.specs.Tree.{Trees}
@@ -17,18 +17,16 @@ use Rattle.zeb_extract.specs.declared.keys.Occurrence.{Occurrence}
 use Rattle.zeb_register.specs.Content.{Content, posting_cmp, Posting}
 use Rattle.zeb_register.specs.Kept.{IsIdentOf}
 use Rattle.zeb_register.specs.Store.{HasRecord}
-use Rattle.zeb_register.specs.RowTerms.{IsInRecord}
-use Rattle.zeb_search.specs.Comparing.{AreSeparated}
 use Rattle.zeb_search.specs.Holds.{HasMatch, HasNear, HasPhrase, HasWord, HasWords}
 use Rattle.zeb_search.specs.Lists.{AreJust, AreNumbers, ArePostings}
-use Rattle.zeb_search.specs.PrivateTerms.{HasBehind, IsNear}
+use Rattle.zeb_search.specs.PrivateTerms.{HasBehind, HasPosting, IsNear}
 use Rattle.zeb_search.specs.Registers.{HoldsIn, is_kept_in}
 use Rattle.zeb_search.proofs.JustLemmas.{just_none, just_same, some_more, each_more}
 
 pub some_patterns : (pattern : List Symbol) (patterns : List (List Symbol)) → (pattern ∷ patterns) ≢ []
 some_patterns pattern patterns same = cc
 
-no_patterns : (patterns : List (List Symbol)) → length patterns ≡ 0 → patterns ≡ []
+pub no_patterns : (patterns : List (List Symbol)) → length patterns ≡ 0 → patterns ≡ []
 no_patterns [] none = refl
 no_patterns (pattern ∷ patterns) none = absurd (omega arith)
 
@@ -120,9 +118,9 @@ module _ (O : ℕ → Occurrence → Type 0) (index : ℕ) where
   IsStart patterns p = (patterns ≢ []) × AreWordsAt patterns p
 
   -- the records of the places at which the phrase begins
-  pub phrase_hits : (patterns : List (List Symbol)) (places : List Posting) (numbers : List ℕ) → ArePostings (IsStart patterns) places → AreNumbers (IsInRecord places) numbers
+  pub phrase_hits : (patterns : List (List Symbol)) (places : List Posting) (numbers : List ℕ) → ArePostings (IsStart patterns) places → AreNumbers (HasPosting places) numbers
       → AreNumbers (λ n. (patterns ≢ []) × HasPhrase O index patterns false n) numbers
-  phrase_hits patterns places numbers are = just_same (IsInRecord places) (λ n. (patterns ≢ []) × HasPhrase O index patterns false n) numbers (λ n. (
+  phrase_hits patterns places numbers are = just_same (HasPosting places) (λ n. (patterns ≢ []) × HasPhrase O index patterns false n) numbers (λ n. (
     λ has.
         let p = has.0 in
         let start = (are.each p).0 has.1 in
@@ -134,8 +132,8 @@ module _ (O : ℕ → Occurrence → Type 0) (index : ℕ) where
 
   -- the same for those at a unit's first word
   pub first_phrase_hits : (patterns : List (List Symbol)) (places : List Posting) (numbers : List ℕ) → ArePostings (IsStart patterns) places
-      → AreNumbers (IsInRecord (filter (λ p. p.pos == 1) places)) numbers → AreNumbers (λ n. (patterns ≢ []) × HasPhrase O index patterns true n) numbers
-  first_phrase_hits patterns places numbers are = just_same (IsInRecord (filter (λ p. p.pos == 1) places)) (λ n. (patterns ≢ []) × HasPhrase O index patterns true n) numbers (λ n. (
+      → AreNumbers (HasPosting (filter (λ p. p.pos == 1) places)) numbers → AreNumbers (λ n. (patterns ≢ []) × HasPhrase O index patterns true n) numbers
+  first_phrase_hits patterns places numbers are = just_same (HasPosting (filter (λ p. p.pos == 1) places)) (λ n. (patterns ≢ []) × HasPhrase O index patterns true n) numbers (λ n. (
     λ has.
         let p = has.0 in
         let kept = has_filtered (λ (p : Posting). p.pos == 1) places p has.1 in

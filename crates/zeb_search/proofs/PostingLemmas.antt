@@ -1,17 +1,15 @@
 -- What the postings of keys tell of the records that have them.
-use Rattle.std.proofs.Common.{◌≡◌, ◌↔◌, ◌∙◌, ℕ, ℤ, List, refl, sym, ap, subst}
+use Rattle.std.proofs.Common.{ℕ, ℤ, List, refl, subst}
 use Rattle.sqlite_rules.specs.Lists.{Has}
 use Rattle.zeb_profile.specs.declared.Register.{Register}
 use Rattle.zeb_profile.specs.declared.Register.TheVariants as register
 use Rattle.zeb_extract.specs.declared.keys.Key.{Key}
-use Rattle.zeb_extract.specs.declared.keys.Occurrence.{Occurrence}
 use Rattle.zeb_text.specs.Symbols.{Symbol}
-use Rattle.zeb_register.specs.Content.{Content, posted, posting_cmp, Posting}
+use Rattle.zeb_register.specs.Content.{Content, posted, Posting}
 use Rattle.zeb_register.specs.Occurring.{key_in}
-use Rattle.zeb_register.specs.RowTerms.{IsInRecord}
 use Rattle.zeb_search.specs.Holds.{Fits, HasEntry, HasWord}
 use Rattle.zeb_search.specs.Lists.{AreNumbers, ArePostings}
-use Rattle.zeb_search.specs.PrivateTerms.{AreKeysOf, IsPostingOf}
+use Rattle.zeb_search.specs.PrivateTerms.{AreKeysOf, HasPosting, IsPostingOf}
 
 module _ (content : Content) (db : ℤ) (index : ℕ) (register : Register) (P : List ℕ → Type 0) (keys : List Key) (are : AreKeysOf (posted content db) index register P keys) where
   -- a posting of one of the keys is one of an entry that is P
@@ -24,7 +22,7 @@ module _ (content : Content) (db : ℤ) (index : ℕ) (register : Register) (P :
   posting_of p term has asked = (key_in index register term, are.all term p.sysno (record { key = key_in index register term; seq = p.seq; pos = p.pos }, has, refl) asked, has)
 
   -- the records that have such a posting are those that have such an entry
-  pub entry_numbers : (postings : List Posting) (numbers : List ℕ) → ArePostings (IsPostingOf content db keys) postings → AreNumbers (IsInRecord postings) numbers
+  pub entry_numbers : (postings : List Posting) (numbers : List ℕ) → ArePostings (IsPostingOf content db keys) postings → AreNumbers (HasPosting postings) numbers
       → AreNumbers (HasEntry (posted content db) index register P) numbers
   entry_numbers postings numbers list given = record {
     rising = given.rising;

@@ -1,5 +1,5 @@
 -- Reading calls one after the other: what the accepted ones leave of a connection, and what later ones tell of the tables at the first.
-use Rattle.std.proofs.Common.{◌≡◌, ◌∙◌, ℕ, false, IsTrue, Result, Ok, Err, arith, refl, sym, ap, subst}
+use Rattle.std.proofs.Common.{◌≡◌, ◌∙◌, false, IsTrue, Result, Ok, Err, arith, refl, sym, ap, subst}
 use Rattle.sqlite.specs.Effect.{Database}
 use Rattle.sqlite.specs.Tree.{Trees}
 use Rattle.sqlite.specs.State.{State, HasCleanDisk, IsUnchanged, Survives}

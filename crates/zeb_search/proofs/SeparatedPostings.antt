@@ -4,11 +4,10 @@ use Rattle.sqlite_rules.specs.Lists.{Has}
 use Rattle.sqlite_rules.proofs.ListLemmas.{has_left, has_right, has_either}
 use Rattle.zeb_query.specs.declared.plans.Separation.{Separation}
 use Rattle.zeb_register.specs.Content.{Posting}
-use Rattle.zeb_register.specs.RowTerms.{IsInRecord}
 use Rattle.zeb_search.specs.declared.lists.Words.{Words}
 use Rattle.zeb_search.specs.Comparing.{AreApart, IsDistant}
 use Rattle.zeb_search.specs.Lists.{AreNumbers, ArePostings}
-use Rattle.zeb_search.specs.PrivateTerms.{IsNear}
+use Rattle.zeb_search.specs.PrivateTerms.{HasPosting, IsNear}
 use Rattle.zeb_search.specs.PrivateWalks.{HasWithin, IsFollowed, IsNearBy, IsWithin, IsWithinSome}
 
 -- ---- numbers that are added
@@ -18,7 +17,7 @@ on_added P all some none (Ok done) is told = told is
 on_added P all some none (Err e) is told = tt
 
 pub followed_added : (range : Words) (postings others found : List Posting) (numbers more all : List ℕ) → ArePostings (λ p. Has postings p × HasWithin range others p) found
-    → AreNumbers (IsInRecord found) more → all ≡ numbers ++ more → (n : ℕ) → Has all n ↔ (Has numbers n ⊎ IsFollowed range postings others n)
+    → AreNumbers (HasPosting found) more → all ≡ numbers ++ more → (n : ℕ) → Has all n ↔ (Has numbers n ⊎ IsFollowed range postings others n)
 followed_added range postings others found numbers more all are records is n = (
   λ h. elim (has_either numbers more n (subst (λ l. Has l n) is h)) [
     | inl there ↦ inl there

@@ -1,7 +1,7 @@
 -- On which records a query holds (ANSI/NISO Z39.50-2003, attribute set Bib-1 and the proximity operator; YAZ manual, Prefix Query Format),
 -- by a set of occurrences: it says of a record's number and an occurrence whether the record has it. Read with the bytes of kept records it
 -- tells what a find means; read with the postings of the registers, what they say by themselves.
-use Rattle.std.specs.Prelude.{◌≡◌, ◌≢◌, ◌⊎◌, ◌+◌, ◌<◌, ◌^◌, ℕ, Bool, true, List, [], ◌∷◌, Option, Some, None, IsUtf8, chars}
+use Rattle.std.specs.Prelude.{◌≡◌, ◌≢◌, ◌⊎◌, ◌+◌, ◌<◌, ◌^◌, ℕ, Bool, true, List, [], ◌∷◌, Some, None, IsUtf8, chars}
 use Rattle.sqlite_rules.specs.Lists.{Has}
 use Rattle.zeb_text.specs.Symbols.{Symbol}
 use Rattle.zeb_text.specs.Patterns.{Matches}
@@ -10,7 +10,6 @@ use Rattle.zeb_profile.specs.declared.Register.{Register}
 use Rattle.zeb_profile.specs.declared.Register.TheVariants as register
 use Rattle.zeb_query.specs.declared.plans.Operator.{Operator}
 use Rattle.zeb_query.specs.declared.plans.Operator.TheVariants as operator
-use Rattle.zeb_query.specs.declared.plans.Order.{Order}
 use Rattle.zeb_query.specs.declared.plans.Relation.{Relation}
 use Rattle.zeb_query.specs.declared.plans.Separation.{Separation}
 use Rattle.zeb_query.specs.Plans.{PlanValue, TermOf, PairOf, NearOf, TermPlanValue, RecordNumberOf, AlwaysOf, NumberOf, OrderedOf, CompleteOf, PhraseOf, AllWordsOf, AnyWordOf}

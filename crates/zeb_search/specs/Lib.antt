@@ -1,4 +1,5 @@
 pub mod Comparing
+pub mod Counted
 pub mod Holds
 pub mod Lists
 pub mod PrivateTerms

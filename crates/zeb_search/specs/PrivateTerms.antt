@@ -1,16 +1,18 @@
 -- The terms that one step of a search asks for.
-use Rattle.std.specs.Prelude.{◌≡◌, ◌↔◌, ◌+◌, ◌≤◌, ℕ, ℤ, List}
+use Rattle.std.specs.Prelude.{◌≡◌, ◌↔◌, ◌⊎◌, ◌+◌, ◌++◌, ◌≤◌, ℕ, ℤ, List, [], ◌∷◌, Option, Some, None, String, string_bytes}
+use Rattle.std.specs.declared.alloc.Global.{Global}
 use Rattle.sqlite_rules.specs.Lists.{Has}
 use Rattle.zeb_profile.specs.declared.Register.{Register}
 use Rattle.zeb_extract.specs.declared.keys.Key.{Key}
 use Rattle.zeb_extract.specs.declared.keys.Occurrence.{Occurrence}
 use Rattle.zeb_register.specs.declared.registers.TermCount.{TermCount}
 use Rattle.zeb_register.specs.Content.{Content, Posting}
-use Rattle.zeb_register.specs.Occurring.{HasKey, TermIn, key_in}
+use Rattle.zeb_register.specs.Occurring.{TermIn, key_in}
 use Rattle.zeb_search.specs.declared.terms.Wanted.{Wanted}
 use Rattle.zeb_search.specs.declared.terms.Wanted.TheVariants as wanted
 use Rattle.zeb_query.specs.declared.plans.Separation.{Separation}
-use Rattle.zeb_search.specs.Comparing.{AreSeparated, StandsInOrder}
+use Rattle.zeb_search.specs.Comparing.{AreSeparated, Precedes, StandsInOrder}
+use Rattle.zeb_search.specs.Counted.{HasNoStar, IsOneKey}
 use Rattle.zeb_search.specs.Holds.{Fits, IsNumberAt}
 
 -- the entry is asked for
@@ -20,28 +22,52 @@ IsWanted (wanted.Matching pattern) term = Fits pattern.now term
 IsWanted (wanted.Number relation number) term = IsNumberAt relation number term
 IsWanted (wanted.Text order start) term = StandsInOrder order term start.now
 
+-- one entry is asked for, by its name
+abbrev pub NamesEntry : Wanted → Type 0
+NamesEntry wanted.All = ⊥
+NamesEntry (wanted.Matching pattern) = HasNoStar pattern.now
+NamesEntry (wanted.Number relation number) = IsOneKey relation number
+NamesEntry (wanted.Text order start) = ⊥
+
 -- these are the keys of those of the terms that are asked for
 abbrev pub AreTaken : ℕ → Register → Wanted → List TermCount → List Key → Type 0
 AreTaken index register wanted terms keys =
     (key : Key) → Has keys key ↔ ((t : TermCount) × Has terms t × (IsWanted wanted t.term × (key ≡ key_in index register t.term)))
 
+-- the entry is one of the terms
+abbrev pub IsAmong : List TermCount → List ℕ → Type 0
+IsAmong terms term = (t : TermCount) × Has terms t × (t.term ≡ term)
+
 -- each entry that is asked for and that some record has is among the terms
 abbrev pub HasWanted : (O : ℕ → Occurrence → Type 0) → ℕ → Register → Wanted → List TermCount → Type 0
-HasWanted O index register wanted terms =
-    (term : List ℕ) (n : ℕ) → TermIn O index register term n → IsWanted wanted term → (t : TermCount) × Has terms t × (t.term ≡ term)
+HasWanted O index register wanted terms = (term : List ℕ) (n : ℕ) → TermIn O index register term n → IsWanted wanted term → IsAmong terms term
+
+-- no entry that is asked for comes before the text
+abbrev pub BeginsAt : Wanted → List ℕ → Type 0
+BeginsAt wanted start = (term : List ℕ) → IsWanted wanted term → ¬ Precedes term start
+
+-- no entry that is asked for comes behind the text
+abbrev pub EndsAt : Wanted → List ℕ → Type 0
+EndsAt wanted end = (term : List ℕ) → IsWanted wanted term → ¬ Precedes end term
+
+-- The next page begins right behind a term of this one. There is no next one where the page is empty, or where no entry that is asked
+-- for comes behind one of its terms.
+abbrev pub LeadsTo : Wanted → List TermCount → Option (String Global) → Type 0
+LeadsTo wanted page None = (page ≡ []) ⊎ ((t : TermCount) × Has page t × EndsAt wanted t.term)
+LeadsTo wanted page (Some next) = (t : TermCount) × Has page t × (string_bytes next ≡ t.term ++ 0 ∷ [])
 
 -- keys of one register: each is P, and each entry that is P and that some record has is among them
 pub record AreKeysOf (O : ℕ → Occurrence → Type 0) (index : ℕ) (register : Register) (P : List ℕ → Type 0) (keys : List Key) : Type 0 where
   pub each : (key : Key) → Has keys key → (key ≡ key_in index register key.term) × P key.term
   pub all : (term : List ℕ) (n : ℕ) → TermIn O index register term n → P term → Has keys (key_in index register term)
 
--- the record has one of the keys
-abbrev pub HasOneOf : (O : ℕ → Occurrence → Type 0) → List Key → ℕ → Type 0
-HasOneOf O keys n = (key : Key) × Has keys key × HasKey O key n
-
 -- it is a posting of one of the keys
 abbrev pub IsPostingOf : Content → ℤ → List Key → Posting → Type 0
 IsPostingOf content db keys p = (key : Key) × Has keys key × Has (content db key) p
+
+-- the record has a posting of the list
+abbrev pub HasPosting : List Posting → ℕ → Type 0
+HasPosting list n = (p : Posting) × Has list p × (p.sysno ≡ n)
 
 -- another posting stands behind it in the same unit, at a distance of so many words
 abbrev pub HasBehind : (least greatest : ℕ) → List Posting → Posting → Type 0

@@ -2,7 +2,7 @@
 -- records that are kept.
 use Rattle.std.specs.Prelude.{ℕ, ℤ, pos, List}
 use Rattle.sqlite.specs.Tree.{Trees}
-use Rattle.zeb_query.specs.Plans.{PlanValue}
+use Rattle.zeb_query.specs.Plans.{PlanValue, TermOf, PairOf, NearOf, TermPlanValue, RecordNumberOf}
 use Rattle.zeb_register.specs.Content.{Content, posted}
 use Rattle.zeb_register.specs.Kept.{AreReadableIdents}
 use Rattle.zeb_register.specs.Store.{HasRecord}
@@ -19,6 +19,13 @@ is_kept_in trees db n = (ident : List ℕ) × has_ident_in trees db n ident
 abbrev pub HoldsIn : Trees → Content → ℤ → PlanValue → ℕ → Type 0
 HoldsIn trees content db = TreeHolds (posted content db) (is_kept_in trees db)
 
--- the identifier of each kept record is UTF-8
-abbrev pub HasReadableIdents : Trees → ℤ → Type 0
-HasReadableIdents trees db = (n : ℕ) → AreReadableIdents trees db (pos n)
+-- the identifier of each record that a term names by its number is UTF-8
+abbrev pub TermNamesReadable : Trees → ℤ → TermPlanValue → Type 0
+TermNamesReadable trees db (RecordNumberOf number) = AreReadableIdents trees db (pos number)
+TermNamesReadable trees db other = Unit {0}
+
+-- the same of each term of a plan
+abbrev pub NamesReadable : Trees → ℤ → PlanValue → Type 0
+NamesReadable trees db (TermOf plan) = TermNamesReadable trees db plan
+NamesReadable trees db (PairOf operator left right) = NamesReadable trees db left × NamesReadable trees db right
+NamesReadable trees db (NearOf index left right separation) = Unit {0}

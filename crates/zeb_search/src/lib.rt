@@ -4,9 +4,11 @@
 #![tactic(auto)]
 
 mod distances;
+mod keys;
 mod lists;
 mod plans;
 mod postings;
+mod ranges;
 mod terms;
 mod words;
 

@@ -5,10 +5,9 @@ ghost use Rattle.std.specs.List.Sorted.{IsStrictlySortedBy};
 ghost use Rattle.std.specs.Ordering.{nat_cmp};
 ghost use Rattle.sqlite_rules.specs.Lists.{Has};
 ghost use Rattle.zeb_register.specs.Content.{posting_cmp, Posting};
-ghost use Rattle.zeb_register.specs.RowTerms.{IsInRecord};
 ghost use Rattle.zeb_search.specs.Holds.{AreJoined};
 ghost use Rattle.zeb_search.specs.Lists.{AreNumbers, ArePostings};
-ghost use Rattle.zeb_search.specs.PrivateTerms.{HasBehind};
+ghost use Rattle.zeb_search.specs.PrivateTerms.{HasBehind, HasPosting};
 ghost use Rattle.zeb_search.specs.PrivateWalks.{HasWithin, IsBefore, IsBehind, IsWithin, words_between, words_from};
 
 use std::alloc::{AllocError, Global};
@@ -36,7 +35,7 @@ pub(crate) fn postings_in_order(mut postings: Vec<Posting>) -> Vec<Posting>
 
 /// The numbers of the records that have a posting, each once; postings rise by number.
 pub(crate) fn numbers_of(alloc: Global, postings: &[Posting]) -> Result<Vec<u64>, AllocError>
-    ensures { IsStrictlySortedBy posting_cmp postings.now → IfOk result (λ numbers. AreNumbers (IsInRecord postings.now) numbers.items) }
+    ensures { IsStrictlySortedBy posting_cmp postings.now → IfOk result (λ numbers. AreNumbers (HasPosting postings.now) numbers.items) }
 {
     let mut numbers: Vec<u64> = postings.iter().map(|posting| posting.sysno).collect(alloc)?;
     numbers.dedup();

@@ -1,15 +1,17 @@
 //! The records on which a plan holds.
 
-ghost use Rattle.std.specs.Prelude.{◌≡◌, ◌<◌, ◌^◌, ℕ, List, IfOk};
+ghost use Rattle.std.specs.Prelude.{◌≡◌, ◌<◌, ◌^◌, ℕ, List, IfOk, OnOk, pos};
 ghost use Rattle.sqlite.specs.Held.{state};
 ghost use Rattle.sqlite.specs.State.{HasCleanDisk};
 ghost use Rattle.zeb_query.specs.Plans.{HasSmallNumber, HasSmallNumbers, NearOf, TermOf, plan_value, term_plan_value};
 ghost use Rattle.zeb_register.specs.Calls.{Reading};
 ghost use Rattle.zeb_register.specs.Content.{Content, IsStorable};
 ghost use Rattle.zeb_register.specs.Formats.{holds_in};
+ghost use Rattle.zeb_register.specs.Kept.{AreReadableIdents};
 ghost use Rattle.zeb_register.specs.Store.{IsStore};
+ghost use Rattle.zeb_search.specs.Counted.{Counted, HasNoStar, NamesEntries, TermNamesEntries};
 ghost use Rattle.zeb_search.specs.Lists.{AreNumbers};
-ghost use Rattle.zeb_search.specs.Registers.{HasReadableIdents, HoldsIn, is_kept_in};
+ghost use Rattle.zeb_search.specs.Registers.{HoldsIn, NamesReadable, TermNamesReadable, is_kept_in};
 ghost use Rattle.zeb_search.specs.Untouched.{IsUntouched};
 
 use crate::distances::near;
@@ -26,8 +28,8 @@ use zeb_register::{DatabaseId, Layout, RegFault, Work, ident_of};
 /// The numbers of the records of a database on which a plan holds, rising and each once. The registers alone decide, and of a system
 /// number that the plan names whether a record has it.
 ///
-/// `Damaged` only where the tables hold no content, or where an identifier is no UTF-8; `Store` where a call of the store failed;
-/// `Memory` where memory ran out. Outside a transaction it changes nothing.
+/// `Damaged` only where the tables hold no content, or where the identifier of a record that the plan names is no UTF-8; `Store` where a
+/// call of the store failed; `Memory` where memory ran out. Outside a transaction it changes nothing.
 pub fn hits<S: Alter, L: Layout>(
     alloc: Global,
     connection: &mut Connection<S>,
@@ -41,8 +43,11 @@ pub fn hits<S: Alter, L: Layout>(
         → IfOk result (λ hits. (content : Content) → holds_in L.format (state S.Store connection.old).now.trees content
         → AreNumbers (HoldsIn (state S.Store connection.old).now.trees content database.0 (plan_value plan.now)) hits.items) }
     ensures honest { HasCleanDisk (state S.Store connection.new) → IsStore (state S.Store connection.old) → result ≡ Err RegFault.Damaged
-        → HasReadableIdents (state S.Store connection.old).now.trees database.0
+        → NamesReadable (state S.Store connection.old).now.trees database.0 (plan_value plan.now)
         → (content : Content) → IsStorable content → ¬ holds_in L.format (state S.Store connection.old).now.trees content }
+    ensures work { OnOk result (Counted L.format (NamesEntries (plan_value plan.now))
+        (state S.Store connection.old) (state S.Store connection.new) work.old work.new) }
+    ensures no_work { L.row_work ≡ 0 → work.new ≡ work.old }
 {
     match plan {
         Plan::Term(term) => term_hits::<S, L>(alloc, connection, work, database, term),
@@ -69,8 +74,11 @@ fn term_hits<S: Alter, L: Layout>(
         → IfOk result (λ hits. (content : Content) → holds_in L.format (state S.Store connection.old).now.trees content
         → AreNumbers (HoldsIn (state S.Store connection.old).now.trees content database.0 (TermOf (term_plan_value term.now))) hits.items) }
     ensures honest { HasCleanDisk (state S.Store connection.new) → IsStore (state S.Store connection.old) → result ≡ Err RegFault.Damaged
-        → HasReadableIdents (state S.Store connection.old).now.trees database.0
+        → TermNamesReadable (state S.Store connection.old).now.trees database.0 (term_plan_value term.now)
         → (content : Content) → IsStorable content → ¬ holds_in L.format (state S.Store connection.old).now.trees content }
+    ensures work { OnOk result (Counted L.format (TermNamesEntries (term_plan_value term.now))
+        (state S.Store connection.old) (state S.Store connection.new) work.old work.new) }
+    ensures no_work { L.row_work ≡ 0 → work.new ≡ work.old }
 {
     match term {
         TermPlan::RecordNumber(number) => record_hits(alloc, connection, database, *number),
@@ -169,7 +177,7 @@ fn record_hits<S: Alter>(
     ensures value { HasCleanDisk (state S.Store connection.new) → IsStore (state S.Store connection.old)
         → IfOk result (λ hits. AreNumbers (λ n. (n ≡ number) × is_kept_in (state S.Store connection.old).now.trees database.0 n) hits.items) }
     ensures honest { HasCleanDisk (state S.Store connection.new) → IsStore (state S.Store connection.old) → result ≡ Err RegFault.Damaged
-        → ¬ HasReadableIdents (state S.Store connection.old).now.trees database.0 }
+        → ¬ AreReadableIdents (state S.Store connection.old).now.trees database.0 (pos number) }
 {
     let Some(_ident) = ident_of(connection, database, number)? else {
         return Ok(Vec::new(alloc));
@@ -193,6 +201,9 @@ fn near_hits<S: Alter, L: Layout>(
         (NearOf plan.now.index plan.now.left plan.now.right plan.now.separation)) hits.items) }
     ensures honest { HasCleanDisk (state S.Store connection.new) → IsStore (state S.Store connection.old) → result ≡ Err RegFault.Damaged
         → (content : Content) → IsStorable content → ¬ holds_in L.format (state S.Store connection.old).now.trees content }
+    ensures work { OnOk result (Counted L.format (HasNoStar plan.now.left × HasNoStar plan.now.right)
+        (state S.Store connection.old) (state S.Store connection.new) work.old work.new) }
+    ensures no_work { L.row_work ≡ 0 → work.new ≡ work.old }
 {
     let left = places_of_words::<S, L>(alloc, connection, work, database, plan.index, &plan.left)?;
     let right = places_of_words::<S, L>(

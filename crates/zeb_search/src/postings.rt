@@ -1,19 +1,21 @@
 //! The postings of several keys.
 
-ghost use Rattle.std.specs.Prelude.{◌≡◌, ℕ, List, IfOk};
+ghost use Rattle.std.specs.Prelude.{◌≡◌, ℕ, List, IfOk, OnOk};
 ghost use Rattle.sqlite.specs.Held.{state};
 ghost use Rattle.sqlite.specs.State.{HasCleanDisk};
 ghost use Rattle.zeb_register.specs.Calls.{Reading};
 ghost use Rattle.zeb_register.specs.Content.{Content, IsStorable, posted};
 ghost use Rattle.zeb_register.specs.Formats.{holds_in};
 ghost use Rattle.zeb_register.specs.Store.{IsStore};
+ghost use Rattle.zeb_search.specs.Counted.{Counted, HasNoStar};
 ghost use Rattle.zeb_search.specs.Holds.{HasEntry, HasWord};
 ghost use Rattle.zeb_search.specs.Lists.{AreNumbers, ArePostings};
-ghost use Rattle.zeb_search.specs.PrivateTerms.{HasOneOf, IsPostingOf, IsWanted};
+ghost use Rattle.zeb_search.specs.PrivateTerms.{IsPostingOf, IsWanted, NamesEntry};
 ghost use Rattle.zeb_search.specs.Untouched.{IsUntouched};
 
+use crate::keys::keys_wanted;
 use crate::lists::{numbers_of, postings_in_order};
-use crate::terms::{Wanted, keys_wanted};
+use crate::terms::Wanted;
 use sqlite::{Alter, Connection};
 use std::alloc::Global;
 use zeb_extract::Key;
@@ -35,6 +37,9 @@ fn postings_of<S: Alter, L: Layout>(
         → ArePostings (IsPostingOf content database.0 keys.now) list.items) }
     ensures honest { HasCleanDisk (state S.Store connection.new) → IsStore (state S.Store connection.old) → result ≡ Err RegFault.Damaged
         → (content : Content) → IsStorable content → ¬ holds_in L.format (state S.Store connection.old).now.trees content }
+    ensures work { OnOk result (Counted L.format (Unit {0})
+        (state S.Store connection.old) (state S.Store connection.new) work.old work.new) }
+    ensures no_work { L.row_work ≡ 0 → work.new ≡ work.old }
 {
     let mut postings = Vec::new(alloc);
     for key in keys {
@@ -60,6 +65,9 @@ pub(crate) fn numbers_wanted<S: Alter, L: Layout>(
         → AreNumbers (HasEntry (posted content database.0) index register (IsWanted wanted.entry)) numbers.items) }
     ensures honest { HasCleanDisk (state S.Store connection.new) → IsStore (state S.Store connection.old) → result ≡ Err RegFault.Damaged
         → (content : Content) → IsStorable content → ¬ holds_in L.format (state S.Store connection.old).now.trees content }
+    ensures work { OnOk result (Counted L.format (NamesEntry wanted.entry)
+        (state S.Store connection.old) (state S.Store connection.new) work.old work.new) }
+    ensures no_work { L.row_work ≡ 0 → work.new ≡ work.old }
 {
     let keys = keys_wanted::<S, L>(alloc, connection, work, database, index, register, wanted)?;
     let postings = postings_of::<S, L>(alloc, connection, work, database, &keys)?;
@@ -81,6 +89,9 @@ pub(crate) fn places_of_words<S: Alter, L: Layout>(
         → ArePostings (λ p. HasWord (posted content database.0) index pattern.now p.sysno p.seq p.pos) list.items) }
     ensures honest { HasCleanDisk (state S.Store connection.new) → IsStore (state S.Store connection.old) → result ≡ Err RegFault.Damaged
         → (content : Content) → IsStorable content → ¬ holds_in L.format (state S.Store connection.old).now.trees content }
+    ensures work { OnOk result (Counted L.format (HasNoStar pattern.now)
+        (state S.Store connection.old) (state S.Store connection.new) work.old work.new) }
+    ensures no_work { L.row_work ≡ 0 → work.new ≡ work.old }
 {
     let wanted = Wanted::Matching(pattern);
     let keys = keys_wanted::<S, L>(

@@ -1,26 +1,18 @@
-//! The terms of a register that a step of a search asks for.
+//! Which terms of a register a step of a search asks for.
 
-ghost use Rattle.std.specs.Prelude.{◌≡◌, ◌↔◌, ℕ, List, IfOk, IfSome, IsTrue};
-ghost use Rattle.sqlite.specs.Held.{state};
-ghost use Rattle.sqlite.specs.State.{HasCleanDisk};
-ghost use Rattle.zeb_register.specs.Calls.{Reading};
-ghost use Rattle.zeb_register.specs.Content.{Content, IsStorable, posted};
-ghost use Rattle.zeb_register.specs.Formats.{holds_in};
-ghost use Rattle.zeb_register.specs.Store.{IsStore};
+ghost use Rattle.std.specs.Prelude.{◌≡◌, ◌↔◌, ℕ, List, IfOk, IfNone, IfSome, IsTrue};
 ghost use Rattle.zeb_search.specs.Comparing.{Stands, StandsInOrder};
-ghost use Rattle.zeb_search.specs.PrivateTerms.{AreKeysOf, AreTaken, HasWanted, IsWanted};
-ghost use Rattle.zeb_search.specs.Untouched.{IsUntouched};
+ghost use Rattle.zeb_search.specs.Counted.{IsOneKey};
+ghost use Rattle.zeb_search.specs.Holds.{IsNumberAt};
+ghost use Rattle.zeb_search.specs.PrivateTerms.{IsWanted, NamesEntry};
 
-use sqlite::{Alter, Connection};
 use std::alloc::{AllocError, Global};
-use zeb_extract::{Key, Term};
-use zeb_profile::Register;
+use zeb_extract::Term;
 use zeb_query::{Order, Relation};
-use zeb_register::{DatabaseId, Layout, RegFault, TermCount, Work};
 use zeb_text::{Pattern, key_of_number, number_of_key};
 
 /// The numbers that have a key end below this one.
-const KEYS_END: u64 = 1_000_000_000_000_000_000;
+pub(crate) const KEYS_END: u64 = 1_000_000_000_000_000_000;
 
 /// Which terms of a register are asked for.
 #[derive(Clone, Copy)]
@@ -37,7 +29,7 @@ pub(crate) enum Wanted<'a> {
 
 impl Wanted<'_> {
     /// Whether the term is asked for.
-    fn takes(&self, term: &str) -> bool
+    pub(crate) fn takes(&self, term: &str) -> bool
         ensures { IsTrue result ↔ IsWanted self.now term.now }
     {
         match self {
@@ -52,20 +44,30 @@ impl Wanted<'_> {
     }
 
     /// The one text that is asked for, or `None` where it may be another one or several.
-    fn only_text(&self, alloc: Global) -> Result<Option<Term>, AllocError>
-        ensures { IfOk result (λ found. IfSome found (λ text. (term : List ℕ) → IsWanted self.now term ↔ (term ≡ text))) }
+    pub(crate) fn only_text(&self, alloc: Global) -> Result<Option<Term>, AllocError>
+        ensures text { IfOk result (λ found. IfSome found (λ text. (term : List ℕ) → IsWanted self.now term ↔ (term ≡ text))) }
+        ensures none { IfOk result (λ found. IfNone found (¬ NamesEntry self.now)) }
     {
         match self {
             Wanted::Matching(pattern) => match pattern.literal() {
                 Some(text) => Ok(Some(Term::new(String::from_str(alloc, text)?))),
                 None => Ok(None),
             },
-            Wanted::Number(Relation::Equal, number) if *number < KEYS_END => {
-                Ok(Some(Term::new(key_of_number(alloc, *number)?)))
-            }
-            _ => Ok(None),
+            Wanted::Number(relation, number) => only_key(alloc, *relation, *number),
+            Wanted::All | Wanted::Text(..) => Ok(None),
         }
     }
+}
+
+/// The one key of a number in the relation to this one, or `None` where there is none or may be several.
+fn only_key(alloc: Global, relation: Relation, number: u64) -> Result<Option<Term>, AllocError>
+    ensures text { IfOk result (λ found. IfSome found (λ text. (term : List ℕ) → IsNumberAt relation number term ↔ (term ≡ text))) }
+    ensures none { IfOk result (λ found. IfNone found (¬ IsOneKey relation number)) }
+{
+    if relation != Relation::Equal || number >= KEYS_END {
+        return Ok(None);
+    }
+    Ok(Some(Term::new(key_of_number(alloc, number)?)))
 }
 
 /// Whether the first number stands in the relation to the other.
@@ -92,77 +94,4 @@ fn stands_in_order(order: Order, text: &str, start: &str) -> bool
         Order::GreaterOrEqual => ordering.is_ge(),
         Order::Greater => ordering.is_gt(),
     }
-}
-
-/// The keys of those of the terms that are asked for.
-fn keys_of(
-    alloc: Global,
-    index: u32,
-    register: Register,
-    terms: Vec<TermCount>,
-    wanted: Wanted<'_>,
-) -> Result<Vec<Key>, AllocError>
-    ensures { IfOk result (λ keys. AreTaken index register wanted.entry terms.items keys.items) }
-{
-    let mut keys = Vec::new(alloc);
-    for TermCount { term, .. } in terms {
-        if wanted.takes(term.as_str()) {
-            keys.push(Key {
-                index,
-                register,
-                term,
-            })?;
-        }
-    }
-    Ok(keys)
-}
-
-/// Terms of a register, among which are those that are asked for.
-fn terms_wanted<S: Alter, L: Layout>(
-    alloc: Global,
-    connection: &mut Connection<S>,
-    work: &mut Work,
-    database: DatabaseId,
-    index: u32,
-    register: Register,
-    wanted: Wanted<'_>,
-) -> Result<Vec<TermCount>, RegFault>
-    ensures call { Reading (state S.Store connection.old) (state S.Store connection.new) result (λ _. IsUntouched) }
-    ensures value { HasCleanDisk (state S.Store connection.new) → IsStore (state S.Store connection.old)
-        → IfOk result (λ terms. (content : Content) → holds_in L.format (state S.Store connection.old).now.trees content
-        → HasWanted (posted content database.0) index register wanted.entry terms.items) }
-    ensures honest { HasCleanDisk (state S.Store connection.new) → IsStore (state S.Store connection.old) → result ≡ Err RegFault.Damaged
-        → (content : Content) → IsStorable content → ¬ holds_in L.format (state S.Store connection.old).now.trees content }
-{
-    L::terms_of(alloc, connection, work, database, index, register)
-}
-
-/// The keys of a register's terms that are asked for. A pattern without a star is its own term, which is looked for in no list.
-pub(crate) fn keys_wanted<S: Alter, L: Layout>(
-    alloc: Global,
-    connection: &mut Connection<S>,
-    work: &mut Work,
-    database: DatabaseId,
-    index: u32,
-    register: Register,
-    wanted: Wanted<'_>,
-) -> Result<Vec<Key>, RegFault>
-    ensures call { Reading (state S.Store connection.old) (state S.Store connection.new) result (λ _. IsUntouched) }
-    ensures value { HasCleanDisk (state S.Store connection.new) → IsStore (state S.Store connection.old)
-        → IfOk result (λ keys. (content : Content) → holds_in L.format (state S.Store connection.old).now.trees content
-        → AreKeysOf (posted content database.0) index register (IsWanted wanted.entry) keys.items) }
-    ensures honest { HasCleanDisk (state S.Store connection.new) → IsStore (state S.Store connection.old) → result ≡ Err RegFault.Damaged
-        → (content : Content) → IsStorable content → ¬ holds_in L.format (state S.Store connection.old).now.trees content }
-{
-    if let Some(term) = wanted.only_text(alloc)? {
-        let mut keys = Vec::new(alloc);
-        keys.push(Key {
-            index,
-            register,
-            term,
-        })?;
-        return Ok(keys);
-    }
-    let terms = terms_wanted::<S, L>(alloc, connection, work, database, index, register, wanted)?;
-    Ok(keys_of(alloc, index, register, terms, wanted)?)
 }

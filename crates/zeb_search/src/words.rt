@@ -1,6 +1,6 @@
 //! The records in which words match patterns.
 
-ghost use Rattle.std.specs.Prelude.{◌≡◌, ◌≢◌, ◌==◌, ℕ, List, [], IfOk, filter};
+ghost use Rattle.std.specs.Prelude.{◌≡◌, ◌≢◌, ◌==◌, ℕ, List, [], IfOk, filter, OnOk};
 ghost use Rattle.sqlite.specs.Held.{state};
 ghost use Rattle.sqlite.specs.State.{HasCleanDisk};
 ghost use Rattle.zeb_query.specs.Plans.{AllWordsOf, AnyWordOf, PhraseOf, TermOf};
@@ -8,6 +8,7 @@ ghost use Rattle.zeb_register.specs.Calls.{Reading};
 ghost use Rattle.zeb_register.specs.Content.{Content, IsStorable, posted};
 ghost use Rattle.zeb_register.specs.Formats.{holds_in};
 ghost use Rattle.zeb_register.specs.Store.{IsStore};
+ghost use Rattle.zeb_search.specs.Counted.{Counted, HaveNoStar};
 ghost use Rattle.zeb_search.specs.Holds.{HasWords};
 ghost use Rattle.zeb_search.specs.Lists.{AreNumbers, ArePostings};
 ghost use Rattle.zeb_search.specs.Registers.{HoldsIn};
@@ -38,6 +39,9 @@ pub(crate) fn any_word_hits<S: Alter, L: Layout>(
         → AreNumbers (HoldsIn (state S.Store connection.old).now.trees content database.0 (TermOf (AnyWordOf index patterns.now))) hits.items) }
     ensures honest { HasCleanDisk (state S.Store connection.new) → IsStore (state S.Store connection.old) → result ≡ Err RegFault.Damaged
         → (content : Content) → IsStorable content → ¬ holds_in L.format (state S.Store connection.old).now.trees content }
+    ensures work { OnOk result (Counted L.format (HaveNoStar patterns.now)
+        (state S.Store connection.old) (state S.Store connection.new) work.old work.new) }
+    ensures no_work { L.row_work ≡ 0 → work.new ≡ work.old }
 {
     let mut hits = Vec::new(alloc);
     for pattern in patterns {
@@ -71,6 +75,9 @@ pub(crate) fn all_words_hits<S: Alter, L: Layout>(
         → AreNumbers (HoldsIn (state S.Store connection.old).now.trees content database.0 (TermOf (AllWordsOf index patterns.now))) hits.items) }
     ensures honest { HasCleanDisk (state S.Store connection.new) → IsStore (state S.Store connection.old) → result ≡ Err RegFault.Damaged
         → (content : Content) → IsStorable content → ¬ holds_in L.format (state S.Store connection.old).now.trees content }
+    ensures work { OnOk result (Counted L.format (HaveNoStar patterns.now)
+        (state S.Store connection.old) (state S.Store connection.new) work.old work.new) }
+    ensures no_work { L.row_work ≡ 0 → work.new ≡ work.old }
 {
     let Some((pattern, others)) = patterns.split_first() else {
         return Ok(Vec::new(alloc));
@@ -118,6 +125,9 @@ pub(crate) fn phrase_hits<S: Alter, L: Layout>(
         → AreNumbers (HoldsIn (state S.Store connection.old).now.trees content database.0 (TermOf (PhraseOf index patterns.now first))) hits.items) }
     ensures honest { HasCleanDisk (state S.Store connection.new) → IsStore (state S.Store connection.old) → result ≡ Err RegFault.Damaged
         → (content : Content) → IsStorable content → ¬ holds_in L.format (state S.Store connection.old).now.trees content }
+    ensures work { OnOk result (Counted L.format (HaveNoStar patterns.now)
+        (state S.Store connection.old) (state S.Store connection.new) work.old work.new) }
+    ensures no_work { L.row_work ≡ 0 → work.new ≡ work.old }
 {
     let places = places_of_phrase::<S, L>(alloc, connection, work, database, index, patterns)?;
     if first {
@@ -154,6 +164,9 @@ fn places_of_phrase<S: Alter, L: Layout>(
         → ArePostings (λ p. (patterns.now ≢ []) × HasWords (posted content database.0) index patterns.now p.sysno p.seq p.pos) places.items) }
     ensures honest { HasCleanDisk (state S.Store connection.new) → IsStore (state S.Store connection.old) → result ≡ Err RegFault.Damaged
         → (content : Content) → IsStorable content → ¬ holds_in L.format (state S.Store connection.old).now.trees content }
+    ensures work { OnOk result (Counted L.format (HaveNoStar patterns.now)
+        (state S.Store connection.old) (state S.Store connection.new) work.old work.new) }
+    ensures no_work { L.row_work ≡ 0 → work.new ≡ work.old }
 {
     let Some((last, mut others)) = patterns.split_last() else {
         return Ok(Vec::new(alloc));

@@ -1,7 +1,7 @@
 // Patterns: texts in which stars may stand.
-ghost use Rattle.std.specs.Prelude.{◌≡◌, ◌++◌, ◌↔◌, ℕ, List, [], ◌∷◌, chars};
+ghost use Rattle.std.specs.Prelude.{◌≡◌, ◌++◌, ◌⊎◌, ◌↔◌, ℕ, List, [], ◌∷◌, chars};
 ghost use Rattle.std.specs.Prelude.{IfOk, IfSome, IsTrue, IsUtf8, MatchOption, OnOk};
-ghost use Rattle.zeb_text.specs.Symbols.{Star, literal, starred, texts_of};
+ghost use Rattle.zeb_text.specs.Symbols.{Star, Symbol, literal, starred, texts_of};
 ghost use Rattle.zeb_text.specs.Patterns.{Matches};
 ghost use Rattle.zeb_text.specs.Truncation.{joined_patterns};
 
@@ -85,6 +85,18 @@ impl Pattern {
             Some(self.last.as_str())
         } else {
             None
+        }
+    }
+
+    /// The text before the pattern's first star, or the whole text of a pattern without a star. Each text that the pattern
+    /// matches begins with it. No memory is taken.
+    pub fn prefix(&self) -> &str
+        ensures { (self.now ≡ literal (chars result.now))
+            ⊎ ((rest : List Symbol) × (self.now ≡ literal (chars result.now) ++ Star ∷ rest)) }
+    {
+        match self.before_stars.first() {
+            Some(text) => text.as_str(),
+            None => self.last.as_str(),
         }
     }
 }

@@ -25,16 +25,18 @@ enum Ask {
     Patterns(Cut, Spread),
     /// The text of the patterns, joined, or `star` where there is one.
     Literal(Cut, Spread),
+    /// The text of the patterns, joined, before the first star.
+    Prefix(Cut, Spread),
 }
 
-use Ask::{Fold, Join, Keys, Literal, Numbers, Patterns, Words};
+use Ask::{Fold, Join, Keys, Literal, Numbers, Patterns, Prefix, Words};
 use Cut::{Both, Hash, Left, Right};
 use Spread::{Each, Ends};
 
 /// What is asked, of which text, and the answer.
 type Vector = (Ask, &'static str, &'static str);
 
-const ANSWERS: [Vector; 32] = [
+const ANSWERS: [Vector; 36] = [
     (Fold, "CAF\u{c9}", "cafe"),
     (Fold, "Stra\u{df}e", "strasse"),
     (Fold, "\u{130}", "i"),
@@ -73,6 +75,10 @@ const ANSWERS: [Vector; 32] = [
     (Literal(Right, Ends), "moby", "star"),
     (Literal(Hash, Ends), "m#by dick", "star"),
     (Literal(Both, Each), "m#by dick", "star"),
+    (Prefix(Cut::None, Ends), "Moby, Dick!", "moby dick"),
+    (Prefix(Right, Each), "mo d", "mo"),
+    (Prefix(Hash, Ends), "m#by d#", "m"),
+    (Prefix(Left, Ends), "moby", ""),
 ];
 
 /// Whether the patterns of a term, joined, match a text.
@@ -192,6 +198,9 @@ fn answer(alloc: Global, ask: Ask, text: &str) -> Result<String, AllocError> {
         Keys => listed_keys(alloc, text),
         Patterns(cut, spread) => listed_patterns(alloc, text, cut, spread),
         Literal(cut, spread) => shown_literal(alloc, &one_pattern(alloc, text, cut, spread)?),
+        Prefix(cut, spread) => {
+            String::from_str(alloc, one_pattern(alloc, text, cut, spread)?.prefix())
+        }
     }
 }
 

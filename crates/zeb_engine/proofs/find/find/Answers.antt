@@ -9,7 +9,7 @@ use Rattle.zeb_register.specs.Formats.{holds_in, version_of}
 use Rattle.zeb_register.specs.Store.{HasDatabase}
 use Rattle.zeb_register.specs.declared.catalog.Database.{Database}
 use Rattle.zeb_search.specs.Lists.{AreNumbers}
-use Rattle.zeb_search.specs.Registers.{has_ident_in, HasReadableIdents, HoldsIn}
+use Rattle.zeb_search.specs.Registers.{has_ident_in, HoldsIn, NamesReadable}
 use Rattle.zeb_engine.specs.declared.replies.Reply.{Reply}
 use Rattle.zeb_change.specs.declared.refusals.Refusal.{Refusal}
 use Rattle.zeb_engine.specs.Answers.{answer_of}
@@ -85,10 +85,11 @@ returns-in_err-hits-clause-found g c clean opened limits before bases is keeps =
     let there = at1 base.3 in
     let held = base.2 in
     let has = subst (λ db. holds_in format db held.content) (sym there.1) held.held in
+    let plan = plan_value c.in_ok-plan.plan in
     let fault = c.in_err-hits.field-0.0 in
     let told : c.from_residual-in_err-hits.result ≡ Err (register_refusal fault) = search rules in
     subst (λ (r : Result Reply Refusal). Ends says name query bases (answer_of r)) (sym told) (inr (fault_fails fault (λ is_damaged.
-    c.in_err-hits.ensures.honest clean there.0 (ap Err is_damaged) (subst (λ (t : Trees). HasReadableIdents t database.id.0) (sym there.1) (idents_readable format profile s0.now.trees database.id.0 base.0 base.2)) held.content held.storable has)))
+    c.in_err-hits.ensures.honest clean there.0 (ap Err is_damaged) (subst (λ (t : Trees). NamesReadable t database.id.0 plan) (sym there.1) (idents_readable format profile s0.now.trees database.id.0 base.0 base.2 plan)) held.content held.storable has)))
 
 pub returns-in_err-asked-clause-found : goal.returns-in_err-asked-clause-found
 returns-in_err-asked-clause-found g c clean opened limits before bases is keeps =

@@ -1,6 +1,6 @@
-use Rattle.std.proofs.Common.{List, sym, subst}
+use Rattle.std.proofs.Common.{sym, subst}
 use Rattle.sqlite.specs.Held.{state}
-use Rattle.zeb_register.specs.Content.{posted, Posting}
+use Rattle.zeb_register.specs.Content.{posted}
 use Rattle.zeb_register.specs.Formats.{holds_in}
 use Rattle.zeb_search.specs.Lists.{ArePostings}
 use Rattle.zeb_search.proofs.PlanLemmas.{IsWordAt, near_hits}

@@ -10,7 +10,7 @@ pub returns-in_err-_ident-clause-honest : goal.returns-in_err-_ident-clause-hone
 returns-in_err-_ident-clause-honest g c clean store told readable =
     let cause = c.in_err-_ident.field-0.0 in
     let same : ◌≡◌ {A = RegFault} cause fault.Damaged = let is : c.from_residual.result ≡ Err cause = search rules in cc in
-    c.in_err-_ident.ensures.honest clean store (ap Err same) (readable c.args.number)
+    c.in_err-_ident.ensures.honest clean store (ap Err same) readable
 
 pub returns-in_default-clause-value : goal.returns-in_default-clause-value
 returns-in_default-clause-value g c clean store =

@@ -10,3 +10,18 @@ returns-in-None-clause-value g c clean store content has =
 pub returns-in-None-pattern-clause-value : goal.returns-in-None-pattern-clause-value
 returns-in-None-pattern-clause-value g c clean store content has =
     no_pattern (state g.S.Store c.args.connection.now).now.trees content c.args.database.0 c.args.term.now c.new-in-None-pattern.result.items c.new-in-None-pattern.ensures.items c.in-Complete.index c.in-Complete.pattern c.in-Complete.is c.in-None-pattern.is
+
+pub returns-in-Some-pattern-clause-work : goal.returns-in-Some-pattern-clause-work
+returns-in-Some-pattern-clause-work g c = rw (c.in-Complete.is, c.in-Some-pattern.is) c.numbers_wanted-in-Some-pattern.ensures.work
+
+pub returns-in-Phrase-clause-work : goal.returns-in-Phrase-clause-work
+returns-in-Phrase-clause-work g c = rw (c.in-Phrase.is, ← c.as_slice.ensures.value) c.phrase_hits.ensures.work
+
+pub returns-in-AllWords-clause-work : goal.returns-in-AllWords-clause-work
+returns-in-AllWords-clause-work g c = rw (c.in-AllWords.is, ← c.as_slice-in-AllWords.ensures.value) c.all_words_hits.ensures.work
+
+pub returns-in-AnyWord-clause-work : goal.returns-in-AnyWord-clause-work
+returns-in-AnyWord-clause-work g c = rw (c.in-AnyWord.is, ← c.as_slice-in-AnyWord.ensures.value) c.any_word_hits.ensures.work
+
+pub returns-in-RecordNumber-clause-honest : goal.returns-in-RecordNumber-clause-honest
+returns-in-RecordNumber-clause-honest g c clean store told readable content storable has = c.record_hits.ensures.honest clean store told (rw c.in-RecordNumber.is at readable)

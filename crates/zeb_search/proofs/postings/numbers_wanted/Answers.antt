@@ -4,9 +4,8 @@ use Rattle.sqlite.specs.Held.{state}
 use Rattle.zeb_extract.specs.declared.keys.Key.{Key}
 use Rattle.zeb_register.specs.Content.{posting_cmp, Posting}
 use Rattle.zeb_register.specs.Formats.{holds_in}
-use Rattle.zeb_register.specs.RowTerms.{IsInRecord}
 use Rattle.zeb_search.specs.Lists.{AreNumbers, ArePostings}
-use Rattle.zeb_search.specs.PrivateTerms.{IsPostingOf, IsWanted}
+use Rattle.zeb_search.specs.PrivateTerms.{HasPosting, IsPostingOf, IsWanted}
 use Rattle.zeb_search.proofs.PostingLemmas.{entry_numbers}
 use Rattle.zeb_search.proofs.ReadLemmas.{as_read, clean_before, still_store, still_trees}
 use Rattle.zeb_search.proofs.postings.numbers_wanted.Goals as goal
@@ -23,5 +22,5 @@ returns-clause-value g c clean store content has =
     let there = subst (λ t. holds_in g.L.Layout.format t content) (sym (still_trees old mid read first)) has in
     let list = subst (λ (l : List Key). ArePostings (IsPostingOf content db l) postings) c.deref.ensures.value (c.in_ok-postings.ensures.value clean (still_store old mid read first store) content there) in
     let rising = subst (IsStrictlySortedBy posting_cmp) (sym c.deref-2.ensures.value) list.rising in
-    let numbers = subst (λ (l : List Posting). AreNumbers (IsInRecord l) c.in_ok-numbers_of.field-0.items) c.deref-2.ensures.value (c.in_ok-numbers_of.ensures rising) in
+    let numbers = subst (λ (l : List Posting). AreNumbers (HasPosting l) c.in_ok-numbers_of.field-0.items) c.deref-2.ensures.value (c.in_ok-numbers_of.ensures rising) in
     entry_numbers content db c.args.index c.args.register (IsWanted c.args.wanted) keys (c.in_ok-keys.ensures.value first store content has) postings c.in_ok-numbers_of.field-0.items list numbers

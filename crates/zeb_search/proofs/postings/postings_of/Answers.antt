@@ -7,6 +7,7 @@ use Rattle.zeb_register.specs.Content.{Posting}
 use Rattle.zeb_register.specs.Formats.{holds_in}
 use Rattle.zeb_search.proofs.Gathering.{Gathers, gathers_next}
 use Rattle.zeb_search.proofs.ReadLemmas.{clean_before, one_read, read_then, still_store, still_trees}
+use Rattle.zeb_search.proofs.CountedLemmas.{counted_then, list_counts}
 use Rattle.zeb_search.proofs.postings.postings_of.Goals as goal
 
 pub loop-key-preserved : goal.loop-key-preserved
@@ -29,6 +30,9 @@ loop-key-preserved g c =
           subst (Gathers R (take (index + 1) keys)) (sym all)
           (gathers_next R keys index c.key-item.result c.loop-key.postings.items list c.loop-key-test.true (c.loop-key.invariant.gathered first store content has)
           (λ p. (subst (λ (l : List Posting). Has l p) same, subst (λ (l : List Posting). Has l p) (sym same))));
+      counted = counted_then g.L.Layout.format (Unit {0}) (Unit {0}) (Unit {0}) old now new c.args.work.now c.loop-key.work c.key_list.new.work (λ h. h) (λ h. h) c.loop-key.invariant.read c.key_list.ensures.call.crash
+          c.loop-key.invariant.counted (λ clean store content has. list_counts (Unit {0}) (g.L.Layout.block_rows list) c.loop-key.work c.key_list.new.work (c.in_ok-list.ensures.work clean store content has));
+      no_work = λ none. c.key_list.ensures.no_work none ∙ c.loop-key.invariant.no_work none;
     }
 
 pub returns-clause-value : goal.returns-clause-value

@@ -1,4 +1,4 @@
-use Rattle.std.proofs.Common.{take}
+use Rattle.std.proofs.Common.{◌≡◌, take}
 use Rattle.sqlite.specs.Held.{state}
 use Rattle.sqlite.specs.State.{HasCleanDisk}
 use Rattle.zeb_register.specs.Content.{Content}
@@ -7,6 +7,7 @@ use Rattle.zeb_register.specs.Store.{IsStore}
 use Rattle.sqlite_rules.specs.Lists.{Has}
 use Rattle.zeb_search.proofs.Gathering.{Gathers}
 use Rattle.zeb_search.proofs.ReadLemmas.{IsRead}
+use Rattle.zeb_search.specs.Counted.{Counted}
 use Rattle.zeb_search.proofs.postings.postings_of.Given as goal
 
 abbrev pub invariant-loop-key : goal.invariant-loop-key
@@ -17,4 +18,6 @@ invariant-loop-key g l =
       read : IsRead old now;
       gathered : HasCleanDisk now → IsStore old → (content : Content) → holds_in g.L.Layout.format old.now.trees content
           → Gathers (λ key p. Has (content l.fn.database.0 key) p) (take l.key-index l.keys) l.postings.items;
+      counted : Counted g.L.Layout.format (Unit {0}) old now l.fn.work l.work;
+      no_work : g.L.Layout.row_work ≡ 0 → l.work ≡ l.fn.work;
     }

@@ -1,4 +1,4 @@
-use Rattle.std.proofs.Common.{List, ◌+◌, arith, subst, sym, take}
+use Rattle.std.proofs.Common.{List, arith, subst, sym, take, ◌∙◌, refl, inl, inr}
 use Rattle.sqlite.specs.Held.{state}
 use Rattle.zeb_query.proofs.HoldingLemmas.{take_whole}
 use Rattle.zeb_query.specs.declared.plans.Operator.TheVariants as operator
@@ -10,6 +10,10 @@ use Rattle.zeb_search.specs.Lists.{AreNumbers}
 use Rattle.zeb_search.proofs.JustLemmas.{joined_numbers}
 use Rattle.zeb_search.proofs.PlanLemmas.{EachMatches, each_matches_more, each_matches_none, each_matches_whole, none_found}
 use Rattle.zeb_search.proofs.ReadLemmas.{as_read, clean_before, read_then, still_store, still_trees}
+use Rattle.sqlite_rules.specs.Lists.{Has}
+use Rattle.sqlite_rules.proofs.ListLemmas.{has_at}
+use Rattle.zeb_search.specs.Counted.{HasNoStar, HaveNoStar}
+use Rattle.zeb_search.proofs.CountedLemmas.{counted_then, counts_for}
 use Rattle.zeb_search.proofs.words.all_words_hits.Goals as goal
 
 pub returns-in_default-clause-value : goal.returns-in_default-clause-value
@@ -25,6 +29,10 @@ loop-other-init g c = record {
     λ clean store content has.
         each_matches_none (posted content c.args.database.0) c.args.index c.in-Some.pattern.now c.in_ok-hits.hits.items (c.in_ok-hits.ensures.value clean store content has),
   );
+  counted = λ clean store content has.
+      counts_for (HasNoStar c.in-Some.pattern.now) (HaveNoStar c.args.patterns.now) c.args.work.now c.numbers_wanted.new.work
+      (λ h. h c.in-Some.pattern.now (subst (λ (l : List (List Symbol)). Has l c.in-Some.pattern.now) (sym c.in-Some.ensures.cases.0) (inl refl))) (c.in_ok-hits.ensures.work clean store content has);
+  no_work = c.numbers_wanted.ensures.no_work;
 }
 
 pub loop-other-preserved : goal.loop-other-preserved
@@ -51,6 +59,10 @@ loop-other-preserved g c =
             (joined_numbers operator.And (λ n. EachMatches O c.args.index (take index others) n × HasMatch O c.args.index first n) (HasMatch O c.args.index pattern) c.loop-other.hits.items c.in_ok-found.found.items
             c.deref.result.now c.deref-in-loop-other.result.now c.in_ok-hits-2.hits.items c.deref.ensures.value c.deref-in-loop-other.ensures.value before here c.in_ok-hits-2.ensures),
       );
+      counted = counted_then g.L.Layout.format (HaveNoStar c.args.patterns.now) (HasNoStar pattern) (HaveNoStar c.args.patterns.now) old now new c.args.work.now c.loop-other.work c.numbers_wanted-in-loop-other.new.work
+          (λ h. h) (λ h. h pattern (subst (λ (l : List (List Symbol)). Has l pattern) (sym c.loop-other.invariant.found.1) (inr (has_at others index pattern c.loop-other-test.true c.other-item.is)))) c.loop-other.invariant.read c.numbers_wanted-in-loop-other.ensures.call.crash
+          c.loop-other.invariant.counted c.in_ok-found.ensures.work;
+      no_work = λ none. c.numbers_wanted-in-loop-other.ensures.no_work none ∙ c.loop-other.invariant.no_work none;
     }
 
 pub returns-clause-value : goal.returns-clause-value

@@ -1,4 +1,4 @@
-use Rattle.std.proofs.Common.{List, [], arith, subst, sym, take}
+use Rattle.std.proofs.Common.{List, [], arith, subst, sym, take, refl, ◌∙◌}
 use Rattle.sqlite.specs.Held.{state}
 use Rattle.zeb_query.proofs.HoldingLemmas.{take_whole}
 use Rattle.zeb_query.specs.declared.plans.Operator.TheVariants as operator
@@ -10,6 +10,9 @@ use Rattle.zeb_search.specs.Lists.{AreNumbers}
 use Rattle.zeb_search.proofs.JustLemmas.{joined_numbers, just_none}
 use Rattle.zeb_search.proofs.PlanLemmas.{SomeMatch, some_match_more}
 use Rattle.zeb_search.proofs.ReadLemmas.{as_read, clean_before, read_still, read_then, still_store, still_trees}
+use Rattle.sqlite_rules.proofs.ListLemmas.{has_at}
+use Rattle.zeb_search.specs.Counted.{HasNoStar, HaveNoStar}
+use Rattle.zeb_search.proofs.CountedLemmas.{counted_then, counts_still}
 use Rattle.zeb_search.proofs.words.any_word_hits.Goals as goal
 
 pub loop-pattern-init : goal.loop-pattern-init
@@ -18,6 +21,8 @@ loop-pattern-init g c = record {
   found = λ clean store content has.
       subst (AreNumbers (SomeMatch (posted content c.args.database.0) c.args.index [])) (sym c.new-hits.ensures.items)
       (just_none (SomeMatch (posted content c.args.database.0) c.args.index []) (λ n h. h.1));
+  counted = λ clean store content has. counts_still (HaveNoStar c.args.patterns.now) c.args.work.now;
+  no_work = λ _. refl;
 }
 
 pub loop-pattern-preserved : goal.loop-pattern-preserved
@@ -39,6 +44,10 @@ loop-pattern-preserved g c =
           some_match_more O c.args.index patterns index pattern c.loop-pattern-test.true c.pattern-item.is c.in_ok-hits.hits.items
           (joined_numbers operator.Or (SomeMatch O c.args.index (take index patterns)) (HasMatch O c.args.index pattern) c.loop-pattern.hits.items c.in_ok-found.found.items
           c.deref.result.now c.deref-in-loop-pattern.result.now c.in_ok-hits.hits.items c.deref.ensures.value c.deref-in-loop-pattern.ensures.value before here c.in_ok-hits.ensures);
+      counted = counted_then g.L.Layout.format (HaveNoStar patterns) (HasNoStar pattern) (HaveNoStar patterns) old now new c.args.work.now c.loop-pattern.work c.numbers_wanted.new.work
+          (λ h. h) (λ h. h pattern (has_at patterns index pattern c.loop-pattern-test.true c.pattern-item.is)) c.loop-pattern.invariant.read c.numbers_wanted.ensures.call.crash
+          c.loop-pattern.invariant.counted c.in_ok-found.ensures.work;
+      no_work = λ none. c.numbers_wanted.ensures.no_work none ∙ c.loop-pattern.invariant.no_work none;
     }
 
 pub returns-clause-value : goal.returns-clause-value

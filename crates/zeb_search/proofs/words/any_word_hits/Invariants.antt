@@ -1,4 +1,4 @@
-use Rattle.std.proofs.Common.{List, take}
+use Rattle.std.proofs.Common.{◌≡◌, List, take}
 use Rattle.sqlite.specs.Held.{state}
 use Rattle.sqlite.specs.State.{HasCleanDisk}
 use Rattle.sqlite_rules.specs.Lists.{Has}
@@ -9,6 +9,7 @@ use Rattle.zeb_text.specs.Symbols.{Symbol}
 use Rattle.zeb_search.specs.Holds.{HasMatch}
 use Rattle.zeb_search.specs.Lists.{AreNumbers}
 use Rattle.zeb_search.proofs.ReadLemmas.{IsRead}
+use Rattle.zeb_search.specs.Counted.{Counted, HaveNoStar}
 use Rattle.zeb_search.proofs.words.any_word_hits.Given as goal
 
 abbrev pub invariant-loop-pattern : goal.invariant-loop-pattern
@@ -19,4 +20,6 @@ invariant-loop-pattern g l =
       read : IsRead old now;
       found : HasCleanDisk now → IsStore old → (content : Content) → holds_in g.L.Layout.format old.now.trees content
           → AreNumbers (λ n. (pattern : List Symbol) × Has (take l.pattern-index l.patterns) pattern × HasMatch (posted content l.fn.database.0) l.index pattern n) l.hits.items;
+      counted : Counted g.L.Layout.format (HaveNoStar l.patterns) old now l.fn.work l.work;
+      no_work : g.L.Layout.row_work ≡ 0 → l.work ≡ l.fn.work;
     }

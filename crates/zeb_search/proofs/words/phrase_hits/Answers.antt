@@ -1,9 +1,9 @@
 use Rattle.std.proofs.Common.{◌≡◌, ◌≢◌, ◌==◌, ◌∙◌, Bool, List, [], ap, filter, subst, sym}
 use Rattle.std.specs.List.Sorted.{IsStrictlySortedBy}
 use Rattle.zeb_register.specs.Content.{posted, posting_cmp, Posting}
-use Rattle.zeb_register.specs.RowTerms.{IsInRecord}
 use Rattle.zeb_search.specs.Holds.{HasPhrase}
 use Rattle.zeb_search.specs.Lists.{AreNumbers}
+use Rattle.zeb_search.specs.PrivateTerms.{HasPosting}
 use Rattle.zeb_search.proofs.PlanLemmas.{IsStart, first_phrase_hits, firsts_rise, phrase_hits}
 use Rattle.zeb_search.proofs.words.phrase_hits.Goals as goal
 
@@ -18,7 +18,7 @@ returns-then-first-clause-value g c clean store content has =
     let firsts : c.deref-then-first.result.now ≡ filter (λ (p : Posting). p.pos == 1) places =
     c.deref-then-first.ensures.value ∙ c.in_ok-firsts.ensures ∙ ap (filter (λ (p : Posting). p.pos == 1)) c.deref.ensures.value in
     let rising = subst (IsStrictlySortedBy posting_cmp) (sym firsts) (firsts_rise (IsStart O index patterns) places are) in
-    let numbers = subst (λ (l : List Posting). AreNumbers (IsInRecord l) hits) firsts (c.in_ok-numbers_of.ensures rising) in
+    let numbers = subst (λ (l : List Posting). AreNumbers (HasPosting l) hits) firsts (c.in_ok-numbers_of.ensures rising) in
     subst (λ (b : Bool). AreNumbers (λ n. (patterns ≢ []) × HasPhrase O index patterns b n) hits) (sym c.if-first.true)
     (first_phrase_hits O index patterns places hits are numbers)
 
@@ -31,6 +31,6 @@ returns-clause-value g c clean store content has =
     let hits = c.in_ok-numbers_of-2.field-0.items in
     let are = c.in_ok-places.ensures.value clean store content has in
     let rising = subst (IsStrictlySortedBy posting_cmp) (sym c.deref-else-first.ensures.value) are.rising in
-    let numbers = subst (λ (l : List Posting). AreNumbers (IsInRecord l) hits) c.deref-else-first.ensures.value (c.in_ok-numbers_of-2.ensures rising) in
+    let numbers = subst (λ (l : List Posting). AreNumbers (HasPosting l) hits) c.deref-else-first.ensures.value (c.in_ok-numbers_of-2.ensures rising) in
     subst (λ (b : Bool). AreNumbers (λ n. (patterns ≢ []) × HasPhrase O index patterns b n) hits) (sym c.if-first.false)
     (phrase_hits O index patterns places hits are numbers)

@@ -1,12 +1,17 @@
-use Rattle.std.proofs.Common.{◌≡◌, ◌∙◌, ◌++◌, ◌∷◌, [], List, ap, subst, sym}
+use Rattle.std.proofs.Common.{◌≡◌, ◌∙◌, ◌++◌, ◌∷◌, [], List, ap, subst, sym, refl, inl}
 use Rattle.std.proofs.lemmas.List.{append_assoc}
 use Rattle.sqlite.specs.Held.{state}
 use Rattle.zeb_register.specs.Content.{posted}
 use Rattle.zeb_register.specs.Formats.{holds_in}
 use Rattle.zeb_text.specs.Symbols.{Symbol}
 use Rattle.zeb_search.specs.Lists.{ArePostings}
-use Rattle.zeb_search.proofs.PlanLemmas.{AreWordsAt, IsWordAt, none_found, some_patterns, word_before}
+use Rattle.zeb_search.proofs.PlanLemmas.{AreWordsAt, IsWordAt, none_found, some_patterns, word_before, IsStart, no_patterns, one_word}
 use Rattle.zeb_search.proofs.ReadLemmas.{as_read, clean_before, read_then, still_store, still_trees}
+use Rattle.sqlite_rules.specs.Lists.{Has}
+use Rattle.sqlite_rules.proofs.ListLemmas.{has_right}
+use Rattle.zeb_search.specs.Counted.{HasNoStar, HaveNoStar}
+use Rattle.zeb_search.proofs.CountedLemmas.{counted_then, counts_for}
+use Rattle.zeb_search.proofs.JustLemmas.{just_same}
 use Rattle.zeb_search.proofs.words.places_of_phrase.Goals as goal
 
 pub returns-in_default-clause-value : goal.returns-in_default-clause-value
@@ -37,4 +42,38 @@ loop-pattern-preserved g c =
             let places = subst (ArePostings (AreWordsAt O c.args.index rest)) (sym c.deref-in-Some-split_last.ensures.value) (c.loop-pattern.invariant.behind.3 clean1 store content has) in
             word_before O c.args.index pattern rest c.deref.result.now c.deref-in-Some-split_last.result.now c.in_ok-places-2.places.items starts places (c.in_ok-places-2.ensures starts.rising places.rising),
       );
+      counted = counted_then g.L.Layout.format (HaveNoStar c.args.patterns.now) (HasNoStar pattern) (HaveNoStar c.args.patterns.now) old now new c.args.work.now c.loop-pattern.work c.places_of_words-in-Some-split_last.new.work
+          (λ h. h) (λ h. h pattern (subst (λ (l : List (List Symbol)). Has l pattern) (sym joined) (has_right before (pattern ∷ rest) pattern (inl refl)))) c.loop-pattern.invariant.read c.places_of_words-in-Some-split_last.ensures.call.crash
+          c.loop-pattern.invariant.counted c.in_ok-starts.ensures.work;
+      no_work = λ none. c.places_of_words-in-Some-split_last.ensures.no_work none ∙ c.loop-pattern.invariant.no_work none;
     }
+
+pub loop-pattern-init : goal.loop-pattern-init
+loop-pattern-init g c =
+    let old = state g.S.Store c.args.connection.now in
+    let new = state g.S.Store c.places_of_words.new.connection in
+    let last = c.in-Some.last.now in
+    let others = c.in-Some.others.now in
+    record {
+      read = as_read old new c.in_ok-places.places c.in_ok-places.ensures.call;
+      behind = (
+        last ∷ [],
+        some_patterns last [],
+        c.in-Some.ensures.cases.0,
+        λ clean store content has. one_word (posted content c.args.database.0) c.args.index last c.in_ok-places.places.items (c.in_ok-places.ensures.value clean store content has),
+      );
+      counted = λ clean store content has.
+          counts_for (HasNoStar last) (HaveNoStar c.args.patterns.now) c.args.work.now c.places_of_words.new.work
+          (λ h. h last (subst (λ (l : List (List Symbol)). Has l last) (sym c.in-Some.ensures.cases.0) (has_right others (last ∷ []) last (inl refl)))) (c.in_ok-places.ensures.work clean store content has);
+      no_work = c.places_of_words.ensures.no_work;
+    }
+
+pub returns-clause-value : goal.returns-clause-value
+returns-clause-value g c clean store content has =
+    let O = posted content c.args.database.0 in
+    let rest = c.loop-pattern.invariant.behind.0 in
+    let places = c.loop-pattern.places.items in
+    let whole : c.args.patterns.now ≡ rest =
+    c.loop-pattern.invariant.behind.2 ∙ ap (λ (l : List (List Symbol)). l ++ rest) (no_patterns c.loop-pattern.others.now c.in_default-split_last.ensures.cases) in
+    subst (λ (l : List (List Symbol)). ArePostings (IsStart O c.args.index l) places) (sym whole)
+    (just_same (AreWordsAt O c.args.index rest) (IsStart O c.args.index rest) places (λ p. (λ h. (c.loop-pattern.invariant.behind.1, h), λ h. h.1)) (c.loop-pattern.invariant.behind.3 clean store content has))

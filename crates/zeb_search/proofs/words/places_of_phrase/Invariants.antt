@@ -8,6 +8,7 @@ use Rattle.zeb_text.specs.Symbols.{Symbol}
 use Rattle.zeb_search.specs.Lists.{ArePostings}
 use Rattle.zeb_search.proofs.PlanLemmas.{AreWordsAt}
 use Rattle.zeb_search.proofs.ReadLemmas.{IsRead}
+use Rattle.zeb_search.specs.Counted.{Counted, HaveNoStar}
 use Rattle.zeb_search.proofs.words.places_of_phrase.Given as goal
 
 abbrev pub invariant-loop-pattern : goal.invariant-loop-pattern
@@ -19,6 +20,8 @@ invariant-loop-pattern g l =
       behind : (rest : List (List Symbol)) × (rest ≢ []) × (l.fn.patterns ≡ l.others ++ rest)
           × (HasCleanDisk now → IsStore old → (content : Content) → holds_in g.L.Layout.format old.now.trees content
           → ArePostings (AreWordsAt (posted content l.fn.database.0) l.index rest) l.places.items);
+      counted : Counted g.L.Layout.format (HaveNoStar l.fn.patterns) old now l.fn.work l.work;
+      no_work : g.L.Layout.row_work ≡ 0 → l.work ≡ l.fn.work;
     }
 
 abbrev pub decreases-loop-pattern : goal.decreases-loop-pattern

@@ -4,8 +4,11 @@ use Rattle.zeb_text.specs.Symbols.{literal}
 use Rattle.zeb_search.proofs.TermLemmas.{literal_wanted}
 use Rattle.zeb_search.proofs.terms.Wanted.only_text.Goals as goal
 
-pub returns-in_ok-from_str-in-Some : goal.returns-in_ok-from_str-in-Some
-returns-in_ok-from_str-in-Some c term =
+pub returns-in_ok-from_str-in-Some-clause-text : goal.returns-in_ok-from_str-in-Some-clause-text
+returns-in_ok-from_str-in-Some-clause-text c term =
     let text = c.in_ok-from_str-in-Some.field-0 in
     let is : c.in-Matching.pattern.now ≡ literal (chars (string_bytes text)) = c.in-Some.ensures.text ∙ ap (λ t. literal (chars t)) (sym c.in_ok-from_str-in-Some.ensures.ok) in
     rw (c.in-Matching.is, c.new.ensures) (literal_wanted c.in-Matching.pattern.now (string_bytes text) (IsUtf8-string_bytes text) is term)
+
+pub returns-in-Number-clause-text : goal.returns-in-Number-clause-text
+returns-in-Number-clause-text c = rw c.in-Number.is c.only_key.ensures.text

@@ -4,7 +4,7 @@ use Rattle.zeb_register.specs.declared.registers.TermCount.{TermCount}
 use Rattle.zeb_register.specs.Occurring.{key_in}
 use Rattle.zeb_search.specs.PrivateTerms.{AreTaken, IsWanted}
 use Rattle.zeb_search.proofs.Gathering.{gathers_more, gathers_past}
-use Rattle.zeb_search.proofs.terms.keys_of.Goals as goal
+use Rattle.zeb_search.proofs.keys.keys_of.Goals as goal
 
 pub loop-term-preserved-in-Continue-1 : goal.loop-term-preserved-in-Continue-1
 loop-term-preserved-in-Continue-1 c =

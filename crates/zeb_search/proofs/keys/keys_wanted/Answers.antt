@@ -1,6 +1,6 @@
 use Rattle.zeb_register.specs.Content.{posted}
 use Rattle.zeb_search.proofs.TermLemmas.{keys_are}
-use Rattle.zeb_search.proofs.terms.keys_wanted.Goals as goal
+use Rattle.zeb_search.proofs.keys.keys_wanted.Goals as goal
 
 pub returns-clause-value : goal.returns-clause-value
 returns-clause-value g c clean store content has =

@@ -1,5 +1,5 @@
 use Rattle.zeb_search.specs.PrivateTerms.{AreTaken}
-use Rattle.zeb_search.proofs.terms.keys_of.Given as goal
+use Rattle.zeb_search.proofs.keys.keys_of.Given as goal
 
 abbrev pub invariant-loop-term : goal.invariant-loop-term
 invariant-loop-term l = AreTaken l.index l.register l.wanted l.yielded l.keys.items

@@ -1,0 +1,67 @@
+-- What calls count, one after the other.
+use Rattle.std.proofs.Common.{◌≡◌, ℕ, Result, Ok, Err, IfOk, OnOk, arith, inl, refl, sym, subst}
+use Rattle.sqlite.specs.State.{State, HasCleanDisk, Survives}
+use Rattle.zeb_register.specs.declared.registers.Work.{Work}
+use Rattle.zeb_register.specs.Content.{Content}
+use Rattle.zeb_register.specs.Formats.{Format, holds_in}
+use Rattle.zeb_register.specs.Store.{IsStore}
+use Rattle.zeb_register.specs.Tallies.{ReadsTerms, Rises, Works}
+use Rattle.zeb_search.specs.Counted.{Counted, Counts}
+use Rattle.zeb_search.proofs.ReadLemmas.{IsRead, clean_before, still_store, still_trees}
+
+same_count : (a b : ℕ) → b ≡ a → Rises 0 a b
+same_count a b is = inl (omega (arith, is))
+
+rises_then : (a b c : ℕ) → Rises 0 a b → Rises 0 b c → Rises 0 a c
+rises_then a b c one two = grind arith
+
+pub counts_still : (P : Type 0) (w : Work) → Counts P w w
+counts_still P w = record {
+  no_term = same_count w.dict_written w.dict_written refl;
+  no_block = same_count w.block_written w.block_written refl;
+  unread = λ _. same_count w.dict_read w.dict_read refl;
+}
+
+counts_then : (P Q R : Type 0) (a b c : Work) → (R → P) → (R → Q) → Counts P a b → Counts Q b c → Counts R a c
+counts_then P Q R a b c first second one two = record {
+  no_term = rises_then a.dict_written b.dict_written c.dict_written one.no_term two.no_term;
+  no_block = rises_then a.block_written b.block_written c.block_written one.no_block two.no_block;
+  unread = λ r. rises_then a.dict_read b.dict_read c.dict_read (one.unread (first r)) (two.unread (second r));
+}
+
+pub counts_for : (P Q : Type 0) (a b : Work) → (Q → P) → Counts P a b → Counts Q a b
+counts_for P Q a b weaker counts = record { no_term = counts.no_term; no_block = counts.no_block; unread = λ q. counts.unread (weaker q) }
+
+-- ---- calls of the register
+
+-- postings of a key
+pub list_counts : (P : Type 0) (blocks : ℕ) (a b : Work) → Works 0 0 blocks 0 a b → Counts P a b
+list_counts P blocks a b works = record { no_term = works.writes_terms; no_block = works.writes_blocks; unread = λ _. works.reads_terms }
+
+-- terms
+pub terms_count : (P : Type 0) (terms : ℕ) (a b : Work) → ¬ P → Works terms 0 0 0 a b → Counts P a b
+terms_count P terms a b never works = record { no_term = works.writes_terms; no_block = works.writes_blocks; unread = λ p. absurd (never p) }
+
+pub page_counts : (P : Type 0) (most : ℕ) (a b : Work) → ¬ P → ReadsTerms most a b → Counts P a b
+page_counts P most a b never reads = record {
+  no_term = same_count a.dict_written b.dict_written reads.no_term;
+  no_block = same_count a.block_written b.block_written reads.no_block.1;
+  unread = λ p. absurd (never p);
+}
+
+-- ---- calls one after the other
+
+module _ (format : Format) where
+  pub counted_then : (P Q R : Type 0) (s0 s1 s2 : State) (a b c : Work) → (R → P) → (R → Q) → IsRead s0 s1 → Survives s1 s2 (λ _. ⊥) → Counted format P s0 s1 a b → Counted format Q s1 s2 b c
+      → Counted format R s0 s2 a c
+  counted_then P Q R s0 s1 s2 a b c first second read crash one two clean store content has =
+      let before = clean_before s1 s2 crash clean in
+      counts_then P Q R a b c first second (one before store content has)
+      (two clean (still_store s0 s1 read before store) content (subst (λ t. holds_in format t content) (sym (still_trees s0 s1 read before)) has))
+
+-- a call that gives terms
+pub if_ok_counted : {T E : Type 0} (r : Result T E) (format : Format) (P : Type 0) (s0 s1 : State) (a b : Work) (terms : T → ℕ) → ¬ P
+    → (HasCleanDisk s1 → IsStore s0 → IfOk r (λ list. (content : Content) → holds_in format s0.now.trees content → Works (terms list) 0 0 0 a b))
+    → OnOk r (Counted format P s0 s1 a b)
+if_ok_counted (Ok x) format P s0 s1 a b terms never told = λ clean store content has. terms_count P (terms x) a b never (told clean store content has)
+if_ok_counted (Err e) format P s0 s1 a b terms never told = tt

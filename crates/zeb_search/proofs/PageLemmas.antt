@@ -1,0 +1,101 @@
+-- The terms that are asked for, read page by page.
+use Rattle.std.proofs.Common.{◌≡◌, ◌≢◌, ◌⊎◌, ◌∙◌, ◌<◌, ℕ, zero, suc, true, not, List, [], ◌∷◌, ◌++◌, filter, take, drop, refl, sym, subst, inl, inr, Ordering, Less, Equal, Greater, arith, Some, None, String, string_bytes}
+use Rattle.std.specs.declared.alloc.Global.{Global}
+use Rattle.std.specs.Ordering.{nat_cmp, is_lt}
+use Rattle.std.specs.Cmp.Lexicographic.{slice_cmp}
+use Rattle.std.specs.List.Sorted.{IsStrictlySortedBy}
+use Rattle.std.proofs.lemmas.List.{take-append-drop}
+use Rattle.std.proofs.lemmas.List.Kept.{IsStrictlySortedBy-filter}
+use Rattle.sqlite_rules.specs.Lists.{Has}
+use Rattle.sqlite_rules.proofs.ListLemmas.{all_has, has_either, has_kept, has_left, has_right}
+use Rattle.zeb_profile.specs.declared.Register.{Register}
+use Rattle.zeb_extract.specs.declared.keys.Occurrence.{Occurrence}
+use Rattle.zeb_register.specs.declared.registers.TermCount.{TermCount}
+use Rattle.zeb_register.specs.Occurring.{AreTermsFrom, TermIn, is_from, term_cmp}
+use Rattle.zeb_search.specs.Comparing.{Precedes}
+use Rattle.zeb_search.specs.declared.terms.Wanted.{Wanted}
+use Rattle.zeb_search.specs.PrivateTerms.{BeginsAt, HasWanted, IsAmong, IsWanted, LeadsTo}
+use Rattle.zeb_search.proofs.Comparisons.{none_between}
+
+-- ---- lists cut in two
+
+-- what stands in front of a cut comes before what stands behind it
+cut_rises : {K : Type 0} (R : K → K → Ordering) (xs ys : List K) → IsStrictlySortedBy R (xs ++ ys) → (x y : K) → Has xs x → Has ys y → R x y ≡ Less
+unfolding IsStrictlySortedBy
+cut_rises R [] ys up x y here there = absurd here
+cut_rises R (z ∷ xs) ys up x y (inl same) there = subst (λ w. R w y ≡ Less) (sym same) (all_has (λ w. R z w ≡ Less) (xs ++ ys) y up.0 (has_right xs ys y there))
+cut_rises R (z ∷ xs) ys up x y (inr later) there = cut_rises R xs ys up.1 x y later there
+
+-- a list is cut at 0 or has a first part
+some_taken : {K : Type 0} (n : ℕ) (xs : List K) (y : K) → 0 < n → take n xs ≡ [] → ¬ Has (drop n xs) y
+some_taken zero xs y some none there = omega (arith, some)
+some_taken (suc n) [] y some none there = there
+some_taken (suc n) (x ∷ xs) y some none there = cc
+
+-- ---- one page
+
+from_start : (start term : List ℕ) → ¬ Precedes term start → not (is_lt (slice_cmp nat_cmp term start)) ≡ true
+from_start start term low = by (slice_cmp nat_cmp term start) refl
+  where
+    by : (o : Ordering) → slice_cmp nat_cmp term start ≡ o → not (is_lt o) ≡ true
+    by Less is = absurd (low is)
+    by Equal is = refl
+    by Greater is = refl
+
+module _ (O : ℕ → Occurrence → Type 0) (index : ℕ) (register : Register) where
+  -- a term that isn't below a page's start stands in the page, or behind all of it
+  page_has : (start : List ℕ) (n : ℕ) (page : List TermCount) → 0 < n → AreTermsFrom O index register start n page
+      → (term : List ℕ) (m : ℕ) → TermIn O index register term m → ¬ Precedes term start
+      → IsAmong page term ⊎ ((page ≢ []) × ((t : TermCount) → Has page t → Precedes t.term term))
+  page_has start n page some are term m there low =
+      let all = filter (is_from start) are.all in
+      let found = are.are.found term m there in
+      let t = found.0 in
+      let from : is_from start t ≡ true = from_start start t.term (subst (λ (l : List ℕ). ¬ Precedes l start) (sym found.2) low) in
+      let kept : Has all t = has_kept (is_from start) are.all t found.1 from in
+      let cut : take n all ++ drop n all ≡ all = take-append-drop n all in
+      let rises : IsStrictlySortedBy term_cmp (take n all ++ drop n all) = subst (IsStrictlySortedBy term_cmp) (sym cut) (IsStrictlySortedBy-filter term_cmp (is_from start) are.all are.are.rising) in
+      elim (has_either (take n all) (drop n all) t (subst (λ (l : List TermCount). Has l t) (sym cut) kept)) [
+        | inl here ↦ inl (t, subst (λ (l : List TermCount). Has l t) (sym are.is) here, found.2)
+        | inr behind ↦ inr (
+          λ none. some_taken n all t some (sym are.is ∙ none) behind,
+          λ u has. subst (Precedes u.term) found.2 (cut_rises term_cmp (take n all) (drop n all) rises u t (subst (λ (l : List TermCount). Has l u) are.is has) behind),
+        )
+      ]
+
+  -- ---- page after page
+
+  module _ (wanted : Wanted) where
+    -- what is asked for is among the terms so far, or isn't below the next page's start
+    abbrev pub HasUpTo : List TermCount → List ℕ → Type 0
+    HasUpTo terms start = (term : List ℕ) (m : ℕ) → TermIn O index register term m → IsWanted wanted term → IsAmong terms term ⊎ (¬ Precedes term start)
+
+    pub none_so_far : (terms : List TermCount) (start : List ℕ) → BeginsAt wanted start → HasUpTo terms start
+    none_so_far terms start begins term m there asked = inr (begins term asked)
+
+    among_left : (xs ys : List TermCount) (term : List ℕ) → IsAmong xs term → IsAmong (xs ++ ys) term
+    among_left xs ys term among = (among.0, has_left xs ys among.0 among.1, among.2)
+
+    among_right : (xs ys : List TermCount) (term : List ℕ) → IsAmong ys term → IsAmong (xs ++ ys) term
+    among_right xs ys term among = (among.0, has_right xs ys among.0 among.1, among.2)
+
+    module _ (terms : List TermCount) (start : List ℕ) (n : ℕ) (page : List TermCount) (some : 0 < n) (are : AreTermsFrom O index register start n page) (before : HasUpTo terms start) where
+      after_page : (term : List ℕ) (m : ℕ) → TermIn O index register term m → IsWanted wanted term
+          → IsAmong (terms ++ page) term ⊎ ((page ≢ []) × ((t : TermCount) → Has page t → Precedes t.term term))
+      after_page term m there asked = elim (before term m there asked) [
+        | inl among ↦ inl (among_left terms page term among)
+        | inr low ↦ elim (page_has start n page some are term m there low) [ inl among ↦ inl (among_right terms page term among) | inr behind ↦ inr behind ]
+      ]
+
+      -- with the last page all are there
+      pub last_page : LeadsTo wanted page None → HasWanted O index register wanted (terms ++ page)
+      last_page ends term m there asked = elim (after_page term m there asked) [
+        | inl among ↦ among
+        | inr behind ↦ absurd (elim ends [ inl none ↦ behind.0 none | inr last ↦ last.2 term asked (behind.1 last.0 last.1) ])
+      ]
+
+      pub next_page : (next : String Global) → LeadsTo wanted page (Some next) → HasUpTo (terms ++ page) (string_bytes next)
+      next_page next leads term m there asked = elim (after_page term m there asked) [
+        | inl among ↦ inl among
+        | inr behind ↦ inr (subst (λ (l : List ℕ). ¬ Precedes term l) (sym leads.2) (none_between leads.0.term term (behind.1 leads.0 leads.1)))
+      ]

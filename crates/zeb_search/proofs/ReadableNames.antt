@@ -1,0 +1,22 @@
+-- Where each identifier can be read, each that a plan names can.
+use Rattle.std.proofs.Common.{ℕ, ℤ, pos}
+use Rattle.sqlite.specs.Tree.{Trees}
+use Rattle.zeb_query.specs.Plans.{PlanValue, TermOf, PairOf, NearOf, TermPlanValue, RecordNumberOf, AlwaysOf, NumberOf, OrderedOf, CompleteOf, PhraseOf, AllWordsOf, AnyWordOf}
+use Rattle.zeb_register.specs.Kept.{AreReadableIdents}
+use Rattle.zeb_search.specs.Registers.{NamesReadable, TermNamesReadable}
+
+module _ (trees : Trees) (db : ℤ) (readable : (n : ℕ) → AreReadableIdents trees db (pos n)) where
+  term_readable : (plan : TermPlanValue) → TermNamesReadable trees db plan
+  term_readable (RecordNumberOf number) = readable number
+  term_readable (AlwaysOf index register) = tt
+  term_readable (NumberOf index relation number) = tt
+  term_readable (OrderedOf index register order start) = tt
+  term_readable (CompleteOf index pattern) = tt
+  term_readable (PhraseOf index patterns first) = tt
+  term_readable (AllWordsOf index patterns) = tt
+  term_readable (AnyWordOf index patterns) = tt
+
+  pub names_readable : (plan : PlanValue) → NamesReadable trees db plan
+  names_readable (TermOf plan) = term_readable plan
+  names_readable (PairOf operator left right) = (names_readable left, names_readable right)
+  names_readable (NearOf index left right separation) = tt

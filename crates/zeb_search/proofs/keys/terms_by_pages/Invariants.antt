@@ -1,0 +1,22 @@
+use Rattle.std.proofs.Common.{◌≡◌, string_bytes}
+use Rattle.sqlite.specs.Held.{state}
+use Rattle.sqlite.specs.State.{HasCleanDisk}
+use Rattle.zeb_register.specs.Content.{Content, posted}
+use Rattle.zeb_register.specs.Formats.{holds_in}
+use Rattle.zeb_register.specs.Store.{IsStore}
+use Rattle.zeb_search.proofs.PageLemmas.{HasUpTo}
+use Rattle.zeb_search.proofs.ReadLemmas.{IsRead}
+use Rattle.zeb_search.specs.Counted.{Counted}
+use Rattle.zeb_search.proofs.keys.terms_by_pages.Given as goal
+
+abbrev pub invariant-loop-done : goal.invariant-loop-done
+invariant-loop-done g l =
+    let old = state g.S.Store l.fn.connection in
+    let now = state g.S.Store l.connection in
+    record {
+      read : IsRead old now;
+      found : HasCleanDisk now → IsStore old → (content : Content) → holds_in g.L.Layout.format old.now.trees content
+          → HasUpTo (posted content l.fn.database.0) l.index l.register l.wanted l.terms.items (string_bytes l.start);
+      counted : Counted g.L.Layout.format ⊥ old now l.fn.work l.work;
+      no_work : g.L.Layout.row_work ≡ 0 → l.work ≡ l.fn.work;
+    }
