@@ -1,7 +1,7 @@
 //! Commands over a register, step by step: what is printed for each.
 
 use crate::texts::is_text;
-use sqlite::{Alter, Connection};
+use sqlite::{Alter, Connection, MemStore};
 use std::alloc::{AllocError, AllocGlobal, Global};
 use std::process::Abort;
 use std::test::Fail;
@@ -9,7 +9,7 @@ use zeb_engine::{
     Command, DbName, Kind, Limits, Refusal, Reply, Session, refusal_line, render, status,
 };
 use zeb_profile::Profile;
-use zeb_register::Rows;
+use zeb_register::{Blocks, Layout, Rows};
 
 mod analyses;
 mod beside_slow;
@@ -18,6 +18,7 @@ mod databases;
 mod failing_disk;
 mod finds;
 mod limits;
+mod packed;
 mod reads;
 mod refused_memory;
 mod scans;
@@ -147,7 +148,10 @@ fn told(alloc: Global, answer: &Result<Reply, Refusal>) -> Result<String, AllocE
 }
 
 /// A command's answer. No clause is stated here, so that a test holds no more than what is printed.
-fn answer<S: Alter>(session: &mut Session<S, Rows>, command: &Command) -> Result<Reply, Refusal> {
+fn answer<S: Alter, L: Layout>(
+    session: &mut Session<S, L>,
+    command: &Command,
+) -> Result<Reply, Refusal> {
     session.command(command)
 }
 
@@ -171,9 +175,9 @@ fn is_refused_with(answer: &Result<Reply, Refusal>, wanted: u8) -> bool {
 }
 
 /// For each step its text is printed.
-fn answers<S: Alter>(
+fn answers<S: Alter, L: Layout>(
     rt: &(impl Abort + AllocGlobal),
-    session: &mut Session<S, Rows>,
+    session: &mut Session<S, L>,
     rows: &[Row<'_>],
 ) -> Result<(), Fail> {
     for (place, (step, wanted)) in rows.iter().enumerate() {
@@ -184,12 +188,12 @@ fn answers<S: Alter>(
 }
 
 /// A session over the connection, which is given back where it is refused.
-fn adopted<S: Alter + Drop>(
+fn adopted<S: Alter + Drop, L: Layout>(
     alloc: Global,
     connection: Connection<S>,
     profile: &str,
     limits: Limits,
-) -> Result<Session<S, Rows>, Connection<S>> {
+) -> Result<Session<S, L>, Connection<S>> {
     if !connection.is_autocommit() {
         return Err(connection);
     }
@@ -203,37 +207,38 @@ fn adopted<S: Alter + Drop>(
 }
 
 /// Runs a script over a connection, which is given back.
-fn run<S: Alter + Drop>(
+fn run<S: Alter + Drop, L: Layout>(
     rt: &(impl Abort + AllocGlobal),
     connection: Connection<S>,
     limits: Limits,
     profile: &str,
     rows: &[Row<'_>],
 ) -> Result<Connection<S>, Fail> {
-    let Ok(mut session) = adopted(rt.alloc(), connection, profile, limits) else {
+    let Ok(mut session) = adopted::<S, L>(rt.alloc(), connection, profile, limits) else {
         return Err(Fail::new("the register is refused"));
     };
     answers(rt, &mut session, rows)?;
     Ok(session.release())
 }
 
-/// Runs a script over a new register in memory.
-fn run_in_memory(
+/// Runs a script over a new register in memory, of this layout.
+fn run_in_memory<L: Layout>(
     rt: &(impl Abort + AllocGlobal),
     limits: Limits,
     script: Script,
 ) -> Result<(), Fail> {
     let mut connection = Connection::open_in_memory(rt.alloc())?;
     for (profile, rows) in script {
-        connection = run(rt, connection, limits, profile, rows)?;
+        connection = run::<MemStore, L>(rt, connection, limits, profile, rows)?;
     }
     Ok(())
 }
 
-/// Runs each script.
+/// Runs each script over either layout.
 fn run_each(rt: &(impl Abort + AllocGlobal), scripts: &[Script]) -> Result<(), Fail> {
     for script in scripts {
-        run_in_memory(rt, Limits::GREATEST, script)?;
+        run_in_memory::<Rows>(rt, Limits::GREATEST, script)?;
+        run_in_memory::<Blocks>(rt, Limits::GREATEST, script)?;
     }
     Ok(())
 }

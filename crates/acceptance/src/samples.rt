@@ -33,6 +33,10 @@ pub const CAFE_DOCK: &str = "\
 00064nam a2200049 a 4500001000300000245001100003\x1eb2\x1e00\x1faCafe\u{301}\x1e\x1d\
 00109nam a2200061 a 4500001000300000245003300003260001100036\x1ea1\x1e10\x1faMoby Dock :\x1fbor, the whale /\x1e  \x1fcc1851.\x1e\x1d";
 
+/// `MOBY` alone.
+pub const MOBY_TEXT: &str =
+    "00109nam a2200061 a 4500001000300000245003300003260001100036\x1ea1\x1e10\x1faMoby Dick :\x1fbor, the whale /\x1e  \x1fcc1851.\x1e\x1d";
+
 /// `DOCK` alone.
 pub const DOCK_ALONE: &str =
     "00109nam a2200061 a 4500001000300000245003300003260001100036\x1ea1\x1e10\x1faMoby Dock :\x1fbor, the whale /\x1e  \x1fcc1851.\x1e\x1d";

@@ -11,7 +11,7 @@ use std::process::Abort;
 use std::test::Fail;
 use zeb_engine::{Kind, Limits, Session};
 use zeb_profile::Profile;
-use zeb_register::Rows;
+use zeb_register::{Blocks, Layout, Rows};
 
 /// What is done with records, and their names.
 type Change = (Kind, &'static [u32]);
@@ -33,25 +33,42 @@ const CHANGES: [Change; 5] = [
     (Kind::Update, &[26, 32, 33, 19]),
 ];
 
-/// A register, and a plain list of the records that are kept in it.
+/// A register of either layout, and a plain list of the records that are kept in them.
 #[derive(Drop)]
 struct Both {
-    session: Session<MemStore, Rows>,
+    plain: Session<MemStore, Rows>,
+    packed: Session<MemStore, Blocks>,
     profile: Profile,
     catalogue: Catalogue,
 }
 
-/// A new register and an empty list.
-fn opened(alloc: Global) -> Result<Both, Fail> {
+/// A new register.
+fn session<L: Layout>(alloc: Global) -> Result<Session<MemStore, L>, Fail> {
     let connection = Connection::open_in_memory(alloc)?;
     let Ok(session) = adopted(alloc, connection, BOOKS, Limits::GREATEST) else {
         return Err(Fail::new("the register is refused"));
     };
+    Ok(session)
+}
+
+/// What is printed for a find.
+fn asked<L: Layout>(
+    alloc: Global,
+    session: &mut Session<MemStore, L>,
+    query: &str,
+) -> Result<String, Fail> {
+    let command = find(alloc, 1, 1000, query)?;
+    Ok(told(alloc, &answer(session, &command))?)
+}
+
+/// New registers and an empty list.
+fn opened(alloc: Global) -> Result<Both, Fail> {
     let Ok(profile) = Profile::read(alloc, BOOKS) else {
         return Err(Fail::new("the profile is refused"));
     };
     Ok(Both {
-        session,
+        plain: session(alloc)?,
+        packed: session(alloc)?,
         profile,
         catalogue: Catalogue::new(alloc),
     })
@@ -85,17 +102,19 @@ impl Both {
         Ok(file)
     }
 
-    /// Changes both.
+    /// Changes the registers and the list.
     fn change(&mut self, alloc: Global, draw: &mut Draw, both: &Change) -> Result<(), Fail> {
         let file = self.file(alloc, draw, both)?;
         let command = change(alloc, both.0, &[&[file.as_bytes()]])?;
-        match answer(&mut self.session, &command) {
-            Ok(_) => Ok(()),
-            Err(_) => Err(Fail::new("a change is refused")),
+        let plain = answer(&mut self.plain, &command);
+        let packed = answer(&mut self.packed, &command);
+        match (plain, packed) {
+            (Ok(_), Ok(_)) => Ok(()),
+            _ => Err(Fail::new("a change is refused")),
         }
     }
 
-    /// Makes each change of both.
+    /// Makes each change.
     fn fill(&mut self, alloc: Global) -> Result<(), Fail> {
         let mut draw = Draw::new();
         for change in &CHANGES {
@@ -110,10 +129,11 @@ impl Both {
         told(alloc, &reply)
     }
 
-    /// What is printed for the engine's find.
-    fn quick(&mut self, alloc: Global, query: &str) -> Result<String, Fail> {
-        let command = find(alloc, 1, 1000, query)?;
-        Ok(told(alloc, &answer(&mut self.session, &command))?)
+    /// What is printed for the engine's finds, over either layout.
+    fn quick(&mut self, alloc: Global, query: &str) -> Result<[String; 2], Fail> {
+        let plain = asked(alloc, &mut self.plain, query)?;
+        let packed = asked(alloc, &mut self.packed, query)?;
+        Ok([plain, packed])
     }
 }
 
@@ -143,7 +163,7 @@ impl Tally {
     }
 }
 
-/// For a query both finds print the same.
+/// For a query the slow find and the engine's print the same.
 fn is_alike(
     rt: &(impl Abort + AllocGlobal),
     both: &mut Both,
@@ -152,9 +172,9 @@ fn is_alike(
 ) -> Result<(), Fail> {
     let alloc = rt.alloc();
     let slow = both.slow(alloc, query)?;
-    let quick = both.quick(alloc, query)?;
-    let wanted = format!(in alloc; "{query}\n{slow}")?;
-    let printed = format!(in alloc; "{query}\n{quick}")?;
+    let [plain, packed] = both.quick(alloc, query)?;
+    let wanted = format!(in alloc; "{query}\n{slow}{slow}")?;
+    let printed = format!(in alloc; "{query}\n{plain}{packed}")?;
     is_text(rt, &printed, &wanted, tally.asked);
     tally.count(&slow);
     Ok(())
@@ -164,7 +184,8 @@ fn is_alike(
 fn finds_are_as_slow_ones(rt: HostRuntime) -> Result<(), Fail> {
     let alloc = rt.alloc();
     let mut both = opened(alloc)?;
-    answers(&rt, &mut both.session, &[(Step::Init, "ok\n")])?;
+    answers(&rt, &mut both.plain, &[(Step::Init, "ok\n")])?;
+    answers(&rt, &mut both.packed, &[(Step::Init, "ok\n")])?;
     both.fill(alloc)?;
     let mut tally = Tally {
         asked: 0,

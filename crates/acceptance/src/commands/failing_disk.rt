@@ -10,9 +10,9 @@ use std::alloc::{AllocGlobal, Global};
 use std::process::Abort;
 use std::test::Fail;
 use zeb_engine::{Limits, Session};
-use zeb_register::Rows;
+use zeb_register::Blocks;
 
-type OnDisk<D> = Session<FileStore<D>, Rows>;
+type OnDisk<D> = Session<FileStore<D>, Blocks>;
 
 /// The numbers of hits before the first step, and after each.
 const KEPT: [Hits; 11] = [

@@ -4,6 +4,7 @@ use super::{Script, Step, TITLES, name, run_in_memory};
 use crate::samples::{CAFE, MOBY};
 use std::test::Fail;
 use zeb_engine::{DbName, Limits};
+use zeb_register::Blocks;
 
 /// One record in a command, and one number.
 const LIMITED: Script = &[(
@@ -24,7 +25,7 @@ const LIMITED: Script = &[(
 #[test]
 fn limits_are_kept(rt: HostRuntime) -> Result<(), Fail> {
     assert_eq!(rt; Limits::GREATEST, Limits::new(1_000_000, 999_999_999));
-    run_in_memory(&rt, Limits::new(1, 1), LIMITED)
+    run_in_memory::<Blocks>(&rt, Limits::new(1, 1), LIMITED)
 }
 
 #[test]

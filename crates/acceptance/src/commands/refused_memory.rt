@@ -9,7 +9,7 @@ use std::alloc::{AllocError, AllocGlobal, Global};
 use std::process::Abort;
 use std::test::Fail;
 use zeb_engine::{Command, Limits, Refusal, Reply, Session};
-use zeb_register::Rows;
+use zeb_register::Blocks;
 
 /// Commands, and what is printed for them.
 pub const STEPS: [Row<'static>; 10] = [
@@ -58,7 +58,7 @@ fn printed(alloc: Global, answer: &Result<Reply, Refusal>) -> Result<String, All
 }
 
 /// A command's answer, asked again where memory was refused.
-fn asked<S: Alter>(session: &mut Session<S, Rows>, command: &Command) -> Result<Reply, Refusal> {
+fn asked<S: Alter>(session: &mut Session<S, Blocks>, command: &Command) -> Result<Reply, Refusal> {
     let first = answer(session, command);
     if lacks_memory(&first) {
         return answer(session, command);
@@ -66,7 +66,7 @@ fn asked<S: Alter>(session: &mut Session<S, Rows>, command: &Command) -> Result<
     first
 }
 
-fn count<S: Alter>(alloc: Global, session: &mut Session<S, Rows>, query: &str) -> Option<u64> {
+fn count<S: Alter>(alloc: Global, session: &mut Session<S, Blocks>, query: &str) -> Option<u64> {
     let command = made(alloc, &Step::Find(query)).ok()?;
     match asked(session, &command) {
         Ok(Reply::Found { hits, .. }) => Some(hits),
@@ -74,7 +74,7 @@ fn count<S: Alter>(alloc: Global, session: &mut Session<S, Rows>, query: &str) -
     }
 }
 
-pub fn hits<S: Alter>(alloc: Global, session: &mut Session<S, Rows>) -> Hits {
+pub fn hits<S: Alter>(alloc: Global, session: &mut Session<S, Blocks>) -> Hits {
     [
         count(alloc, session, "@attr 1=4 dick"),
         count(alloc, session, "@attr 1=4 dock"),
@@ -85,7 +85,7 @@ pub fn hits<S: Alter>(alloc: Global, session: &mut Session<S, Rows>) -> Hits {
 /// A command's answer. Where memory was refused for it, nothing has changed, and it is asked again.
 fn asked_unchanged<S: Alter>(
     rt: &(impl Abort + AllocGlobal),
-    session: &mut Session<S, Rows>,
+    session: &mut Session<S, Blocks>,
     command: &Command,
 ) -> Result<Reply, Refusal> {
     let before = hits(rt.alloc(), session);
@@ -99,7 +99,7 @@ fn asked_unchanged<S: Alter>(
 
 fn answer_or_memory<S: Alter>(
     rt: &(impl Abort + AllocGlobal),
-    session: &mut Session<S, Rows>,
+    session: &mut Session<S, Blocks>,
     row: &Row<'_>,
 ) -> Result<(), Fail> {
     let (step, wanted) = row;
@@ -110,7 +110,7 @@ fn answer_or_memory<S: Alter>(
 }
 
 /// A session, or none where memory is refused for it.
-fn opened(alloc: Global) -> Option<Session<MemStore, Rows>> {
+fn opened(alloc: Global) -> Option<Session<MemStore, Blocks>> {
     let connection = Connection::open_in_memory(alloc).ok()?;
     adopted(alloc, connection, TITLES, Limits::GREATEST).ok()
 }

@@ -1,6 +1,6 @@
 //! Records from readers, one held at a time.
 
-use super::{Row, Step, TITLES, adopted, answers, is_refused_with, name, prints};
+use super::{BOOKS, Row, Step, TITLES, adopted, answers, is_refused_with, name, prints};
 use crate::samples::{BARE, CAFE, MOBY};
 use sqlite::{Connection, MemStore};
 use std::alloc::{AllocGlobal, Global};
@@ -8,9 +8,9 @@ use std::process::Abort;
 use std::test::Fail;
 use zeb_engine::{Kind, Limits, Refusal, Reply, Session};
 use zeb_marc::{ReadFailed, Source};
-use zeb_register::Rows;
+use zeb_register::Blocks;
 
-pub type Memory = Session<MemStore, Rows>;
+pub type Memory = Session<MemStore, Blocks>;
 
 /// Gives bytes one at a time, and then ends or fails.
 #[derive(Drop)]
@@ -50,28 +50,42 @@ impl Source for Stream<'_> {
     }
 }
 
-/// Makes records as they are read: `r0000` with the title `tome w0000`, `r0001` with `tome w0001`, and so on.
+/// Makes records as they are read, one for each number up to an end.
 #[derive(Drop)]
 struct Maker {
+    /// A record, in which the bytes 0 to 3 stand for the four digits of its number.
+    form: &'static [u8],
     number: u64,
     end: u64,
     place: usize,
 }
 
-/// The first record that a `Maker` gives.
-const FIRST_TOME: &[u8; 71] =
-    b"00071nam a2200049 a 4500001000600000245001500006\x1er0000\x1e00\x1fatome w0000\x1e\x1d";
+/// `r0000` with the title `tome w0000`, `r0001` with `tome w0001`, and so on.
+const TOMES: &[u8] =
+    b"00071nam a2200049 a 4500001000600000245001500006\x1er\x00\x01\x02\x03\x1e00\x1fatome w\x00\x01\x02\x03\x1e\x1d";
+
+/// `r0000`, `r0001` and so on, each with the title `Moby Dick`.
+const NAMESAKES: &[u8] =
+    b"00070nam a2200049 a 4500001000600000245001400006\x1er\x00\x01\x02\x03\x1e00\x1faMoby Dick\x1e\x1d";
 
 impl Maker {
+    /// So many records of this form.
+    fn new(form: &'static [u8], end: u64) -> Maker {
+        Maker {
+            form,
+            number: 0,
+            end,
+            place: 0,
+        }
+    }
+
     fn byte(&self) -> u8 {
-        let digit = match self.place {
-            50 | 65 => self.number / 1000,
-            51 | 66 => self.number / 100,
-            52 | 67 => self.number / 10,
-            53 | 68 => self.number,
-            place => {
-                return FIRST_TOME.get(place).copied().unwrap_or(b' ');
-            }
+        let digit = match self.form.get(self.place).copied().unwrap_or(b' ') {
+            0 => self.number / 1000,
+            1 => self.number / 100,
+            2 => self.number / 10,
+            3 => self.number,
+            byte => return byte,
         };
         b'0' + (digit % 10) as u8
     }
@@ -89,8 +103,9 @@ impl Source for Maker {
             return Ok(0);
         }
         buffer[0] = self.byte();
-        if self.place < FIRST_TOME.len() - 1 {
-            self.place += 1;
+        let next = self.place.saturating_add(1);
+        if next < self.form.len() {
+            self.place = next;
         } else {
             self.place = 0;
             self.number += 1;
@@ -103,10 +118,15 @@ impl Source for Maker {
     }
 }
 
-/// A session over a new register in memory.
+/// A session over a new register in memory, of titles alone.
 pub fn opened(alloc: Global) -> Result<Memory, Fail> {
+    opened_under(alloc, TITLES)
+}
+
+/// A session over a new register in memory under this profile.
+fn opened_under(alloc: Global, profile: &str) -> Result<Memory, Fail> {
     let connection = Connection::open_in_memory(alloc)?;
-    adopted(alloc, connection, TITLES, Limits::GREATEST).map_err(|_| Fail::new(
+    adopted(alloc, connection, profile, Limits::GREATEST).map_err(|_| Fail::new(
         "the register is refused",
     ))
 }
@@ -229,16 +249,51 @@ fn a_record_is_refused_before_the_read_that_fails(rt: HostRuntime) -> Result<(),
 fn three_thousand_records_are_made_as_they_are_read(rt: HostRuntime) -> Result<(), Fail> {
     let mut session = opened(rt.alloc())?;
     answers(&rt, &mut session, &[(Step::Init, "ok\n")])?;
-    let mut readers = [Maker {
-        number: 0,
-        end: 3000,
-        place: 0,
-    }];
+    let mut readers = [Maker::new(TOMES, 3000)];
     let all = "inserted 3000 updated 0 deleted 0\n";
     update_prints(&rt, &mut session, &mut readers, all)?;
+    // More terms than a search reads at once: a word, its beginning, and those behind it.
     answers(
         &rt,
         &mut session,
-        &[(Step::Find("@attr 1=4 w2999"), "hits 1\n3000 r2999\n")],
+        &[
+            (Step::Find("@attr 1=4 w2999"), "hits 1\n3000 r2999\n"),
+            (
+                Step::FindFrom(100, 1, "@attr 1=4 @attr 5=1 w29"),
+                "hits 100\n3000 r2999\n",
+            ),
+            (
+                Step::FindFrom(3000, 1, "@attr 1=4 @attr 5=1 w"),
+                "hits 3000\n3000 r2999\n",
+            ),
+            (
+                Step::FindFrom(1, 1, "@attr 1=4 @attr 2=5 w2000"),
+                "hits 999\n2002 r2001\n",
+            ),
+        ],
+    )
+}
+
+/// A list of more postings than a block of 256 system numbers has.
+#[test]
+fn a_phrase_is_found_in_257_records(rt: HostRuntime) -> Result<(), Fail> {
+    let mut session = opened_under(rt.alloc(), BOOKS)?;
+    let moby: Step<'_> = Step::Update(&[&[MOBY]]);
+    let inserted = "inserted 1 updated 0 deleted 0\n";
+    answers(&rt, &mut session, &[(Step::Init, "ok\n"), (moby, inserted)])?;
+    let mut readers = [Maker::new(NAMESAKES, 256)];
+    let all = "inserted 256 updated 0 deleted 0\n";
+    update_prints(&rt, &mut session, &mut readers, all)?;
+    let phrase = "@attr 1=4 \"moby dick\"";
+    answers(
+        &rt,
+        &mut session,
+        &[
+            (Step::FindFrom(1, 1, phrase), "hits 257\n1 a1\n"),
+            (
+                Step::FindFrom(255, 2, phrase),
+                "hits 257\n255 r0253\n256 r0254\n",
+            ),
+        ],
     )
 }

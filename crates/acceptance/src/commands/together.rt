@@ -8,7 +8,7 @@ use std::alloc::{AllocGlobal, Global};
 use std::process::Abort;
 use std::test::Fail;
 use zeb_engine::{Command, Refusal, Reply, Session};
-use zeb_register::Rows;
+use zeb_register::Blocks;
 
 /// They run on after a refusal.
 const ROWS: [Row<'static>; 3] = [
@@ -30,7 +30,7 @@ fn commands(alloc: Global) -> Result<Vec<Command>, Fail> {
 
 /// The answers. No clause is stated here, so that a test holds no more than what is printed.
 fn together(
-    session: &mut Session<MemStore, Rows>,
+    session: &mut Session<MemStore, Blocks>,
     commands: &[Command],
 ) -> Result<Vec<Result<Reply, Refusal>>, Refusal> {
     session.run_all(commands)

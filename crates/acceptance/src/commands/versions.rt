@@ -1,11 +1,12 @@
-//! A register of a version that this program does not write.
+//! A register of a version that a session does not write.
 
 use super::{Row, Step, TITLES, run};
 use crate::samples::{DOCK, MOBY};
-use sqlite::{Alter, Connection};
+use crate::tables::{Row as TableRow, Step as TableStep, answers as tables_answer};
+use sqlite::{Alter, Connection, MemStore};
 use std::test::Fail;
 use zeb_engine::Limits;
-use zeb_register::{Layout, RegFault, Rows, meta_put};
+use zeb_register::{Blocks, Layout, RegFault, Rows, meta_put};
 
 const FOUND: Row<'static> = (Step::Find("@attr 1=4 moby"), "hits 1\n1 a1\n");
 
@@ -36,6 +37,12 @@ const BEGUN_ANEW: &[Row<'static>] = &[
     ),
 ];
 
+/// No row of the plain layout.
+const NO_POSTING: &[TableRow<'static>] = &[(
+    TableStep::Rows("SELECT count(*) FROM postings"),
+    "0\n",
+)];
+
 fn put_version<S: Alter>(connection: &mut Connection<S>, version: &str) -> Result<(), RegFault> {
     if !connection.is_autocommit() {
         return Err(RegFault::Store);
@@ -49,17 +56,29 @@ fn put_version<S: Alter>(connection: &mut Connection<S>, version: &str) -> Resul
 /// Nothing was changed: under its own version the register answers as before. `init` begins it anew under either.
 #[test]
 fn a_register_of_another_version_is_refused(rt: HostRuntime) -> Result<(), Fail> {
-    let own = Rows::version();
+    let own = Blocks::version();
     let new = Connection::open_in_memory(rt.alloc())?;
-    let mut connection = run(&rt, new, Limits::GREATEST, TITLES, BEGUN)?;
+    let mut connection = run::<MemStore, Blocks>(&rt, new, Limits::GREATEST, TITLES, BEGUN)?;
     for (version, rows) in [
-        ("2", REFUSED),
+        ("1", REFUSED),
         ("", REFUSED),
         (own, &[FOUND]),
-        ("2", BEGUN_ANEW),
+        ("x", BEGUN_ANEW),
     ] {
         put_version(&mut connection, version)?;
-        connection = run(&rt, connection, Limits::GREATEST, TITLES, rows)?;
+        connection = run::<MemStore, Blocks>(&rt, connection, Limits::GREATEST, TITLES, rows)?;
     }
     Ok(())
+}
+
+/// A plain register is refused by a session over packed tables, until `init` begins it anew; no row of it is left then.
+#[test]
+fn a_plain_register_is_another_format(rt: HostRuntime) -> Result<(), Fail> {
+    let all = Limits::GREATEST;
+    let new = Connection::open_in_memory(rt.alloc())?;
+    let plain = run::<MemStore, Rows>(&rt, new, all, TITLES, BEGUN)?;
+    let refused = run::<MemStore, Blocks>(&rt, plain, all, TITLES, REFUSED)?;
+    let plain = run::<MemStore, Rows>(&rt, refused, all, TITLES, &[FOUND])?;
+    let mut packed = run::<MemStore, Blocks>(&rt, plain, all, TITLES, BEGUN_ANEW)?;
+    tables_answer(&rt, &mut packed, &mut None, NO_POSTING)
 }
