@@ -5,12 +5,13 @@
 # make edits      tries the wrong bodies of edits/ too: CRATE=zeb_marc for one crate, EDIT=crates/zeb_marc/edits/no_units.edit for one
 # make cost       the gate, with the processor minutes of each crate written into docs/TESTING.md
 # make bench      times of the register's calls on files
-# make install    PREFIX=/usr/local: the program and its manual
+# make man        the manual pages in bin/man, from docs/MANUAL.md; installs Debian's lowdown where it isn't there
+# make install    PREFIX=/usr/local: the program, its manual, its manual pages and examples; make uninstall takes them away
 # make clean      removes what these made
 PREFIX ?= /usr/local
 SOURCES := crates.txt $(wildcard crates/*/src/*.rt crates/*/src/*/*.rt crates/*/specs/*.antt crates/*/specs/*/*.antt)
 
-.PHONY: all help run quick check edits cost bench install clean
+.PHONY: all help run quick check edits cost bench man install uninstall clean
 all: bin/zebraidx
 
 help:
@@ -39,10 +40,22 @@ cost:
 bench:
 	bench/registers
 
-install: bin/zebraidx
-	install -d $(DESTDIR)$(PREFIX)/bin $(DESTDIR)$(PREFIX)/share/doc/zebraidx
-	install -m 755 bin/zebraidx $(DESTDIR)$(PREFIX)/bin/zebraidx
-	install -m 644 docs/MANUAL.md $(DESTDIR)$(PREFIX)/share/doc/zebraidx/MANUAL.md
+man:
+	@tools/man bin/man
+
+DOC = $(DESTDIR)$(PREFIX)/share/doc/zebraidx
+MAN = $(DESTDIR)$(PREFIX)/share/man
+
+install: bin/zebraidx man
+	install -D -m 755 bin/zebraidx $(DESTDIR)$(PREFIX)/bin/zebraidx
+	install -D -m 644 -t $(MAN)/man1 bin/man/zebraidx.1
+	install -D -m 644 -t $(MAN)/man5 bin/man/zebraidx.cfg.5
+	install -D -m 644 -t $(DOC) docs/MANUAL.md docs/ZEBRA.md LICENSE
+	install -D -m 644 -t $(DOC)/examples examples/*
+
+uninstall:
+	rm -f $(DESTDIR)$(PREFIX)/bin/zebraidx $(MAN)/man1/zebraidx.1 $(MAN)/man5/zebraidx.cfg.5
+	rm -rf $(DOC)
 
 clean:
 	rm -rf bin crates/*/out
