@@ -1,17 +1,19 @@
 -- What is read of a match.
-use Rattle.std.proofs.Common.{◌≡◌, ℕ, ◌<◌, ◌^◌, List, [], inl, inr, Option, Some, None, Result, Ok, Err, sym, subst, ap, ◌∙◌, option_map}
+use Rattle.std.proofs.Common.{◌≡◌, ℕ, ◌<◌, ◌^◌, List, [], inl, inr, Option, Some, None, Result, Ok, Err, sym, subst, ap, ◌∙◌, option_map, Bool, codes}
 use Rattle.std.specs.Prelude.{unwrap_or}
 use Rattle.std.specs.Borrow.{Bor}
 use Rattle.std.specs.Str.Parse.{IsNumeral, ParsesUnsigned, digits_value, without_leading_plus}
 use Rattle.clap.specs.Matches.{ReadsOne}
 use Rattle.clap.specs.Faults.{fault_of}
+use Rattle.clap.specs.Walk.{Row, one_of}
+use Rattle.clap.specs.Simple.{matches_of, subcommand_of}
 use Rattle.clap.specs.Kinds.{HasKind, IsAmong}
 use Rattle.clap.specs.Values.{kind_of}
 use Rattle.clap.specs.declared.error.Error.{Error}
 use Rattle.clap.specs.declared.error.kind.ErrorKind.TheVariants.{DisplayHelp, OutOfMemory}
 use Rattle.zeb_words.specs.declared.words.Usage.{Usage}
 use Rattle.zeb_words.specs.declared.words.Usage.TheVariants.{BadUsage, Refused, Help, Memory}
-use Rattle.zeb_words.specs.Parses.{IsNumberRead, IsOwn, IsRefusedAs, IsUsageOf, program_app}
+use Rattle.zeb_words.specs.Parses.{AreBad, IsActRead, IsBadAct, IsFlagRead, IsFlagText, IsNumberRead, IsOwn, IsRefusedAs, IsUsageOf, program_app}
 
 pub text_read : (r : Option (Bor (List ℕ))) (other : Bor (List ℕ)) (t : Option (List ℕ)) → option_map (λ s. s.now) r ≡ t
     → (unwrap_or r other).now ≡ unwrap_or t other.now
@@ -39,11 +41,37 @@ pair_read f g (Some x) y z e h =
     let second : g x ≡ z = cc in
     (λ i. Some (first i, second i))
 
-pub own_refused : (words : List (List ℕ)) (usage : Usage) → fault_of program_app words ≡ [] → IsOwn usage → IsRefusedAs words usage
-own_refused words BadUsage sound own = sound
+pub own_refused : (words : List (List ℕ)) (usage : Usage) → fault_of program_app words ≡ []
+    → IsOwn (AreBad (matches_of program_app words) (subcommand_of program_app words)) usage → IsRefusedAs words usage
+own_refused words BadUsage sound own = (sound, own)
 own_refused words (Refused text) sound own = absurd own
 own_refused words (Help text) sound own = absurd own
 own_refused words Memory sound own = tt
+
+pub own_cause : (cause other : Type 0) (usage : Usage) → (cause → other) → IsOwn cause usage → IsOwn other usage
+own_cause cause other BadUsage so own = so own
+own_cause cause other (Refused text) so own = absurd own
+own_cause cause other (Help text) so own = absurd own
+own_cause cause other Memory so own = tt
+
+pub pair_parts : {A B : Type 0} (a b : A) (x y : B) → ◌≡◌ {A = Option (A × B)} (Some (a, x)) (Some (b, y)) → (a ≡ b) × (x ≡ y)
+pair_parts {A = A} {B = B} a b x y e =
+    let same : ◌≡◌ {A = A × B} (a, x) (b, y) = cc in
+    (ap (λ (p : A × B). p.0) same, ap (λ (p : A × B). p.1) same)
+
+pub same_flag : (read : Option (List ℕ)) (a b : Bool) → IsFlagText read → IsFlagRead read a → IsFlagRead read b → a ≡ b
+same_flag read a b (inl e) one two = one.yes e ∙ sym (two.yes e)
+same_flag read a b (inr e) one two = one.no e ∙ sym (two.no e)
+
+-- a bad act is a bad command
+pub bad_words : (rows : List Row) (sub : Option (List ℕ × List Row)) (name : List ℕ) (shows : Bool) (given : List Row) → ◌≡◌ {A = Option (List ℕ × List Row)} sub (Some (name, given))
+    → IsFlagRead (one_of (codes "shows") rows) shows → IsBadAct name shows given → AreBad rows sub
+bad_words rows sub name shows given is flagged (inl none) = inl (λ flag named r.
+    let same = pair_parts r.name name r.given given (sym r.is ∙ is) in
+    let shown = same_flag (one_of (codes "shows") rows) r.shows shows flag r.flagged flagged in
+    none named.act (subst (λ g. IsActRead name shows g named.act) same.1
+    (subst (λ n. IsActRead n shows r.given named.act) same.0 (subst (λ s. IsActRead r.name s r.given named.act) shown r.act))))
+bad_words rows sub name shows given is flagged (inr past) = inr (given, is ∙ ap (λ n. Some (n, given)) past.0, past.1)
 
 pub parser_refused : (words : List (List ℕ)) (error : Error) (usage : Usage) → HasKind (fault_of program_app words) error → IsUsageOf error usage
     → IsRefusedAs words usage

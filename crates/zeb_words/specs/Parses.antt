@@ -1,6 +1,6 @@
 -- The command that words name, by the definition of a parse that stands with the parser, `clap`: which options, arguments and
 -- commands the parser is told of, that it finds no fault in the words, and what its matches come to.
-use Rattle.std.specs.Prelude.{ℕ, ◌≡◌, ◌≤◌, ◌<◌, ◌^◌, pos, Bool, true, false, List, [], map, Option, Some, None, codes, String, string_bytes, unwrap_or, ◌≢◌, ⊤}
+use Rattle.std.specs.Prelude.{ℕ, ◌≡◌, ◌≤◌, ◌<◌, ◌^◌, pos, Bool, true, false, List, [], map, Option, Some, None, codes, String, string_bytes, unwrap_or, ◌≢◌, ◌⊎◌, ⊤}
 use Rattle.std.specs.Str.Parse.{IsNumeral, digits_value, without_leading_plus}
 use Rattle.zeb_engine.specs.NameOf.{name_bytes}
 use Rattle.clap.specs.Walk.{Row, Rule, Text, first_of, one_of, all_of}
@@ -145,20 +145,40 @@ pub record IsParsedAs (words : List Text) (named : Words) : Type 0 where
   pub sound : fault_of program_app words ≡ []
   pub read : IsReadFrom (matches_of program_app words) (subcommand_of program_app words) named
 
+-- the refusal is the program's own, for this cause, and not the parser's
+abbrev pub IsOwn : Type 0 → Usage → Type 0
+IsOwn cause BadUsage = cause
+IsOwn cause (Refused text) = ⊥
+IsOwn cause (Help text) = ⊥
+IsOwn cause Memory = ⊤
+
+-- the matches of `scan` say a position past the number of terms
+pub record IsPast (rows : List Row) : Type 0 where
+  pub number : ℕ
+  pub position : ℕ
+  pub number_read : IsNumberRead (one_of (codes "number") rows) 20 number
+  pub position_read : IsNumberRead (one_of (codes "position") rows) 1 position
+  pub past : number < position
+
+-- no act is what the command of this name comes to, or its position is past its number
+abbrev pub IsBadAct : Text → Bool → List Row → Type 0
+IsBadAct name shows rows = ((act : Act) → IsActRead name shows rows act → ⊥) ⊎ ((name ≡ codes "scan") × IsPast rows)
+
+-- a flag is set or not
+abbrev pub IsFlagText : Option Text → Type 0
+IsFlagText read = (read ≡ Some (codes "true")) ⊎ (read ≡ Some (codes "false"))
+
+-- the same of all words
+abbrev pub AreBad : List Row → Option (Text × List Row) → Type 0
+AreBad rows sub = (IsFlagText (one_of (codes "shows") rows) → (named : Words) → IsReadFrom rows sub named → ⊥) ⊎ ((given : List Row) × (sub ≡ Some (codes "scan", given)) × IsPast given)
+
 -- The words are refused: by the parser's text only where it finds a fault in them, with help where they ask for it, and
 -- by the program itself only where the parser takes them.
 abbrev pub IsRefusedAs : List Text → Usage → Type 0
-IsRefusedAs words BadUsage = fault_of program_app words ≡ []
+IsRefusedAs words BadUsage = (fault_of program_app words ≡ []) × AreBad (matches_of program_app words) (subcommand_of program_app words)
 IsRefusedAs words (Refused text) = fault_of program_app words ≢ []
 IsRefusedAs words (Help text) = IsAmong DisplayHelp (fault_of program_app words)
 IsRefusedAs words Memory = ⊤
-
--- the refusal is the program's own, and not the parser's
-abbrev pub IsOwn : Usage → Type 0
-IsOwn BadUsage = ⊤
-IsOwn (Refused text) = ⊥
-IsOwn (Help text) = ⊥
-IsOwn Memory = ⊤
 
 -- the refusal says what the parser's error is
 abbrev pub IsUsageOf : Error → Usage → Type 0

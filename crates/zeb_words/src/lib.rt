@@ -1,10 +1,12 @@
 //! The command that the words of a command line name, read by `clap`.
 #![tactic(auto)]
 
+mod laws;
 mod program;
 mod reading;
 #[cfg(test)]
 mod tests;
 mod words;
 
+pub use laws::words_name_one_command;
 pub use words::{Act, Usage, Words, read_words};

@@ -5,7 +5,8 @@ ghost use Rattle.clap.specs.Walk.{all_of, one_of, rows_of};
 ghost use Rattle.clap.specs.Simple.{subcommand_rows_of};
 ghost use Rattle.clap.specs.Matches.{found_of};
 ghost use Rattle.zeb_engine.specs.NameOf.{name_bytes};
-ghost use Rattle.zeb_words.specs.Parses.{IsActRead, IsNumberRead, IsOwn, IsReadFrom, path_texts, text_or};
+ghost use Rattle.zeb_engine.specs.Names.{IsDatabaseName};
+ghost use Rattle.zeb_words.specs.Parses.{AreBad, IsBadAct, IsPast, IsActRead, IsNumberRead, IsOwn, IsReadFrom, path_texts, text_or};
 
 use crate::words::{Act, Usage, Words};
 use clap::ArgMatches;
@@ -21,7 +22,7 @@ const DATABASE: &str = "Default";
 /// What the program's options and its command name.
 pub(crate) fn words_of(alloc: Global, matches: &ArgMatches<'_>) -> Result<Words, Usage>
     ensures value { IfOk result (IsReadFrom (rows_of (found_of matches.now)) (subcommand_rows_of matches.now)) }
-    ensures own { IfErr result IsOwn }
+    ensures own { IfErr result (IsOwn (AreBad (rows_of (found_of matches.now)) (subcommand_rows_of matches.now))) }
 {
     let config = String::from_str(alloc, text_of(matches, "config", CONFIG))?;
     let database = name_of(text_of(matches, "database", DATABASE))?;
@@ -40,7 +41,7 @@ pub(crate) fn words_of(alloc: Global, matches: &ArgMatches<'_>) -> Result<Words,
 /// What the command of this name is, with its arguments.
 fn act_of(alloc: Global, name: &str, shows: bool, given: &ArgMatches<'_>) -> Result<Act, Usage>
     ensures value { IfOk result (IsActRead name.now shows (rows_of (found_of given.now))) }
-    ensures own { IfErr result IsOwn }
+    ensures own { IfErr result (IsOwn (IsBadAct name.now shows (rows_of (found_of given.now)))) }
 {
     if shows && name != "update" {
         return Err(Usage::BadUsage);
@@ -82,7 +83,7 @@ fn number_of(given: &ArgMatches<'_>, name: &str, other: u32) -> u32
 /// The name that the text is.
 fn name_of(text: &str) -> Result<DbName, Usage>
     ensures value { IfOk result (λ name. name_bytes name ≡ text.now) }
-    ensures own { IfErr result IsOwn }
+    ensures own { IfErr result (IsOwn (IsDatabaseName text.now → ⊥)) }
 {
     DbName::read(text).ok_or(Usage::BadUsage)
 }
@@ -90,7 +91,7 @@ fn name_of(text: &str) -> Result<DbName, Usage>
 /// The name of `create` and `drop`.
 fn named(given: &ArgMatches<'_>) -> Result<DbName, Usage>
     ensures value { IfOk result (λ name. name_bytes name ≡ text_or (codes "name") [] (rows_of (found_of given.now))) }
-    ensures own { IfErr result IsOwn }
+    ensures own { IfErr result (IsOwn (IsDatabaseName (text_or (codes "name") [] (rows_of (found_of given.now))) → ⊥)) }
 {
     name_of(text_of(given, "name", ""))
 }
@@ -126,7 +127,7 @@ fn query_of(alloc: Global, given: &ArgMatches<'_>) -> Result<String, AllocError>
 /// The command `find`.
 fn found(alloc: Global, given: &ArgMatches<'_>) -> Result<Act, Usage>
     ensures value { IfOk result (IsActRead (codes "find") false (rows_of (found_of given.now))) }
-    ensures own { IfErr result IsOwn }
+    ensures own { IfErr result (IsOwn ⊥) }
 {
     let first = number_of(given, "first", 1);
     let count = number_of(given, "count", 20);
@@ -141,7 +142,7 @@ fn found(alloc: Global, given: &ArgMatches<'_>) -> Result<Act, Usage>
 /// The command `scan`.
 fn scanned(alloc: Global, given: &ArgMatches<'_>) -> Result<Act, Usage>
     ensures value { IfOk result (IsActRead (codes "scan") false (rows_of (found_of given.now))) }
-    ensures own { IfErr result IsOwn }
+    ensures own { IfErr result (IsOwn (IsPast (rows_of (found_of given.now)))) }
 {
     let number = number_of(given, "number", 20);
     let position = number_of(given, "position", 1);

@@ -1,6 +1,7 @@
 //! The commands of a command line, and the call that reads them.
 
 ghost use Rattle.std.specs.Prelude.{◌≡◌, IfErr, IfOk, map, string_bytes};
+ghost use Rattle.zeb_words.specs.Names.{NamesNone, NamesWords};
 ghost use Rattle.zeb_words.specs.Parses.{IsParsedAs, IsRefusedAs, IsUsageOf};
 
 use crate::program::program;
@@ -89,7 +90,9 @@ impl From<AllocError> for Usage {
 
 /// Reads the words of a command line, the program's name not among them.
 pub fn read_words(alloc: Global, words: &[String]) -> Result<Words, Usage>
-    ensures named { IfOk result (IsParsedAs (map string_bytes words.now)) }
+    ensures named { IfOk result (NamesWords (map string_bytes words.now)) }
+    ensures parsed { IfOk result (IsParsedAs (map string_bytes words.now)) }
+    ensures nameless { IfErr result (NamesNone (map string_bytes words.now)) }
     ensures refused { IfErr result (IsRefusedAs (map string_bytes words.now)) }
 {
     let program = program(alloc)?;

@@ -1,7 +1,6 @@
 use Rattle.std.proofs.Common.{◌≡◌, rules, arith, Err, inl, inr, ap, sym, subst, ◌∙◌}
 use Rattle.sqlite.specs.State.{HasCleanDisk}
 use Rattle.sqlite.specs.Held.{state}
-use Rattle.zeb_change.specs.declared.refusals.Refusal.{Refusal}
 use Rattle.zeb_change.specs.Refused.{why_of, IsFailing}
 use Rattle.zeb_change.specs.Folding.{Changed, deleted}
 use Rattle.zeb_change.specs.Base.{kept_as}

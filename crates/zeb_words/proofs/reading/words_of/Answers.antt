@@ -1,11 +1,12 @@
-use Rattle.std.proofs.Common.{◌∙◌, codes}
+use Rattle.std.proofs.Common.{rules, ◌≡◌, ◌∙◌, Err, codes}
+use Rattle.clap.specs.Simple.{subcommand_rows_of}
 use Rattle.std.specs.Box.{box_value}
 use Rattle.clap.specs.Matches.{found_of}
 use Rattle.clap.specs.Walk.{one_of, rows_of}
 use Rattle.clap.specs.declared.parser.matches.ArgMatches.TheViews.{out-ArgMatches, out-SubCommand}
 use Rattle.clap.proofs.WalkLemmas.{one_text-rows}
-use Rattle.zeb_words.specs.Parses.{IsFlagRead}
-use Rattle.zeb_words.proofs.ReadingLemmas.{pair_read}
+use Rattle.zeb_words.specs.Parses.{AreBad, IsBadAct, IsFlagRead}
+use Rattle.zeb_words.proofs.ReadingLemmas.{bad_words, own_cause, pair_read}
 use Rattle.zeb_words.proofs.reading.words_of.Goals as goal
 
 pub returns-clause-value : goal.returns-clause-value
@@ -28,3 +29,21 @@ returns-clause-value c =
           (out-ArgMatches m).subcommand _ _ c.in-Some.ensures.name c.in-Some.ensures.rows;
       act = c.in_ok-act.ensures.value;
     }
+
+pub returns-in_err-act-clause-own : goal.returns-in_err-act-clause-own
+returns-in_err-act-clause-own c =
+    let m = c.args.matches.now in
+    let rows = rows_of (found_of m) in
+    let given = rows_of (found_of c.in-Some.given.now) in
+    let same = one_text-rows (found_of m) (codes "shows") in
+    let flag : IsFlagRead (one_of (codes "shows") rows) c.get_flag-shows.result = record {
+      absent = λ e. c.get_flag-shows.ensures.none (same ∙ e);
+      yes = λ e. c.get_flag-shows.ensures.value (same ∙ e);
+      no = λ e. c.get_flag-shows.ensures.other (same ∙ e);
+    } in
+    let is = pair_read (λ b. (out-SubCommand (box_value b)).name.now) (λ b. rows_of (found_of (out-SubCommand (box_value b)).matches))
+    (out-ArgMatches m).subcommand _ _ c.in-Some.ensures.name c.in-Some.ensures.rows in
+    let usage = c.in_err-act.field-0.0 in
+    let result : c.from_residual-in_err-act.result ≡ Err usage = search rules in
+    rw result (own_cause (IsBadAct c.in-Some.name.now c.get_flag-shows.result given) (AreBad rows (subcommand_rows_of m)) usage
+    (bad_words rows (subcommand_rows_of m) c.in-Some.name.now c.get_flag-shows.result given is flag) c.in_err-act.ensures.own)

@@ -5,8 +5,11 @@ use Rattle.clap.specs.Matches.{found_of}
 use Rattle.clap.specs.Simple.{is_simple, matches_of, subcommand_of}
 use Rattle.clap.specs.Faults.{fault_of, is_simple_and_free}
 use Rattle.clap.specs.Kinds.{HasKind}
-use Rattle.zeb_words.specs.Parses.{IsReadFrom, program_app}
+use Rattle.zeb_words.specs.Names.{NamesNone, NamesWords}
+use Rattle.zeb_words.specs.Parses.{AreBad, IsOwn, IsParsedAs, IsReadFrom, IsRefusedAs, program_app}
+use Rattle.zeb_words.proofs.Naming.{all_texts, names_parsed}
 use Rattle.zeb_words.proofs.ReadingLemmas.{own_refused, parser_refused}
+use Rattle.zeb_words.proofs.Taking.{none_named}
 use Rattle.zeb_words.proofs.words.read_words.Goals as goal
 
 pub returns-in-Ok : goal.returns-in-Ok
@@ -15,13 +18,19 @@ returns-in-Ok c =
     let texts = map string_bytes c.args.words.now in
     let has = c.in-Ok.ensures.matches (ap is_simple app) in
     let sound = sym (ap (λ a. fault_of a texts) app) ∙ c.in-Ok.ensures.kinds (ap is_simple_and_free app) in
+    let parsed = IfOk-weaker c.words_of.result _ (IsParsedAs texts) (λ named r. record {
+      sound = sound;
+      read = subst (λ rows. IsReadFrom rows (subcommand_of program_app texts) named) (has.0 ∙ ap (λ a. matches_of a texts) app)
+          (subst (λ sub. IsReadFrom (rows_of (found_of c.in-Ok.matches)) sub named) (has.1 ∙ ap (λ a. subcommand_of a texts) app) r);
+    }) c.words_of.ensures.value in
+    let refused = IfErr-weaker c.words_of.result _ (IsRefusedAs texts) (λ usage own. own_refused texts usage sound
+    (subst (λ rows. IsOwn (AreBad rows (subcommand_of program_app texts)) usage) (has.0 ∙ ap (λ a. matches_of a texts) app)
+    (subst (λ sub. IsOwn (AreBad (rows_of (found_of c.in-Ok.matches)) sub) usage) (has.1 ∙ ap (λ a. subcommand_of a texts) app) own))) c.words_of.ensures.own in
     record {
-      named = IfOk-weaker c.words_of.result _ _ (λ named r. record {
-        sound = sound;
-        read = subst (λ rows. IsReadFrom rows (subcommand_of program_app texts) named) (has.0 ∙ ap (λ a. matches_of a texts) app)
-            (subst (λ sub. IsReadFrom (rows_of (found_of c.in-Ok.matches)) sub named) (has.1 ∙ ap (λ a. subcommand_of a texts) app) r);
-      }) c.words_of.ensures.value;
-      refused = IfErr-weaker c.words_of.result _ _ (λ usage own. own_refused texts usage sound own) c.words_of.ensures.own;
+      named = IfOk-weaker c.words_of.result (IsParsedAs texts) (NamesWords texts) (names_parsed texts (all_texts c.args.words.now)) parsed;
+      parsed = parsed;
+      nameless = IfErr-weaker c.words_of.result (IsRefusedAs texts) (NamesNone texts) (none_named texts) refused;
+      refused = refused;
     }
 
 pub returns-in-Err : goal.returns-in-Err
@@ -29,4 +38,5 @@ returns-in-Err c =
     let app = c.in_ok-program.ensures in
     let texts = map string_bytes c.args.words.now in
     let kind = subst (λ a. HasKind (fault_of a texts) c.in-Err.error) app (c.in-Err.ensures.kinds (ap is_simple_and_free app)) in
-    record { named = tt; refused = parser_refused texts c.in-Err.error c.usage_of.result kind c.usage_of.ensures }
+    let refused = parser_refused texts c.in-Err.error c.usage_of.result kind c.usage_of.ensures in
+    record { named = tt; parsed = tt; nameless = none_named texts c.usage_of.result refused; refused = refused }

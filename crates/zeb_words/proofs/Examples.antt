@@ -1,0 +1,71 @@
+-- Words that spell settings, and words that say options and arguments, by the grammar.
+use Rattle.std.proofs.Common.{◌≡◌, refl, [], ◌∷◌, codes, true}
+use Rattle.std.proofs.lemmas.Bool.{eqb-false}
+use Rattle.zeb_words.specs.Grammar.{Argument, Config, Database, Given, IsPlain, Says, Shows, Spells, apart, argument, by_equals, ended, files, joined, none, nothing, option_by_equals, shown, shows_and, values_of}
+use Rattle.zeb_words.specs.Grammar.{Option as Named, option as named}
+
+-- `-c x.cfg`, `-c=x.cfg`, `-cx.cfg`, and an empty value
+file_apart : Spells (codes "-c" ∷ codes "x.cfg" ∷ []) (Given Config (codes "x.cfg") ∷ [])
+file_apart = apart Config (codes "x.cfg") [] [] (eqb-false 120 45 refl) none
+
+file_by_equals : Spells (codes "-c=x.cfg" ∷ []) (Given Config (codes "x.cfg") ∷ [])
+file_by_equals = by_equals Config (codes "x.cfg") [] [] none
+
+file_joined : Spells (codes "-cx.cfg" ∷ []) (Given Config (codes "x.cfg") ∷ [])
+file_joined = joined Config 120 (codes ".cfg") [] [] (eqb-false 120 61 refl) none
+
+file_empty : Spells (codes "-c=" ∷ []) (Given Config [] ∷ [])
+file_empty = by_equals Config [] [] [] none
+
+-- a command's name may be a value, and so may a hyphen
+file_named_stat : Spells (codes "-c" ∷ codes "stat" ∷ []) (Given Config (codes "stat") ∷ [])
+file_named_stat = apart Config (codes "stat") [] [] (eqb-false 115 45 refl) none
+
+file_hyphen : Spells (codes "-c" ∷ codes "-" ∷ []) (Given Config (codes "-") ∷ [])
+file_hyphen = apart Config (codes "-") [] [] tt none
+
+-- letters share a word behind `-s`
+letters_shared : Spells (codes "-sdBooks" ∷ codes "-c=x" ∷ []) (Shows ∷ Given Database (codes "Books") ∷ Given Config (codes "x") ∷ [])
+letters_shared = shows_and 100 (codes "Books") _ _ (joined Database 66 (codes "ooks") _ _ (eqb-false 66 61 refl) (by_equals Config (codes "x") [] [] none))
+
+letters_then_value : Spells (codes "-sc" ∷ codes "x" ∷ []) (Shows ∷ Given Config (codes "x") ∷ [])
+letters_then_value = shows_and 99 [] _ _ (apart Config (codes "x") [] [] tt none)
+
+-- what stands twice is counted twice
+shown_twice : shown (Shows ∷ Shows ∷ []) ≡ true ∷ true ∷ []
+shown_twice = refl
+
+files_twice : files (Given Config (codes "a") ∷ Given Database (codes "b") ∷ Given Config (codes "c") ∷ []) ≡ codes "a" ∷ codes "c" ∷ []
+files_twice = refl
+
+-- behind a command: `x --first=2`, `--first 2 x`, `-- -x`, `--` alone
+option_last : Says (codes "x" ∷ codes "--first=2" ∷ []) (Argument (codes "x") ∷ Named (codes "first") (codes "2") ∷ [])
+option_last = argument (codes "x") _ _ tt (option_by_equals (codes "first") (codes "2") [] [] nothing)
+
+option_first : Says (codes "--first" ∷ codes "2" ∷ codes "x" ∷ []) (Named (codes "first") (codes "2") ∷ Argument (codes "x") ∷ [])
+option_first = named (codes "first") (codes "2") _ _ tt (argument (codes "x") [] [] tt nothing)
+
+hyphen_behind : Says (codes "--" ∷ codes "-x" ∷ []) (Argument (codes "-x") ∷ [])
+hyphen_behind = ended (codes "-x" ∷ [])
+
+second_end : Says (codes "--" ∷ codes "--" ∷ []) (Argument (codes "--") ∷ [])
+second_end = ended (codes "--" ∷ [])
+
+end_alone : Says (codes "--" ∷ []) []
+end_alone = ended []
+
+value_hyphen : Says (codes "--first" ∷ codes "-" ∷ []) (Named (codes "first") (codes "-") ∷ [])
+value_hyphen = named (codes "first") (codes "-") [] [] tt nothing
+
+first_twice : values_of (codes "first") (Named (codes "first") (codes "1") ∷ Argument (codes "x") ∷ Named (codes "first") (codes "2") ∷ []) ≡ codes "1" ∷ codes "2" ∷ []
+first_twice = refl
+
+-- a word that begins with a hyphen is no argument
+no_argument : IsPlain (codes "-x") → ⊥
+no_argument plain = plain refl
+
+no_value : IsPlain (codes "--") → ⊥
+no_value plain = plain refl
+
+empty_word : IsPlain []
+empty_word = tt
