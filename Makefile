@@ -2,6 +2,7 @@
 # make run        runs the first example
 # make quick      the daily check: layout, edits, names, pages, and the proofs of the crates that changed
 # make check      the gate: every proof, every test and the edits of must-fail/, from nothing; some hours of processor time
+# make words      runs the built program by words over a folder of files, and compares what it writes
 # make edits      tries the wrong bodies of edits/ too: CRATE=zeb_marc for one crate, EDIT=crates/zeb_marc/edits/no_units.edit for one
 # make cost       the gate, with the processor minutes of each crate written into docs/TESTING.md
 # make bench      times of the register's calls on files
@@ -11,7 +12,7 @@
 PREFIX ?= /usr/local
 SOURCES := crates.txt $(wildcard crates/*/src/*.rt crates/*/src/*/*.rt crates/*/specs/*.antt crates/*/specs/*/*.antt)
 
-.PHONY: all help run quick check edits cost bench man install uninstall clean
+.PHONY: all help run quick check words edits cost bench man install uninstall clean
 all: bin/zebraidx
 
 help:
@@ -30,6 +31,9 @@ quick:
 
 check:
 	rt ci
+
+words: bin/zebraidx
+	@tests/words/run
 
 edits:
 	@tools/edits $(CRATE) $(EDIT)

@@ -5,4 +5,5 @@ pub mod NumberLemmas
 pub mod ScriptAnswerLemmas
 pub mod ScriptLemmas
 pub mod ServingLemmas
+pub mod WordAnswerLemmas
 pub mod WordLemmas

@@ -38,7 +38,7 @@ pub refused_opening : (failed : Bool) (old new : Option (List ℕ)) (directives 
 refused_opening failed old new directives n batch refusal (Err e) is h = h
 refused_opening failed old new directives n batch refusal (Ok status) is h = λ sound. let w = h sound in inr (w.0, unopened refusal w.0 status is w.1, w.2)
 
-pub script_conditions : (directives profile : List Directive) (limits : Limits) → profile ≡ directives → limits.records ≡ 1000000 → limits.numbers ≡ 999999999 → AreScriptConditions directives (conditions (codes "1") profile limits)
+pub script_conditions : (directives profile : List Directive) (limits : Limits) → profile ≡ directives → limits.records ≡ 1000000 → limits.numbers ≡ 999999999 → AreScriptConditions directives (conditions (codes "2") profile limits)
 script_conditions directives profile limits same records numbers = record { version = refl; profile = same; records = records; numbers = numbers }
 
 -- a register that holds nothing yet answers the lines

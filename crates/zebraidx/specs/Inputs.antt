@@ -3,8 +3,11 @@ use Rattle.std.specs.Prelude.{ℕ, ◌≤◌, List, length, Option}
 use Rattle.std.specs.Str.{IsUtf8}
 use Rattle.std.specs.Io.KnownBytes.{Consumes}
 
+abbrev pub IsTextWithin : ℕ → List ℕ → Type 0
+IsTextWithin most bytes = (length bytes ≤ most) × IsUtf8 bytes
+
 abbrev pub IsInput : List ℕ → Type 0
-IsInput bytes = (length bytes ≤ 16777216) × IsUtf8 bytes
+IsInput bytes = IsTextWithin 16777216 bytes
 
 -- known bytes lose some off their front, and these are at most n
 abbrev pub TakesAtMost : ℕ → Option (List ℕ) → Option (List ℕ) → Type 0

@@ -1,6 +1,7 @@
 pub mod Answers
 pub mod Numbers
 pub mod Batches
+pub mod Faults
 pub mod Inputs
 pub mod Lines
 pub mod Says
@@ -8,3 +9,4 @@ pub mod ScriptAnswers
 pub mod Scripts
 pub mod Serving
 pub mod Words
+pub mod WordAnswers

@@ -9,6 +9,7 @@ ghost use Rattle.zeb_engine.specs.Refusals.{refusal_text, status_of};
 ghost use Rattle.zebraidx.specs.ScriptAnswers.{AnswersOpened, AnswersStopped};
 ghost use Rattle.zebraidx.specs.Answers.{Writes, IsAnswer, AnswersLine, AnswersBatch, AnswersPart};
 ghost use Rattle.zebraidx.specs.Serving.{Leads, Stops};
+ghost use Rattle.zebraidx.specs.WordAnswers.{IsFaultStatus};
 
 use crate::lines::Line;
 use crate::program::{ANSWERED, FAILED, MISUSED};
@@ -20,7 +21,7 @@ use std::alloc::{AllocError, Global};
 use std::io::Write;
 use zeb_engine::{Command, Limits, Refusal, Session, refusal_line, render, status};
 use zeb_profile::Profile;
-use zeb_register::{Layout, Rows};
+use zeb_register::{Blocks, Layout};
 
 /// Runs the lines of a batch over a register in memory, and answers the greatest status met.
 pub fn run_batch<W: Write>(
@@ -41,7 +42,7 @@ pub fn run_batch<W: Write>(
     let Ok(connection) = Connection::open_in_memory(alloc) else {
         return refuse(alloc, &Refusal::Store, output);
     };
-    match Session::<_, Rows>::adopt(alloc, connection, profile, Limits::GREATEST) {
+    match Session::<_, Blocks>::adopt(alloc, connection, profile, Limits::GREATEST) {
         Ok(mut session) => run_lines(alloc, &mut session, batch, output),
         Err((_, refusal)) => refuse(alloc, &refusal, output),
     }
@@ -78,7 +79,8 @@ fn run_lines<S: Alter, L: Layout, W: Write>(
     Ok(greatest)
 }
 
-fn run_line<S: Alter, L: Layout, W: Write>(
+/// Runs one line of a batch, whose number this is, and answers its status.
+pub fn run_line<S: Alter, L: Layout, W: Write>(
     alloc: Global,
     session: &mut Session<S, L>,
     line: &str,
@@ -133,7 +135,7 @@ fn run_command<S: Alter, L: Layout, W: Write>(
 }
 
 /// Writes a refusal's line, and answers its status.
-fn refuse<W: Write>(
+pub fn refuse<W: Write>(
     alloc: Global,
     refusal: &Refusal,
     output: &mut Sink<W>,
@@ -144,6 +146,7 @@ fn refuse<W: Write>(
         × (status ≡ status_of refusal.now))) }
     ensures stopped { OnErr result (output.new ≡ output.old) }
     ensures range { IfOk result (λ status. status ≤ FAILED) }
+    ensures fault { IfOk result IsFaultStatus }
 {
     output.write_line(refusal_line(alloc, refusal)?);
     Ok(status(refusal))

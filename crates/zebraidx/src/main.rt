@@ -2,13 +2,18 @@
 #![tactic(auto)]
 
 mod batch;
+mod command_line;
 mod digits;
+mod faults;
+mod files;
 mod input;
 mod lines;
 mod numbers;
+mod path_lines;
 mod program;
 mod script;
 mod sinks;
+mod tasks;
 #[cfg(test)]
 mod tests;
 mod words;
@@ -19,6 +24,7 @@ use std::env;
 use std::io::{self, BufWriter};
 use std::process::ExitCode;
 use zeb_marc::FromRead;
+use zeb_paths::Disk;
 
 fn main(rt: HostRuntime) -> ExitCode {
     ExitCode::from(run_outside(&rt).unwrap_or(FAILED))
@@ -36,6 +42,7 @@ fn run_outside(rt: &HostRuntime) -> io::Result<u8> {
     Ok(run(
         rt.alloc(),
         words.as_slice(),
+        &mut Disk::new(rt),
         &mut input,
         &mut output,
         &mut fault_output,

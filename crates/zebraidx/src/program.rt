@@ -1,17 +1,20 @@
 //! The program without its outside: words and input come in, output and a status go out.
 
-ghost use Rattle.std.specs.Prelude.{◌≡◌, ◌≢◌, ◌≤◌, ◌+◌, [], true, false, IfOk, IfSome, OnErr};
+ghost use Rattle.std.specs.Prelude.{◌≡◌, ◌≢◌, ◌≤◌, ◌+◌, [], true, false, map, string_bytes, IfOk, IfSome, OnErr};
 ghost use Rattle.std.specs.Io.KnownBytes.{Appends, Keeps};
 ghost use Rattle.zebraidx.specs.Inputs.{TakesAtMost};
-ghost use Rattle.zebraidx.specs.ScriptAnswers.{AnswersScript, fault_line, fault_status, usage_line};
+ghost use Rattle.zebraidx.specs.ScriptAnswers.{AnswersScript, fault_line, fault_status};
+ghost use Rattle.zebraidx.specs.WordAnswers.{AnswersWords, IsFaultStatus, NamesBatch};
 
 use crate::batch::run_batch;
+use crate::command_line::run_words;
 use crate::input::{GREATEST_INPUT, InputFault, read_text};
 use crate::script::Script;
 use crate::sinks::Sink;
 use std::alloc::{AllocError, Global};
 use std::io::Write;
 use zeb_marc::Source;
+use zeb_paths::Paths;
 use zeb_profile::{Profile, ProfileFault, ProfileFaultKind};
 
 /// The status where all was answered.
@@ -33,12 +36,19 @@ pub const FAILED: u8 = 3;
 /// a fault of the input or of the profile goes there too, and then nothing else. A script without a
 /// line `.` is a profile alone, and only its fault is written.
 ///
+/// Words name a profile's file, a database and a command, which is carried out on the register at the
+/// profile's path. Its answer goes to the output, and to the fault output why there is none: words that
+/// aren't understood, a profile or a path that can't be read, a refusal. The command `batch` runs the
+/// lines of the input in one session, where a file may be named by its path; what they answer goes to
+/// the output, as that of a script does.
+///
 /// The status is the greatest met: 0 answered, 1 refused, 2 a line that is none or words that aren't
-/// understood, 3 where the input couldn't be read, a write or the store failed or memory ran out.
-/// Where memory runs out between two lines of output, what was written stays, and nothing more comes.
-pub fn run<R: Source, W: Write, V: Write>(
+/// understood, 3 where the input or a path couldn't be read, a write or the store failed or memory ran
+/// out. Where memory runs out between two lines of output, what was written stays, and nothing more comes.
+pub fn run<R: Source, W: Write, V: Write, P: Paths>(
     alloc: Global,
     words: &[String],
+    paths: &mut P,
     input: &mut R,
     output: &mut Sink<W>,
     fault_output: &mut Sink<V>,
@@ -46,9 +56,9 @@ pub fn run<R: Source, W: Write, V: Write>(
     requires { R.has_failed input.old ≡ false }
     ensures range { result ≤ FAILED }
 
-    // However long the input is, and whatever the answer. Words leave it alone.
+    // However long the input is, and whatever the answer. Words leave it alone, but where they name a batch.
     ensures bounded { TakesAtMost (GREATEST_INPUT + 1) (R.remaining input.old) (R.remaining input.new) }
-    ensures unread { words.now ≢ [] → input.new ≡ input.old }
+    ensures unread { words.now ≢ [] → ¬ NamesBatch (map string_bytes words.now) → input.new ≡ input.old }
 
     // A failed read of the input, and a failed write, show in the status.
     ensures failed_read { words.now ≡ [] → R.has_failed input.new ≡ true → result ≡ FAILED }
@@ -62,11 +72,12 @@ pub fn run<R: Source, W: Write, V: Write>(
         Keeps (V.contents fault_output.old.writer) (V.contents fault_output.new.writer) }
 
     // With words.
-    ensures misused { words.now ≢ [] → output.new.failed ≡ false → fault_output.new.failed ≡ false → (result ≡ MISUSED)
-        × Keeps (W.contents output.old.writer) (W.contents output.new.writer)
-        × Appends (V.contents fault_output.old.writer) (V.contents fault_output.new.writer) usage_line }
+    ensures words { words.now ≢ [] → output.new.failed ≡ false → fault_output.new.failed ≡ false →
+        AnswersWords (map string_bytes words.now) (W.contents output.old.writer) (W.contents output.new.writer)
+        (V.contents fault_output.old.writer) (V.contents fault_output.new.writer) result }
+    ensures failed_batch { words.now ≢ [] → R.has_failed input.new ≡ true → result ≡ FAILED }
 {
-    let status = respond(alloc, words, input, output, fault_output);
+    let status = respond(alloc, words, paths, input, output, fault_output);
     output.flush();
     fault_output.flush();
     if output.has_failed() || fault_output.has_failed() {
@@ -76,9 +87,10 @@ pub fn run<R: Source, W: Write, V: Write>(
 }
 
 /// What `run` does before the last bytes are passed on.
-fn respond<R: Source, W: Write, V: Write>(
+fn respond<R: Source, W: Write, V: Write, P: Paths>(
     alloc: Global,
     words: &[String],
+    paths: &mut P,
     input: &mut R,
     output: &mut Sink<W>,
     fault_output: &mut Sink<V>,
@@ -86,20 +98,22 @@ fn respond<R: Source, W: Write, V: Write>(
     requires { R.has_failed input.old ≡ false }
     ensures range { result ≤ FAILED }
     ensures bounded { TakesAtMost (GREATEST_INPUT + 1) (R.remaining input.old) (R.remaining input.new) }
-    ensures unread { words.now ≢ [] → input.new ≡ input.old }
+    ensures unread { words.now ≢ [] → ¬ NamesBatch (map string_bytes words.now) → input.new ≡ input.old }
     ensures failed_read { words.now ≡ [] → R.has_failed input.new ≡ true → result ≡ FAILED }
     ensures script { words.now ≡ [] → R.has_failed input.new ≡ false → output.new.failed ≡ false → IfSome (R.remaining input.old) (λ text.
         AnswersScript text (W.contents output.old.writer) (W.contents output.new.writer) result) }
     ensures quiet { words.now ≡ [] → fault_output.new ≡ fault_output.old }
-    ensures misused { words.now ≢ [] → (result ≡ MISUSED) × (output.new ≡ output.old) }
-    ensures usage { words.now ≢ [] → fault_output.new.failed ≡ false →
-        Appends (V.contents fault_output.old.writer) (V.contents fault_output.new.writer) usage_line }
+    ensures words { words.now ≢ [] → output.new.failed ≡ false → fault_output.new.failed ≡ false →
+        AnswersWords (map string_bytes words.now) (W.contents output.old.writer) (W.contents output.new.writer)
+        (V.contents fault_output.old.writer) (V.contents fault_output.new.writer) result }
+    ensures failed_batch { words.now ≢ [] → R.has_failed input.new ≡ true → result ≡ FAILED }
 {
-    if words.is_empty() {
-        return run_script(alloc, input, output).unwrap_or(FAILED);
-    }
-    fault_output.write_line("zebraidx: bad usage");
-    MISUSED
+    let status = if words.is_empty() {
+        run_script(alloc, input, output)
+    } else {
+        run_words(alloc, words, paths, input, output, fault_output)
+    };
+    status.unwrap_or(FAILED)
 }
 
 fn run_script<R: Source, W: Write>(
@@ -117,7 +131,7 @@ fn run_script<R: Source, W: Write>(
     ensures stopped { OnErr result (R.has_failed input.new ≡ false → output.new.failed ≡ false →
         IfSome (R.remaining input.old) (λ text. AnswersScript text (W.contents output.old.writer) (W.contents output.new.writer) FAILED)) }
 {
-    let text = match read_text(alloc, input) {
+    let text = match read_text(alloc, input, GREATEST_INPUT) {
         Ok(text) => text,
         Err(InputFault::Unreadable) => {
             output.write_line("zebraidx: cannot read input");
@@ -143,7 +157,15 @@ fn refuse_profile<W: Write>(fault: ProfileFault, output: &mut Sink<W>) -> u8
     ensures sound { output.new.failed ≡ false → output.old.failed ≡ false }
 {
     output.write_line(format_args!("zebraidx: input {fault}"));
-    match fault.kind {
+    profile_status(fault.kind)
+}
+
+/// The status that a profile's fault ends the program with.
+pub fn profile_status(kind: ProfileFaultKind) -> u8
+    ensures fault { IsFaultStatus result }
+    ensures status { result ≡ fault_status kind }
+{
+    match kind {
         ProfileFaultKind::Memory => FAILED,
         _ => REFUSED,
     }

@@ -2,16 +2,20 @@
 
 use crate::program::{FAILED, run};
 use crate::sinks::Sink;
+use sqlite::MemStore;
 use std::alloc::Global;
 use std::process::Abort;
 use std::test::Fail;
 use std::{io, str};
 use zeb_marc::{FromRead, Slice};
+use zeb_paths::{Paths, Shelf};
 
 mod fakes;
+mod folder;
 mod queries;
 mod records;
 mod scans;
+mod words;
 
 use fakes::{Brittle, Endless, Torn};
 use records::with_records;
@@ -27,12 +31,22 @@ struct Outcome {
     fault_output: Vec<u8>,
 }
 
-fn run_on(alloc: Global, words: &[String], input: &[u8]) -> Outcome {
+/// Paths that lead nowhere.
+fn no_paths() -> Shelf<'static, MemStore> {
+    Shelf::new(&[], None)
+}
+
+fn run_script(alloc: Global, input: &[u8]) -> Outcome {
+    run_on(alloc, &[], &mut no_paths(), input)
+}
+
+fn run_on<P: Paths>(alloc: Global, words: &[String], paths: &mut P, input: &[u8]) -> Outcome {
     let mut output = Vec::new(alloc);
     let mut fault_output = Vec::new(alloc);
     let status = run(
         alloc,
         words,
+        paths,
         &mut Slice::new(input),
         &mut Sink::new(&mut output),
         &mut Sink::new(&mut fault_output),
@@ -53,7 +67,7 @@ fn expect_script(
     status: u8,
 ) -> Result<(), Fail> {
     let script = with_records(rt.alloc(), script)?;
-    let outcome = run_on(rt.alloc(), &[], script.as_bytes());
+    let outcome = run_script(rt.alloc(), script.as_bytes());
     if outcome.status == FAILED && status != FAILED {
         assert!(rt;
             output.as_bytes().starts_with(outcome.output.as_slice()),
@@ -292,19 +306,6 @@ fn names_profile_faults(rt: HostRuntime) -> Result<(), Fail> {
 }
 
 #[test]
-fn refuses_words(rt: HostRuntime) -> Result<(), Fail> {
-    let words = vec![in rt.alloc(); String::from_str(rt.alloc(), "init")?]?;
-    let outcome = run_on(rt.alloc(), words.as_slice(), TITLES.as_bytes());
-    assert_eq!(rt; outcome.status, 2);
-    assert!(rt; outcome.output.is_empty());
-    assert_eq!(rt;
-        outcome.fault_output.as_slice(),
-        b"zebraidx: bad usage\n".as_slice()
-    );
-    Ok(())
-}
-
-#[test]
 fn deletes_records(rt: HostRuntime) -> Result<(), Fail> {
     let lines =
         "init\nupdate Default hex:<A>\ndelete Default hex:<A>\ndelete Default hex:<A>\nadelete Default hex:<A>\nupdate Default hex:<A>\nfind Default @attr 1=4 moby\n";
@@ -322,7 +323,7 @@ fn deletes_records(rt: HostRuntime) -> Result<(), Fail> {
 #[test]
 fn refuses_what_it_cannot_read(rt: HostRuntime) -> Result<(), Fail> {
     let refusal = b"zebraidx: cannot read input\n".as_slice();
-    let outcome = run_on(rt.alloc(), &[], b"store \xff\n");
+    let outcome = run_script(rt.alloc(), b"store \xff\n");
     assert_eq!(rt; outcome.status, 3);
     assert_eq!(rt; outcome.output.as_slice(), refusal);
     // A read that fails at the beginning, in the midst and where the end would be.
@@ -332,6 +333,7 @@ fn refuses_what_it_cannot_read(rt: HostRuntime) -> Result<(), Fail> {
         let status = run(
             rt.alloc(),
             &[],
+            &mut no_paths(),
             &mut input,
             &mut Sink::new(&mut output),
             &mut Sink::new(io::sink()),
@@ -343,6 +345,7 @@ fn refuses_what_it_cannot_read(rt: HostRuntime) -> Result<(), Fail> {
     let status = run(
         rt.alloc(),
         &[],
+        &mut no_paths(),
         &mut FromRead::new(Endless),
         &mut Sink::new(&mut output),
         &mut Sink::new(io::sink()),
@@ -362,6 +365,7 @@ fn tells_of_failed_writes(rt: HostRuntime) -> Result<(), Fail> {
         let status = run(
             rt.alloc(),
             &[],
+            &mut no_paths(),
             &mut Slice::new(script.as_bytes()),
             &mut Sink::new(&mut writer),
             &mut Sink::new(io::sink()),
@@ -381,6 +385,7 @@ fn tells_of_failed_writes(rt: HostRuntime) -> Result<(), Fail> {
     let status = run(
         rt.alloc(),
         words.as_slice(),
+        &mut no_paths(),
         &mut Slice::new(b""),
         &mut Sink::new(io::sink()),
         &mut fault_output,

@@ -7,7 +7,7 @@ use Rattle.zeb_register.specs.Kept.{AreReadable, IsFirstFrom}
 use Rattle.zeb_change.specs.Base.{Kept}
 use Rattle.zeb_change.specs.Outcomes.{register_refusal}
 use Rattle.zeb_engine.proofs.Dumps.{all_readable, bytes_in, read_all, read_few, read_more}
-use Rattle.zeb_change.proofs.KeyChanges.{below, none_below}
+use Rattle.zeb_engine.proofs.Dumps.{below, none_below}
 use Rattle.zeb_engine.proofs.ListedDatabases.{fault_fails}
 use Rattle.zeb_engine.proofs.Showing.{still_shows}
 use Rattle.zeb_engine.proofs.dump.bytes_of.Goals as goal

@@ -7,7 +7,7 @@ use Rattle.zeb_register.specs.Calls.{ChangesNothing}
 use Rattle.zeb_change.specs.Base.{Kept}
 use Rattle.zeb_engine.specs.PrivateDumping.{KeepsBase}
 use Rattle.zeb_engine.specs.Works.{ShowsStore}
-use Rattle.zeb_change.proofs.KeyChanges.{below}
+use Rattle.zeb_engine.proofs.Dumps.{below}
 use Rattle.zeb_engine.proofs.dump.bytes_of.Given as goal
 
 abbrev pub invariant-loop-turn : goal.invariant-loop-turn

@@ -18,7 +18,7 @@ returns-in-Ok-adopt-clause-answer g c =
     let session = c.in-Ok-adopt.session in
     let last = c.run_lines.new.session.connection in
     let given = c.in-Ok-adopt.ensures.given in
-    let k = conditions (codes "1") session.profile session.limits in
+    let k = conditions (codes "2") session.profile session.limits in
     opened_batch k c.args.profile (state over_memory session.connection) (state over_memory last) (g.W.Write.contents c.args.output.now.writer) (g.W.Write.contents c.run_lines.new.output.writer)
     c.args.batch.lines_before c.args.batch.text.now c.run_lines.new.output.failed (HasCleanDisk (state over_memory last)) c.run_lines.result (script_conditions c.args.profile session.profile session.limits given.0 (ap (λ l. l.records) given.1) (ap (λ l. l.numbers) given.1))
     (c.in-Ok-adopt.ensures.keeps (memory_is_clean session.connection) nothing_yet (inr (c.in-Ok.ensures.empty.2, refl))) (memory_is_clean last) c.run_lines.ensures.answer
@@ -28,7 +28,7 @@ returns-in-Ok-adopt-clause-stopped g c =
     let session = c.in-Ok-adopt.session in
     let last = c.run_lines.new.session.connection in
     let given = c.in-Ok-adopt.ensures.given in
-    let k = conditions (codes "1") session.profile session.limits in
+    let k = conditions (codes "2") session.profile session.limits in
     stopped_batch k c.args.profile (state over_memory session.connection) (g.W.Write.contents c.args.output.now.writer) (g.W.Write.contents c.run_lines.new.output.writer)
     c.args.batch.lines_before c.args.batch.text.now c.run_lines.new.output.failed (HasCleanDisk (state over_memory last)) c.run_lines.result (script_conditions c.args.profile session.profile session.limits given.0 (ap (λ l. l.records) given.1) (ap (λ l. l.numbers) given.1))
     (c.in-Ok-adopt.ensures.keeps (memory_is_clean session.connection) nothing_yet (inr (c.in-Ok.ensures.empty.2, refl))) (memory_is_clean last) c.run_lines.ensures.stopped

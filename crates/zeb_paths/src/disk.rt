@@ -1,0 +1,125 @@
+//! The paths of the file system.
+
+ghost use Rattle.std.specs.Prelude.{◌≡◌, None};
+ghost use Rattle.std.specs.Io.{ReadsAtMost};
+
+use crate::paths::{NamesFault, OpenFailed, PathKind, Paths};
+use sqlite::{Connection, File, FileStore, Unknown};
+use std::alloc::Global;
+use std::fs;
+use std::io::{self, BufReader, Read};
+use zeb_marc::{ReadFailed, Source};
+
+/// The file system, with paths relative to the working folder.
+#[derive(Clone, Copy)]
+pub struct Disk<'a> {
+    rt: &'a HostRuntime,
+}
+
+impl<'a> Disk<'a> {
+    /// The file system of this process.
+    pub fn new(rt: &'a HostRuntime) -> Disk<'a> {
+        Disk { rt }
+    }
+}
+
+impl<'a> Paths for Disk<'a> {
+    type Reader = FileReader<'a>;
+
+    type Store = FileStore<File>;
+
+    ghost tells = { λ _ _. None };
+
+    fn kind(&self, path: &str) -> Option<PathKind> {
+        let found = fs::metadata(self.rt, path).ok()?;
+        if found.is_dir() {
+            Some(PathKind::Folder)
+        } else {
+            found.is_file().then_some(PathKind::File)
+        }
+    }
+
+    fn names(&self, alloc: Global, path: &str) -> Result<Vec<String>, NamesFault> {
+        let mut names = Vec::new(alloc);
+        for entry in fs::read_dir(self.rt, path)? {
+            names.push(String::from_str(alloc, entry?.file_name())?)?;
+        }
+        Ok(names)
+    }
+
+    fn reader(&self, path: String) -> FileReader<'a> {
+        FileReader {
+            rt: self.rt,
+            path,
+            progress: Progress::Unopened,
+            failed: false,
+        }
+    }
+
+    fn store(&mut self, path: &str) -> Result<Connection<FileStore<File>>, OpenFailed> {
+        match Connection::open_from(self.rt, path, false, Unknown) {
+            Ok(connection) => Ok(connection),
+            Err(_) => Err(OpenFailed),
+        }
+    }
+}
+
+/// How far a file has been read.
+#[derive(Drop)]
+enum Progress {
+    Unopened,
+    Open(BufReader<fs::File>),
+    Ended,
+}
+
+/// The bytes of a file, which is opened at the first read and closed at its end or where a read fails.
+#[derive(Drop)]
+pub struct FileReader<'a> {
+    rt: &'a HostRuntime,
+    path: String,
+    progress: Progress,
+    failed: bool,
+}
+
+impl FileReader<'_> {
+    /// Reads into the buffer, from the file's beginning at the first call.
+    fn read_on(&mut self, buffer: &mut [u8]) -> io::Result<usize>
+        ensures bound { ReadsAtMost result buffer.new }
+        ensures failed { self.new.failed ≡ self.old.failed }
+    {
+        if let Progress::Unopened = self.progress {
+            let file = fs::open(self.rt, self.path.as_str())?;
+            self.progress = Progress::Open(BufReader::new(self.rt.alloc(), file)?);
+        }
+        match &mut self.progress {
+            Progress::Open(reader) => reader.read(buffer),
+            _ => Ok(0),
+        }
+    }
+}
+
+impl Source for FileReader<'_> {
+    ghost remaining = { λ _. None };
+
+    ghost has_failed = { λ s. s.failed };
+
+    fn read(&mut self, buffer: &mut [u8]) -> Result<usize, ReadFailed> {
+        match self.read_on(buffer) {
+            Ok(count) => {
+                if count == 0 && !buffer.is_empty() {
+                    self.progress = Progress::Ended;
+                }
+                Ok(count)
+            }
+            Err(_) => {
+                self.progress = Progress::Ended;
+                self.failed = true;
+                Err(ReadFailed)
+            }
+        }
+    }
+
+    fn has_failed(&self) -> bool {
+        self.failed
+    }
+}

@@ -1,0 +1,14 @@
+//! The paths that a user names: what stands there, the files below a folder, their bytes, and the register's store.
+#![tactic(auto)]
+
+mod disk;
+mod paths;
+mod shelf;
+#[cfg(test)]
+mod tests;
+mod walk;
+
+pub use disk::{Disk, FileReader};
+pub use paths::{NamesFault, OpenFailed, PathKind, Paths};
+pub use shelf::{Shelf, ShelfReader, Shelved};
+pub use walk::{Walk, WalkFault};

@@ -1,0 +1,127 @@
+//! Paths in memory, for tests.
+
+ghost use Rattle.std.specs.Prelude.{None};
+
+use crate::paths::{NamesFault, OpenFailed, PathKind, Paths};
+use sqlite::{Alter, Connection};
+use std::alloc::{AllocError, Global};
+use zeb_marc::{ReadFailed, Slice, Source};
+
+/// A file in memory. A path that ends in `/` makes a folder that can't be listed.
+#[derive(Clone, Copy, Debug)]
+pub struct Shelved<'a> {
+    pub path: &'a str,
+    /// `None` where each read fails.
+    pub bytes: Option<&'a [u8]>,
+}
+
+/// Files in memory: a folder stands at each path that the path of a file goes through.
+#[derive(Drop)]
+pub struct Shelf<'a, S: Alter + Drop> {
+    files: &'a [Shelved<'a>],
+    store: Option<Connection<S>>,
+}
+
+impl<'a, S: Alter + Drop> Shelf<'a, S> {
+    /// A shelf with these files. Its one store has every path; it can be opened once, and only where no transaction
+    /// is open in it.
+    pub fn new(files: &'a [Shelved<'a>], store: Option<Connection<S>>) -> Shelf<'a, S> {
+        Shelf { files, store }
+    }
+}
+
+impl<'a> Shelved<'a> {
+    /// What stands behind a folder's path and a slash in this file's path.
+    fn below(&self, folder: &str) -> Option<&'a str> {
+        self.path.strip_prefix(folder)?.strip_prefix('/')
+    }
+}
+
+/// Adds a name, unless it is there.
+fn add_name(alloc: Global, names: &mut Vec<String>, name: &str) -> Result<(), AllocError> {
+    if !names.iter().any(|known| known.as_str() == name) {
+        names.push(String::from_str(alloc, name)?)?;
+    }
+    Ok(())
+}
+
+impl<'a, S: Alter + Drop> Paths for Shelf<'a, S> {
+    type Reader = ShelfReader<'a>;
+
+    type Store = S;
+
+    ghost tells = { λ _ _. None };
+
+    fn kind(&self, path: &str) -> Option<PathKind> {
+        for file in self.files {
+            if file.path == path {
+                return Some(PathKind::File);
+            }
+            if file.below(path).is_some() {
+                return Some(PathKind::Folder);
+            }
+        }
+        None
+    }
+
+    fn names(&self, alloc: Global, path: &str) -> Result<Vec<String>, NamesFault> {
+        let mut names = Vec::new(alloc);
+        for file in self.files {
+            let Some(rest) = file.below(path) else {
+                continue;
+            };
+            let name = rest.split_once('/').map_or(rest, |(name, _)| name);
+            if name.is_empty() {
+                return Err(NamesFault::Unreadable);
+            }
+            add_name(alloc, &mut names, name)?;
+        }
+        Ok(names)
+    }
+
+    fn reader(&self, path: String) -> ShelfReader<'a> {
+        let found = self.files.iter().find(|file| file.path == path.as_str());
+        ShelfReader {
+            bytes: found.and_then(|file| file.bytes).map(Slice::new),
+            failed: false,
+        }
+    }
+
+    fn store(&mut self, _path: &str) -> Result<Connection<S>, OpenFailed> {
+        let Some(connection) = self.store.take() else {
+            return Err(OpenFailed);
+        };
+        if connection.is_autocommit() {
+            Ok(connection)
+        } else {
+            Err(OpenFailed)
+        }
+    }
+}
+
+/// The bytes of a file in memory; each read fails where there is no such file.
+#[derive(Drop)]
+pub struct ShelfReader<'a> {
+    bytes: Option<Slice<'a>>,
+    failed: bool,
+}
+
+impl Source for ShelfReader<'_> {
+    ghost remaining = { λ _. None };
+
+    ghost has_failed = { λ s. s.failed };
+
+    fn read(&mut self, buffer: &mut [u8]) -> Result<usize, ReadFailed> {
+        match &mut self.bytes {
+            Some(bytes) => bytes.read(buffer),
+            None => {
+                self.failed = true;
+                Err(ReadFailed)
+            }
+        }
+    }
+
+    fn has_failed(&self) -> bool {
+        self.failed
+    }
+}

@@ -1,0 +1,104 @@
+//! The files at and below the paths that a user names.
+
+ghost use Rattle.std.specs.Prelude.{◌≤◌};
+
+use crate::paths::{NamesFault, PathKind, Paths};
+use std::alloc::{AllocError, AllocFailed, Global};
+
+/// The greatest level that is read: a folder that is named has level 1, and each folder in it the next.
+const GREATEST_LEVEL: u32 = 32;
+
+/// Why the next file isn't given.
+#[derive(Debug, Drop)]
+pub enum WalkFault {
+    /// Nothing stands at this path, or neither a file nor a folder; or it is a folder that can't be listed, or that
+    /// stands below the 32nd level.
+    Unreadable(String),
+    Memory,
+}
+
+impl From<AllocError> for WalkFault {
+    fn from(_error: AllocError) -> WalkFault {
+        WalkFault::Memory
+    }
+}
+
+impl<T: Drop> From<AllocFailed<T>> for WalkFault {
+    fn from(_error: AllocFailed<T>) -> WalkFault {
+        WalkFault::Memory
+    }
+}
+
+/// A path that is still to be looked at, and the level that it has if it is a folder.
+#[derive(Debug, Drop)]
+struct Step {
+    path: String,
+    level: u32,
+}
+
+/// The files at paths and below them, one after the other: those of a folder stand in the folder's place, its names
+/// in byte order.
+#[derive(Drop)]
+pub struct Walk<'a, P: Paths> {
+    alloc: Global,
+    paths: &'a P,
+    // The last one is the next.
+    steps: Vec<Step>,
+}
+
+impl<'a, P: Paths> Walk<'a, P> {
+    /// A walk over these paths, from left to right.
+    pub fn new(alloc: Global, paths: &'a P, named: &[String]) -> Result<Walk<'a, P>, AllocError> {
+        let mut steps = Vec::new(alloc);
+        for path in named.iter().rev() {
+            let path = path.clone()?;
+            steps.push(Step { path, level: 1 })?;
+        }
+        Ok(Walk {
+            alloc,
+            paths,
+            steps,
+        })
+    }
+
+    /// The path of the next file, or `None` behind the last. After a fault the walk is of no use.
+    pub fn next_file(&mut self) -> Result<Option<String>, WalkFault> {
+        for _ in 0..u64::MAX {
+            let Some(step) = self.steps.pop() else {
+                return Ok(None);
+            };
+            match self.paths.kind(step.path.as_str()) {
+                Some(PathKind::File) => return Ok(Some(step.path)),
+                Some(PathKind::Folder) if step.level <= GREATEST_LEVEL => self.enter(step)?,
+                _ => return Err(WalkFault::Unreadable(step.path)),
+            }
+        }
+        // So many folders without a file are none that could be held.
+        Err(WalkFault::Memory)
+    }
+
+    /// Puts what stands in a folder before what is left.
+    fn enter(&mut self, folder: Step) -> Result<(), WalkFault>
+        requires { folder.level ≤ 32 }
+    {
+        let mut names = match self.paths.names(self.alloc, folder.path.as_str()) {
+            Ok(names) => names,
+            Err(NamesFault::Unreadable) => return Err(WalkFault::Unreadable(folder.path)),
+            Err(NamesFault::Memory) => return Err(WalkFault::Memory),
+        };
+        names.sort_unstable();
+        for name in names.iter().rev() {
+            self.steps.push(Step {
+                path: path_in(self.alloc, folder.path.as_str(), name.as_str())?,
+                level: folder.level + 1,
+            })?;
+        }
+        Ok(())
+    }
+}
+
+/// The path of a name in a folder.
+fn path_in(alloc: Global, folder: &str, name: &str) -> Result<String, AllocError> {
+    let between = if folder.ends_with('/') { "" } else { "/" };
+    format!(in alloc; "{folder}{between}{name}")
+}

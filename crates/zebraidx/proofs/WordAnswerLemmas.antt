@@ -1,0 +1,81 @@
+-- What is written for words, at each end.
+use Rattle.std.proofs.Common.{◌≡◌, ℕ, Bool, false, List, inl, inr, refl}
+use Rattle.std.specs.Prelude.{Option, Result, Ok, Err, IfOk, OnErr}
+use Rattle.std.specs.declared.alloc.AllocError.{AllocError}
+use Rattle.std.specs.Io.KnownBytes.{Keeps}
+use Rattle.std.proofs.KnownBytes.{Appends-kept, Keeps-trans}
+use Rattle.zeb_change.specs.declared.refusals.Refusal.{Refusal}
+use Rattle.zeb_change.specs.declared.refusals.Refusal.TheVariants.{NotInitialised, OldFormat, ProfileChanged, Diagnostic, Exists, Record, Unknown, DatabaseFull, TooManyRecords, Damaged, IdentifierRuleChanged, ReadFault, Store, Memory, Unsupported}
+use Rattle.zeb_engine.specs.Refusals.{status_of}
+use Rattle.zeb_words.specs.Names.{NamesWords}
+use Rattle.zeb_words.specs.declared.words.Words.{Words}
+use Rattle.zeb_words.specs.declared.words.Usage.{Usage}
+use Rattle.zeb_words.specs.declared.words.Usage.TheVariants as usage
+use Rattle.zebraidx.specs.WordAnswers.{AnswersWords, misused, batched, named, IsFaultStatus, NamesBatch, TellsApart, TellsUsage}
+
+-- a refusal's status is that of a fault
+pub refusal_status : (refusal : Refusal) → IsFaultStatus (status_of refusal)
+refusal_status NotInitialised = inl refl
+refusal_status OldFormat = inl refl
+refusal_status ProfileChanged = inl refl
+refusal_status (Diagnostic number place addinfo) = inl refl
+refusal_status Exists = inl refl
+refusal_status (Record file nth fault) = inl refl
+refusal_status (Unknown file nth) = inl refl
+refusal_status DatabaseFull = inl refl
+refusal_status TooManyRecords = inl refl
+refusal_status Damaged = inl refl
+refusal_status IdentifierRuleChanged = inl refl
+refusal_status (ReadFault file) = inr refl
+refusal_status Store = inr refl
+refusal_status Memory = inr refl
+refusal_status Unsupported = inl refl
+
+-- what is passed on stays what it was
+TellsUsage-kept : (why : Usage) (old mid new fault_old fault_mid fault_new : Option (List ℕ)) (status : ℕ) → Keeps mid new → Keeps fault_mid fault_new
+    → TellsUsage why old mid fault_old fault_mid status → TellsUsage why old new fault_old fault_new status
+TellsUsage-kept usage.BadUsage old mid new fault_old fault_mid fault_new status kept fault_kept t =
+    (t.0, Keeps-trans old mid new t.1 kept, Appends-kept fault_old fault_mid fault_new _ t.2 fault_kept)
+TellsUsage-kept (usage.Refused text) old mid new fault_old fault_mid fault_new status kept fault_kept t =
+    (t.0, Keeps-trans old mid new t.1 kept, Appends-kept fault_old fault_mid fault_new _ t.2 fault_kept)
+TellsUsage-kept (usage.Help text) old mid new fault_old fault_mid fault_new status kept fault_kept t =
+    (t.0, Appends-kept old mid new _ t.1 kept, Keeps-trans fault_old fault_mid fault_new t.2 fault_kept)
+TellsUsage-kept usage.Memory old mid new fault_old fault_mid fault_new status kept fault_kept t =
+    (t.0, Keeps-trans old mid new t.1 kept, Keeps-trans fault_old fault_mid fault_new t.2 fault_kept)
+
+TellsApart-kept : (old mid new fault_old fault_mid fault_new : Option (List ℕ)) (status : ℕ) → Keeps mid new → Keeps fault_mid fault_new
+    → TellsApart old mid fault_old fault_mid status → TellsApart old new fault_old fault_new status
+TellsApart-kept old mid new fault_old fault_mid fault_new status kept fault_kept (inl t) = inl (t.0, Keeps-trans fault_old fault_mid fault_new t.1 fault_kept)
+TellsApart-kept old mid new fault_old fault_mid fault_new status kept fault_kept (inr t) = inr (t.0, Keeps-trans old mid new t.1 kept)
+
+pub kept_words : (words : List (List ℕ)) (old mid new fault_old fault_mid fault_new : Option (List ℕ)) (status : ℕ) → Keeps mid new → Keeps fault_mid fault_new
+    → AnswersWords words old mid fault_old fault_mid status → AnswersWords words old new fault_old fault_new status
+kept_words words old mid new fault_old fault_mid fault_new status kept fault_kept (misused why none is tells) =
+    misused why none is (TellsUsage-kept why old mid new fault_old fault_mid fault_new status kept fault_kept tells)
+kept_words words old mid new fault_old fault_mid fault_new status kept fault_kept (batched names) = batched names
+kept_words words old mid new fault_old fault_mid fault_new status kept fault_kept (named command is tells) =
+    named command is (TellsApart-kept old mid new fault_old fault_mid fault_new status kept fault_kept tells)
+
+-- a command that isn't a batch
+pub named_words : (words : List (List ℕ)) (old new fault_old fault_new : Option (List ℕ)) (command : Words) (failed fault_failed : Bool) (r : Result ℕ AllocError) → NamesWords words command
+    → IfOk r (λ status. TellsApart old new fault_old fault_new status)
+    → IfOk r (λ status. failed ≡ false → fault_failed ≡ false → AnswersWords words old new fault_old fault_new status)
+named_words words old new fault_old fault_new command failed fault_failed (Err e) is h = h
+named_words words old new fault_old fault_new command failed fault_failed (Ok status) is h = λ _ _. named command is h
+
+pub stopped_words : (words : List (List ℕ)) (old new fault_old fault_new : Option (List ℕ)) (command : Words) (failed fault_failed : Bool) (r : Result ℕ AllocError) → NamesWords words command
+    → OnErr r (Keeps old new)
+    → OnErr r (failed ≡ false → fault_failed ≡ false → AnswersWords words old new fault_old fault_new 3)
+stopped_words words old new fault_old fault_new command failed fault_failed (Ok status) is h = h
+stopped_words words old new fault_old fault_new command failed fault_failed (Err e) is h = λ _ _. named command is (inr (inr refl, h))
+
+-- a batch
+pub batch_words : (words : List (List ℕ)) (old new fault_old fault_new : Option (List ℕ)) (failed fault_failed : Bool) (r : Result ℕ AllocError) → NamesBatch words
+    → IfOk r (λ status. failed ≡ false → fault_failed ≡ false → AnswersWords words old new fault_old fault_new status)
+batch_words words old new fault_old fault_new failed fault_failed (Err e) names = tt
+batch_words words old new fault_old fault_new failed fault_failed (Ok status) names = λ _ _. batched names
+
+pub stopped_batch_words : (words : List (List ℕ)) (old new fault_old fault_new : Option (List ℕ)) (failed fault_failed : Bool) (r : Result ℕ AllocError) → NamesBatch words
+    → OnErr r (failed ≡ false → fault_failed ≡ false → AnswersWords words old new fault_old fault_new 3)
+stopped_batch_words words old new fault_old fault_new failed fault_failed (Ok status) names = tt
+stopped_batch_words words old new fault_old fault_new failed fault_failed (Err e) names = λ _ _. batched names

@@ -1,0 +1,151 @@
+//! The tasks that words name, each carried out on the register that the profile names.
+
+use crate::faults::Fault;
+use crate::files::{contents_of, read_profile, readers_of};
+use sqlite::Alter;
+use std::alloc::Global;
+use zeb_engine::{Command, DbName, Kind, Limits, Refusal, Reply, Session, render};
+use zeb_paths::Paths;
+use zeb_profile::Profile;
+use zeb_register::{Blocks, Layout};
+use zeb_words::Act;
+
+/// What words ask of a register.
+#[derive(Debug, Drop)]
+pub enum Task {
+    /// One command.
+    Ask(Command),
+    /// To change a database by the records in the files at and below these paths.
+    Change {
+        kind: Kind,
+        database: DbName,
+        paths: Vec<String>,
+    },
+    /// To show the occurrences of the records in the files at and below these paths.
+    Analyse(Vec<String>),
+}
+
+impl Task {
+    ghost use Rattle.std.specs.Prelude.{◌≡◌, IfNone};
+    ghost use Rattle.zeb_words.specs.declared.words.Act.TheVariants.{Batch};
+
+    /// The task that an act on this database is, or `None` where it is a batch.
+    pub fn of(database: DbName, act: Act) -> Option<Task>
+        ensures { IfNone result (act ≡ Batch) }
+    {
+        let command = match act {
+            Act::Init => Command::Init,
+            Act::Create(name) => Command::Create(name),
+            Act::Drop(name) => Command::Drop(name),
+            Act::Stat => Command::Stat(database),
+            Act::Dump => Command::Dump(database),
+            Act::Check => Command::Check,
+            Act::Find {
+                query,
+                first,
+                count,
+            } => Command::Find {
+                database,
+                query,
+                first,
+                count,
+            },
+            Act::Scan {
+                query,
+                number,
+                position,
+            } => Command::Scan {
+                database,
+                query,
+                number,
+                position,
+            },
+            Act::Update { paths, shows: true } => return Some(Task::Analyse(paths)),
+            Act::Update {
+                paths,
+                shows: false,
+            } => return Some(change(Kind::Update, database, paths)),
+            Act::Delete(paths) => return Some(change(Kind::Delete, database, paths)),
+            Act::Adelete(paths) => return Some(change(Kind::Adelete, database, paths)),
+            Act::Batch => return None,
+        };
+        Some(Task::Ask(command))
+    }
+}
+
+fn change(kind: Kind, database: DbName, paths: Vec<String>) -> Task {
+    Task::Change {
+        kind,
+        database,
+        paths,
+    }
+}
+
+/// Carries a task out under the profile in this file, and gives what is printed.
+pub fn perform<P: Paths>(
+    alloc: Global,
+    config: String,
+    task: &Task,
+    paths: &mut P,
+) -> Result<Vec<u8>, Fault> {
+    let profile = read_profile(alloc, paths, config)?;
+    let mut session = open_register(alloc, paths, profile)?;
+    let reply = carry_out(alloc, &mut session, paths, task)?;
+    Ok(render(alloc, &reply)?)
+}
+
+/// Opens the register at the profile's path.
+pub fn open_register<P: Paths>(
+    alloc: Global,
+    paths: &mut P,
+    profile: Profile,
+) -> Result<Session<P::Store, Blocks>, Fault> {
+    let Ok(connection) = paths.store(profile.store_path()) else {
+        return Err(Fault::Refused(Refusal::Store));
+    };
+    match Session::adopt(alloc, connection, profile, Limits::GREATEST) {
+        Ok(session) => Ok(session),
+        Err((_, refusal)) => Err(Fault::Refused(refusal)),
+    }
+}
+
+/// Carries a task out in a session.
+pub fn carry_out<S: Alter, L: Layout, P: Paths>(
+    alloc: Global,
+    session: &mut Session<S, L>,
+    paths: &P,
+    task: &Task,
+) -> Result<Reply, Fault> {
+    match task {
+        Task::Ask(command) => Ok(session.command(command)?),
+        Task::Change {
+            kind,
+            database,
+            paths: named,
+        } => change_by_paths(alloc, session, paths, *kind, database, named),
+        Task::Analyse(named) => analyse_paths(alloc, session, paths, named),
+    }
+}
+
+/// Changes a database by the records in the files at and below the paths, one record held at a time.
+fn change_by_paths<S: Alter, L: Layout, P: Paths>(
+    alloc: Global,
+    session: &mut Session<S, L>,
+    paths: &P,
+    kind: Kind,
+    database: &DbName,
+    named: &[String],
+) -> Result<Reply, Fault> {
+    let mut readers = readers_of(alloc, paths, named)?;
+    Ok(session.update_from(database, kind, &mut readers)?)
+}
+
+fn analyse_paths<S: Alter, L: Layout, P: Paths>(
+    alloc: Global,
+    session: &mut Session<S, L>,
+    paths: &P,
+    named: &[String],
+) -> Result<Reply, Fault> {
+    let files = contents_of(alloc, paths, named)?;
+    Ok(session.command(&Command::Analyse { files })?)
+}
