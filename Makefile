@@ -7,7 +7,7 @@
 # make cost       the gate, with the processor minutes of each crate written into docs/TESTING.md
 # make bench      times of the register's calls on files
 # make man        the manual pages in bin/man, from docs/MANUAL.md; installs Debian's lowdown where it isn't there
-# make install    PREFIX=/usr/local: the program, its manual, its manual pages and examples; make uninstall takes them away
+# make install    PREFIX=/usr/local: the program, its manual and pages, examples, completions of bash and zsh; make uninstall takes them away
 # make clean      removes what these made
 PREFIX ?= /usr/local
 SOURCES := crates.txt $(wildcard crates/*/src/*.rt crates/*/src/*/*.rt crates/*/specs/*.antt crates/*/specs/*/*.antt)
@@ -49,6 +49,8 @@ man:
 
 DOC = $(DESTDIR)$(PREFIX)/share/doc/zebraidx
 MAN = $(DESTDIR)$(PREFIX)/share/man
+BASH_COMPLETIONS = $(DESTDIR)$(PREFIX)/share/bash-completion/completions
+ZSH_COMPLETIONS = $(DESTDIR)$(PREFIX)/share/zsh/site-functions
 
 install: bin/zebraidx man
 	install -D -m 755 bin/zebraidx $(DESTDIR)$(PREFIX)/bin/zebraidx
@@ -56,9 +58,12 @@ install: bin/zebraidx man
 	install -D -m 644 -t $(MAN)/man5 bin/man/zebraidx.cfg.5
 	install -D -m 644 -t $(DOC) docs/MANUAL.md docs/ZEBRA.md LICENSE
 	install -D -m 644 -t $(DOC)/examples examples/*
+	install -D -m 644 completions/zebraidx.bash $(BASH_COMPLETIONS)/zebraidx
+	install -D -m 644 -t $(ZSH_COMPLETIONS) completions/_zebraidx
 
 uninstall:
 	rm -f $(DESTDIR)$(PREFIX)/bin/zebraidx $(MAN)/man1/zebraidx.1 $(MAN)/man5/zebraidx.cfg.5
+	rm -f $(BASH_COMPLETIONS)/zebraidx $(ZSH_COMPLETIONS)/_zebraidx
 	rm -rf $(DOC)
 
 clean:
