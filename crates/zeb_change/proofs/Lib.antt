@@ -16,5 +16,6 @@ pub mod Idle
 pub mod FoldSteps
 pub mod FoldFiles
 pub mod FoldAll
+pub mod NoDamage
 pub mod ReadFaults
 pub mod TermTexts

@@ -9,6 +9,7 @@ pub mod Stored
 pub mod Inside
 pub mod Reading
 pub mod UnderWay
+pub mod Holding
 pub mod PrivateKeyRuns
 pub mod PrivateChangedKeys
 pub mod PrivateTallies

@@ -1,6 +1,6 @@
 //! The records of files, folded into a database inside a transaction.
 
-ghost use Rattle.std.specs.Prelude.{◌≡◌, ◌+◌, ℕ, ℤ, List, map, Some, Ok, Err, true, false, IsTrue, IfErr, OnOk};
+ghost use Rattle.std.specs.Prelude.{◌≡◌, ◌≢◌, ◌+◌, ℕ, ℤ, List, map, Some, Ok, Err, true, false, IsTrue, IfErr, OnOk};
 ghost use Rattle.sqlite.specs.Held.{state};
 ghost use Rattle.sqlite.specs.State.{HasCleanDisk, Survives};
 ghost use Rattle.zeb_marc.specs.Splits.{next_of, split_of};
@@ -9,6 +9,7 @@ ghost use Rattle.zeb_change.specs.Base.{Kept};
 ghost use Rattle.zeb_change.specs.Refused.{NeverUnready, Meets};
 ghost use Rattle.zeb_change.specs.Reading.{HasFailedAt, NamesFailed, NoneFailed, NoReadFault, ReadsNext};
 ghost use Rattle.zeb_change.specs.Inside.{Stays};
+ghost use Rattle.zeb_change.specs.Holding.{HoldsSome};
 ghost use Rattle.zeb_change.specs.UnderWay.{IsFolded, IsUnderWay, StandsFor, conditions_of};
 
 use crate::records::{Incoming, Progress, change_record};
@@ -31,6 +32,7 @@ fn read_record<R: Source>(
     ensures failed { R.has_failed reader.new ≡ true → result ≡ Err (Refusal.ReadFault file) }
     ensures fault { (other : ℕ) → result ≡ Err (Refusal.ReadFault other) → (other ≡ file) × (R.has_failed reader.new ≡ true) }
     ensures ready { NeverUnready result }
+    ensures sound { result ≢ Err Refusal.Damaged }
 {
     if reader.has_failed() {
         return Err(Refusal::ReadFault { file });
@@ -83,6 +85,12 @@ fn take_record<S: Alter, L: Layout>(
         (state S.Store tx.old.conn.now) (state S.Store tx.new.conn.now) fold.new after)
         (folded (conditions_of version setting.now) setting.now.kind incoming.entry.file incoming.entry.nth incoming.entry.bytes.now p)
         result }
+    ensures honest { HasCleanDisk (state S.Store tx.new.conn.now) → IsTrue (state S.Store tx.old.conn.now).in_transaction
+        → (records_of : ℤ → List Kept)
+        → HoldsSome L.format setting.now.profile.now fold.old.progress.database.0 records_of (state S.Store tx.old.conn.now)
+        fold.old.progress.last
+        → (result ≢ Err Refusal.Damaged) × OnOk result (HoldsSome L.format setting.now.profile.now fold.old.progress.database.0 records_of
+        (state S.Store tx.new.conn.now) fold.new.progress.last) }
     ensures unread { NoReadFault result }
     ensures ready { NeverUnready result }
     ensures crash { Survives (state S.Store tx.old.conn.now) (state S.Store tx.new.conn.now) (λ _. ⊥) }
@@ -115,6 +123,12 @@ fn fold_file<S: Alter, L: Layout, R: Source>(
         → Meets (λ after _. IsFolded L.format setting.now.profile.now fold.old.progress.database.0 records_of
         (state S.Store tx.old.conn.now) (state S.Store tx.new.conn.now) fold.new after)
         (file_folded (conditions_of version setting.now) setting.now.kind file (split_of text) p) result }
+    ensures honest { HasCleanDisk (state S.Store tx.new.conn.now) → IsTrue (state S.Store tx.old.conn.now).in_transaction
+        → (records_of : ℤ → List Kept)
+        → HoldsSome L.format setting.now.profile.now fold.old.progress.database.0 records_of (state S.Store tx.old.conn.now)
+        fold.old.progress.last
+        → (result ≢ Err Refusal.Damaged) × OnOk result (HoldsSome L.format setting.now.profile.now fold.old.progress.database.0 records_of
+        (state S.Store tx.new.conn.now) fold.new.progress.last) }
     ensures failed { R.has_failed reader.new ≡ true → result ≡ Err (Refusal.ReadFault file) }
     ensures fault { (other : ℕ) → result ≡ Err (Refusal.ReadFault other) → (other ≡ file) × (R.has_failed reader.new ≡ true) }
     ensures ready { NeverUnready result }
@@ -157,6 +171,13 @@ pub fn fold_files<S: Alter, L: Layout, R: Source>(
         → Meets (λ after _. IsFolded L.format setting.now.profile.now fold.old.progress.database.0 records_of
         (state S.Store tx.old.conn.now) (state S.Store tx.new.conn.now) fold.new after)
         (files_folded (conditions_of version setting.now) setting.now.kind 1 (splits_of texts) p) result }
+    // Whatever the readers tell: an accepted fold leaves tables that hold a database, and damage is told only of such as held none.
+    ensures honest { HasCleanDisk (state S.Store tx.new.conn.now) → IsTrue (state S.Store tx.old.conn.now).in_transaction
+        → (records_of : ℤ → List Kept)
+        → HoldsSome L.format setting.now.profile.now fold.old.progress.database.0 records_of (state S.Store tx.old.conn.now)
+        fold.old.progress.last
+        → (result ≢ Err Refusal.Damaged) × OnOk result (HoldsSome L.format setting.now.profile.now fold.old.progress.database.0 records_of
+        (state S.Store tx.new.conn.now) fold.new.progress.last) }
     ensures failed { NoneFailed R.has_failed readers.old → (file : ℕ) → HasFailedAt R.has_failed readers.new file
         → result ≡ Err (Refusal.ReadFault file) }
     ensures fault { (file : ℕ) → result ≡ Err (Refusal.ReadFault file) → HasFailedAt R.has_failed readers.new file }

@@ -1,5 +1,5 @@
 -- Damage is no answer of a command that is served, from tables that hold something.
-use Rattle.std.proofs.Common.{◌≡◌, ◌∙◌, ℕ, List, Result, Err, inl, inr, ap, subst, sym}
+use Rattle.std.proofs.Common.{◌≡◌, ◌≢◌, ◌⊎◌, ◌∙◌, ℕ, List, [], Result, Err, inl, inr, ap, subst}
 use Rattle.sqlite.specs.State.{State}
 use Rattle.zeb_engine.specs.declared.commands.Command.{Command}
 use Rattle.zeb_change.specs.declared.settings.Kind.{Kind}
@@ -7,13 +7,13 @@ use Rattle.zeb_change.specs.declared.refusals.Refusal.{Refusal}
 use Rattle.zeb_change.specs.declared.refusals.Refusal.TheVariants.{Damaged}
 use Rattle.zeb_engine.specs.declared.replies.Reply.{Reply}
 use Rattle.zeb_engine.specs.Answers.{answer_of, refused, IsFailure}
-use Rattle.zeb_change.specs.Refused.{damaged}
+use Rattle.zeb_change.specs.Refused.{damaged, why_of}
 use Rattle.zeb_change.specs.Conditions.{Conditions}
 use Rattle.zeb_engine.specs.Holdings.{Holdings}
 use Rattle.zeb_engine.specs.Image.{Keeps}
-use Rattle.zeb_engine.specs.Steps.{TakesFiles, changed_by_files}
+use Rattle.zeb_engine.specs.Steps.{Outcome, changed_by_files, turned}
 use Rattle.zeb_change.specs.Folding.{splits_of}
-use Rattle.zeb_engine.specs.Works.{ServesBy, ServesCommand}
+use Rattle.zeb_engine.specs.Works.{ServesCommand}
 use Rattle.zeb_engine.proofs.OwnAnswers.{IsOwnAnswer, answers_own, change_own, turned_own}
 use Rattle.zeb_engine.proofs.StepLemmas.{step_told}
 
@@ -28,8 +28,12 @@ module _ (c : Conditions) (old new : State) (result : Result Reply Refusal) (is 
     | inr failed ↦ no_failure (subst IsFailure (ap answer_of is) failed.0)
   ]
 
-  pub change_honest : (kind : Kind) (name : List ℕ) (texts : List (List ℕ)) → ServesBy (TakesFiles c kind name texts) old new result → ⊥
-  change_honest kind name texts serves = let served = serves before keeps in elim served.1 [
-    | inl told ↦ subst IsOwnAnswer (sym told.0 ∙ ap answer_of is) (turned_own c (changed_by_files c kind name (splits_of texts)) before (change_own c kind name texts))
-    | inr failed ↦ no_failure (subst IsFailure (ap answer_of is) failed.0)
-  ]
+module _ (refusal : Refusal) where
+  pub failure_honest : IsFailure (refused (why_of refusal)) → refusal ≢ Damaged
+  failure_honest failed is = no_failure (subst (λ r. IsFailure (refused (why_of r))) is failed)
+
+  -- a change that a failure refuses, or the definition before any file
+  pub start_honest : (c : Conditions) (before : Holdings) (kind : Kind) (name : List ℕ) → IsFailure (refused (why_of refusal)) ⊎ (turned c (changed_by_files c kind name (splits_of [])) before ≡ (refused (why_of refusal), before)) → refusal ≢ Damaged
+  start_honest c before kind name (inl failed) = failure_honest failed
+  start_honest c before kind name (inr told) = λ is.
+      subst IsOwnAnswer (ap (λ (o : Outcome). o.0) told ∙ ap (λ r. refused (why_of r)) is) (turned_own c (changed_by_files c kind name (splits_of [])) before (change_own c kind name []))

@@ -1,17 +1,18 @@
 //! Updates and deletes: the records of files are folded into a database in one transaction.
 
-ghost use Rattle.std.specs.Prelude.{◌≡◌, ℕ, List, map, Some, Ok, Err, false, IsTrue};
+ghost use Rattle.std.specs.Prelude.{◌≡◌, ◌≢◌, ℕ, List, map, Some, Ok, Err, false, IsTrue};
 ghost use Rattle.sqlite.specs.Held.{state};
 ghost use Rattle.sqlite.specs.State.{HasCleanDisk, Survives};
 ghost use Rattle.zeb_register.specs.Calls.{ChangesNothing};
 ghost use Rattle.zeb_register.specs.Formats.{version_of};
+ghost use Rattle.zeb_register.specs.Store.{IsStore};
 ghost use Rattle.zeb_engine.specs.PrivateChanging.{BeginsWith, last_of};
 ghost use Rattle.zeb_change.specs.Conditions.{Conditions};
 ghost use Rattle.zeb_engine.specs.Crashes.{Commits};
 ghost use Rattle.zeb_change.specs.Folding.{splits_of};
 ghost use Rattle.zeb_change.specs.Base.{Base};
 ghost use Rattle.zeb_engine.specs.Holdings.{Holdings, base_named};
-ghost use Rattle.zeb_engine.specs.Image.{Keeps};
+ghost use Rattle.zeb_engine.specs.Image.{IsImage, Keeps};
 ghost use Rattle.zeb_engine.specs.NameOf.{name_bytes};
 ghost use Rattle.zeb_change.specs.Refused.{NeverUnready, Meets};
 ghost use Rattle.zeb_change.specs.Reading.{HasFailedAt, NoneFailed, NoReadFault};
@@ -77,6 +78,11 @@ fn apply<S: Alter, L: Layout, R: Source>(
         (changed_by_files (conditions_of (version_of L.format) change.now.setting) change.now.setting.kind
         (name_bytes change.now.name.now) (splits_of texts)))
         (state S.Store tx.old.conn.now) (state S.Store tx.new.conn.now) result }
+    ensures honest { HasCleanDisk (state S.Store tx.new.conn.now) → IsTrue (state S.Store tx.old.conn.now).in_transaction
+        → (before : Holdings) → BeginsWith change.now.setting.kind (name_bytes change.now.name.now) change.now.found
+        (conditions_of (version_of L.format) change.now.setting) (state S.Store tx.old.conn.now).now.trees before
+        → IsStore (state S.Store tx.old.conn.now) → IsImage (state S.Store tx.old.conn.now).now.trees before
+        → result ≢ Err Refusal.Damaged }
     ensures failed { NoneFailed R.has_failed readers.old → (file : ℕ) → HasFailedAt R.has_failed readers.new file
         → result ≡ Err (Refusal.ReadFault file) }
     ensures fault { (file : ℕ) → result ≡ Err (Refusal.ReadFault file) → HasFailedAt R.has_failed readers.new file }
@@ -130,6 +136,10 @@ fn transact<S: Alter, L: Layout, R: Source>(
         (changed_by_files (conditions_of (version_of L.format) change.now.setting) change.now.setting.kind
         (name_bytes change.now.name.now) (splits_of texts)))
         (state S.Store connection.old) (state S.Store connection.new) result }
+    ensures honest { HasCleanDisk (state S.Store connection.new) → IsTrue (state S.Store connection.old).is_open
+        → (before : Holdings) → BeginsWith change.now.setting.kind (name_bytes change.now.name.now) change.now.found
+        (conditions_of (version_of L.format) change.now.setting) (state S.Store connection.old).now.trees before
+        → Keeps (state S.Store connection.old) before → result ≢ Err Refusal.Damaged }
     ensures failed { NoneFailed R.has_failed readers.old → (file : ℕ) → HasFailedAt R.has_failed readers.new file
         → result ≡ Err (Refusal.ReadFault file) }
     ensures fault { (file : ℕ) → result ≡ Err (Refusal.ReadFault file) → HasFailedAt R.has_failed readers.new file }
@@ -195,6 +205,10 @@ pub(crate) fn change_database<S: Alter, L: Layout, R: Source>(
         (turned (conditions_of (version_of L.format) setting.entry)
         (changed_by_files (conditions_of (version_of L.format) setting.entry) setting.entry.kind (name_bytes name.now) (splits_of texts)))
         (state S.Store connection.old) (state S.Store connection.new) result }
+    ensures honest { HasCleanDisk (state S.Store connection.new) → IsTrue (state S.Store connection.old).is_open
+        → (before : Holdings)
+        → IsReady (conditions_of (version_of L.format) setting.entry) (state S.Store connection.old).now.trees before
+        → Keeps (state S.Store connection.old) before → result ≢ Err Refusal.Damaged }
     ensures failed { NoneFailed R.has_failed readers.old → (file : ℕ) → HasFailedAt R.has_failed readers.new file
         → result ≡ Err (Refusal.ReadFault file) }
     ensures fault { (file : ℕ) → result ≡ Err (Refusal.ReadFault file) → HasFailedAt R.has_failed readers.new file }

@@ -1,6 +1,6 @@
 //! A register that commands are given to.
 
-ghost use Rattle.std.specs.Prelude.{◌≡◌, ◌⊎◌, ℕ, List, [], map, Some, Err, false, IsTrue, IfOk, IfErr, IsOkAnd, IsErrAnd, OnOk, length};
+ghost use Rattle.std.specs.Prelude.{◌≡◌, ◌≢◌, ◌⊎◌, ℕ, List, [], map, Some, Err, false, IsTrue, IfOk, IfErr, IsOkAnd, IsErrAnd, OnOk, length};
 ghost use Rattle.std.specs.List.{AllByRecursion};
 ghost use Rattle.std.specs.Result.{IsErr};
 ghost use Rattle.sqlite.specs.Held.{state};
@@ -370,10 +370,8 @@ impl<S: Alter, L: Layout> Session<S, L> {
         // A reader that has failed, also before the call, is named, whatever else would be refused.
         ensures sound { NoneFailed R.has_failed readers.new ⊎ IsErrAnd result (NamesFailed R.has_failed readers.new) }
         ensures fault { (file : ℕ) → result ≡ Err (Refusal.ReadFault file) → HasFailedAt R.has_failed readers.new file }
-        // Damage is answered only where the tables are the image of nothing that can be held.
-        ensures honest { HasCleanDisk (state S.Store self.new.connection) → (texts : List (List ℕ))
-            → map R.remaining readers.old ≡ map Some texts → NoneFailed R.has_failed readers.new
-            → result ≡ Err Refusal.Damaged
+        // Damage is answered only where the tables are the image of nothing that can be held, whatever the readers tell.
+        ensures honest { HasCleanDisk (state S.Store self.new.connection) → result ≡ Err Refusal.Damaged
             → (before : Holdings) → ¬ Keeps (state S.Store self.old.connection) before }
     {
         let answer = self.change_from(database, kind, readers);
@@ -402,6 +400,8 @@ impl<S: Alter, L: Layout> Session<S, L> {
         ensures fault { (file : ℕ) → result ≡ Err (Refusal.ReadFault file) → HasFailedAt R.has_failed readers.new file }
         ensures ready { HasCleanDisk (state S.Store self.new.connection)
             → GoesByTexts (version_of L.format) self.old.profile (state S.Store self.old.connection) result }
+        ensures honest { HasCleanDisk (state S.Store self.new.connection)
+            → (before : Holdings) → Keeps (state S.Store self.old.connection) before → result ≢ Err Refusal.Damaged }
     {
         self.work = Work::default();
         check_readers(readers)?;

@@ -5,6 +5,7 @@ use Rattle.zeb_marc.specs.Splits.{next_of, split_of}
 use Rattle.zeb_change.specs.Refused.{why_of, Meets}
 use Rattle.zeb_change.specs.Folding.{Progress, folded, file_folded}
 use Rattle.zeb_change.specs.Reading.{ReadsNext}
+use Rattle.zeb_change.specs.Holding.{HoldsSome}
 use Rattle.zeb_change.specs.UnderWay.{IsFolded, IsUnderWay, conditions_of}
 use Rattle.zeb_change.proofs.FoldFiles.{Good, at_first, ended, faulty, record_refused, record_taken, sound}
 use Rattle.zeb_change.proofs.files.fold_file.Goals as goal
@@ -19,6 +20,7 @@ loop-nth-init g c = record {
   under = λ clean mode text told version records_of p stands under_way.
       at_first g.L.Layout.format (conditions_of version c.args.setting.now) c.args.setting.now.kind c.args.file c.args.fold.now.progress.database.0 records_of text
       (g.R.Source.remaining c.args.reader.now) (state g.S.Store c.args.tx.now.conn.now) c.args.fold.now p told stands under_way;
+  honest = λ clean mode records_of some. some;
 }
 
 pub returns-in_err-read_record-clause-folded : goal.returns-in_err-read_record-clause-folded
@@ -96,4 +98,30 @@ loop-nth-preserved g c =
           c.read_record.new.buffer (g.R.Source.remaining c.read_record.new.reader) read next c.take_record.new.fold
           (subst₂ (λ i bytes. Meets {A = Progress} {X = Unit {0}} (λ q _. IsFolded g.L.Layout.format setting.profile.now i records_of now next c.take_record.new.fold q) (folded conditions setting.kind c.args.file c.loop-nth.nth bytes under.progress) (Ok tt))
           same_id c.bytes.ensures took);
+      honest = λ clean mode records_of some.
+          let was : HasCleanDisk now = omega (arith, c.take_record.ensures.crash.clean) in
+          let same_id : c.loop-nth.fold.progress.database.0 ≡ id = ap (λ d. d.0) c.loop-nth.invariant.database in
+          let way = subst (λ i. HoldsSome g.L.Layout.format setting.profile.now i records_of now c.loop-nth.fold.progress.last) (sym same_id) (c.loop-nth.invariant.honest was mode records_of some) in
+          let held = (c.in_ok-take_record.ensures.honest clean (c.loop-nth.invariant.stays was mode).mode records_of way).1 in
+          subst (λ i. HoldsSome g.L.Layout.format setting.profile.now i records_of next c.take_record.new.fold.progress.last) same_id held;
     }
+
+pub returns-in_err-read_record-clause-honest : goal.returns-in_err-read_record-clause-honest
+returns-in_err-read_record-clause-honest g c clean mode records_of some =
+    let result : c.from_residual.result ≡ Err c.in_err-read_record.field-0.0 = search rules in
+    let sound = c.in_err-read_record.ensures.sound in
+    rw result (λ is. sound cc, tt)
+
+pub returns-then-not-branch-clause-honest : goal.returns-then-not-branch-clause-honest
+returns-then-not-branch-clause-honest g c clean mode records_of some = (λ is. cc, c.loop-nth.invariant.honest clean mode records_of some)
+
+pub returns-in_err-take_record-clause-honest : goal.returns-in_err-take_record-clause-honest
+returns-in_err-take_record-clause-honest g c clean mode records_of some =
+    let now = state g.S.Store c.loop-nth.tx.conn.now in
+    let profile = c.args.setting.now.profile.now in
+    let was : HasCleanDisk now = omega (arith, c.take_record.ensures.crash.clean) in
+    let same_id : c.loop-nth.fold.progress.database.0 ≡ c.args.fold.now.progress.database.0 = ap (λ d. d.0) c.loop-nth.invariant.database in
+    let way = subst (λ i. HoldsSome g.L.Layout.format profile i records_of now c.loop-nth.fold.progress.last) (sym same_id) (c.loop-nth.invariant.honest was mode records_of some) in
+    let sound = (c.in_err-take_record.ensures.honest clean (c.loop-nth.invariant.stays was mode).mode records_of way).0 in
+    let result : c.from_residual-in_err-take_record.result ≡ Err c.in_err-take_record.field-0.0 = search rules in
+    rw result (λ is. sound cc, tt)

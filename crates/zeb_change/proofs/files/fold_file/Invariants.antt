@@ -5,6 +5,7 @@ use Rattle.zeb_marc.specs.Splits.{split_of}
 use Rattle.zeb_change.specs.Folding.{Progress, file_folded}
 use Rattle.zeb_change.specs.Base.{Kept}
 use Rattle.zeb_change.specs.Inside.{Continues}
+use Rattle.zeb_change.specs.Holding.{HoldsSome}
 use Rattle.zeb_change.specs.UnderWay.{IsUnderWay, StandsFor, conditions_of}
 use Rattle.zeb_change.proofs.FoldFiles.{Under}
 use Rattle.zeb_change.proofs.files.fold_file.Given as goal
@@ -24,4 +25,6 @@ invariant-loop-nth g l =
           → (version : List ℕ) (records_of : ℤ → List Kept) (p : Progress) → StandsFor l.fn.fold p → IsUnderWay g.L.Layout.format l.setting.profile.now id records_of old p.base
           → Under g.L.Layout.format (conditions_of version l.setting) l.setting.kind l.file l.nth id records_of (file_folded (conditions_of version l.setting) l.setting.kind l.file (split_of text) p)
           (g.R.Source.remaining l.reader) old now l.fold;
+      honest : HasCleanDisk now → IsTrue old.in_transaction → (records_of : ℤ → List Kept) → HoldsSome g.L.Layout.format l.setting.profile.now id records_of old l.fn.fold.progress.last
+          → HoldsSome g.L.Layout.format l.setting.profile.now id records_of now l.fold.progress.last;
     }

@@ -6,6 +6,7 @@ use Rattle.zeb_change.specs.Refused.{why_of, Meets}
 use Rattle.zeb_change.specs.Folding.{Progress, file_folded, files_folded, splits_of}
 use Rattle.zeb_change.specs.Reading.{HasFailedAt}
 use Rattle.zeb_change.specs.declared.refusals.Refusal.TheVariants.{ReadFault}
+use Rattle.zeb_change.specs.Holding.{HoldsSome}
 use Rattle.zeb_change.specs.UnderWay.{IsFolded, IsUnderWay, conditions_of}
 use Rattle.zeb_change.proofs.FoldFiles.{Good, sound}
 use Rattle.zeb_change.proofs.FoldAll.{text_at, as_many, fine_at, fine_more, failed_here, failed_now, none_at, before_files, all_files, file_refused, file_taken}
@@ -21,6 +22,7 @@ loop-index-init g c = record {
   fine = λ j none d. absurd (omega (arith, none));
   over = λ clean mode texts told version records_of p stands under_way.
       before_files g.L.Layout.format (conditions_of version c.args.setting.now) c.args.setting.now.kind texts c.args.fold.now.progress.database.0 records_of (state g.S.Store c.args.tx.now.conn.now) c.args.fold.now p stands under_way;
+  honest = λ clean mode records_of some. some;
 }
 
 pub returns-clause-folded : goal.returns-clause-folded
@@ -96,6 +98,12 @@ loop-index-preserved g c =
           file_taken g.L.Layout.format conditions setting.kind index texts id records_of said old now c.loop-index.fold over text.0 text.2 next c.fold_file.new.fold
           (subst (λ i. Meets {A = Progress} {X = Unit {0}} (λ q _. IsFolded g.L.Layout.format setting.profile.now i records_of now next c.fold_file.new.fold q) (file_folded conditions setting.kind (index + 1) (split_of text.0) over.progress) (Ok tt))
           same_id took);
+      honest = λ clean mode records_of some.
+          let was : HasCleanDisk now = omega (arith, c.fold_file.ensures.crash.clean) in
+          let same_id : c.loop-index.fold.progress.database.0 ≡ id = ap (λ d. d.0) c.loop-index.invariant.database in
+          let way = subst (λ i. HoldsSome g.L.Layout.format setting.profile.now i records_of now c.loop-index.fold.progress.last) (sym same_id) (c.loop-index.invariant.honest was mode records_of some) in
+          let held = (c.in_ok-fold_file.ensures.honest clean (c.loop-index.invariant.stays was mode).mode records_of way).1 in
+          subst (λ i. HoldsSome g.L.Layout.format setting.profile.now i records_of next c.fold_file.new.fold.progress.last) same_id held;
     }
 
 pub returns-clause-failed : goal.returns-clause-failed
@@ -119,3 +127,17 @@ returns-in_err-fold_file-clause-fault g c file told =
     let said : c.fold_file.result ≡ Err (ReadFault file) = cc in
     let fault = c.fold_file.ensures.fault file said in
     subst (HasFailedAt g.R.Source.has_failed (slice_set c.loop-index.readers index c.fold_file.new.reader)) (sym fault.0) (failed_now g.R.Source.has_failed c.loop-index.readers index c.loop-index.invariant.fine c.fold_file.new.reader within fault.1)
+
+pub returns-clause-honest : goal.returns-clause-honest
+returns-clause-honest g c clean mode records_of some = (λ is. cc, c.loop-index.invariant.honest clean mode records_of some)
+
+pub returns-in_err-fold_file-clause-honest : goal.returns-in_err-fold_file-clause-honest
+returns-in_err-fold_file-clause-honest g c clean mode records_of some =
+    let now = state g.S.Store c.loop-index.tx.conn.now in
+    let profile = c.args.setting.now.profile.now in
+    let was : HasCleanDisk now = omega (arith, c.fold_file.ensures.crash.clean) in
+    let same_id : c.loop-index.fold.progress.database.0 ≡ c.args.fold.now.progress.database.0 = ap (λ d. d.0) c.loop-index.invariant.database in
+    let way = subst (λ i. HoldsSome g.L.Layout.format profile i records_of now c.loop-index.fold.progress.last) (sym same_id) (c.loop-index.invariant.honest was mode records_of some) in
+    let sound = (c.in_err-fold_file.ensures.honest clean (c.loop-index.invariant.stays was mode).mode records_of way).0 in
+    let result : c.from_residual.result ≡ Err c.in_err-fold_file.field-0.0 = search rules in
+    rw result (λ is. sound cc, tt)

@@ -4,6 +4,7 @@ use Rattle.sqlite.specs.State.{HasCleanDisk, Survives}
 use Rattle.zeb_change.specs.Folding.{Progress, files_folded, splits_of}
 use Rattle.zeb_change.specs.Base.{Kept}
 use Rattle.zeb_change.specs.Inside.{Continues}
+use Rattle.zeb_change.specs.Holding.{HoldsSome}
 use Rattle.zeb_change.specs.UnderWay.{IsUnderWay, StandsFor, conditions_of}
 use Rattle.zeb_change.proofs.FoldAll.{Over}
 use Rattle.zeb_change.proofs.files.fold_files.Given as goal
@@ -23,4 +24,6 @@ invariant-loop-index g l =
       over : HasCleanDisk now → IsTrue old.in_transaction → (texts : List (List ℕ)) → map g.R.Source.remaining l.fn.readers ≡ map Some texts
           → (version : List ℕ) (records_of : ℤ → List Kept) (p : Progress) → StandsFor l.fn.fold p → IsUnderWay g.L.Layout.format l.setting.profile.now id records_of old p.base
           → Over g.L.Layout.format (conditions_of version l.setting) l.setting.kind l.index texts id records_of (files_folded (conditions_of version l.setting) l.setting.kind 1 (splits_of texts) p) old now l.fold;
+      honest : HasCleanDisk now → IsTrue old.in_transaction → (records_of : ℤ → List Kept) → HoldsSome g.L.Layout.format l.setting.profile.now id records_of old l.fn.fold.progress.last
+          → HoldsSome g.L.Layout.format l.setting.profile.now id records_of now l.fold.progress.last;
     }

@@ -1,11 +1,13 @@
-use Rattle.std.proofs.Common.{rules, arith, ◌≡◌, true, false, inl, inr, sym, nat_le, Err, subst}
+use Rattle.std.proofs.Common.{rules, arith, ◌≡◌, true, false, inl, inr, sym, nat_le, [], Err, subst}
 use Rattle.std.proofs.lemmas.Bool.Decides.{nat_tests}
 use Rattle.sqlite.specs.Held.{state}
-use Rattle.zeb_change.specs.Folding.{Progress, folded}
+use Rattle.zeb_change.specs.Folding.{Progress, changed_record, folded}
 use Rattle.zeb_change.specs.declared.files.Fold.{Fold}
-use Rattle.zeb_change.specs.UnderWay.{IsFolded, conditions_of}
+use Rattle.zeb_change.specs.declared.tally.Fate.{Fate}
+use Rattle.zeb_change.specs.UnderWay.{IsFolded, IsTaken, conditions_of}
 use Rattle.zeb_change.specs.Refused.{Meets}
 use Rattle.zeb_change.proofs.FoldSteps.{too_many, folded_err, one_folded}
+use Rattle.zeb_change.proofs.NoDamage.{record_tells, refused_honest, taken_holds}
 use Rattle.zeb_change.proofs.files.take_record.Goals as goal
 
 pub returns-then-fold-setting-clause-folded : goal.returns-then-fold-setting-clause-folded
@@ -33,3 +35,28 @@ returns-clause-folded g c = λ clean mode version records_of p stands under_way.
     one_folded g.L.Layout.format (conditions_of version c.args.setting.now) c.args.fold.now.progress.database.0 records_of (state g.S.Store c.args.tx.now.conn.now) (state g.S.Store c.change_record.new.tx.conn.now)
     c.args.setting.now.kind c.args.incoming.file c.args.incoming.nth c.args.incoming.bytes.now p c.args.fold.now after c.in_ok-fate.fate
     room stands c.count.ensures (c.in_ok-fate.ensures.taken clean mode version records_of p.base stands.last under_way) tt
+
+pub returns-in_err-fate-clause-honest : goal.returns-in_err-fate-clause-honest
+returns-in_err-fate-clause-honest g c clean mode records_of some =
+    let told : c.from_residual.result ≡ Err c.in_err-fate.field-0.0 = search rules in
+    let incoming = c.args.incoming in
+    let conditions = conditions_of [] c.args.setting.now in
+    let old = state g.S.Store c.args.tx.now.conn.now in
+    let new = state g.S.Store c.change_record.new.tx.conn.now in
+    let taken = IsTaken g.L.Layout.format c.args.setting.now.profile.now c.args.fold.now.progress.database.0 records_of old new c.change_record.new.progress.last in
+    let said = changed_record conditions c.args.setting.now.kind incoming.file incoming.nth incoming.bytes.now some.0 in
+    let sound = refused_honest {X = Fate} taken said c.in_err-fate.field-0.0 (record_tells conditions incoming.file incoming.nth incoming.bytes.now some.0 c.args.setting.now.kind)
+    (c.in_err-fate.ensures.taken clean mode [] records_of some.0 some.1 some.2) in
+    rw told (λ is. sound cc, tt)
+
+pub returns-clause-honest : goal.returns-clause-honest
+returns-clause-honest g c clean mode records_of some =
+    let incoming = c.args.incoming in
+    let conditions = conditions_of [] c.args.setting.now in
+    let old = state g.S.Store c.args.tx.now.conn.now in
+    let new = state g.S.Store c.change_record.new.tx.conn.now in
+    let said = changed_record conditions c.args.setting.now.kind incoming.file incoming.nth incoming.bytes.now some.0 in (
+      λ is. cc,
+      taken_holds g.L.Layout.format c.args.setting.now.profile.now c.args.fold.now.progress.database.0 records_of old new c.change_record.new.progress.last said c.in_ok-fate.fate
+          (c.in_ok-fate.ensures.taken clean mode [] records_of some.0 some.1 some.2),
+    )

@@ -17,6 +17,7 @@ use Rattle.zeb_engine.specs.Works.{Works}
 use Rattle.zeb_engine.proofs.ChangeSteps.{begun, first_way, fold_refused, fold_done, change_leads}
 use Rattle.zeb_change.proofs.TransactionLemmas.{kept_then, goes_on}
 use Rattle.zeb_change.proofs.UnderWay.{fault_fails}
+use Rattle.zeb_engine.proofs.Honest.{failure_honest}
 use Rattle.zeb_engine.proofs.WriteSteps.{Leads}
 use Rattle.zeb_engine.proofs.changes.apply.Goals as goal
 use Rattle.zeb_register.specs.Formats.{version_of}
@@ -141,3 +142,48 @@ pub returns-clause-failed : goal.returns-clause-failed
 returns-clause-failed g c = λ none file at.
     let is : ◌≡◌ {A = Result (Unit {0}) Refusal} (Ok tt) (Err (ReadFault file)) = c.in_ok-fold_files.ensures.failed none file at in
     absurd cc
+
+pub returns-in_err-fold_files-clause-honest : goal.returns-in_err-fold_files-clause-honest
+returns-in_err-fold_files-clause-honest g c clean inside before known store image =
+    let old = state g.S.Store c.args.tx.now.conn.now in
+    let mid = state g.S.Store c.database_put.new.tx.conn.now in
+    let change = c.args.change.now in
+    let kind = change.setting.kind in
+    let name = name_bytes change.name.now in
+    let id = c.in_ok-database.database.0 in
+    let conditions = conditions_of (version_of g.L.Layout.format) change.setting in
+    let format = g.L.Layout.format in
+    let session : AreSessions format conditions = record { version_is = refl; sound = c.is_of_some_text.ensures } in
+    let result : c.from_residual-in_err-fold_files.result ≡ Err c.in_err-fold_files.field-0.0 = search rules in
+    let first : HasCleanDisk mid = omega (arith, c.fold_files.ensures.crash.clean) in
+    let on = c.in_ok-database.ensures.call.ok first inside in
+    let put = subst₂ (λ n (l : ℕ). Changes databases_tree (PutsDatabase id n (pos l)) old mid) c.as_str-name.ensures c.last-last.ensures (c.in_ok-database.ensures.put first inside store) in
+    let b = begun format (registers_stay g.L.Layout.format) conditions session kind name change.name.now.named before old mid image id change.found known put in
+    let way = first_way format (registers_stay g.L.Layout.format) conditions session kind name change.name.now.named before mid id (last_of change.found) b in
+    let sound = (c.in_err-fold_files.ensures.honest clean on.mode b.image.records_of (b.start, c.last-last.ensures ∙ b.last_is, way)).0 in
+    rw result (λ is. sound cc)
+
+pub returns-in_err-database_put-clause-honest : goal.returns-in_err-database_put-clause-honest
+returns-in_err-database_put-clause-honest g c clean inside before known store image =
+    let old = state g.S.Store c.args.tx.now.conn.now in
+    let mid = state g.S.Store c.database_put.new.tx.conn.now in
+    let change = c.args.change.now in
+    let kind = change.setting.kind in
+    let name = name_bytes change.name.now in
+    let id = c.in_ok-database.database.0 in
+    let conditions = conditions_of (version_of g.L.Layout.format) change.setting in
+    let format = g.L.Layout.format in
+    let session : AreSessions format conditions = record { version_is = refl; sound = c.is_of_some_text.ensures } in
+    let now = state g.S.Store c.fold_files.new.tx.conn.now in
+    let broken = c.in_err-database_put.field-0.0 in
+    let result : c.from_residual-in_err-database_put.result ≡ Err (register_refusal broken) = search rules in
+    let second : HasCleanDisk now = omega (arith, c.database_put-2.ensures.call.crash.clean) in
+    let first : HasCleanDisk mid = omega (arith, c.fold_files.ensures.crash.clean) in
+    let on = c.in_ok-database.ensures.call.ok first inside in
+    let put = subst₂ (λ n (l : ℕ). Changes databases_tree (PutsDatabase id n (pos l)) old mid) c.as_str-name.ensures c.last-last.ensures (c.in_ok-database.ensures.put first inside store) in
+    let b = begun format (registers_stay g.L.Layout.format) conditions session kind name change.name.now.named before old mid image id change.found known put in
+    let way = first_way format (registers_stay g.L.Layout.format) conditions session kind name change.name.now.named before mid id (last_of change.found) b in
+    let further = c.in_ok-fold_files.ensures.stays second on.mode in
+    let held = (c.in_ok-fold_files.ensures.honest second on.mode b.image.records_of (b.start, c.last-last.ensures ∙ b.last_is, way)).1 in
+    let sound = failure_honest (register_refusal broken) (fault_fails broken (λ is. c.in_err-database_put.ensures.honest clean further.mode held.2.0 (ap Err is))) in
+    rw result (λ is. sound cc)

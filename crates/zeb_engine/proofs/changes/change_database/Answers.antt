@@ -1,4 +1,4 @@
-use Rattle.std.proofs.Common.{◌≡◌, Err, rules, arith, refl, sym, subst, inl, inr, Option, IsTrue}
+use Rattle.std.proofs.Common.{◌≡◌, [], Err, rules, arith, refl, sym, subst, inl, inr, Option, IsTrue}
 use Rattle.sqlite.specs.Effect.{Database as Contents}
 use Rattle.sqlite.specs.Held.{state}
 use Rattle.sqlite.specs.State.{HasCleanDisk}
@@ -14,6 +14,7 @@ use Rattle.zeb_engine.specs.Works.{IsReady, Serves}
 use Rattle.zeb_change.specs.UnderWay.{conditions_of}
 use Rattle.zeb_engine.proofs.ChangeBegins.{start_met, start_refused}
 use Rattle.zeb_engine.proofs.Crashing.{survives_after}
+use Rattle.zeb_engine.proofs.Honest.{start_honest}
 use Rattle.zeb_engine.proofs.Readers.{no_file_failed}
 use Rattle.zeb_engine.proofs.Serving.{keeps_still, early_serves}
 use Rattle.zeb_register.specs.Formats.{version_of}
@@ -85,3 +86,32 @@ returns-clause-survives g c =
     let nothing = c.found_for.ensures.same first in
     let begins = subst (λ (d : Contents). BeginsWith setting.kind name found k d.trees before) (sym (nothing known.1.1).1) known.1.0 in
     made known.1.1 texts told fine before (λ _. begins) (keeps_still before old mid nothing keeps))
+
+pub returns-in_err-found-clause-honest : goal.returns-in_err-found-clause-honest
+returns-in_err-found-clause-honest g c clean opened before ready keeps =
+    let old = state g.S.Store c.args.connection.now in
+    let new = state g.S.Store c.found_for.new.connection in
+    let setting = c.args.setting in
+    let k = conditions_of (version_of g.L.Layout.format) setting in
+    let name = name_bytes c.args.name.now in
+    let refusal = c.in_err-found.field-0.0 in
+    let result : c.from_residual.result ≡ Err refusal = search rules in
+    let sound = start_honest refusal k before setting.kind name
+    (start_refused {X = Option Database} (λ (base : Base) found. BeginsWith setting.kind name found k old.now.trees before × IsTrue new.is_open) k before name ready.0 ready.1 setting.kind (splits_of []) refusal
+    (c.in_err-found.ensures.begins clean opened k before ready.0 ready.1 keeps)) in
+    rw result (λ is. sound cc)
+
+pub returns-clause-honest : goal.returns-clause-honest
+returns-clause-honest g c clean opened before ready keeps =
+    let old = state g.S.Store c.args.connection.now in
+    let mid = state g.S.Store c.found_for.new.connection in
+    let setting = c.args.setting in
+    let k = conditions_of (version_of g.L.Layout.format) setting in
+    let name = name_bytes c.args.name.now in
+    let found = c.in_ok-found.found in
+    let first : HasCleanDisk mid = omega (arith, c.transact.ensures.survives.clean) in
+    let known = start_met {A = Base} {X = Option Database} (λ base found. BeginsWith setting.kind name found k old.now.trees before × IsTrue mid.is_open) (start_of setting.kind name (base_named name ready.0)) found
+    (c.in_ok-found.ensures.begins first opened k before ready.0 ready.1 keeps) in
+    let nothing = c.found_for.ensures.same first in
+    let begins = subst (λ (d : Contents). BeginsWith setting.kind name found k d.trees before) (sym (nothing known.1.1).1) known.1.0 in
+    c.transact.ensures.honest clean known.1.1 before begins (keeps_still before old mid nothing keeps)

@@ -1,11 +1,13 @@
-use Rattle.std.proofs.Common.{◌≡◌, ◌∙◌, ℕ, List, map, Some, Result, Ok, Err, IsTrue, rules, arith, refl, sym, subst, subst₂}
+use Rattle.std.proofs.Common.{◌≡◌, ◌≢◌, ◌∙◌, ℕ, List, map, Some, Result, Ok, Err, IsTrue, rules, arith, refl, sym, subst, subst₂}
 use Rattle.sqlite.specs.Held.{Held, state}
 use Rattle.sqlite.specs.State.{HasCleanDisk, Survives}
 use Rattle.zeb_change.specs.declared.refusals.Refusal.{Refusal}
-use Rattle.zeb_change.specs.declared.refusals.Refusal.TheVariants.{ReadFault}
+use Rattle.zeb_change.specs.declared.refusals.Refusal.TheVariants.{Damaged, ReadFault}
 use Rattle.zeb_engine.specs.declared.replies.Reply.{Reply}
 use Rattle.zeb_engine.specs.PrivateChanging.{BeginsWith}
 use Rattle.zeb_change.specs.Conditions.{Conditions}
+use Rattle.zeb_engine.specs.Image.{IsImage}
+use Rattle.zeb_register.specs.Store.{IsStore}
 use Rattle.zeb_engine.specs.Crashes.{Commits}
 use Rattle.zeb_engine.specs.NameOf.{name_bytes}
 use Rattle.zeb_change.specs.Reading.{NoneFailed}
@@ -106,3 +108,18 @@ returns-clause-survives g c =
     let open_inside : IsTrue (state g.S.Store inside).is_open = subst (λ (held : Held _). IsTrue (state g.S.Store held).is_open) (sym begun) opened in
     let works = c.in_ok-reply.ensures.works (omega (arith, c.commit.ensures.survives.clean)) (rw begun refl) open_inside texts told fine in
     commit_stands g.L.Layout.format k (outcome k texts) g.S.Store (fits k) old inside mid c.in_ok-reply.reply begun works db is))
+
+pub returns-in_err-reply-clause-honest : goal.returns-in_err-reply-clause-honest
+returns-in_err-reply-clause-honest g c clean opened before known keeps =
+    let begun = c.transaction-tx.ensures.begun in
+    let change = c.args.change.now in
+    let k = conditions_of (version_of g.L.Layout.format) change.setting in
+    let fits = BeginsWith change.setting.kind (name_bytes change.name.now) change.found k in
+    let end = c.drop-tx.new.self.0 in
+    let late : HasCleanDisk (state g.S.Store end) = search rules in
+    let refusal = c.in_err-reply.field-0.0 in
+    let result : c.from_residual.result ≡ Err refusal = search rules in
+    let at = (keeps opened).0 in
+    let said = c.in_err-reply.ensures.honest (omega (arith, c.drop-tx.ensures.survives.clean)) (rw begun refl) before in
+    let sound = subst (λ (held : Held _). fits (state g.S.Store held).now.trees before → IsStore (state g.S.Store held) → IsImage (state g.S.Store held).now.trees before → ◌≢◌ {A = Result Reply Refusal} (Err refusal) (Err Damaged)) begun said known (record { is = at.0.is; sound = at.0.sound; keyed = at.0.keyed }) at.1 in
+    rw result (λ is. sound cc)

@@ -1,4 +1,4 @@
-use Rattle.std.proofs.Common.{◌≡◌, Err, IsErrAnd, IsTrue, List, inr, refl, rules, arith, sym, subst}
+use Rattle.std.proofs.Common.{◌≡◌, [], Err, IsErrAnd, IsTrue, List, inl, inr, refl, rules, arith, sym, subst}
 use Rattle.sqlite.specs.Held.{state}
 use Rattle.sqlite.specs.State.{HasCleanDisk}
 use Rattle.zeb_change.specs.Conditions.{conditions}
@@ -11,6 +11,9 @@ use Rattle.zeb_change.specs.Folding.{splits_of}
 use Rattle.zeb_engine.specs.Works.{ServesBy}
 use Rattle.zeb_engine.proofs.Commanding.{ends_serve, ready_met, unready_serves}
 use Rattle.zeb_engine.proofs.Crashing.{survives_after}
+use Rattle.zeb_engine.proofs.Honest.{start_honest}
+use Rattle.zeb_engine.proofs.Turns.{turn_refused}
+use Rattle.zeb_change.specs.Refused.{why_of}
 use Rattle.zeb_engine.proofs.Readers.{no_file_failed, named_or_none}
 use Rattle.zeb_engine.proofs.Serving.{keeps_still}
 use Rattle.zeb_engine.proofs.session.Session.change_from.Goals as goal
@@ -85,3 +88,27 @@ returns-in_err-check_readers-clause-ready g c clean store =
     let version = version_of g.L.Layout.format in
     let result : c.from_residual.result ≡ Err c.in_err-check_readers.field-0.0 = search rules in
     rw result (subst (IsRefusedOver version c.args.self.now.profile trees) (sym c.in_err-check_readers.ensures.named.2) tt)
+
+pub returns-in_err-check_ready-clause-honest : goal.returns-in_err-check_ready-clause-honest
+returns-in_err-check_ready-clause-honest g c clean before keeps =
+    let limits = c.args.self.now.limits in
+    let k = conditions (version_of g.L.Layout.format) c.args.self.now.profile limits in
+    let name = name_bytes c.args.database.now in
+    let refusal = c.in_err-check_ready.field-0.0 in
+    let result : c.from_residual-in_err-check_ready.result ≡ Err refusal = search rules in
+    let sound = start_honest refusal k before c.args.kind name (elim (c.in_err-check_ready.ensures.ready clean limits before keeps) [
+      | inl failed ↦ inl failed
+      | inr said ↦ inr (turn_refused k before (changed_by_files k c.args.kind name (splits_of [])) (why_of refusal) said)
+    ]) in
+    rw result (λ is. sound cc)
+
+pub returns-clause-honest : goal.returns-clause-honest
+returns-clause-honest g c clean before keeps =
+    let limits = c.args.self.now.limits in
+    let k = conditions (version_of g.L.Layout.format) c.args.self.now.profile limits in
+    let old = state g.S.Store c.args.self.now.connection in
+    let mid = state g.S.Store c.check_ready.new.connection in
+    let first : HasCleanDisk mid = omega (arith, c.change_database.ensures.survives.clean) in
+    let met = ready_met {X = Unit {0}} (λ (bases : List Base) x. IsTrue old.is_open × IsTrue mid.is_open) (ready k before) tt (c.in_ok-check_ready.ensures.ready first limits before keeps) in
+    let same = c.check_ready.ensures.same first in
+    c.change_database.ensures.honest clean met.2.1 before (met.0, met.1) (keeps_still before old mid same keeps)

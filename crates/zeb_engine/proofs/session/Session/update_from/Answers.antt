@@ -5,7 +5,6 @@ use Rattle.zeb_change.specs.Conditions.{conditions}
 use Rattle.zeb_engine.specs.NameOf.{name_bytes}
 use Rattle.zeb_engine.specs.Steps.{TakesFiles}
 use Rattle.zeb_engine.proofs.Crashing.{endures, survives_as}
-use Rattle.zeb_engine.proofs.Honest.{change_honest}
 use Rattle.zeb_engine.proofs.session.Session.update_from.Goals as goal
 use Rattle.zeb_register.specs.Formats.{version_of}
 
@@ -23,8 +22,4 @@ returns-clause-crash g c = λ clean texts told fine.
     (did.serves clean texts told fine)
 
 pub returns-clause-honest : goal.returns-clause-honest
-returns-clause-honest g c clean texts told fine is before keeps =
-    let k = conditions (version_of g.L.Layout.format) c.args.self.now.profile c.args.self.now.limits in
-    let old = state g.S.Store c.args.self.now.connection in
-    let new = state g.S.Store c.change_from-answer.new.self.connection in
-    change_honest k old new c.change_from-answer.result is before keeps c.args.kind (name_bytes c.args.database.now) texts (c.change_from-answer.ensures.serves clean texts told fine)
+returns-clause-honest g c clean is before keeps = c.change_from-answer.ensures.honest clean before keeps is
