@@ -96,7 +96,7 @@ moved_part db sysno (first ∷ changed) content up once c (inr later) =
     (later_rise (key_in first) (map key_in changed) once) c later
 
 -- whether a key is one of these
-told_key : (keys : List Key) (key : Key) → Has keys key ⊎ ¬ Has keys key
+pub told_key : (keys : List Key) (key : Key) → Has keys key ⊎ ¬ Has keys key
 told_key [] key = inr (λ h. h)
 told_key (first ∷ keys) key = elim (told_by key_total keys_apart key first) [
   | inl same ↦ inl (inl same)

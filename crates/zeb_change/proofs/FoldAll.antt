@@ -110,7 +110,7 @@ pub record Over (format : Format) (c : Conditions) (kind : Kind) (index : ℕ) (
   pub is_folded : IsFolded format c.profile id records_of old now fold progress
   pub rest : told ≡ files_folded c kind (index + 1) (splits_of (drop index texts)) progress
 
-pub before_files : (format : Format) (c : Conditions) (kind : Kind) (texts : List (List ℕ)) (id : ℤ) (records_of : ℤ → List Kept) (old : State) (fold : Fold) (p : Progress) → StandsFor fold p → IsUnderWay format c.profile id records_of old p.base
+unfoldable pub before_files : (format : Format) (c : Conditions) (kind : Kind) (texts : List (List ℕ)) (id : ℤ) (records_of : ℤ → List Kept) (old : State) (fold : Fold) (p : Progress) → StandsFor fold p → IsUnderWay format c.profile id records_of old p.base
     → Over format c kind 0 texts id records_of (files_folded c kind 1 (splits_of texts) p) old old fold
 before_files format c kind texts id records_of old fold p stands under_way = record { progress = p; is_folded = record { stands = stands; under_way = under_way; names = (refl, refl) }; rest = refl }
 
@@ -132,14 +132,17 @@ module _ (format : Format) (c : Conditions) (kind : Kind) (index : ℕ) (texts :
     file_refused why is = says ∙ ap (λ r. r then files_folded c kind (index + 1 + 1) (splits_of (drop (index + 1) texts))) is
 
     pub file_taken : (new : State) (then_fold : Fold) → Meets {A = Progress} {X = Unit {0}} (Good format c id records_of now new then_fold) (file_folded c kind (index + 1) (split_of text) over.progress) (Ok tt)
-        → Over format c kind (index + 1) texts id records_of told old new then_fold
+        → (further : Over format c kind (index + 1) texts id records_of told old new then_fold) × (file_folded c kind (index + 1) (split_of text) over.progress ≡ Ok further.progress)
     file_taken new then_fold meets = by (file_folded c kind (index + 1) (split_of text) over.progress) refl meets
       where
         by : (said : Result Progress Why) → file_folded c kind (index + 1) (split_of text) over.progress ≡ said → Meets {A = Progress} {X = Unit {0}} (Good format c id records_of now new then_fold) said (Ok tt)
-            → Over format c kind (index + 1) texts id records_of told old new then_fold
-        by (Ok q) is taken = record {
-          progress = q;
-          is_folded = record { stands = taken.stands; under_way = taken.under_way; names = (taken.names.0 ∙ over.is_folded.names.0, taken.names.1 ∙ over.is_folded.names.1) };
-          rest = says ∙ ap (λ r. r then files_folded c kind (index + 1 + 1) (splits_of (drop (index + 1) texts))) is;
-        }
+            → (further : Over format c kind (index + 1) texts id records_of told old new then_fold) × (file_folded c kind (index + 1) (split_of text) over.progress ≡ Ok further.progress)
+        by (Ok q) is taken = (
+          record {
+            progress = q;
+            is_folded = record { stands = taken.stands; under_way = taken.under_way; names = (taken.names.0 ∙ over.is_folded.names.0, taken.names.1 ∙ over.is_folded.names.1) };
+            rest = says ∙ ap (λ r. r then files_folded c kind (index + 1 + 1) (splits_of (drop (index + 1) texts))) is;
+          },
+          is,
+        )
         by (Err why) is none = absurd none

@@ -90,22 +90,26 @@ module _ (format : Format) (c : Conditions) (kind : Kind) (file nth : ℕ) (id :
 
     -- a record is folded in
     pub record_taken : (new : State) (then_fold : Fold) → Meets {A = Progress} {X = Unit {0}} (Good format c id records_of now new then_fold) (folded c kind file nth slice under.progress) (Ok tt)
-        → Under format c kind file (nth + 1) id records_of told after old new then_fold
+        → (further : Under format c kind file (nth + 1) id records_of told after old new then_fold) × (folded c kind file nth slice under.progress ≡ Ok further.progress) × (next_of under.left ≡ a_slice slice further.left)
     record_taken new then_fold meets = by (folded c kind file nth slice under.progress) refl meets
       where
         by : (said : Result Progress Why) → folded c kind file nth slice under.progress ≡ said → Meets {A = Progress} {X = Unit {0}} (Good format c id records_of now new then_fold) said (Ok tt)
-            → Under format c kind file (nth + 1) id records_of told after old new then_fold
-        by (Ok q) is taken = record {
-          left = next.0;
-          progress = q;
-          remains = next.2;
-          is_folded = record { stands = taken.stands; under_way = taken.under_way; names = names_then old now new under.is_folded.names taken.names };
-          rest = says ∙ ap (λ r. r then rest_folded c kind file (nth + 1) next.0) is;
-        }
+            → (further : Under format c kind file (nth + 1) id records_of told after old new then_fold) × (folded c kind file nth slice under.progress ≡ Ok further.progress) × (next_of under.left ≡ a_slice slice further.left)
+        by (Ok q) is taken = (
+          record {
+            left = next.0;
+            progress = q;
+            remains = next.2;
+            is_folded = record { stands = taken.stands; under_way = taken.under_way; names = names_then old now new under.is_folded.names taken.names };
+            rest = says ∙ ap (λ r. r then rest_folded c kind file (nth + 1) next.0) is;
+          },
+          is,
+          next.1,
+        )
         by (Err why) is none = absurd none
 
 -- before the first record
-pub at_first : (format : Format) (c : Conditions) (kind : Kind) (file : ℕ) (id : ℤ) (records_of : ℤ → List Kept) (text : List ℕ) (remaining : Option (List ℕ)) (old : State) (fold : Fold) (p : Progress)
+unfoldable pub at_first : (format : Format) (c : Conditions) (kind : Kind) (file : ℕ) (id : ℤ) (records_of : ℤ → List Kept) (text : List ℕ) (remaining : Option (List ℕ)) (old : State) (fold : Fold) (p : Progress)
     → remaining ≡ Some text → StandsFor fold p → IsUnderWay format c.profile id records_of old p.base → Under format c kind file 1 id records_of (file_folded c kind file (split_of text) p) remaining old old fold
 unfolding file_folded
 at_first format c kind file id records_of text remaining old fold p is stands under_way = record {

@@ -22,7 +22,7 @@ use Rattle.zeb_change.specs.PrivateRecords.{AreOccurrencesOf, IsElderAs, IsIdle}
 use Rattle.zeb_change.proofs.BaseLemmas.{one_ident}
 use Rattle.zeb_change.proofs.KeptLemmas.{one_found}
 
-place_total : IsTotalOrder place_cmp
+pub place_total : IsTotalOrder place_cmp
 place_total = then_total (on_total (λ (p : Place). p.seq) nat_cmp_total) (on_total (λ (p : Place). p.pos) nat_cmp_total)
 
 -- no key is changed where the occurrences are the same

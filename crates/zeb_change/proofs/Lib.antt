@@ -17,5 +17,7 @@ pub mod FoldSteps
 pub mod FoldFiles
 pub mod FoldAll
 pub mod NoDamage
+pub mod FoldCosts
 pub mod ReadFaults
+pub mod CostLemmas
 pub mod TermTexts

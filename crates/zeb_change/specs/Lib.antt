@@ -5,6 +5,7 @@ pub mod Base
 pub mod Conditions
 pub mod Folding
 pub mod Occurs
+pub mod Costs
 pub mod Stored
 pub mod Inside
 pub mod Reading

@@ -19,7 +19,10 @@ use Rattle.zeb_change.specs.Refused.{Why, Meets}
 use Rattle.zeb_change.specs.Folding.{Changed, ident_in}
 use Rattle.zeb_change.specs.Base.{Base, Kept, kept_as}
 use Rattle.zeb_change.specs.UnderWay.{IsTaken, IsUnderWay}
-use Rattle.zeb_register.specs.Formats.{Format}
+use Rattle.zeb_register.specs.Formats.{Format, holds_in}
+use Rattle.zeb_register.specs.Content.{Content, IsRising as IsRisingContent}
+use Rattle.zeb_register.specs.declared.registers.Work.{Work}
+use Rattle.zeb_change.specs.Costs.{IsRecordCost, IsWorkFor, occurs_by}
 
 -- the occurrences of the record with these bytes, rising
 pub record AreOccurrencesOf (profile : List Directive) (bytes : List ℕ) (occurrences : List Occurrence) : Type 0 where
@@ -48,3 +51,14 @@ Takes format profile id old new last after Fits said result =
 -- a record that is replaced by the same bytes counts as updated, and each table of the registers has the rows that it had
 abbrev pub IsIdle : State → State → Fate → Type 0
 IsIdle old new fate = (fate ≡ Updated) × KeepsRegisters old.now.trees new.now.trees
+
+-- the bytes of the elder, if there is one
+abbrev pub elder_bytes : Option Elder → Option (List ℕ)
+elder_bytes None = None
+elder_bytes (Some elder) = Some elder.bytes.items
+
+-- on registers that hold some content, the work of putting the one record in the other's place is that for the keys whose places differ
+abbrev pub WorksAs : (format : Format) → ℕ → List Directive → (elder newer : Option (List ℕ)) → State → Work → Work → Type 0
+WorksAs format row_work profile elder newer old before after =
+    (content : Content) → holds_in format old.now.trees content → IsRisingContent content
+    → (n : ℕ) × IsRecordCost (occurs_by profile elder) (occurs_by profile newer) n × IsWorkFor row_work n before after

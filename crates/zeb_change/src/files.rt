@@ -5,13 +5,15 @@ ghost use Rattle.sqlite.specs.Held.{state};
 ghost use Rattle.sqlite.specs.State.{HasCleanDisk, Survives};
 ghost use Rattle.zeb_marc.specs.Splits.{next_of, split_of};
 ghost use Rattle.zeb_change.specs.Folding.{Progress as FoldProgress, folded, file_folded, files_folded, splits_of};
-ghost use Rattle.zeb_change.specs.Base.{Kept};
+ghost use Rattle.zeb_change.specs.Base.{Base, Kept};
+ghost use Rattle.zeb_change.specs.Costs.{IsCostIn, IsFilesCost, IsSlicesCost, IsWorkFor};
 ghost use Rattle.zeb_change.specs.Refused.{NeverUnready, Meets};
 ghost use Rattle.zeb_change.specs.Reading.{HasFailedAt, NamesFailed, NoneFailed, NoReadFault, ReadsNext};
 ghost use Rattle.zeb_change.specs.Inside.{Stays};
 ghost use Rattle.zeb_change.specs.Holding.{HoldsSome};
 ghost use Rattle.zeb_change.specs.UnderWay.{IsFolded, IsUnderWay, StandsFor, conditions_of};
 
+use crate::counts::counts_are_numbers;
 use crate::records::{Incoming, Progress, change_record};
 use crate::refusals::Refusal;
 use crate::settings::Setting;
@@ -94,6 +96,11 @@ fn take_record<S: Alter, L: Layout>(
     ensures unread { NoReadFault result }
     ensures ready { NeverUnready result }
     ensures crash { Survives (state S.Store tx.old.conn.now) (state S.Store tx.new.conn.now) (λ _. ⊥) }
+    ensures work { HasCleanDisk (state S.Store tx.new.conn.now) → IsTrue (state S.Store tx.old.conn.now).in_transaction
+        → (records_of : ℤ → List Kept) (base : Base)
+        → IsUnderWay L.format setting.now.profile.now fold.old.progress.database.0 records_of (state S.Store tx.old.conn.now) base
+        → OnOk result ((n : ℕ) × IsCostIn setting.now.profile.now setting.now.kind incoming.entry.bytes.now base n
+        × IsWorkFor L.row_work n fold.old.progress.work fold.new.progress.work) }
 {
     if fold.tally.records >= setting.limits.records {
         return Err(Refusal::TooManyRecords);
@@ -133,6 +140,13 @@ fn fold_file<S: Alter, L: Layout, R: Source>(
     ensures fault { (other : ℕ) → result ≡ Err (Refusal.ReadFault other) → (other ≡ file) × (R.has_failed reader.new ≡ true) }
     ensures ready { NeverUnready result }
     ensures crash { Survives (state S.Store tx.old.conn.now) (state S.Store tx.new.conn.now) (λ _. ⊥) }
+    ensures work { HasCleanDisk (state S.Store tx.new.conn.now) → IsTrue (state S.Store tx.old.conn.now).in_transaction
+        → (text : List ℕ) → R.remaining reader.old ≡ Some text
+        → (version : List ℕ) (records_of : ℤ → List Kept) (p : FoldProgress) → StandsFor fold.old p
+        → IsUnderWay L.format setting.now.profile.now fold.old.progress.database.0 records_of (state S.Store tx.old.conn.now) p.base
+        → OnOk result ((n : ℕ)
+        × IsSlicesCost (conditions_of version setting.now) setting.now.kind file 1 (split_of text).slices p n
+        × IsWorkFor L.row_work n fold.old.progress.work fold.new.progress.work) }
 {
     for nth in 1..u64::MAX {
         if !read_record(reader, buffer, file, nth)? {
@@ -144,6 +158,7 @@ fn fold_file<S: Alter, L: Layout, R: Source>(
             nth,
         };
         take_record::<S, L>(tx, setting, fold, incoming)?;
+        counts_are_numbers(&fold.progress.work);
     }
     Ok(())
 }
@@ -183,10 +198,17 @@ pub fn fold_files<S: Alter, L: Layout, R: Source>(
     ensures fault { (file : ℕ) → result ≡ Err (Refusal.ReadFault file) → HasFailedAt R.has_failed readers.new file }
     ensures ready { NeverUnready result }
     ensures crash { Survives (state S.Store tx.old.conn.now) (state S.Store tx.new.conn.now) (λ _. ⊥) }
+    ensures work { HasCleanDisk (state S.Store tx.new.conn.now) → IsTrue (state S.Store tx.old.conn.now).in_transaction
+        → (texts : List (List ℕ)) → map R.remaining readers.old ≡ map Some texts
+        → (version : List ℕ) (records_of : ℤ → List Kept) (p : FoldProgress) → StandsFor fold.old p
+        → IsUnderWay L.format setting.now.profile.now fold.old.progress.database.0 records_of (state S.Store tx.old.conn.now) p.base
+        → OnOk result ((n : ℕ) × IsFilesCost (conditions_of version setting.now) setting.now.kind 1 (splits_of texts) p n
+        × IsWorkFor L.row_work n fold.old.progress.work fold.new.progress.work) }
 {
     for (index, reader) in readers.iter_mut().enumerate() {
         let file = index as u64 + 1;
         fold_file::<S, L, R>(tx, setting, fold, buffer, reader, file)?;
+        counts_are_numbers(&fold.progress.work);
     }
     Ok(())
 }

@@ -2,6 +2,7 @@
 #![tactic(auto)]
 
 mod changed_keys;
+mod counts;
 mod faults;
 mod files;
 mod records;

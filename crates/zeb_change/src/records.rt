@@ -14,11 +14,13 @@ ghost use Rattle.zeb_change.specs.Refused.{Why, why_of, IsFailing, NeverUnready,
 ghost use Rattle.zeb_change.specs.Folding.{Changed, changed_record, updated, deleted, ident_in};
 ghost use Rattle.zeb_change.specs.Base.{Base, Kept, kept_as};
 ghost use Rattle.zeb_change.specs.Reading.{NoReadFault};
-ghost use Rattle.zeb_change.specs.PrivateRecords.{AreOccurrencesOf, IsElderAs, IsIdle, IsNewer, Takes};
+ghost use Rattle.zeb_change.specs.PrivateRecords.{AreOccurrencesOf, IsElderAs, IsIdle, IsNewer, Takes, WorksAs, elder_bytes};
+ghost use Rattle.zeb_change.specs.Costs.{IsCostIn, IsRecordCost, IsWorkFor};
 ghost use Rattle.zeb_change.specs.Inside.{Stays};
 ghost use Rattle.zeb_change.specs.UnderWay.{IsTaken, IsUnderWay, conditions_of};
 
 use crate::changed_keys::changed_keys;
+use crate::counts::counts_are_numbers;
 use crate::refusals::Refusal;
 use crate::settings::{Kind, Setting};
 use crate::tally::Fate;
@@ -86,6 +88,12 @@ fn change_keys<S: Alter, L: Layout>(
     ensures idle { AreRising elder.now → AreRising newer.now → AreTheSame elder.now newer.now
         → ((state S.Store tx.new.conn.now).now ≡ (state S.Store tx.old.conn.now).now)
         × KeepsCounts (state S.Store tx.old.conn.now) (state S.Store tx.new.conn.now) × (progress.new ≡ progress.old) }
+    ensures work { HasCleanDisk (state S.Store tx.new.conn.now) → IsTrue (state S.Store tx.old.conn.now).in_transaction
+        → IsStore (state S.Store tx.old.conn.now)
+        → AreRising elder.now → AreRising newer.now
+        → OnOk result ((content : Content) → holds_in L.format (state S.Store tx.old.conn.now).now.trees content → IsRising content
+        → (n : ℕ) × IsRecordCost (Contains elder.now) (Contains newer.now) n
+        × IsWorkFor L.row_work n progress.old.work progress.new.work) }
 {
     let changed_keys = changed_keys(alloc, elder, newer)?;
     for changed in &changed_keys {
@@ -98,6 +106,7 @@ fn change_keys<S: Alter, L: Layout>(
             &changed.old,
             &changed.new,
         )?;
+        counts_are_numbers(&progress.work);
     }
     Ok(())
 }
@@ -135,6 +144,11 @@ fn insert<S: Alter, L: Layout>(
     ensures unread { NoReadFault result }
     ensures ready { NeverUnready result }
     ensures crash { Survives (state S.Store tx.old.conn.now) (state S.Store tx.new.conn.now) (λ _. ⊥) }
+    ensures work { HasCleanDisk (state S.Store tx.new.conn.now) → IsTrue (state S.Store tx.old.conn.now).in_transaction
+        → IsStore (state S.Store tx.old.conn.now)
+        → IsNewer setting.now.profile.now newer.now.ident.now newer.now.bytes.now newer.now.occurrences.items
+        → OnOk result (WorksAs L.format L.row_work setting.now.profile.now None (Some newer.now.bytes.now)
+        (state S.Store tx.old.conn.now) progress.old.work progress.new.work) }
 {
     if progress.last >= setting.limits.numbers {
         return Err(Refusal::DatabaseFull);
@@ -174,6 +188,11 @@ fn replace<S: Alter, L: Layout>(
         → elder.now.bytes.items ≡ newer.now.bytes.now
         → IfOk result (λ fate. IsIdle (state S.Store tx.old.conn.now) (state S.Store tx.new.conn.now) fate
         × (progress.new ≡ progress.old)) }
+    ensures work { HasCleanDisk (state S.Store tx.new.conn.now) → IsTrue (state S.Store tx.old.conn.now).in_transaction
+        → IsStore (state S.Store tx.old.conn.now)
+        → IsNewer setting.now.profile.now newer.now.ident.now newer.now.bytes.now newer.now.occurrences.items
+        → OnOk result (WorksAs L.format L.row_work setting.now.profile.now (Some elder.now.bytes.items) (Some newer.now.bytes.now)
+        (state S.Store tx.old.conn.now) progress.old.work progress.new.work) }
 {
     let old = kept_occurrences(setting, elder)?;
     let sysno = elder.sysno;
@@ -201,6 +220,10 @@ fn withdraw<S: Alter, L: Layout>(
     ensures unread { NoReadFault result }
     ensures ready { NeverUnready result }
     ensures crash { Survives (state S.Store tx.old.conn.now) (state S.Store tx.new.conn.now) (λ _. ⊥) }
+    ensures work { HasCleanDisk (state S.Store tx.new.conn.now) → IsTrue (state S.Store tx.old.conn.now).in_transaction
+        → IsStore (state S.Store tx.old.conn.now)
+        → OnOk result (WorksAs L.format L.row_work setting.now.profile.now (Some elder.now.bytes.items) None
+        (state S.Store tx.old.conn.now) progress.old.work progress.new.work) }
 {
     let old = kept_occurrences(setting, elder)?;
     let sysno = elder.sysno;
@@ -236,6 +259,11 @@ fn keep<S: Alter, L: Layout>(
         → (same : Elder) → elder ≡ Some same → same.bytes.items ≡ newer.now.bytes.now
         → IfOk result (λ fate. IsIdle (state S.Store tx.old.conn.now) (state S.Store tx.new.conn.now) fate
         × (progress.new ≡ progress.old)) }
+    ensures work { HasCleanDisk (state S.Store tx.new.conn.now) → IsTrue (state S.Store tx.old.conn.now).in_transaction
+        → IsStore (state S.Store tx.old.conn.now)
+        → IsNewer setting.now.profile.now newer.now.ident.now newer.now.bytes.now newer.now.occurrences.items
+        → OnOk result (WorksAs L.format L.row_work setting.now.profile.now (elder_bytes elder) (Some newer.now.bytes.now)
+        (state S.Store tx.old.conn.now) progress.old.work progress.new.work) }
 {
     match elder {
         Some(elder) => replace::<S, L>(tx, setting, progress, &elder, newer),
@@ -296,6 +324,11 @@ pub(crate) fn change_record<S: Alter, L: Layout>(
         → (kept : Kept) → Contains base.records kept → kept.bytes ≡ incoming.entry.bytes.now
         → IfOk result (λ fate. IsIdle (state S.Store tx.old.conn.now) (state S.Store tx.new.conn.now) fate
         × (progress.new ≡ progress.old)) }
+    ensures work { HasCleanDisk (state S.Store tx.new.conn.now) → IsTrue (state S.Store tx.old.conn.now).in_transaction
+        → (records_of : ℤ → List Kept) (base : Base)
+        → IsUnderWay L.format setting.now.profile.now progress.old.database.0 records_of (state S.Store tx.old.conn.now) base
+        → OnOk result ((n : ℕ) × IsCostIn setting.now.profile.now setting.now.kind incoming.entry.bytes.now base n
+        × IsWorkFor L.row_work n progress.old.work progress.new.work) }
 {
     let Incoming { bytes, file, nth } = incoming;
     let (record, ident) = sound_record(setting, incoming)?;

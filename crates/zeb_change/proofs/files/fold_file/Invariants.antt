@@ -7,6 +7,8 @@ use Rattle.zeb_change.specs.Base.{Kept}
 use Rattle.zeb_change.specs.Inside.{Continues}
 use Rattle.zeb_change.specs.Holding.{HoldsSome}
 use Rattle.zeb_change.specs.UnderWay.{IsUnderWay, StandsFor, conditions_of}
+use Rattle.zeb_change.specs.Costs.{IsSlicesCost}
+use Rattle.zeb_change.proofs.FoldCosts.{Spent}
 use Rattle.zeb_change.proofs.FoldFiles.{Under}
 use Rattle.zeb_change.proofs.files.fold_file.Given as goal
 
@@ -23,8 +25,10 @@ invariant-loop-nth g l =
       counted : l.fold.tally.records + 1 ≡ l.fn.fold.tally.records + l.nth;
       under : HasCleanDisk now → IsTrue old.in_transaction → (text : List ℕ) → g.R.Source.remaining l.fn.reader ≡ Some text
           → (version : List ℕ) (records_of : ℤ → List Kept) (p : Progress) → StandsFor l.fn.fold p → IsUnderWay g.L.Layout.format l.setting.profile.now id records_of old p.base
-          → Under g.L.Layout.format (conditions_of version l.setting) l.setting.kind l.file l.nth id records_of (file_folded (conditions_of version l.setting) l.setting.kind l.file (split_of text) p)
-          (g.R.Source.remaining l.reader) old now l.fold;
+          → (under : Under g.L.Layout.format (conditions_of version l.setting) l.setting.kind l.file l.nth id records_of (file_folded (conditions_of version l.setting) l.setting.kind l.file (split_of text) p)
+          (g.R.Source.remaining l.reader) old now l.fold)
+          × Spent g.L.Layout.row_work (IsSlicesCost (conditions_of version l.setting) l.setting.kind l.file l.nth (split_of under.left).slices under.progress)
+          (IsSlicesCost (conditions_of version l.setting) l.setting.kind l.file 1 (split_of text).slices p) l.fn.fold.progress.work l.fold.progress.work;
       honest : HasCleanDisk now → IsTrue old.in_transaction → (records_of : ℤ → List Kept) → HoldsSome g.L.Layout.format l.setting.profile.now id records_of old l.fn.fold.progress.last
           → HoldsSome g.L.Layout.format l.setting.profile.now id records_of now l.fold.progress.last;
     }

@@ -10,9 +10,12 @@ use Rattle.zeb_change.specs.Holding.{HoldsSome}
 use Rattle.zeb_change.specs.UnderWay.{IsFolded, IsUnderWay, conditions_of}
 use Rattle.zeb_change.proofs.FoldFiles.{Good, sound}
 use Rattle.zeb_change.proofs.FoldAll.{text_at, as_many, fine_at, fine_more, failed_here, failed_now, none_at, before_files, all_files, file_refused, file_taken}
+use Rattle.zeb_change.specs.Costs.{IsFilesCost}
+use Rattle.zeb_change.proofs.FoldCosts.{RestCost, none_spent, spent_more, all_spent, file_cost, no_file_cost}
 use Rattle.zeb_change.proofs.files.fold_files.Goals as goal
 
 pub loop-index-init : goal.loop-index-init
+unfolding before_files
 loop-index-init g c = record {
   same = refl;
   crash = search rules;
@@ -20,8 +23,10 @@ loop-index-init g c = record {
   database = refl;
   unread = λ j d behind. refl;
   fine = λ j none d. absurd (omega (arith, none));
-  over = λ clean mode texts told version records_of p stands under_way.
-      before_files g.L.Layout.format (conditions_of version c.args.setting.now) c.args.setting.now.kind texts c.args.fold.now.progress.database.0 records_of (state g.S.Store c.args.tx.now.conn.now) c.args.fold.now p stands under_way;
+  over = λ clean mode texts told version records_of p stands under_way. (
+    before_files g.L.Layout.format (conditions_of version c.args.setting.now) c.args.setting.now.kind texts c.args.fold.now.progress.database.0 records_of (state g.S.Store c.args.tx.now.conn.now) c.args.fold.now p stands under_way,
+    none_spent g.L.Layout.row_work (IsFilesCost (conditions_of version c.args.setting.now) c.args.setting.now.kind 1 (splits_of texts) p) c.args.fold.now.progress.work,
+  );
   honest = λ clean mode records_of some. some;
 }
 
@@ -29,7 +34,7 @@ pub returns-clause-folded : goal.returns-clause-folded
 returns-clause-folded g c = λ clean mode texts told fine version records_of p stands under_way.
     let conditions = conditions_of version c.args.setting.now in
     let id = c.args.fold.now.progress.database.0 in
-    let over = c.loop-index.invariant.over clean mode texts told version records_of p stands under_way in
+    let over = (c.loop-index.invariant.over clean mode texts told version records_of p stands under_way).0 in
     let many = as_many g.R.Source.remaining c.args.readers.now texts told in
     let none : length texts ≤ c.loop-index.index = omega (arith, c.loop-index-test.false, c.loop-index.auto.readers, many) in
     all_files g.L.Layout.format conditions c.args.setting.now.kind c.loop-index.index texts id records_of (files_folded conditions c.args.setting.now.kind 1 (splits_of texts) p)
@@ -46,7 +51,7 @@ returns-in_err-fold_file-clause-folded g c = λ clean mode texts told fine versi
     let index = c.loop-index.index in
     let readers = c.loop-index.readers in
     let was : HasCleanDisk now = omega (arith, c.fold_file.ensures.crash.clean) in
-    let over = c.loop-index.invariant.over was mode texts told version records_of p stands under_way in
+    let over = (c.loop-index.invariant.over was mode texts told version records_of p stands under_way).0 in
     let here = c.index-readers-index.is ∙ c.loop-index.invariant.unread index c.index-readers-index.result (omega arith) in
     let text = text_at g.R.Source.remaining c.args.readers.now texts index c.index-readers-index.result told (omega (arith, c.loop-index-test.true, c.loop-index.auto.readers)) here in
     let within : index < length (slice_set readers index c.fold_file.new.reader) = subst (λ n. index < n) (sym (length-set readers index c.fold_file.new.reader)) (omega (arith, c.loop-index-test.true, c.loop-index.auto.readers)) in
@@ -87,7 +92,8 @@ loop-index-preserved g c =
       over = λ clean mode texts told version records_of p stands under_way.
           let conditions = conditions_of version setting in
           let was : HasCleanDisk now = omega (arith, c.fold_file.ensures.crash.clean) in
-          let over = c.loop-index.invariant.over was mode texts told version records_of p stands under_way in
+          let so_far = c.loop-index.invariant.over was mode texts told version records_of p stands under_way in
+          let over = so_far.0 in
           let here = c.index-readers-index.is ∙ c.loop-index.invariant.unread index c.index-readers-index.result (omega arith) in
           let text = text_at g.R.Source.remaining c.args.readers.now texts index c.index-readers-index.result told (omega (arith, c.loop-index-test.true, c.loop-index.auto.readers)) here in
           let fine : g.R.Source.has_failed c.fold_file.new.reader ≡ false = sound (g.R.Source.has_failed c.fold_file.new.reader) (λ failed. let no = c.in_ok-fold_file.ensures.failed failed in absurd (cc)) in
@@ -95,9 +101,15 @@ loop-index-preserved g c =
           let way = subst (λ i. IsUnderWay g.L.Layout.format setting.profile.now i records_of now over.progress.base) (sym same_id) over.is_folded.under_way in
           let took = c.in_ok-fold_file.ensures.folded clean (c.loop-index.invariant.stays was mode).mode text.0 (ap g.R.Source.remaining (sym c.index-readers-index.is) ∙ text.1) fine version records_of over.progress over.is_folded.stands way in
           let said = files_folded conditions setting.kind 1 (splits_of texts) p in
-          file_taken g.L.Layout.format conditions setting.kind index texts id records_of said old now c.loop-index.fold over text.0 text.2 next c.fold_file.new.fold
+          let further = file_taken g.L.Layout.format conditions setting.kind index texts id records_of said old now c.loop-index.fold over text.0 text.2 next c.fold_file.new.fold
           (subst (λ i. Meets {A = Progress} {X = Unit {0}} (λ q _. IsFolded g.L.Layout.format setting.profile.now i records_of now next c.fold_file.new.fold q) (file_folded conditions setting.kind (index + 1) (split_of text.0) over.progress) (Ok tt))
-          same_id took);
+          same_id took) in
+          let worked = c.in_ok-fold_file.ensures.work clean (c.loop-index.invariant.stays was mode).mode text.0 (ap g.R.Source.remaining (sym c.index-readers-index.is) ∙ text.1) version records_of over.progress over.is_folded.stands way in (
+            further.0,
+            spent_more g.L.Layout.row_work worked.0 (RestCost conditions setting.kind index texts over.progress) _ _
+                c.args.fold.now.progress.work c.loop-index.fold.progress.work c.fold_file.new.fold.progress.work c.counts_are_numbers.ensures so_far.1 worked.2
+                (λ m more. file_cost conditions setting.kind index texts over.progress text.0 further.0.progress worked.0 m text.2 worked.1 further.1 more),
+          );
       honest = λ clean mode records_of some.
           let was : HasCleanDisk now = omega (arith, c.fold_file.ensures.crash.clean) in
           let same_id : c.loop-index.fold.progress.database.0 ≡ id = ap (λ d. d.0) c.loop-index.invariant.database in
@@ -127,6 +139,15 @@ returns-in_err-fold_file-clause-fault g c file told =
     let said : c.fold_file.result ≡ Err (ReadFault file) = cc in
     let fault = c.fold_file.ensures.fault file said in
     subst (HasFailedAt g.R.Source.has_failed (slice_set c.loop-index.readers index c.fold_file.new.reader)) (sym fault.0) (failed_now g.R.Source.has_failed c.loop-index.readers index c.loop-index.invariant.fine c.fold_file.new.reader within fault.1)
+
+pub returns-clause-work : goal.returns-clause-work
+returns-clause-work g c = λ clean mode texts told version records_of p stands under_way.
+    let conditions = conditions_of version c.args.setting.now in
+    let so_far = c.loop-index.invariant.over clean mode texts told version records_of p stands under_way in
+    let many = as_many g.R.Source.remaining c.args.readers.now texts told in
+    let none : length texts ≤ c.loop-index.index = omega (arith, c.loop-index-test.false, c.loop-index.auto.readers, many) in
+    all_spent g.L.Layout.row_work (RestCost conditions c.args.setting.now.kind c.loop-index.index texts so_far.0.progress) _ c.args.fold.now.progress.work c.loop-index.fold.progress.work
+    (no_file_cost conditions c.args.setting.now.kind c.loop-index.index texts so_far.0.progress none) so_far.1
 
 pub returns-clause-honest : goal.returns-clause-honest
 returns-clause-honest g c clean mode records_of some = (λ is. cc, c.loop-index.invariant.honest clean mode records_of some)

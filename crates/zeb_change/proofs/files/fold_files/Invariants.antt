@@ -6,7 +6,9 @@ use Rattle.zeb_change.specs.Base.{Kept}
 use Rattle.zeb_change.specs.Inside.{Continues}
 use Rattle.zeb_change.specs.Holding.{HoldsSome}
 use Rattle.zeb_change.specs.UnderWay.{IsUnderWay, StandsFor, conditions_of}
+use Rattle.zeb_change.specs.Costs.{IsFilesCost}
 use Rattle.zeb_change.proofs.FoldAll.{Over}
+use Rattle.zeb_change.proofs.FoldCosts.{RestCost, Spent}
 use Rattle.zeb_change.proofs.files.fold_files.Given as goal
 
 abbrev pub invariant-loop-index : goal.invariant-loop-index
@@ -23,7 +25,9 @@ invariant-loop-index g l =
       fine : (j : ℕ) → j < l.index → (d : g.row.R.Denot) → g.R.Source.has_failed (get_or l.readers j d) ≡ false;
       over : HasCleanDisk now → IsTrue old.in_transaction → (texts : List (List ℕ)) → map g.R.Source.remaining l.fn.readers ≡ map Some texts
           → (version : List ℕ) (records_of : ℤ → List Kept) (p : Progress) → StandsFor l.fn.fold p → IsUnderWay g.L.Layout.format l.setting.profile.now id records_of old p.base
-          → Over g.L.Layout.format (conditions_of version l.setting) l.setting.kind l.index texts id records_of (files_folded (conditions_of version l.setting) l.setting.kind 1 (splits_of texts) p) old now l.fold;
+          → (over : Over g.L.Layout.format (conditions_of version l.setting) l.setting.kind l.index texts id records_of (files_folded (conditions_of version l.setting) l.setting.kind 1 (splits_of texts) p) old now l.fold)
+          × Spent g.L.Layout.row_work (RestCost (conditions_of version l.setting) l.setting.kind l.index texts over.progress) (IsFilesCost (conditions_of version l.setting) l.setting.kind 1 (splits_of texts) p)
+          l.fn.fold.progress.work l.fold.progress.work;
       honest : HasCleanDisk now → IsTrue old.in_transaction → (records_of : ℤ → List Kept) → HoldsSome g.L.Layout.format l.setting.profile.now id records_of old l.fn.fold.progress.last
           → HoldsSome g.L.Layout.format l.setting.profile.now id records_of now l.fold.progress.last;
     }

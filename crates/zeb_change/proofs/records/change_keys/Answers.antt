@@ -13,6 +13,8 @@ use Rattle.zeb_change.specs.PrivateChangedKeys.{AreChangedKeys, key_in}
 use Rattle.zeb_change.proofs.ChangeKeysContent.{moved, moved_none, moved_more, moved_rises, moved_storable, moved_is, one_reposted, still_old, keeps_then, only_damaged}
 use Rattle.sqlite_rules.proofs.ListLemmas.{contains_had}
 use Rattle.zeb_change.proofs.KeptLemmas.{has_taken}
+use Rattle.zeb_change.specs.Costs.{IsWorkFor}
+use Rattle.zeb_change.proofs.CostLemmas.{no_work, one_more, keys_cost}
 use Rattle.zeb_change.proofs.Idle.{none_changed}
 use Rattle.zeb_change.proofs.records.change_keys.Goals as goal
 use Rattle.zeb_register.specs.Formats.{holds_in}
@@ -25,6 +27,7 @@ loop-changed-init g c = record {
   place = (refl, refl);
   store = λ clean mode store. (store, (refl, refl, refl));
   held = λ clean mode store before up had. subst (holds_in g.L.Layout.format _) (sym (moved_none c.args.progress.now.database.0 c.args.sysno before)) had;
+  work = λ clean mode store content up had. no_work g.L.Layout.row_work c.args.progress.now.work;
   idle = λ none. (refl, record { changes = refl; last_rowid = refl }, refl);
 }
 
@@ -62,6 +65,15 @@ loop-changed-preserved g c =
           let told : IsChangedAt c.loop-changed.progress.database.0 (key_in item) sysno c.deref-in-loop-changed.result.now content (changed_at db (key_in item) sysno item.new.items content) =
           subst₂ (λ d places. IsChangedAt d (key_in item) sysno places content (changed_at db (key_in item) sysno item.new.items content)) (sym same_db) (sym c.deref-in-loop-changed.ensures.value) is in
           subst (holds_in g.L.Layout.format _) (sym more) (change.2 content (changed_at db (key_in item) sysno item.new.items content) held told);
+      work = λ clean mode store before up had.
+          let was : HasCleanDisk now = omega (arith, c.key_change.ensures.call.crash.clean) in
+          let stays = c.loop-changed.invariant.stays was mode in
+          let kept = c.loop-changed.invariant.store was mode store in
+          let held = c.loop-changed.invariant.held was mode store before up had in
+          one_more g.L.Layout.row_work index c.args.progress.now.work c.loop-changed.progress.work c.key_change.new.work
+          c.counts_are_numbers.ensures
+          (c.loop-changed.invariant.work was mode store before up had)
+          (c.in_ok-key_change.ensures.work clean stays.mode kept.0 (moved db sysno (take index items) before) held);
       idle = λ none. absurd (omega (arith, c.loop-changed-test.true, ap length none));
     }
 
@@ -117,3 +129,15 @@ pub returns-in_err-key_change-clause-idle : goal.returns-in_err-key_change-claus
 returns-in_err-key_change-clause-idle g c = λ up_elder up_newer same.
     let none = c.deref-changed-items.ensures.value ∙ none_changed c.args.elder.now c.args.newer.now c.in_ok-changed_keys.changed_keys.items (c.in_ok-changed_keys.ensures up_elder up_newer) same in
     absurd (omega (arith, c.loop-changed-test.true, ap length none))
+
+-- just the changed keys were written, each once
+pub returns-clause-work : goal.returns-clause-work
+returns-clause-work g c = λ clean mode store up_elder up_newer content had up.
+    let items = c.deref-changed-items.result.now in
+    let changed = c.in_ok-changed_keys.changed_keys.items in
+    let are = c.in_ok-changed_keys.ensures up_elder up_newer in
+    let all : c.loop-changed.changed-index ≡ length changed = omega (arith, c.loop-changed-test.false, c.loop-changed.auto.changed-index-end, ap length c.deref-changed-items.ensures.value) in (
+      length changed,
+      keys_cost c.args.elder.now c.args.newer.now changed are,
+      subst (λ n. IsWorkFor g.L.Layout.row_work n c.args.progress.now.work c.loop-changed.progress.work) all (c.loop-changed.invariant.work clean mode store content up had),
+    )

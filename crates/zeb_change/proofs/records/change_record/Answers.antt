@@ -1,4 +1,4 @@
-use Rattle.std.proofs.Common.{◌≡◌, ◌≢◌, ◌↔◌, ◌∙◌, rules, arith, List, Option, Result, Ok, Err, inr, ap, sym, subst}
+use Rattle.std.proofs.Common.{◌≡◌, ◌≢◌, ◌↔◌, ◌∙◌, rules, arith, List, Option, Some, None, Result, Ok, Err, inr, ap, sym, subst}
 use Rattle.std.specs.List.{Contains}
 use Rattle.sqlite.specs.Held.{state}
 use Rattle.sqlite.specs.State.{HasCleanDisk}
@@ -19,6 +19,10 @@ use Rattle.zeb_change.specs.Base.{kept_as}
 use Rattle.zeb_change.specs.Outcomes.{register_refusal}
 use Rattle.zeb_change.specs.PrivateRecords.{IsNewer, IsElderAs}
 use Rattle.zeb_change.specs.UnderWay.{IsTaken, conditions_of}
+use Rattle.sqlite.specs.Effect.{Database}
+use Rattle.zeb_register.specs.Formats.{holds_in}
+use Rattle.zeb_change.specs.Costs.{newer_of}
+use Rattle.zeb_change.proofs.CostLemmas.{cost_in, no_work, none_cost, ok_so}
 use Rattle.zeb_change.proofs.BaseLemmas.{one_ident}
 use Rattle.zeb_change.proofs.FoldLemmas.{named_record}
 use Rattle.zeb_change.proofs.Idle.{elder_alike, idle_after}
@@ -183,3 +187,88 @@ returns-in-Update-default-clause-idle g c clean mode update records_of base unde
     let elder = elder_alike profile base under.2 ident bytes named kept contained alike c.in_ok-elder.elder there in
     let idle = c.keep.ensures.idle clean reads.mode (store_same old mid reads.now_is under.0) is elder.0 elder.1 elder.2 in
     idle_after old mid new (c.keep.new.progress ≡ c.args.progress.now) c.keep.result reads.now_is idle
+
+pub returns-in-Update-default-clause-work : goal.returns-in-Update-default-clause-work
+returns-in-Update-default-clause-work g c = λ clean mode records_of base under.
+    let old = state g.S.Store c.args.tx.now.conn.now in
+    let mid = state g.S.Store c.record_of_ident.new.tx.conn.now in
+    let profile = c.args.setting.now.profile.now in
+    let id = c.args.progress.now.database.0 in
+    let bytes = c.args.incoming.bytes.now in
+    let ident = c.as_str-in-Update-default.result.now in
+    let items = c.in_ok-occurrences-in-Update-default.field-0.items in
+    let clean_mid : HasCleanDisk mid = omega (arith, c.keep.ensures.crash.clean) in
+    let reads = c.in_ok-elder.ensures.call.ok clean_mid mode in
+    let same : c.as_str.result.now ≡ ident = c.as_str.ensures.value ∙ sym c.as_str-in-Update-default.ensures.value in
+    let found = subst (λ (i : List _). IsElderOf old.now.trees id i c.in_ok-elder.elder) same (c.in_ok-elder.ensures.value clean_mid mode under.0) in
+    let there = elder_is id records_of old.now.trees base under.1.kept ident (one_ident profile base under.2) c.in_ok-elder.elder found in
+    let named = c.in_ok-record.ensures.named ∙ ap Ok (sym c.as_str-in-Update-default.ensures.value) in
+    let is : IsNewer profile ident bytes items = record {
+      whole = c.in_ok-record.ensures.whole.sound;
+      named = named;
+      text = c.as_str-in-Update-default.utf8;
+      found = record {
+        rising = c.in_ok-occurrences-in-Update-default.ensures.rising;
+        each = subst (λ (fields : List FieldText). (o : Occurrence) → Contains items o ↔ IsOccurrence (unit_targets profile) (units_of fields) o) c.in_ok-record.ensures.whole.fields_are
+            c.in_ok-occurrences-in-Update-default.ensures.members;
+      };
+    } in
+    let held = subst (λ (db : Database). holds_in g.L.Layout.format db.trees under.1.content) (sym reads.now_is) under.1.held in
+    let kind = ap (λ (k : Kind). newer_of k bytes) c.in-Update-default.is-0 in
+    ok_so c.keep.result _ _ (λ works.
+    let worked = works under.1.content held under.1.posted.rising in
+    (worked.0, cost_in profile c.args.setting.now.kind bytes ident base c.in_ok-elder.elder (Some bytes) worked.0 named there kind worked.1, worked.2))
+    (c.keep.ensures.work clean reads.mode (store_same old mid reads.now_is under.0) is)
+
+pub returns-in-Delete-Some-clause-work : goal.returns-in-Delete-Some-clause-work
+returns-in-Delete-Some-clause-work g c = λ clean mode records_of base under.
+    let old = state g.S.Store c.args.tx.now.conn.now in
+    let mid = state g.S.Store c.record_of_ident.new.tx.conn.now in
+    let profile = c.args.setting.now.profile.now in
+    let id = c.args.progress.now.database.0 in
+    let bytes = c.args.incoming.bytes.now in
+    let ident = c.as_str.result.now in
+    let clean_mid : HasCleanDisk mid = omega (arith, c.withdraw.ensures.crash.clean) in
+    let reads = c.in_ok-elder.ensures.call.ok clean_mid mode in
+    let found = elder_is id records_of old.now.trees base under.1.kept ident (one_ident profile base under.2) c.in_ok-elder.elder (c.in_ok-elder.ensures.value clean_mid mode under.0) in
+    let there = subst (λ (e : Option Elder). IsElderAs ident base e) c.in-Delete-Some.is-1 found in
+    let named = c.in_ok-record.ensures.named ∙ ap Ok (sym c.as_str.ensures.value) in
+    let held = subst (λ (db : Database). holds_in g.L.Layout.format db.trees under.1.content) (sym reads.now_is) under.1.held in
+    let kind = ap (λ (k : Kind). newer_of k bytes) c.in-Delete-Some.is-0 in
+    ok_so c.withdraw.result _ _ (λ works.
+    let worked = works under.1.content held under.1.posted.rising in
+    (worked.0, cost_in profile c.args.setting.now.kind bytes ident base (Some c.in-Delete-Some.elder) None worked.0 named there kind worked.1, worked.2))
+    (c.withdraw.ensures.work clean reads.mode (store_same old mid reads.now_is under.0))
+
+pub returns-in-Adelete-Some-clause-work : goal.returns-in-Adelete-Some-clause-work
+returns-in-Adelete-Some-clause-work g c = λ clean mode records_of base under.
+    let old = state g.S.Store c.args.tx.now.conn.now in
+    let mid = state g.S.Store c.record_of_ident.new.tx.conn.now in
+    let profile = c.args.setting.now.profile.now in
+    let id = c.args.progress.now.database.0 in
+    let bytes = c.args.incoming.bytes.now in
+    let ident = c.as_str.result.now in
+    let clean_mid : HasCleanDisk mid = omega (arith, c.withdraw-in-Adelete-Some.ensures.crash.clean) in
+    let reads = c.in_ok-elder.ensures.call.ok clean_mid mode in
+    let found = elder_is id records_of old.now.trees base under.1.kept ident (one_ident profile base under.2) c.in_ok-elder.elder (c.in_ok-elder.ensures.value clean_mid mode under.0) in
+    let there = subst (λ (e : Option Elder). IsElderAs ident base e) c.in-Adelete-Some.is-1 found in
+    let named = c.in_ok-record.ensures.named ∙ ap Ok (sym c.as_str.ensures.value) in
+    let held = subst (λ (db : Database). holds_in g.L.Layout.format db.trees under.1.content) (sym reads.now_is) under.1.held in
+    let kind = ap (λ (k : Kind). newer_of k bytes) c.in-Adelete-Some.is-0 in
+    ok_so c.withdraw-in-Adelete-Some.result _ _ (λ works.
+    let worked = works under.1.content held under.1.posted.rising in
+    (worked.0, cost_in profile c.args.setting.now.kind bytes ident base (Some c.in-Adelete-Some.elder) None worked.0 named there kind worked.1, worked.2))
+    (c.withdraw-in-Adelete-Some.ensures.work clean reads.mode (store_same old mid reads.now_is under.0))
+
+-- a record that is passed over changes no key
+pub returns-clause-work : goal.returns-clause-work
+returns-clause-work g c = λ clean mode records_of base under.
+    let old = state g.S.Store c.args.tx.now.conn.now in
+    let profile = c.args.setting.now.profile.now in
+    let bytes = c.args.incoming.bytes.now in
+    let ident = c.as_str.result.now in
+    let found = elder_is c.args.progress.now.database.0 records_of old.now.trees base under.1.kept ident (one_ident profile base under.2) c.in_ok-elder.elder (c.in_ok-elder.ensures.value clean mode under.0) in
+    let none = subst (λ (e : Option Elder). IsElderAs ident base e) c.in-Adelete-None.is-1 found in
+    let named = c.in_ok-record.ensures.named ∙ ap Ok (sym c.as_str.ensures.value) in
+    let kind = ap (λ (k : Kind). newer_of k bytes) c.in-Adelete-None.is-0 in
+    (0, cost_in profile c.args.setting.now.kind bytes ident base None None 0 named none kind (none_cost profile), no_work g.L.Layout.row_work c.args.progress.now.work)

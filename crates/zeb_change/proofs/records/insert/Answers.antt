@@ -9,6 +9,8 @@ use Rattle.zeb_change.specs.UnderWay.{IsTaken, conditions_of}
 use Rattle.zeb_change.proofs.TransactionLemmas.{continues_then, goes_on}
 use Rattle.zeb_change.proofs.TakenLemmas.{newer_storable}
 use Rattle.zeb_change.proofs.TurnLemmas.{passed_on, none_rise, inserted_at, inserted}
+use Rattle.zeb_change.proofs.UnderWay.{registers_still}
+use Rattle.zeb_change.proofs.CostLemmas.{new_cost}
 use Rattle.zeb_change.proofs.records.insert.Goals as goal
 use Rattle.zeb_register.proofs.FormatLemmas.{registers_stay}
 
@@ -57,3 +59,19 @@ returns-in_err-change_keys-clause-taken g c clean mode version is records_of bas
     ] in
     passed_on {A = Changed} (IsTaken g.L.Layout.format profile c.args.progress.now.database.0 records_of old new c.change_keys.new.progress.last)
     (updated (conditions_of version c.args.setting.now) ident bytes base (kept_as ident base)) c.from_residual-in_err-change_keys.result c.in_err-change_keys.field-0.0 told failed
+
+-- the registers are as they were when their keys are changed
+pub returns-clause-work : goal.returns-clause-work
+returns-clause-work g c = λ clean mode store is content had up.
+    let old = state g.S.Store c.args.tx.now.conn.now in
+    let mid = state g.S.Store c.record_put.new.tx.conn.now in
+    let profile = c.args.setting.now.profile.now in
+    let ident = c.args.newer.now.ident.now in
+    let bytes = c.args.newer.now.bytes.now in
+    let clean_mid : HasCleanDisk mid = omega (arith, c.change_keys.ensures.crash.clean) in
+    let put = c.in_ok-record_put.ensures.call.ok clean_mid mode in
+    let rows = put.rows store in
+    let held = registers_stay g.L.Layout.format old.now.trees mid.now.trees content (registers_still old mid _ rows) had in
+    let are = subst (IsNewer profile ident bytes) (sym c.deref.ensures.value) is in
+    let worked = c.in_ok-change_keys.ensures.work clean put.on.mode rows.layout none_rise are.found.rising content held up in
+    (worked.0, new_cost profile bytes c.deref.result.now worked.0 are.found worked.1, worked.2)

@@ -10,6 +10,7 @@ use Rattle.zeb_change.proofs.TakenLemmas.{elder_numbered, newer_storable}
 use Rattle.zeb_change.proofs.TurnLemmas.{passed_on, elder_whole, replaced_at, replaced}
 use Rattle.zeb_change.proofs.Idle.{one_analysis}
 use Rattle.zeb_change.proofs.UnderWay.{registers_still}
+use Rattle.zeb_change.proofs.CostLemmas.{put_cost}
 use Rattle.zeb_change.proofs.records.replace.Goals as goal
 use Rattle.zeb_register.proofs.FormatLemmas.{registers_stay}
 
@@ -78,3 +79,20 @@ returns-clause-idle g c clean mode store is alike =
     let idle = c.change_keys.ensures.idle was.rising are.found.rising (one_analysis profile bytes c.deref.result.now c.deref-2.result.now found are.found) in
     let still = ap (λ db. db.trees) idle.0 in
     ((refl, (ap (λ trees. trees 7) still ∙ kept.0, ap (λ trees. trees 9) still ∙ kept.1, ap (λ trees. trees 11) still ∙ kept.2)), idle.2)
+
+-- the registers are as they were when their keys are changed
+pub returns-clause-work : goal.returns-clause-work
+returns-clause-work g c = λ clean mode store is content had up.
+    let old = state g.S.Store c.args.tx.now.conn.now in
+    let mid = state g.S.Store c.record_put.new.tx.conn.now in
+    let profile = c.args.setting.now.profile.now in
+    let ident = c.args.newer.now.ident.now in
+    let bytes = c.args.newer.now.bytes.now in
+    let clean_mid : HasCleanDisk mid = omega (arith, c.change_keys.ensures.crash.clean) in
+    let put = c.in_ok-record_put.ensures.call.ok clean_mid mode in
+    let rows = put.rows store in
+    let held = registers_stay g.L.Layout.format old.now.trees mid.now.trees content (registers_still old mid _ rows) had in
+    let was = subst (AreOccurrencesOf profile c.args.elder.now.bytes.items) (sym c.deref.ensures.value) c.in_ok-old.ensures.found in
+    let are = subst (IsNewer profile ident bytes) (sym c.deref-2.ensures.value) is in
+    let worked = c.in_ok-change_keys.ensures.work clean put.on.mode rows.layout was.rising are.found.rising content held up in
+    (worked.0, put_cost profile c.args.elder.now.bytes.items bytes c.deref.result.now c.deref-2.result.now worked.0 was are.found worked.1, worked.2)

@@ -8,6 +8,8 @@ use Rattle.zeb_change.specs.UnderWay.{IsTaken}
 use Rattle.zeb_change.specs.PrivateRecords.{AreOccurrencesOf}
 use Rattle.zeb_change.proofs.TakenLemmas.{none_storable}
 use Rattle.zeb_change.proofs.TurnLemmas.{passed_on, elder_whole, none_rise, withdrawn_at, withdrawn}
+use Rattle.zeb_change.proofs.UnderWay.{registers_still}
+use Rattle.zeb_change.proofs.CostLemmas.{old_cost}
 use Rattle.zeb_change.proofs.records.withdraw.Goals as goal
 use Rattle.zeb_register.proofs.FormatLemmas.{registers_stay}
 
@@ -51,3 +53,17 @@ returns-in_err-change_keys-clause-taken g c clean mode ident absent records_of b
     ] in
     passed_on {A = Changed} (IsTaken g.L.Layout.format profile c.args.progress.now.database.0 records_of old new c.change_keys.new.progress.last)
     (deleted absent ident base (kept_as ident base)) c.from_residual-in_err-change_keys.result c.in_err-change_keys.field-0.0 told failed
+
+-- the registers are as they were when their keys are changed
+pub returns-clause-work : goal.returns-clause-work
+returns-clause-work g c = λ clean mode store content had up.
+    let old = state g.S.Store c.args.tx.now.conn.now in
+    let mid = state g.S.Store c.record_take.new.tx.conn.now in
+    let profile = c.args.setting.now.profile.now in
+    let clean_mid : HasCleanDisk mid = omega (arith, c.change_keys.ensures.crash.clean) in
+    let take = c.in_ok-record_take.ensures.call.ok clean_mid mode in
+    let rows = take.rows store in
+    let held = registers_stay g.L.Layout.format old.now.trees mid.now.trees content (registers_still old mid _ rows) had in
+    let was = subst (AreOccurrencesOf profile c.args.elder.now.bytes.items) (sym c.deref.ensures.value) c.in_ok-old.ensures.found in
+    let worked = c.in_ok-change_keys.ensures.work clean take.on.mode rows.layout was.rising none_rise content held up in
+    (worked.0, old_cost profile c.args.elder.now.bytes.items c.deref.result.now worked.0 was worked.1, worked.2)

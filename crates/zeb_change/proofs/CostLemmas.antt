@@ -1,0 +1,139 @@
+-- What is counted for the keys of records, one record after the other.
+use Rattle.std.proofs.Common.{◌≡◌, ◌↔◌, ◌∙◌, ◌+◌, ◌*◌, ◌<◌, ◌^◌, ℕ, List, [], Option, Some, None, Result, Ok, Err, OnOk, map, length, inl, inr, refl, sym, ap, subst, subst₂, arith}
+use Rattle.std.proofs.Math.Nat.{mul-zero, mul-one, mul-add}
+use Rattle.std.proofs.lemmas.List.{length-map}
+use Rattle.std.specs.List.{Contains}
+use Rattle.sqlite_rules.proofs.ListLemmas.{has_contained, contains_had}
+use Rattle.sqlite_rules.proofs.ProbeLemmas.{has_mapped}
+use Rattle.zeb_extract.specs.declared.keys.Occurrence.{Occurrence}
+use Rattle.zeb_register.specs.declared.registers.Place.{Place}
+use Rattle.zeb_register.specs.declared.registers.Work.{Work}
+use Rattle.zeb_register.specs.Tallies.{Rises, Works}
+use Rattle.zeb_register.proofs.PackedTotals.{rises_then}
+use Rattle.zeb_register.proofs.RisingLists.{same_list}
+use Rattle.zeb_change.specs.declared.changed_keys.ChangedKey.{ChangedKey}
+use Rattle.zeb_profile.specs.declared.directives.Directive.{Directive}
+use Rattle.std.specs.List.Sorted.{IsStrictlySortedBy}
+use Rattle.zeb_register.specs.declared.kept.Elder.{Elder}
+use Rattle.zeb_change.specs.Base.{Base, kept_as}
+use Rattle.zeb_change.specs.PrivateRecords.{AreOccurrencesOf, IsElderAs, elder_bytes}
+use Rattle.zeb_change.specs.Costs.{IsRecordCost, IsWorkFor, bytes_of, newer_of, occurs_by, IsCostIn}
+use Rattle.zeb_change.specs.declared.settings.Kind.{Kind}
+use Rattle.zeb_change.specs.Folding.{ident_in}
+use Rattle.zeb_change.specs.PrivateTallies.{AreInRange}
+use Rattle.zeb_change.specs.PrivateChangedKeys.{AreChangedKeys, key_in, occurrence_at}
+use Rattle.zeb_change.proofs.ChangeKeysContent.{told_key}
+use Rattle.zeb_change.proofs.Idle.{place_total}
+
+-- ---- counts
+
+none_more : (w old : ℕ) → Rises (w * 0) old old
+none_more w old = inl (omega (arith, mul-zero w))
+
+pub no_work : (w : ℕ) (work : Work) → IsWorkFor w 0 work work
+no_work w work = record { reads_terms = none_more w _; writes_terms = none_more w _; reads_blocks = none_more w _; writes_blocks = none_more w _ }
+
+pub works_then : (w a b : ℕ) (old mid new : Work) → AreInRange new → IsWorkFor w a old mid → IsWorkFor w b mid new → IsWorkFor w (a + b) old new
+works_then w a b old mid new are one two = record {
+  reads_terms = rises old.dict_read mid.dict_read new.dict_read are.dict_read one.reads_terms two.reads_terms;
+  writes_terms = rises old.dict_written mid.dict_written new.dict_written are.dict_written one.writes_terms two.writes_terms;
+  reads_blocks = rises old.block_read mid.block_read new.block_read are.block_read one.reads_blocks two.reads_blocks;
+  writes_blocks = rises old.block_written mid.block_written new.block_written are.block_written one.writes_blocks two.writes_blocks;
+}
+  where
+    rises : (x y z : ℕ) → z < 2 ^ 64 → Rises (w * a) x y → Rises (w * b) y z → Rises (w * (a + b)) x z
+    rises x y z below first then = subst (λ n. Rises n x z) (sym (mul-add w a b)) (rises_then (w * a) (w * b) x y z below first then)
+
+pub one_more : (w n : ℕ) (old mid new : Work) → AreInRange new → IsWorkFor w n old mid → Works w w w w mid new → IsWorkFor w (n + 1) old new
+one_more w n old mid new are one two = works_then w n 1 old mid new are one (subst (λ k. Works k k k k mid new) (sym (mul-one w)) two)
+
+-- ---- keys
+
+-- the changed keys are just those whose places differ
+pub keys_cost : (elder newer : List Occurrence) (changed : List ChangedKey) → AreChangedKeys elder newer changed → IsRecordCost (Contains elder) (Contains newer) (length changed)
+keys_cost elder newer changed are = record {
+  keys = map key_in changed;
+  once = are.once;
+  each = λ key. (
+    λ there same.
+        let from = has_mapped key_in changed key (has_contained (map key_in changed) key there) in
+        let c = from.0 in
+        let in_it = contains_had changed c from.1 in
+        let old = are.old c in_it in
+        let new = are.new c in_it in
+        let both : (place : Place) → Contains elder (occurrence_at (key_in c) place) ↔ Contains newer (occurrence_at (key_in c) place) =
+        λ place. subst (λ k. Contains elder (occurrence_at k place) ↔ Contains newer (occurrence_at k place)) from.2 (same place.seq place.pos) in
+        are.differ c in_it (same_list place_total c.old.items c.new.items old.rising new.rising
+        (λ place h. (new.each place).1 ((both place).0 ((old.each place).0 h)))
+        (λ place h. (old.each place).1 ((both place).1 ((new.each place).0 h)))),
+    λ differ. elim (told_key (map key_in changed) key) [
+      | inl there ↦ contains_had (map key_in changed) key there
+      | inr none ↦ absurd (differ (λ seq pos. are.others key (λ h. none (has_contained (map key_in changed) key h)) (record { seq = seq; pos = pos })))
+    ],
+  );
+  many = sym (length-map changed key_in);
+}
+
+-- the same of sets of occurrences that are the same
+pub cost_as : (elder newer elder' newer' : Occurrence → Type 0) (n : ℕ) → ((o : Occurrence) → elder o ↔ elder' o) → ((o : Occurrence) → newer o ↔ newer' o)
+    → IsRecordCost elder newer n → IsRecordCost elder' newer' n
+cost_as elder newer elder' newer' n one two cost = record {
+  keys = cost.keys;
+  once = cost.once;
+  each = λ key. (
+    λ there same. (cost.each key).0 there (λ seq pos. (
+      λ h. (two _).1 ((same seq pos).0 ((one _).0 h)),
+      λ h. (one _).1 ((same seq pos).1 ((two _).0 h)),
+    )),
+    λ differ. (cost.each key).1 (λ same. differ (λ seq pos. (
+      λ h. (two _).0 ((same seq pos).0 ((one _).1 h)),
+      λ h. (one _).0 ((same seq pos).1 ((two _).1 h)),
+    ))),
+  );
+  many = cost.many;
+}
+
+-- the same of the records whose occurrences they are
+module _ (profile : List Directive) where
+  occurs_as : (bytes : List ℕ) (occurrences : List Occurrence) → AreOccurrencesOf profile bytes occurrences → (o : Occurrence) → Contains occurrences o ↔ occurs_by profile (Some bytes) o
+  occurs_as bytes occurrences are o = are.each o
+
+  none_occurs : (o : Occurrence) → Contains [] o ↔ occurs_by profile None o
+  none_occurs o = (λ h. has_contained [] o h, λ h. absurd h)
+
+  pub put_cost : (elder newer : List ℕ) (old new : List Occurrence) (n : ℕ) → AreOccurrencesOf profile elder old → AreOccurrencesOf profile newer new
+      → IsRecordCost (Contains old) (Contains new) n → IsRecordCost (occurs_by profile (Some elder)) (occurs_by profile (Some newer)) n
+  put_cost elder newer old new n one two = cost_as (Contains old) (Contains new) _ _ n (occurs_as elder old one) (occurs_as newer new two)
+
+  pub new_cost : (newer : List ℕ) (new : List Occurrence) (n : ℕ) → AreOccurrencesOf profile newer new
+      → IsRecordCost (Contains []) (Contains new) n → IsRecordCost (occurs_by profile None) (occurs_by profile (Some newer)) n
+  new_cost newer new n two = cost_as (Contains []) (Contains new) _ _ n none_occurs (occurs_as newer new two)
+
+  pub old_cost : (elder : List ℕ) (old : List Occurrence) (n : ℕ) → AreOccurrencesOf profile elder old
+      → IsRecordCost (Contains old) (Contains []) n → IsRecordCost (occurs_by profile (Some elder)) (occurs_by profile None) n
+  old_cost elder old n one = cost_as (Contains old) (Contains []) _ _ n (occurs_as elder old one) none_occurs
+
+  -- no record costs nothing
+  pub none_cost : IsRecordCost (occurs_by profile None) (occurs_by profile None) 0
+  unfolding IsStrictlySortedBy
+  none_cost = record {
+    keys = [];
+    once = tt;
+    each = λ key. (λ there. absurd (has_contained [] key there), λ differ. absurd (differ (λ seq pos. (λ h. h, λ h. h))));
+    many = refl;
+  }
+
+-- the elder that was found is the one that the database keeps
+pub elder_kept : (ident : List ℕ) (base : Base) (found : Option Elder) → IsElderAs ident base found → elder_bytes found ≡ bytes_of (kept_as ident base)
+elder_kept ident base None none = ap bytes_of (sym none)
+elder_kept ident base (Some elder) (kept, is, number, same) = ap Some (sym same) ∙ ap bytes_of (sym is)
+
+pub cost_in : (profile : List Directive) (kind : Kind) (bytes ident : List ℕ) (base : Base) (found : Option Elder) (newer : Option (List ℕ)) (n : ℕ) → ident_in profile bytes ≡ Ok ident → IsElderAs ident base found → newer_of kind bytes ≡ newer
+    → IsRecordCost (occurs_by profile (elder_bytes found)) (occurs_by profile newer) n → IsCostIn profile kind bytes base n
+cost_in profile kind bytes ident base found newer n named there is cost =
+    (ident, named, subst₂ (λ one two. IsRecordCost (occurs_by profile one) (occurs_by profile two) n) (elder_kept ident base found there) (sym is) cost)
+
+-- what follows where a call is accepted
+pub ok_so : {T E : Type 0} (result : Result T E) (One Two : Type 0) → (One → Two) → OnOk result One → OnOk result Two
+ok_so (Ok value) One Two so one = so one
+ok_so (Err fault) One Two so one = one
