@@ -1,6 +1,7 @@
 pub mod AnswerLemmas
 pub mod BatchLemmas
 pub mod LineLemmas
+pub mod MemoryLemmas
 pub mod NumberLemmas
 pub mod ScriptAnswerLemmas
 pub mod ScriptLemmas

@@ -64,6 +64,12 @@ stopped_batch c directives old wrote writes n batch failed Clean (Err e) under k
 pub silent_batch : (directives : List Directive) (n : ℕ) (batch : List ℕ) (old : Option (List ℕ)) → AnswersStopped directives n batch old old
 silent_batch directives n batch old = inr ([], refl, Appends-nil old)
 
+-- the same where what writes is as it was
+pub silent_refusal : {A : Type 0} (shows : A → Option (List ℕ)) (failed : Bool) (old new : A) (directives : List Directive) (n : ℕ) (batch : List ℕ) (r : Result ℕ AllocError) → OnErr r (new ≡ old)
+    → OnErr r (failed ≡ false → AnswersStopped directives n batch (shows old) (shows new))
+silent_refusal shows failed old new directives n batch (Ok status) same = tt
+silent_refusal shows failed old new directives n batch (Err e) same = λ _. subst (λ it. AnswersStopped directives n batch (shows old) (shows it)) (sym same) (silent_batch directives n batch (shows old))
+
 pub unreadable_script : (told old new : Option (List ℕ)) → IfSome told (λ text. ¬ IsInput text) → Appends old new unreadable_line → IfSome told (λ text. AnswersScript text old new 3)
 unreadable_script None old new h grew = h
 unreadable_script (Some text) old new h grew = unreadable h (unreadable_line, refl, grew)

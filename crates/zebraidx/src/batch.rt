@@ -12,11 +12,12 @@ ghost use Rattle.zebraidx.specs.Serving.{Leads, Stops};
 ghost use Rattle.zebraidx.specs.WordAnswers.{IsFaultStatus};
 
 use crate::lines::Line;
+use crate::memory::open_in_memory;
 use crate::program::{ANSWERED, FAILED, MISUSED};
 use crate::script::Batch;
 use crate::sinks::Sink;
 use crate::words::cut_line;
-use sqlite::{Alter, Connection};
+use sqlite::Alter;
 use std::alloc::{AllocError, Global};
 use std::io::Write;
 use zeb_engine::{Command, Limits, Refusal, Session, refusal_line, render, status};
@@ -39,7 +40,7 @@ pub fn run_batch<W: Write>(
         (W.contents output.new.writer)) }
     ensures range { IfOk result (λ status. status ≤ FAILED) }
 {
-    let Ok(connection) = Connection::open_in_memory(alloc) else {
+    let Ok(connection) = open_in_memory(alloc) else {
         return refuse(alloc, &Refusal::Store, output);
     };
     match Session::<_, Blocks>::adopt(alloc, connection, profile, Limits::GREATEST) {

@@ -8,6 +8,7 @@ mod faults;
 mod files;
 mod input;
 mod lines;
+mod memory;
 mod numbers;
 mod path_lines;
 mod program;
