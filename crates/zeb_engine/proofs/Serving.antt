@@ -87,3 +87,8 @@ begins_over format version g (write.Drop name id) old inside mid new begins comm
 pub on_ok : {A E : Type 0} (r : Result A E) (P Q : Type 0) → (P → Q) → OnOk r P → OnOk r Q
 on_ok (Ok x) P Q so p = so p
 on_ok (Err e) P Q so p = p
+
+-- what an accepted call says of an open connection
+pub opened_so : {A E : Type 0} (r : Result A E) (P Q Opened : Type 0) → (Opened → OnOk r P) → ((Opened → P) → Q) → OnOk r Q
+opened_so (Ok x) P Q Opened told so = so told
+opened_so (Err e) P Q Opened told so = tt

@@ -14,6 +14,7 @@ pub mod Steps
 pub mod Alone
 pub mod Image
 pub mod Works
+pub mod Costs
 pub mod Readiness
 pub mod PrivateWriting
 pub mod PrivateChanging

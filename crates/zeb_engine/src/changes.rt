@@ -1,6 +1,6 @@
 //! Updates and deletes: the records of files are folded into a database in one transaction.
 
-ghost use Rattle.std.specs.Prelude.{◌≡◌, ◌≢◌, ℕ, List, map, Some, Ok, Err, false, IsTrue};
+ghost use Rattle.std.specs.Prelude.{◌≡◌, ◌≢◌, ℕ, List, map, Some, Ok, Err, OnOk, false, IsTrue};
 ghost use Rattle.sqlite.specs.Held.{state};
 ghost use Rattle.sqlite.specs.State.{HasCleanDisk, Survives};
 ghost use Rattle.zeb_register.specs.Calls.{ChangesNothing};
@@ -12,6 +12,7 @@ ghost use Rattle.zeb_engine.specs.Crashes.{Commits};
 ghost use Rattle.zeb_change.specs.Folding.{splits_of};
 ghost use Rattle.zeb_change.specs.Base.{Base};
 ghost use Rattle.zeb_engine.specs.Holdings.{Holdings, base_named};
+ghost use Rattle.zeb_engine.specs.Costs.{Costs};
 ghost use Rattle.zeb_engine.specs.Image.{IsImage, Keeps};
 ghost use Rattle.zeb_engine.specs.NameOf.{name_bytes};
 ghost use Rattle.zeb_change.specs.Refused.{NeverUnready, Meets};
@@ -88,6 +89,13 @@ fn apply<S: Alter, L: Layout, R: Source>(
     ensures fault { (file : ℕ) → result ≡ Err (Refusal.ReadFault file) → HasFailedAt R.has_failed readers.new file }
     ensures ready { NeverUnready result }
     ensures crash { Survives (state S.Store tx.old.conn.now) (state S.Store tx.new.conn.now) (λ _. ⊥) }
+    ensures work { HasCleanDisk (state S.Store tx.new.conn.now) → IsTrue (state S.Store tx.old.conn.now).in_transaction
+        → (texts : List (List ℕ)) → map R.remaining readers.old ≡ map Some texts
+        → OnOk result ((before : Holdings) → BeginsWith change.now.setting.kind (name_bytes change.now.name.now) change.now.found
+        (conditions_of (version_of L.format) change.now.setting) (state S.Store tx.old.conn.now).now.trees before
+        → IsStore (state S.Store tx.old.conn.now) → IsImage (state S.Store tx.old.conn.now).now.trees before
+        → Costs L.row_work (conditions_of (version_of L.format) change.now.setting) change.now.setting.kind
+        (name_bytes change.now.name.now) texts work.old work.new before) }
 {
     // Its profile is some text's.
     change.setting.profile.is_of_some_text();
@@ -144,6 +152,13 @@ fn transact<S: Alter, L: Layout, R: Source>(
         → result ≡ Err (Refusal.ReadFault file) }
     ensures fault { (file : ℕ) → result ≡ Err (Refusal.ReadFault file) → HasFailedAt R.has_failed readers.new file }
     ensures ready { NeverUnready result }
+    ensures work { HasCleanDisk (state S.Store connection.new) → IsTrue (state S.Store connection.old).is_open
+        → (texts : List (List ℕ)) → map R.remaining readers.old ≡ map Some texts
+        → OnOk result ((before : Holdings) → BeginsWith change.now.setting.kind (name_bytes change.now.name.now) change.now.found
+        (conditions_of (version_of L.format) change.now.setting) (state S.Store connection.old).now.trees before
+        → Keeps (state S.Store connection.old) before
+        → Costs L.row_work (conditions_of (version_of L.format) change.now.setting) change.now.setting.kind
+        (name_bytes change.now.name.now) texts work.old work.new before) }
 {
     let _settled = connection.is_autocommit();
     let mut tx = connection.transaction();
@@ -213,6 +228,12 @@ pub(crate) fn change_database<S: Alter, L: Layout, R: Source>(
         → result ≡ Err (Refusal.ReadFault file) }
     ensures fault { (file : ℕ) → result ≡ Err (Refusal.ReadFault file) → HasFailedAt R.has_failed readers.new file }
     ensures ready { NeverUnready result }
+    ensures work { HasCleanDisk (state S.Store connection.new) → (texts : List (List ℕ)) → map R.remaining readers.old ≡ map Some texts
+        → OnOk result ((before : Holdings) → IsTrue (state S.Store connection.old).is_open
+        → IsReady (conditions_of (version_of L.format) setting.entry) (state S.Store connection.old).now.trees before
+        → Keeps (state S.Store connection.old) before
+        → Costs L.row_work (conditions_of (version_of L.format) setting.entry) setting.entry.kind
+        (name_bytes name.now) texts work.old work.new before) }
 {
     let found = found_for::<S, L>(connection, &setting, name)?;
     let mut buffer = RecordBuf::new(setting.alloc)?;

@@ -5,6 +5,7 @@ ghost use Rattle.std.specs.List.{AllByRecursion};
 ghost use Rattle.std.specs.Result.{IsErr};
 ghost use Rattle.sqlite.specs.Held.{state};
 ghost use Rattle.sqlite.specs.State.{HasCleanDisk, IsLive, Opens, Survives};
+ghost use Rattle.zeb_engine.specs.Costs.{CommandCosts, CostsAlone};
 ghost use Rattle.zeb_engine.specs.Alone.{AnswersAlone};
 ghost use Rattle.zeb_engine.specs.Analysed.{AnswersAnalysis};
 ghost use Rattle.zeb_engine.specs.Answers.{IsFailure, answer_of, refused};
@@ -197,6 +198,10 @@ impl<S: Alter, L: Layout> Session<S, L> {
         // A command that only asks changes nothing, whatever it answers and whatever the tables hold.
         ensures reads { HasCleanDisk (state S.Store self.new.connection) → OnlyAsks command.now
             → ChangesNothing (state S.Store self.old.connection) (state S.Store self.new.connection) }
+        // An accepted change has counted the work for the keys that its records change, and no other.
+        ensures work { HasCleanDisk (state S.Store self.new.connection)
+            → CommandCosts L.row_work (conditions (version_of L.format) self.old.profile self.old.limits) command.now
+            (state S.Store self.old.connection) result self.new.work }
     {
         let answer = self.carry_out(command);
         // What is shown is what was committed.
@@ -227,6 +232,9 @@ impl<S: Alter, L: Layout> Session<S, L> {
         ensures analysed { AnswersAnalysis self.old.profile self.old.limits.records command.now result }
         ensures reads { HasCleanDisk (state S.Store self.new.connection) → OnlyAsks command.now
             → ChangesNothing (state S.Store self.old.connection) (state S.Store self.new.connection) }
+        ensures work { HasCleanDisk (state S.Store self.new.connection)
+            → CommandCosts L.row_work (conditions (version_of L.format) self.old.profile self.old.limits) command.now
+            (state S.Store self.old.connection) result self.new.work }
     {
         self.work = Work::default();
         match command {
@@ -332,6 +340,9 @@ impl<S: Alter, L: Layout> Session<S, L> {
         ensures unread { NoReadFault result }
         ensures ready { HasCleanDisk (state S.Store self.new.connection)
             → GoesByTexts (version_of L.format) self.old.profile (state S.Store self.old.connection) result }
+        ensures work { HasCleanDisk (state S.Store self.new.connection)
+            → CostsAlone L.row_work (conditions (version_of L.format) self.old.profile self.old.limits) kind (name_bytes database.now)
+            (map (λ file. file.items) files.now) (state S.Store self.old.connection) result self.new.work }
     {
         let mut readers = Vec::with_capacity(self.alloc, files.len())?;
         for file in files {
@@ -373,6 +384,11 @@ impl<S: Alter, L: Layout> Session<S, L> {
         // Damage is answered only where the tables are the image of nothing that can be held, whatever the readers tell.
         ensures honest { HasCleanDisk (state S.Store self.new.connection) → result ≡ Err Refusal.Damaged
             → (before : Holdings) → ¬ Keeps (state S.Store self.old.connection) before }
+        // An accepted change has counted the work for the keys that its records change, and no other.
+        ensures work { HasCleanDisk (state S.Store self.new.connection) → (texts : List (List ℕ))
+            → map R.remaining readers.old ≡ map Some texts
+            → CostsAlone L.row_work (conditions (version_of L.format) self.old.profile self.old.limits) kind
+            (name_bytes database.now) texts (state S.Store self.old.connection) result self.new.work }
     {
         let answer = self.change_from(database, kind, readers);
         // What is shown is what was committed.
@@ -402,6 +418,10 @@ impl<S: Alter, L: Layout> Session<S, L> {
             → GoesByTexts (version_of L.format) self.old.profile (state S.Store self.old.connection) result }
         ensures honest { HasCleanDisk (state S.Store self.new.connection)
             → (before : Holdings) → Keeps (state S.Store self.old.connection) before → result ≢ Err Refusal.Damaged }
+        ensures work { HasCleanDisk (state S.Store self.new.connection) → (texts : List (List ℕ))
+            → map R.remaining readers.old ≡ map Some texts
+            → CostsAlone L.row_work (conditions (version_of L.format) self.old.profile self.old.limits) kind
+            (name_bytes database.now) texts (state S.Store self.old.connection) result self.new.work }
     {
         self.work = Work::default();
         check_readers(readers)?;

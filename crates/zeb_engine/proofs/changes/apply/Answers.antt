@@ -187,3 +187,25 @@ returns-in_err-database_put-clause-honest g c clean inside before known store im
     let held = (c.in_ok-fold_files.ensures.honest second on.mode b.image.records_of (b.start, c.last-last.ensures ∙ b.last_is, way)).1 in
     let sound = failure_honest (register_refusal broken) (fault_fails broken (λ is. c.in_err-database_put.ensures.honest clean further.mode held.2.0 (ap Err is))) in
     rw result (λ is. sound cc)
+
+pub returns-clause-work : goal.returns-clause-work
+returns-clause-work g c = λ clean inside texts told before known store image.
+    let old = state g.S.Store c.args.tx.now.conn.now in
+    let mid = state g.S.Store c.database_put.new.tx.conn.now in
+    let now = state g.S.Store c.fold_files.new.tx.conn.now in
+    let change = c.args.change.now in
+    let kind = change.setting.kind in
+    let name = name_bytes change.name.now in
+    let id = c.in_ok-database.database.0 in
+    let conditions = conditions_of (version_of g.L.Layout.format) change.setting in
+    let format = g.L.Layout.format in
+    let session : AreSessions format conditions = record { version_is = refl; sound = c.is_of_some_text.ensures } in
+    let second : HasCleanDisk now = omega (arith, c.database_put-2.ensures.call.crash.clean) in
+    let first : HasCleanDisk mid = omega (arith, c.fold_files.ensures.crash.clean) in
+    let on = c.in_ok-database.ensures.call.ok first inside in
+    let put = subst₂ (λ n (l : ℕ). Changes databases_tree (PutsDatabase id n (pos l)) old mid) c.as_str-name.ensures c.last-last.ensures (c.in_ok-database.ensures.put first inside store) in
+    let b = begun format (registers_stay g.L.Layout.format) conditions session kind name change.name.now.named before old mid image id change.found known put in
+    let way = first_way format (registers_stay g.L.Layout.format) conditions session kind name change.name.now.named before mid id (last_of change.found) b in
+    let worked = c.in_ok-fold_files.ensures.work second on.mode texts told (version_of g.L.Layout.format) b.image.records_of (at_first b.start)
+    (record { last = c.last-last.ensures ∙ b.last_is; taken = c.new.ensures.0; inserted = c.new.ensures.1; updated = c.new.ensures.2; deleted = c.new.ensures.3 }) way in
+    (worked.0, record { bases = b.bases; is_ready = b.is_ready; start = b.start; starts = b.starts; cost = worked.1 }, worked.2)

@@ -16,7 +16,7 @@ use Rattle.zeb_engine.proofs.ChangeBegins.{start_met, start_refused}
 use Rattle.zeb_engine.proofs.Crashing.{survives_after}
 use Rattle.zeb_engine.proofs.Honest.{start_honest}
 use Rattle.zeb_engine.proofs.Readers.{no_file_failed}
-use Rattle.zeb_engine.proofs.Serving.{keeps_still, early_serves}
+use Rattle.zeb_engine.proofs.Serving.{keeps_still, early_serves, opened_so}
 use Rattle.zeb_register.specs.Formats.{version_of}
 use Rattle.zeb_engine.proofs.changes.change_database.Goals as goal
 
@@ -115,3 +115,19 @@ returns-clause-honest g c clean opened before ready keeps =
     let nothing = c.found_for.ensures.same first in
     let begins = subst (λ (d : Contents). BeginsWith setting.kind name found k d.trees before) (sym (nothing known.1.1).1) known.1.0 in
     c.transact.ensures.honest clean known.1.1 before begins (keeps_still before old mid nothing keeps)
+
+pub returns-clause-work : goal.returns-clause-work
+returns-clause-work g c = λ clean texts told.
+    let old = state g.S.Store c.args.connection.now in
+    let mid = state g.S.Store c.found_for.new.connection in
+    let setting = c.args.setting in
+    let k = conditions_of (version_of g.L.Layout.format) setting in
+    let name = name_bytes c.args.name.now in
+    let found = c.in_ok-found.found in
+    let first : HasCleanDisk mid = omega (arith, c.transact.ensures.survives.clean) in
+    opened_so c.transact.result _ _ (IsTrue mid.is_open) (λ opened. c.transact.ensures.work clean opened texts told) (λ works before opened ready keeps.
+    let known = start_met {A = Base} {X = Option Database} (λ base found. BeginsWith setting.kind name found k old.now.trees before × IsTrue mid.is_open) (start_of setting.kind name (base_named name ready.0)) found
+    (c.in_ok-found.ensures.begins first opened k before ready.0 ready.1 keeps) in
+    let nothing = c.found_for.ensures.same first in
+    let begins = subst (λ (d : Contents). BeginsWith setting.kind name found k d.trees before) (sym (nothing known.1.1).1) known.1.0 in
+    works known.1.1 before begins (keeps_still before old mid nothing keeps))

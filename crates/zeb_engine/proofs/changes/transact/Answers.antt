@@ -18,6 +18,8 @@ use Rattle.zeb_change.specs.UnderWay.{conditions_of}
 use Rattle.zeb_engine.proofs.Crashing.{commit_stands, commit_survives}
 use Rattle.zeb_engine.proofs.Serving.{refusal_serves, reply_serves}
 use Rattle.zeb_register.specs.Formats.{version_of}
+use Rattle.zeb_engine.specs.Costs.{Costs}
+use Rattle.zeb_engine.specs.Holdings.{Holdings}
 use Rattle.zeb_engine.proofs.changes.transact.Goals as goal
 
 pub returns-in_err-reply-clause-serves : goal.returns-in_err-reply-clause-serves
@@ -123,3 +125,17 @@ returns-in_err-reply-clause-honest g c clean opened before known keeps =
     let said = c.in_err-reply.ensures.honest (omega (arith, c.drop-tx.ensures.survives.clean)) (rw begun refl) before in
     let sound = subst (λ (held : Held _). fits (state g.S.Store held).now.trees before → IsStore (state g.S.Store held) → IsImage (state g.S.Store held).now.trees before → ◌≢◌ {A = Result Reply Refusal} (Err refusal) (Err Damaged)) begun said known (record { is = at.0.is; sound = at.0.sound; keyed = at.0.keyed }) at.1 in
     rw result (λ is. sound cc)
+
+pub returns-clause-work : goal.returns-clause-work
+returns-clause-work g c = λ clean opened texts told before known keeps.
+    let begun = c.transaction-tx.ensures.begun in
+    let change = c.args.change.now in
+    let k = conditions_of (version_of g.L.Layout.format) change.setting in
+    let name = name_bytes change.name.now in
+    let end = c.commit.new.self.0 in
+    let late : HasCleanDisk (state g.S.Store end) = search rules in
+    let worked = c.in_ok-reply.ensures.work (omega (arith, c.commit.ensures.survives.clean)) (rw begun refl) texts told in
+    let was = (keeps opened).0 in
+    let began = subst (λ (held : Held _). (before : Holdings) → BeginsWith change.setting.kind name change.found k (state g.S.Store held).now.trees before → IsStore (state g.S.Store held) → IsImage (state g.S.Store held).now.trees before
+    → Costs g.L.Layout.row_work k change.setting.kind name texts c.args.work.now c.apply.new.work before) begun worked in
+    began before known (record { is = was.0.is; sound = was.0.sound; keyed = was.0.keyed }) was.1

@@ -15,6 +15,7 @@ use Rattle.zeb_engine.proofs.Commanding.{analysis_answers, analysis_serves, asks
 use Rattle.zeb_engine.proofs.Crashing.{ends_commit, none_commits, survives_as}
 use Rattle.zeb_engine.proofs.Serving.{on_ok}
 use Rattle.zeb_engine.proofs.Unasked.{reads_command}
+use Rattle.zeb_engine.specs.Costs.{CostsAlone}
 use Rattle.zeb_engine.proofs.session.Session.carry_out.Goals as goal
 use Rattle.zeb_register.specs.Formats.{version_of}
 
@@ -330,3 +331,19 @@ returns-in-Stat-clause-call g c =
 pub returns-in-Dump-clause-call : goal.returns-in-Dump-clause-call
 returns-in-Dump-clause-call g c =
     rw c.in-Dump.is (reads_command (state g.S.Store c.args.self.now.connection) (state g.S.Store c.dump.new.connection) c.dump.result c.dump.ensures.«open» c.dump.ensures.same c.dump.ensures.crash)
+
+pub returns-in-Change-clause-work : goal.returns-in-Change-clause-work
+returns-in-Change-clause-work g c clean =
+    let k = conditions (version_of g.L.Layout.format) c.args.self.now.profile c.args.self.now.limits in
+    let row_work = g.L.Layout.row_work in
+    let old = state g.S.Store c.args.self.now.connection in
+    let work = c.change.new.self.work in
+    let kind = c.in-Change.kind-1-own.given.0.0 in
+    let named = c.in-Change.database-1-own.given.0.1.0 in
+    let same_kind : kind ≡ c.in-Change.kind = search rules in
+    let same_name : named ≡ c.in-Change.database = search rules in
+    let same_files : c.deref.result.now ≡ c.in-Change.files.items = search rules in
+    let of_kind = subst (λ x. CostsAlone row_work k x (name_bytes named) (map (λ file. file.items) c.deref.result.now) old c.change.result work) same_kind (c.change.ensures.work clean) in
+    let of_name = subst (λ n. CostsAlone row_work k c.in-Change.kind (name_bytes n) (map (λ file. file.items) c.deref.result.now) old c.change.result work) same_name of_kind in
+    let costs = subst (λ files. CostsAlone row_work k c.in-Change.kind (name_bytes c.in-Change.database) (map (λ file. file.items) files) old c.change.result work) same_files of_name in
+    rw c.in-Change.is costs

@@ -15,7 +15,9 @@ use Rattle.zeb_engine.proofs.Honest.{start_honest}
 use Rattle.zeb_engine.proofs.Turns.{turn_refused}
 use Rattle.zeb_change.specs.Refused.{why_of}
 use Rattle.zeb_engine.proofs.Readers.{no_file_failed, named_or_none}
-use Rattle.zeb_engine.proofs.Serving.{keeps_still}
+use Rattle.zeb_engine.proofs.Serving.{keeps_still, on_ok}
+use Rattle.zeb_register.specs.declared.registers.Work.{Work}
+use Rattle.zeb_engine.specs.Costs.{Costs, no_work}
 use Rattle.zeb_engine.proofs.session.Session.change_from.Goals as goal
 use Rattle.zeb_register.specs.Formats.{version_of}
 use Rattle.zeb_engine.proofs.ReadyTexts.{ready_then}
@@ -112,3 +114,16 @@ returns-clause-honest g c clean before keeps =
     let met = ready_met {X = Unit {0}} (λ (bases : List Base) x. IsTrue old.is_open × IsTrue mid.is_open) (ready k before) tt (c.in_ok-check_ready.ensures.ready first limits before keeps) in
     let same = c.check_ready.ensures.same first in
     c.change_database.ensures.honest clean met.2.1 before (met.0, met.1) (keeps_still before old mid same keeps)
+
+pub returns-clause-work : goal.returns-clause-work
+returns-clause-work g c = λ clean texts told.
+    let limits = c.args.self.now.limits in
+    let k = conditions (version_of g.L.Layout.format) c.args.self.now.profile limits in
+    let old = state g.S.Store c.args.self.now.connection in
+    let mid = state g.S.Store c.check_ready.new.connection in
+    let first : HasCleanDisk mid = omega (arith, c.change_database.ensures.survives.clean) in
+    let fresh : c.default-self.result ≡ no_work = search rules in
+    on_ok c.change_database.result _ _ (λ works before keeps.
+    let met = ready_met {X = Unit {0}} (λ (bases : List Base) x. IsTrue old.is_open × IsTrue mid.is_open) (ready k before) tt (c.in_ok-check_ready.ensures.ready first limits before keeps) in
+    subst (λ (work : Work). Costs g.L.Layout.row_work k c.args.kind (name_bytes c.args.database.now) texts work c.change_database.new.work before) fresh
+    (works before met.2.1 (met.0, met.1) (keeps_still before old mid (c.check_ready.ensures.same first) keeps))) (c.change_database.ensures.work clean texts told)
