@@ -22,6 +22,7 @@ mod packed;
 mod reads;
 mod refused_memory;
 mod scans;
+mod steps;
 mod streams;
 mod together;
 mod versions;

@@ -14,7 +14,7 @@ mod lists;
 mod memory;
 mod moby_dick;
 mod numbers;
-mod queries;
+pub mod queries;
 mod readings;
 mod records;
 mod scanning;

@@ -52,7 +52,7 @@ impl Source for Stream<'_> {
 
 /// Makes records as they are read, one for each number up to an end.
 #[derive(Drop)]
-struct Maker {
+pub struct Maker {
     /// A record, in which the bytes 0 to 3 stand for the four digits of its number.
     form: &'static [u8],
     number: u64,
@@ -61,7 +61,7 @@ struct Maker {
 }
 
 /// `r0000` with the title `tome w0000`, `r0001` with `tome w0001`, and so on.
-const TOMES: &[u8] =
+pub const TOMES: &[u8] =
     b"00071nam a2200049 a 4500001000600000245001500006\x1er\x00\x01\x02\x03\x1e00\x1fatome w\x00\x01\x02\x03\x1e\x1d";
 
 /// `r0000`, `r0001` and so on, each with the title `Moby Dick`.
@@ -70,7 +70,7 @@ const NAMESAKES: &[u8] =
 
 impl Maker {
     /// So many records of this form.
-    fn new(form: &'static [u8], end: u64) -> Maker {
+    pub fn new(form: &'static [u8], end: u64) -> Maker {
         Maker {
             form,
             number: 0,
@@ -124,7 +124,7 @@ pub fn opened(alloc: Global) -> Result<Memory, Fail> {
 }
 
 /// A session over a new register in memory under this profile.
-fn opened_under(alloc: Global, profile: &str) -> Result<Memory, Fail> {
+pub fn opened_under(alloc: Global, profile: &str) -> Result<Memory, Fail> {
     let connection = Connection::open_in_memory(alloc)?;
     adopted(alloc, connection, profile, Limits::GREATEST).map_err(|_| Fail::new(
         "the register is refused",
