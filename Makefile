@@ -30,6 +30,7 @@ quick:
 	@tools/quick
 
 check:
+	tools/quick --texts
 	rt ci
 
 words: bin/zebraidx
