@@ -12,10 +12,10 @@ use Rattle.zeb_blocks.specs.Blocks.{BlockSpells, IsNumbered, LiesIn}
 use Rattle.zeb_extract.specs.declared.keys.Key.{Key}
 use Rattle.zeb_register.specs.declared.registers.Place.{Place}
 use Rattle.zeb_register.specs.declared.packed_parts.Held.{Held}
-use Rattle.zeb_register.specs.Content.{ArePlacesOf, Content, IsChangedAt, IsRising, place_cmp, posted, posting_at, posting_cmp}
+use Rattle.zeb_register.specs.Content.{ArePlacesOf, Content, IsChangedAt, IsListChanged, IsRising, place_cmp, posted, posting_at, posting_cmp}
 use Rattle.zeb_register.specs.Occurring.{HasKey, IsCount}
 use Rattle.zeb_register.specs.PackedBlocks.{HoldsBlocks, IsBlockRow, IsDictRow, block_row, dict_row, part_in}
-use Rattle.zeb_register.specs.PackedChanges.{CountsOn, IsBlockIn, IsDictIn, IsHeld, IsSplicedAt, PutsKey}
+use Rattle.zeb_register.specs.PackedChanges.{CountsOn, IsBlockIn, IsDictIn, IsHeld, PutsKey}
 use Rattle.zeb_register.specs.PlainRows.{code_of_register}
 use Rattle.zeb_register.specs.RowTerms.{IsInRecord}
 use Rattle.zeb_register.specs.Sql.{HasRow}
@@ -128,7 +128,7 @@ module _ (db : ℤ) (key : Key) (sysno : ℕ) (places : List Place) (before afte
   ]
 
   -- the block of the record
-  module _ (list : List Posting) (spliced : IsSplicedAt sysno places (part_in block (before db key)) list) (lies : LiesIn block list) where
+  module _ (list : List Posting) (spliced : IsListChanged sysno places (part_in block (before db key)) list) (lies : LiesIn block list) where
     pub this_part : part_in block (after db key) ≡ list
     this_part = same_list posting_total (part_in block (after db key)) list (kept_rises posting_total (λ p. p.sysno / 256 == block) (after db key) (change.rising db key)) spliced.rising
         (λ p h. there p (part_in_list block (after db key) p h) (part_in_block block (after db key) p h) (told_by nat_cmp_total numbers_apart p.sysno sysno))
@@ -187,18 +187,18 @@ module _ (db : ℤ) (key : Key) (sysno : ℕ) (places : List Place) (before afte
       subst (counted after) (sym is) (count_so (IsInRecord (before db key)) (IsInRecord (after db key)) was
       (records_same (λ h. in_record (before db key) (p ∷ old) sysno p from (inl refl), λ h. in_record (after db key) (q ∷ new) sysno q to (inl refl))) count)
 
-  module _ (old : List Place) (held next : Held) (found : ArePlacesOf sysno old (before db key)) (is : IsHeld before db key block held) (spliced : IsSplicedAt sysno places held.list.items next.list.items) (lies : LiesIn block next.list.items)
+  module _ (old : List Place) (held next : Held) (found : ArePlacesOf sysno old (before db key)) (is : IsHeld before db key block held) (spliced : IsListChanged sysno places held.list.items next.list.items) (lies : LiesIn block next.list.items)
       (counts : CountsOn old places held.records next.records) where
     pub next_held : IsHeld after db key block next
     next_held = record {
-      part = sym (this_part next.list.items (subst (λ l. IsSplicedAt sysno places l next.list.items) is.part spliced) lies);
+      part = sym (this_part next.list.items (subst (λ l. IsListChanged sysno places l next.list.items) is.part spliced) lies);
       count = count_so (IsInRecord (after db key)) (HasKey (posted after db) key) next.records (λ n. ((key_posted after db key n).1, (key_posted after db key n).0))
           (count_changed old places held.records next.records found change.part counts (count_so (HasKey (posted before db) key) (IsInRecord (before db key)) held.records (key_posted before db key) is.count));
     }
 
 -- so a key with a posting left in the block has a record left
 pub leaves_records : (db : ℤ) (key : Key) (sysno : ℕ) (old new : List Place) (content : Content) (held next : Held) → IsRising content → IsHeld content db key (sysno / 256) held → ArePlacesOf sysno old (content db key)
-    → IsSplicedAt sysno new held.list.items next.list.items → LiesIn (sysno / 256) next.list.items → CountsOn old new held.records next.records → next.records ≡ 0 → next.list.items ≢ [] → ⊥
+    → IsListChanged sysno new held.list.items next.list.items → LiesIn (sysno / 256) next.list.items → CountsOn old new held.records next.records → next.records ≡ 0 → next.list.items ≢ [] → ⊥
 leaves_records db key sysno old new content held next up is found spliced lies counts none some =
     let after = changed_at db key sysno new content in
     has_records after db key (sysno / 256) next (next_held db key sysno new content after up (change_is db key sysno new content up) old held next found is spliced lies counts) none some

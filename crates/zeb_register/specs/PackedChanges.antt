@@ -13,7 +13,7 @@ use Rattle.zeb_extract.specs.declared.keys.Key.{Key}
 use Rattle.zeb_register.specs.declared.registers.Place.{Place}
 use Rattle.zeb_register.specs.declared.packed_parts.Parted.{Parted}
 use Rattle.zeb_register.specs.declared.packed_parts.Held.{Held}
-use Rattle.zeb_register.specs.Content.{ArePlacesOf, Content, place_cmp, posted, posting_at, posting_cmp}
+use Rattle.zeb_register.specs.Content.{Content, place_cmp, posted, posting_at}
 use Rattle.zeb_register.specs.Occurring.{HasKey, IsCount}
 use Rattle.zeb_register.specs.PackedBlocks.{block_row, dict_row, part_in}
 use Rattle.zeb_register.specs.PlainRows.{code_of_register}
@@ -66,12 +66,6 @@ pub record IsParted (sysno : ℕ) (list : List Posting) (parted : Parted) : Type
   pub before : parted.before.items ≡ filter (λ p. nat_lt p.sysno sysno) list
   pub own : map (posting_at sysno) parted.own.items ≡ filter (λ p. p.sysno == sysno) list
   pub behind : parted.behind.items ≡ filter (λ p. nat_lt sysno p.sysno) list
-
--- the record's part of the list is changed to these places, and nothing else
-pub record IsSplicedAt (sysno : ℕ) (places : List Place) (old new : List Posting) : Type 0 where
-  pub rising : IsStrictlySortedBy posting_cmp new
-  pub part : ArePlacesOf sysno places new
-  pub others : (p : Posting) → p.sysno ≢ sysno → Has new p ↔ Has old p
 
 -- so many records have a key before and after one record's places are changed
 abbrev pub CountsOn : List Place → List Place → ℕ → ℕ → Type 0

@@ -14,7 +14,7 @@ use crate::dropping::database_drop_whole;
 use crate::packed::{postings_packed, terms_packed, terms_packed_before, terms_packed_from};
 use crate::packed_changes::key_change_packed;
 use crate::packed_totals::totals_packed;
-use crate::registers::{Layout, Place, TermCount, Totals, Work};
+use crate::registers::{Layout, Place, RecordChange, TermCount, Totals, Work};
 use crate::{DatabaseId, RegFault};
 use sqlite::{Alter, Connection, Transaction};
 use std::alloc::Global;
@@ -51,6 +51,16 @@ impl Layout for Blocks {
         new: &[Place],
     ) -> Result<(), RegFault> {
         key_change_packed(tx, work, db, key, sysno, old, new)
+    }
+
+    fn key_changes<S: Alter>(
+        _tx: &mut Transaction<'_, S>,
+        _work: &mut Work,
+        _db: DatabaseId,
+        _key: &Key,
+        _changes: &[RecordChange<'_>],
+    ) -> Result<(), RegFault> {
+        Err(RegFault::Memory)
     }
 
     fn database_take<S: Alter>(

@@ -38,7 +38,8 @@ pub use meta::{meta_of, meta_put};
 pub use occurring::{OccurrenceSet, occurrences_have_one_list_of_terms};
 pub use plain::Rows;
 pub use registers::{
-    Layout, Place, TermCount, Totals, Work, contents_change, registers_hold_one_content,
+    Layout, Place, RecordChange, TermCount, Totals, Work, contents_change,
+    registers_hold_one_content,
 };
 pub use tables::make_tables;
 pub use wiping::wipe;

@@ -7,8 +7,8 @@ ghost use Rattle.std.specs.List.Sorted.{IsStrictlySortedBy};
 ghost use Rattle.zeb_blocks.specs.Blocks.{LiesIn};
 ghost use Rattle.zeb_blocks.specs.declared.postings.Posting.{Posting};
 ghost use Rattle.zeb_extract.specs.declared.keys.Key.{Key};
-ghost use Rattle.zeb_register.specs.Content.{ArePlacesOf, Content, IsRising, place_cmp, posting_at};
-ghost use Rattle.zeb_register.specs.PackedChanges.{AreStorablePlaces, CountsOn, IsHeld, IsParted, IsSplicedAt, IsStorablePlace};
+ghost use Rattle.zeb_register.specs.Content.{ArePlacesOf, Content, IsListChanged, IsRising, place_cmp, posting_at};
+ghost use Rattle.zeb_register.specs.PackedChanges.{AreStorablePlaces, CountsOn, IsHeld, IsParted, IsStorablePlace};
 
 use crate::RegFault;
 use crate::registers::Place;
@@ -32,7 +32,7 @@ impl Held {
         requires few { self.now.records ≤ 999999999 }
         requires number { 1 ≤ sysno }
         requires stored { AreStorablePlaces new.now }
-        ensures list { IfOk result (λ held. IsSplicedAt sysno new.now self.now.list.items held.list.items) }
+        ensures list { IfOk result (λ held. IsListChanged sysno new.now self.now.list.items held.list.items) }
         ensures lies { IfOk result (λ held. LiesIn (sysno / 256) held.list.items) }
         ensures own { OnOk result (map (posting_at sysno) old.now ≡ filter (λ p. p.sysno == sysno) self.now.list.items) }
         ensures count { IfOk result (λ held. CountsOn old.now new.now self.now.records held.records) }

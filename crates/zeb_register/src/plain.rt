@@ -17,7 +17,7 @@ ghost use Rattle.zeb_register.specs.Calls.{GoesOn, OnlyReads, Alters, Inside, Re
 ghost use Rattle.zeb_register.specs.Occurring.{key_in};
 
 use crate::dropping::database_drop_whole;
-use crate::registers::{Layout, Place, TermCount, Totals, Work};
+use crate::registers::{Layout, Place, RecordChange, TermCount, Totals, Work};
 use crate::statements::postings::{
     nothing_of, place_rows, places_lift, posting_put, posting_rows, register_rows,
 };
@@ -62,6 +62,16 @@ impl Layout for Rows {
         }
         places_take(tx, db, key, sysno)?;
         places_put(tx, db, key, sysno, new)
+    }
+
+    fn key_changes<S: Alter>(
+        _tx: &mut Transaction<'_, S>,
+        _work: &mut Work,
+        _db: DatabaseId,
+        _key: &Key,
+        _changes: &[RecordChange<'_>],
+    ) -> Result<(), RegFault> {
+        Err(RegFault::Memory)
     }
 
     fn database_take<S: Alter>(

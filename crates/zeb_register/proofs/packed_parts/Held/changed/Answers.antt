@@ -3,8 +3,7 @@ use Rattle.zeb_blocks.specs.Blocks.{LiesIn}
 use Rattle.zeb_blocks.specs.declared.postings.Posting.{Posting}
 use Rattle.zeb_register.specs.declared.packed_parts.Held.{Held}
 use Rattle.zeb_register.specs.declared.registers.Place.{Place}
-use Rattle.zeb_register.specs.Content.{posting_at}
-use Rattle.zeb_register.specs.PackedChanges.{IsSplicedAt}
+use Rattle.zeb_register.specs.Content.{IsListChanged, posting_at}
 use Rattle.zeb_register.proofs.PackedParts.{own_of, whole_lies, whole_spliced}
 use Rattle.zeb_register.proofs.PackedChanges.{has_count, has_records, leaves_records, own_is}
 use Rattle.zeb_register.proofs.packed_parts.Held.changed.Goals as goal
@@ -35,7 +34,7 @@ returns-clause-list c =
     let parted = c.in_ok-parted.ensures.parted in
     let is = joined_is c.args.sysno held c.in_ok-parted.parted.before.items c.deref-3.result.now c.in_ok-list.list.items c.args.new.now (parted.before ∙ ap (filter (λ p. nat_lt p.sysno c.args.sysno)) c.deref.ensures.value)
     (c.deref-3.ensures.value ∙ parted.behind ∙ ap (filter (λ p. nat_lt c.args.sysno p.sysno)) c.deref.ensures.value) c.in_ok-list.ensures.list in
-    subst (IsSplicedAt c.args.sysno c.args.new.now held) (sym is) (whole_spliced c.args.sysno held c.args.new.now (c.args.sysno / 256) refl c.requires.number c.ranges.sysno.fits c.requires.lies c.requires.stored)
+    subst (IsListChanged c.args.sysno c.args.new.now held) (sym is) (whole_spliced c.args.sysno held c.args.new.now (c.args.sysno / 256) refl c.requires.number c.ranges.sysno.fits c.requires.lies c.requires.stored)
 
 pub returns-clause-lies : goal.returns-clause-lies
 returns-clause-lies c =
@@ -51,7 +50,7 @@ returns-then-lacks_records-2-clause-damaged c is rises content db key up held ar
     let parted = c.in_ok-parted.ensures.parted in
     let same = joined_is c.args.sysno list c.in_ok-parted.parted.before.items c.deref-3.result.now c.in_ok-list.list.items c.args.new.now (parted.before ∙ ap (filter (λ p. nat_lt p.sysno c.args.sysno)) c.deref.ensures.value)
     (c.deref-3.ensures.value ∙ parted.behind ∙ ap (filter (λ p. nat_lt c.args.sysno p.sysno)) c.deref.ensures.value) c.in_ok-list.ensures.list in
-    let spliced = subst (IsSplicedAt c.args.sysno c.args.new.now list) (sym same) (whole_spliced c.args.sysno list c.args.new.now (c.args.sysno / 256) refl c.requires.number c.ranges.sysno.fits c.requires.lies c.requires.stored) in
+    let spliced = subst (IsListChanged c.args.sysno c.args.new.now list) (sym same) (whole_spliced c.args.sysno list c.args.new.now (c.args.sysno / 256) refl c.requires.number c.ranges.sysno.fits c.requires.lies c.requires.stored) in
     let lies = subst (LiesIn (c.args.sysno / 256)) (sym same) (whole_lies c.args.sysno list c.args.new.now (c.args.sysno / 256) refl c.requires.number c.ranges.sysno.fits c.requires.lies c.requires.stored) in
     let none = c.if-lacks_records-2.ensures.lacks refl in
     let next : Held = record { list = c.in_ok-list.list; records = c.in-Some.records } in
