@@ -12,7 +12,7 @@ ghost use Rattle.zeb_register.specs.Tallies.{Works};
 
 use crate::dropping::database_drop_whole;
 use crate::packed::{postings_packed, terms_packed, terms_packed_before, terms_packed_from};
-use crate::packed_changes::key_change_packed;
+use crate::packed_runs::{key_change_packed, key_changes_packed};
 use crate::packed_totals::totals_packed;
 use crate::registers::{Layout, Place, RecordChange, TermCount, Totals, Work};
 use crate::{DatabaseId, RegFault};
@@ -54,13 +54,13 @@ impl Layout for Blocks {
     }
 
     fn key_changes<S: Alter>(
-        _tx: &mut Transaction<'_, S>,
-        _work: &mut Work,
-        _db: DatabaseId,
-        _key: &Key,
-        _changes: &[RecordChange<'_>],
+        tx: &mut Transaction<'_, S>,
+        work: &mut Work,
+        db: DatabaseId,
+        key: &Key,
+        changes: &[RecordChange<'_>],
     ) -> Result<(), RegFault> {
-        Err(RegFault::Memory)
+        key_changes_packed(tx, work, db, key, changes)
     }
 
     fn database_take<S: Alter>(

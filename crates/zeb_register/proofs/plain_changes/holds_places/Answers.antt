@@ -9,7 +9,7 @@ use Rattle.zeb_register.specs.PlainRows.{code_of_register}
 use Rattle.zeb_register.specs.RowPlaces.{first_two}
 use Rattle.zeb_register.proofs.PlaceLemmas.{place_front}
 use Rattle.zeb_register.proofs.PlaceLemmas.{places_held, places_lost, two_numbers}
-use Rattle.zeb_register.proofs.plain.holds_places.Goals as goal
+use Rattle.zeb_register.proofs.plain_changes.holds_places.Goals as goal
 
 pub returns-clause-found : goal.returns-clause-found
 returns-clause-found g c clean inside store content holds is =

@@ -4,7 +4,7 @@ use Rattle.sqlite.specs.State.{HasCleanDisk}
 use Rattle.zeb_register.proofs.CallsInTurn.{quiet_then}
 use Rattle.zeb_register.proofs.Calls.{stays_then}
 use Rattle.zeb_register.proofs.PlaceLemmas.{puts_more}
-use Rattle.zeb_register.proofs.plain.places_put.Goals as goal
+use Rattle.zeb_register.proofs.plain_changes.places_put.Goals as goal
 
 pub loop-place-preserved : goal.loop-place-preserved
 loop-place-preserved g c = record {

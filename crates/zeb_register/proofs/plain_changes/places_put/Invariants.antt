@@ -4,7 +4,7 @@ use Rattle.sqlite.specs.State.{HasCleanDisk, Survives}
 use Rattle.zeb_register.specs.Store.{IsStore}
 use Rattle.zeb_register.specs.RowPlaces.{Puts}
 use Rattle.zeb_register.proofs.Calls.{Stays}
-use Rattle.zeb_register.proofs.plain.places_put.Given as goal
+use Rattle.zeb_register.proofs.plain_changes.places_put.Given as goal
 
 abbrev pub invariant-loop-place : goal.invariant-loop-place
 invariant-loop-place g l =

@@ -4,7 +4,7 @@ use Rattle.sqlite.specs.Held.{state}
 use Rattle.sqlite.specs.State.{HasCleanDisk}
 use Rattle.zeb_register.proofs.Calls.{store_same, changes_after}
 use Rattle.zeb_register.proofs.PlaceLemmas.{beside, beside_then, rows_changed}
-use Rattle.zeb_register.proofs.plain.RowsLayout.key_change.Goals as goal
+use Rattle.zeb_register.proofs.plain_changes.key_change_plain.Goals as goal
 
 pub returns-clause-change : goal.returns-clause-change
 returns-clause-change g c clean inside store =
@@ -24,4 +24,4 @@ returns-clause-change g c clean inside store =
     )) (c.places_put.ensures.put clean taken.on.mode done.layout)
 
 pub returns-in_err-holds_places-clause-damaged : goal.returns-in_err-holds_places-clause-damaged
-returns-in_err-holds_places-clause-damaged g c clean inside store is rises content storable holds = absurd (c.in_err-holds_places.ensures.honest clean inside store content holds (search rules))
+returns-in_err-holds_places-clause-damaged g c clean inside store is rises content holds = absurd (c.in_err-holds_places.ensures.honest clean inside store content holds (search rules))
