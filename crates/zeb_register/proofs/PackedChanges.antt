@@ -69,7 +69,7 @@ module _ (sysno block : ℕ) (at : sysno / 256 ≡ block) (places : List Place) 
     λ h. (are q).1 (in_part block list (posting_at sysno q) h at),
   )
 
-some_of : (list : List Posting) → list ≢ [] → (p : Posting) × Has list p
+pub some_of : (list : List Posting) → list ≢ [] → (p : Posting) × Has list p
 some_of [] some = absurd (some refl)
 some_of (p ∷ list) some = (p, inl refl)
 
@@ -160,7 +160,7 @@ leaves_records sysno old new list held next up is at same found spliced lies cou
 
 -- ---- the rows after the changes
 
-told_apart_block : (d db : ℤ) (k key : Key) (b block : ℕ) (row : Row) (bytes : List ℕ) → row ≡ block_row d k b bytes → IsBlockIn db key block row → (d ≡ db) × (k ≡ key) × (b ≡ block)
+pub told_apart_block : (d db : ℤ) (k key : Key) (b block : ℕ) (row : Row) (bytes : List ℕ) → row ≡ block_row d k b bytes → IsBlockIn db key block row → (d ≡ db) × (k ≡ key) × (b ≡ block)
 told_apart_block d db k key b block row bytes is in_it =
     let at = subst (IsBlockIn db key block) is in_it in
     let one : Int d ≡ Int db = at.0 in
@@ -170,7 +170,7 @@ told_apart_block d db k key b block row bytes is in_it =
     let five : Int (pos b) ≡ Int (pos block) = at.4 in
     ((let e : d ≡ db = cc in e), same_key k key (cc) (cc) (cc), (let e : b ≡ block = cc in e))
 
-block_in : (d db : ℤ) (k key : Key) (b block : ℕ) (row : Row) (bytes : List ℕ) → row ≡ block_row d k b bytes → (d ≡ db) × (k ≡ key) × (b ≡ block) → IsBlockIn db key block row
+pub block_in : (d db : ℤ) (k key : Key) (b block : ℕ) (row : Row) (bytes : List ℕ) → row ≡ block_row d k b bytes → (d ≡ db) × (k ≡ key) × (b ≡ block) → IsBlockIn db key block row
 block_in d db k key b block row bytes is same = subst (IsBlockIn db key block) (sym is) (
   ap Int same.0,
   ap (λ (x : Key). Int (pos x.index)) same.1,
@@ -179,7 +179,7 @@ block_in d db k key b block row bytes is same = subst (IsBlockIn db key block) (
   ap (λ (x : ℕ). Int (pos x)) same.2,
 )
 
-told_apart_key : (d db : ℤ) (k key : Key) (records : ℕ) (row : Row) → row ≡ dict_row d k records → IsDictIn db key row → (d ≡ db) × (k ≡ key)
+pub told_apart_key : (d db : ℤ) (k key : Key) (records : ℕ) (row : Row) → row ≡ dict_row d k records → IsDictIn db key row → (d ≡ db) × (k ≡ key)
 told_apart_key d db k key records row is in_it =
     let at = subst (IsDictIn db key) is in_it in
     let one : Int d ≡ Int db = at.0 in
@@ -188,7 +188,7 @@ told_apart_key d db k key records row is in_it =
     let four : Text k.term ≡ Text key.term = at.3 in
     ((let e : d ≡ db = cc in e), same_key k key (cc) (cc) (cc))
 
-dict_in : (d db : ℤ) (k key : Key) (records : ℕ) (row : Row) → row ≡ dict_row d k records → (d ≡ db) × (k ≡ key) → IsDictIn db key row
+pub dict_in : (d db : ℤ) (k key : Key) (records : ℕ) (row : Row) → row ≡ dict_row d k records → (d ≡ db) × (k ≡ key) → IsDictIn db key row
 dict_in d db k key records row is same = subst (IsDictIn db key) (sym is) (
   ap Int same.0,
   ap (λ (x : Key). Int (pos x.index)) same.1,

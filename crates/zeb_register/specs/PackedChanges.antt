@@ -1,5 +1,5 @@
 -- Steps of private functions, which no public clause speaks of: parts of a key's list changed block by block, and what is written of them.
-use Rattle.std.specs.Prelude.{◌≡◌, ◌≢◌, ◌↔◌, ◌⊎◌, ◌+◌, ◌/◌, ◌<◌, ◌≤◌, ◌^◌, ◌==◌, ℕ, ℤ, pos, nat_lt, List, [], ◌∷◌, filter, map}
+use Rattle.std.specs.Prelude.{◌≡◌, ◌≢◌, ◌↔◌, ◌⊎◌, ◌+◌, ◌/◌, ◌<◌, ◌≤◌, ◌^◌, ◌==◌, ℕ, ℤ, pos, nat_lt, Bool, true, false, List, [], ◌∷◌, filter, map}
 use Rattle.std.specs.List.{AllByRecursion}
 use Rattle.std.specs.List.Sorted.{IsStrictlySortedBy}
 use Rattle.sqlite.specs.declared.types.Value.TheVariants.{Int, Text, Blob}
@@ -55,6 +55,15 @@ PutsBlock db key block list tree old new =
 abbrev pub PutsCount : ℤ → Key → ℕ → ℕ → Trees → Trees → Type 0
 PutsCount db key records tree old new =
     (row : Row) → HasRow new tree row ↔ ((HasRow old tree row × ¬ IsDictIn db key row) ⊎ ((records ≢ 0) × (row ≡ dict_row db key records)))
+
+-- it is told rightly whether some row of a table is P
+abbrev pub IsTold : Bool → (Row → Type 0) → ℕ → Trees → Type 0
+IsTold true P tree trees = (row : Row) × HasRow trees tree row × P row
+IsTold false P tree trees = (row : Row) → HasRow trees tree row → ¬ P row
+
+-- where this is told rightly, rows are changed so
+abbrev pub IfTold : Bool → (Row → Type 0) → (ℕ → Trees → Trees → Type 0) → ℕ → Trees → Trees → Type 0
+IfTold is_there P Rows tree old new = IsTold is_there P tree old → Rows tree old new
 
 -- the row shows bytes that spell the list in the block
 abbrev pub SpellsIn : ℕ → Row → List Posting → Type 0

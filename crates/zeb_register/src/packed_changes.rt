@@ -11,14 +11,15 @@ ghost use Rattle.zeb_register.specs.Calls.{Alters, Inside, OnlyReads};
 ghost use Rattle.zeb_register.specs.Content.{Content, IsStorable, posted};
 ghost use Rattle.zeb_register.specs.Occurring.{HasKey, IsCount};
 ghost use Rattle.zeb_register.specs.PackedBlocks.{HoldsBlocks, block_row, dict_row, part_in};
-ghost use Rattle.zeb_register.specs.PackedChanges.{HoldsBlockRows, IsBlockIn, IsDictIn, PutsBlock, PutsCount, SpellsIn};
-ghost use Rattle.zeb_register.specs.Sql.{Loses, Replaces};
+ghost use Rattle.zeb_register.specs.PackedChanges.{HoldsBlockRows, IfTold, IsBlockIn, IsDictIn, PutsBlock, PutsCount, SpellsIn};
+ghost use Rattle.zeb_register.specs.RowStatements.{Gains, Renews};
+ghost use Rattle.zeb_register.specs.Sql.{Loses};
 ghost use Rattle.zeb_register.specs.Store.{IsStore, blocks_tree, dict_tree};
 
 use crate::packed::{add_spelled, records_at};
 use crate::plain::code_of;
 use crate::statements::packed_changes::{
-    block_bytes, block_keep, block_remove, dict_keep, dict_records, dict_remove,
+    block_add, block_bytes, block_remove, block_set, dict_add, dict_records, dict_remove, dict_set,
 };
 use crate::values::{read, stored};
 use crate::{DatabaseId, RegFault};
@@ -99,7 +100,7 @@ pub(crate) fn key_records<S: Alter>(
     }
 }
 
-/// Puts a list in the place of the row of a key's block, or takes the row where the list is empty.
+/// Puts a list in the place of the row of a key's block, or takes the row where the list is empty. It is told whether the row is there.
 pub(crate) fn block_write<S: Alter>(
     alloc: Global,
     tx: &mut Transaction<'_, S>,
@@ -107,21 +108,25 @@ pub(crate) fn block_write<S: Alter>(
     key: &Key,
     block: u64,
     list: &[Posting],
+    is_there: bool,
 ) -> Result<(), RegFault>
     requires { LiesIn block list.now }
     ensures same { tx.new.conn.ghost_name ≡ tx.old.conn.ghost_name }
     ensures call { Inside (state S.Store tx.old.conn.now) (state S.Store tx.new.conn.now) result
-        (λ _. Alters blocks_tree (PutsBlock db.0 key.now block list.now)) }
+        (λ _. Alters blocks_tree (IfTold is_there (IsBlockIn db.0 key.now block) (PutsBlock db.0 key.now block list.now))) }
     ensures honest { result ≢ Err RegFault.Damaged }
 {
     if list.is_empty() {
         return block_take(tx, db, key, block);
     }
     let bytes = spell(alloc, block, list)?;
-    block_put(tx, db, key, block, &bytes)
+    if is_there {
+        return block_renew(tx, db, key, block, &bytes);
+    }
+    block_insert(tx, db, key, block, &bytes)
 }
 
-fn block_put<S: Alter>(
+fn block_renew<S: Alter>(
     tx: &mut Transaction<'_, S>,
     db: DatabaseId,
     key: &Key,
@@ -130,12 +135,38 @@ fn block_put<S: Alter>(
 ) -> Result<(), RegFault>
     ensures same { tx.new.conn.ghost_name ≡ tx.old.conn.ghost_name }
     ensures call { Inside (state S.Store tx.old.conn.now) (state S.Store tx.new.conn.now) result
-        (λ _. Alters blocks_tree (Replaces (IsBlockIn db.0 key.now block) (block_row db.0 key.now block bytes.now))) }
+        (λ _. Alters blocks_tree (Renews (IsBlockIn db.0 key.now block) (block_row db.0 key.now block bytes.now))) }
     ensures honest { result ≢ Err RegFault.Damaged }
 {
     let number = stored(block)?;
     let register = code_of(key.register);
-    block_keep(
+    block_set(
+        tx,
+        db.column(),
+        key.index,
+        register,
+        key.term.as_str(),
+        number,
+        bytes,
+    )?;
+    Ok(())
+}
+
+fn block_insert<S: Alter>(
+    tx: &mut Transaction<'_, S>,
+    db: DatabaseId,
+    key: &Key,
+    block: u64,
+    bytes: &[u8],
+) -> Result<(), RegFault>
+    ensures same { tx.new.conn.ghost_name ≡ tx.old.conn.ghost_name }
+    ensures call { Inside (state S.Store tx.old.conn.now) (state S.Store tx.new.conn.now) result
+        (λ _. Alters blocks_tree (Gains (block_row db.0 key.now block bytes.now))) }
+    ensures honest { result ≢ Err RegFault.Damaged }
+{
+    let number = stored(block)?;
+    let register = code_of(key.register);
+    block_add(
         tx,
         db.column(),
         key.index,
@@ -171,25 +202,29 @@ fn block_take<S: Alter>(
     Ok(())
 }
 
-/// Puts a number in the row of a key, or takes the row where no record has the key.
+/// Puts a number in the row of a key, or takes the row where no record has the key. It is told whether the row is there.
 pub(crate) fn dict_write<S: Alter>(
     tx: &mut Transaction<'_, S>,
     db: DatabaseId,
     key: &Key,
     records: u64,
+    is_there: bool,
 ) -> Result<(), RegFault>
     ensures same { tx.new.conn.ghost_name ≡ tx.old.conn.ghost_name }
     ensures call { Inside (state S.Store tx.old.conn.now) (state S.Store tx.new.conn.now) result
-        (λ _. Alters dict_tree (PutsCount db.0 key.now records)) }
+        (λ _. Alters dict_tree (IfTold is_there (IsDictIn db.0 key.now) (PutsCount db.0 key.now records))) }
     ensures honest { result ≢ Err RegFault.Damaged }
 {
     if records == 0 {
         return dict_take(tx, db, key);
     }
-    dict_put(tx, db, key, records)
+    if is_there {
+        return dict_renew(tx, db, key, records);
+    }
+    dict_insert(tx, db, key, records)
 }
 
-fn dict_put<S: Alter>(
+fn dict_renew<S: Alter>(
     tx: &mut Transaction<'_, S>,
     db: DatabaseId,
     key: &Key,
@@ -197,12 +232,36 @@ fn dict_put<S: Alter>(
 ) -> Result<(), RegFault>
     ensures same { tx.new.conn.ghost_name ≡ tx.old.conn.ghost_name }
     ensures call { Inside (state S.Store tx.old.conn.now) (state S.Store tx.new.conn.now) result
-        (λ _. Alters dict_tree (Replaces (IsDictIn db.0 key.now) (dict_row db.0 key.now records))) }
+        (λ _. Alters dict_tree (Renews (IsDictIn db.0 key.now) (dict_row db.0 key.now records))) }
     ensures honest { result ≢ Err RegFault.Damaged }
 {
     let number = stored(records)?;
     let register = code_of(key.register);
-    dict_keep(
+    dict_set(
+        tx,
+        db.column(),
+        key.index,
+        register,
+        key.term.as_str(),
+        number,
+    )?;
+    Ok(())
+}
+
+fn dict_insert<S: Alter>(
+    tx: &mut Transaction<'_, S>,
+    db: DatabaseId,
+    key: &Key,
+    records: u64,
+) -> Result<(), RegFault>
+    ensures same { tx.new.conn.ghost_name ≡ tx.old.conn.ghost_name }
+    ensures call { Inside (state S.Store tx.old.conn.now) (state S.Store tx.new.conn.now) result
+        (λ _. Alters dict_tree (Gains (dict_row db.0 key.now records))) }
+    ensures honest { result ≢ Err RegFault.Damaged }
+{
+    let number = stored(records)?;
+    let register = code_of(key.register);
+    dict_add(
         tx,
         db.column(),
         key.index,

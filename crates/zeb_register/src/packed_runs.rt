@@ -140,7 +140,7 @@ fn changes_put<S: Alter>(
 {
     let records = key_records(tx, db, key)?;
     let after = runs_put(tx, db, key, records, changes)?;
-    dict_write(tx, db, key, after)
+    dict_write(tx, db, key, after, records != 0)
 }
 
 /// Puts changes into the rows of a key's blocks, where so many records have the key; returns how many have it then.
@@ -213,12 +213,14 @@ fn run_put<S: Alter>(
         → (new : List Posting) → ¬ AreListChanges run.now (now db.0 key.now) new }
 {
     let list = block_list(tx, db, key, block)?;
+    let is_there = !list.is_empty();
     let held = Held {
         block,
         list,
         records,
     };
     let after = held.changed_by(run)?;
-    block_write(*after.list.allocator(), tx, db, key, block, &after.list)?;
+    let alloc = *after.list.allocator();
+    block_write(alloc, tx, db, key, block, &after.list, is_there)?;
     Ok(after.records)
 }

@@ -1,4 +1,4 @@
-use Rattle.std.proofs.Common.{arith, rules, subst, sym}
+use Rattle.std.proofs.Common.{◌==◌, arith, not, refl, rules, subst, sym}
 use Rattle.std.proofs.lemmas.Result.{IfOk-weaker}
 use Rattle.sqlite.specs.Effect.{Database}
 use Rattle.sqlite.specs.Held.{state}
@@ -13,7 +13,7 @@ use Rattle.zeb_register.proofs.Calls.{changes_after, goes_keeps, goes_then, on_e
 use Rattle.zeb_register.proofs.CountLemmas.{count_so}
 use Rattle.zeb_register.proofs.OccurringLemmas.{key_posted}
 use Rattle.zeb_register.proofs.PackedLemmas.{block_rows}
-use Rattle.zeb_register.proofs.PackedWrites.{all_lists, all_put}
+use Rattle.zeb_register.proofs.PackedWrites.{all_lists, all_put, dict_told}
 use Rattle.zeb_register.proofs.packed_runs.changes_put.Goals as goal
 
 pub returns-clause-call : goal.returns-clause-call
@@ -54,13 +54,15 @@ returns-clause-change g c clean inside store =
     let changes = c.args.changes.now in
     let records = c.in_ok-records.records in
     let after = c.in_ok-after.after in
+    let there = not (records == 0) in
     let runs = changes_after blocks_tree (PutsChanges db key changes records after) first second third reads inside (c.in_ok-after.ensures.put clean2 reads.mode (store_same first second reads.now_is store)) in
     IfOk-weaker c.dict_write.result _ _ (λ _ done.
     let dict = done.rows runs.layout in (
       dict.layout,
-      all_lists db key changes records after first third fourth runs dict,
-      λ before holds. all_put db key changes records after first third fourth runs dict before holds
-          (count_so (HasKey (posted before db) key) (IsInRecord (before db key)) records (key_posted before db key) (c.in_ok-records.ensures.value clean1 inside store before holds)),
+      all_lists db key changes records after first third fourth runs there dict,
+      λ before holds.
+          let count = count_so (HasKey (posted before db) key) (IsInRecord (before db key)) records (key_posted before db key) (c.in_ok-records.ensures.value clean1 inside store before holds) in
+          all_put db key changes records after first third fourth runs there dict before holds count (dict_told db key records (records == 0) first.now.trees before holds count refl),
     )) (c.dict_write.ensures.call.ok clean goes.mode)
 
 pub returns-in_err-records-clause-damaged : goal.returns-in_err-records-clause-damaged
