@@ -1,8 +1,9 @@
 -- What each call on the tables does to a connection, whatever its text is.
-use Rattle.std.proofs.Common.{◌≡◌, ◌⊎◌, ◌+◌, ℕ, List, true, false, not, Bool, IsTrue, None, IsSome, Result, Ok, Err, OnOk, OnErr, IfOk, IfErr, inl, inr, refl, sym, ap, subst, ◌∙◌}
+use Rattle.std.proofs.Common.{◌≡◌, ◌≢◌, ◌⊎◌, ◌+◌, ℕ, List, [], ◌∷◌, true, false, not, Bool, IsTrue, None, IsSome, Result, Ok, Err, OnOk, OnErr, IfOk, IfErr, inl, inr, refl, sym, ap, subst, ◌∙◌}
 use Rattle.sqlite.specs.Order.{Row}
 use Rattle.sqlite.specs.Tree.{Trees}
 use Rattle.sqlite.specs.Schema.{Schema}
+use Rattle.sqlite.specs.Table.{Table}
 use Rattle.sqlite.specs.Command.{Command}
 use Rattle.sqlite.specs.Compile.{compiled, first, returning, planned, meaning, command, with_command, small, timed as timed_in}
 use Rattle.sqlite.specs.Listing.{understood, reads_listing, listing_schema, is_select, if_select}
@@ -129,6 +130,14 @@ lists_inside rows P sql params old new (Ok x) silent shown means inside =
     (record { was_open = same.0.was_open; is_open = same.0.is_open; now_is = same.0.now_is; committed_is = same.0.committed_is; mode = same.0.mode ∙ inside }, λ store. means (rows x) store shown)
 lists_inside rows P sql params old new (Err e) silent shown means inside = tt
 
+-- the same of a query of which no row is looked at
+pub reads_inside : {A : Type 0} (rows : A → List Row) (sql : List ℕ) (params : Row) (old new : State) (r : Result A Error) → IsSilent sql → IfOk r (λ x. Shown sql params old new (rows x)) → IsTrue old.in_transaction
+    → IfOk r (λ _. OnlyReads old new)
+reads_inside rows sql params old new (Ok x) silent shown inside =
+    let same = shown_alone sql params old new (rows x) silent shown in
+    record { was_open = same.0.was_open; is_open = same.0.is_open; now_is = same.0.now_is; committed_is = same.0.committed_is; mode = same.0.mode ∙ inside }
+reads_inside rows sql params old new (Err e) silent shown inside = tt
+
 unchanged_keeps : (old new : State) → IsUnchanged old new → KeepsCommit old new
 unchanged_keeps old new same = record { was_open = λ _. same.0.was_open; committed = λ _. same.0.committed_is }
 
@@ -184,6 +193,9 @@ nothing_then a b c before next o =
 pub goes_then : (a b c : State) → GoesOn a b → GoesOn b c → GoesOn a c
 goes_then a b c before next = record { was_open = before.was_open; is_open = next.is_open; now_is = refl; committed_is = next.committed_is ∙ before.committed_is; mode = next.mode }
 
+pub reads_goes : (a b : State) → OnlyReads a b → GoesOn a b
+reads_goes a b reads = record { was_open = reads.was_open; is_open = reads.is_open; now_is = refl; committed_is = reads.committed_is; mode = reads.mode }
+
 pub goes_keeps : (a b c : State) → GoesOn a b → KeepsCommit b c → KeepsCommit a c
 goes_keeps a b c before next = record { was_open = λ _. before.was_open; committed = λ o. next.committed o ∙ before.committed_is }
 
@@ -211,6 +223,28 @@ changes_after tree Rows a b c reads inside done = record {
 pub changes_so : (tree : ℕ) (P Q : ℕ → Trees → Trees → Type 0) (a b : State) → (P tree a.now.trees b.now.trees → Q tree a.now.trees b.now.trees) → Changes tree P a b → Changes tree Q a b
 changes_so tree P Q a b so done = record { layout = done.layout; mode = done.mode; rows = so done.rows; others = done.others }
 
+others_then : (tables : List Table) (tree : ℕ) (a b c : Trees) → AllByRecursion (λ t. t.tree ≢ tree → b t.tree ≡ a t.tree) tables → AllByRecursion (λ t. t.tree ≢ tree → c t.tree ≡ b t.tree) tables
+    → AllByRecursion (λ t. t.tree ≢ tree → c t.tree ≡ a t.tree) tables
+others_then [] tree a b c one two = tt
+others_then (t ∷ tables) tree a b c one two = (λ other. two.0 other ∙ one.0 other, others_then tables tree a b c one.1 two.1)
+
+others_none : (tables : List Table) (tree : ℕ) (a : Trees) → AllByRecursion (λ t. t.tree ≢ tree → a t.tree ≡ a t.tree) tables
+others_none [] tree a = tt
+others_none (t ∷ tables) tree a = (λ other. refl, others_none tables tree a)
+
+-- a table is written twice, or not at all
+pub changes_then : (tree : ℕ) (P Q R : ℕ → Trees → Trees → Type 0) (a b c : State) → (P tree a.now.trees b.now.trees → Q tree b.now.trees c.now.trees → R tree a.now.trees c.now.trees)
+    → Changes tree P a b → Changes tree Q b c → Changes tree R a c
+changes_then tree P Q R a b c so one two = record {
+  layout = two.layout;
+  mode = two.mode ∙ one.mode;
+  rows = so one.rows two.rows;
+  others = others_then store_schema.tables tree a.now.trees b.now.trees c.now.trees one.others two.others;
+}
+
+pub changes_none : (tree : ℕ) (P : ℕ → Trees → Trees → Type 0) (a : State) → P tree a.now.trees a.now.trees → IsStore a → Changes tree P a a
+changes_none tree P a so store = record { layout = store; mode = refl; rows = so; others = others_none store_schema.tables tree a.now.trees }
+
 pub alters_so : (tree : ℕ) (P Q : ℕ → Trees → Trees → Type 0) (a b : State) → (P tree a.now.trees b.now.trees → Q tree a.now.trees b.now.trees) → Alters tree P a b → Alters tree Q a b
 alters_so tree P Q a b so done = record { on = done.on; rows = λ store. changes_so tree P Q a b so (done.rows store) }
 
@@ -221,6 +255,10 @@ inside_so old new (Err e) P Q so it = record { ok = it.ok; err = it.err; crash =
 pub on_err_so : {A E : Type 0} (r : Result A E) (P Q : Type 0) → (P → Q) → OnErr r P → OnErr r Q
 on_err_so (Ok a) P Q so h = tt
 on_err_so (Err e) P Q so h = so h
+
+pub on_ok_both : {A E : Type 0} (r : Result A E) (P Q R : Type 0) → (P → Q → R) → OnOk r P → OnOk r Q → OnOk r R
+on_ok_both (Ok a) P Q R so p q = so p q
+on_ok_both (Err e) P Q R so p q = tt
 
 pub on_ok_so : {A E : Type 0} (r : Result A E) (P Q : Type 0) → (P → Q) → OnOk r P → OnOk r Q
 on_ok_so (Ok a) P Q so h = so h

@@ -68,7 +68,8 @@ other_is : (sysno : ℕ) (p : Posting) → p.sysno ≢ sysno → other_record sy
 unfolding other_record
 other_is sysno p differs = grind (arith, nat_tests)
 
-at_sysno : ℕ → List Place → List Posting → List Posting
+-- the list with these places of the record in place of its own
+pub at_sysno : ℕ → List Place → List Posting → List Posting
 at_sysno sysno places list = with_all posting_total postings_apart (map (posting_at sysno) places) (filter (other_record sysno) list)
 
 choose : {A B : Type 0} → A ⊎ B → List Posting → List Posting → List Posting
@@ -79,11 +80,11 @@ choose (inr other) new old = old
 pub changed_at : ℤ → Key → ℕ → List Place → Content → Content
 changed_at db key sysno places old d k = choose (told_spot d db k key) (at_sysno sysno places (old d k)) (old d k)
 
-at_sysno_rises : (sysno : ℕ) (places : List Place) (list : List Posting) → IsStrictlySortedBy posting_cmp list → IsStrictlySortedBy posting_cmp (at_sysno sysno places list)
+pub at_sysno_rises : (sysno : ℕ) (places : List Place) (list : List Posting) → IsStrictlySortedBy posting_cmp list → IsStrictlySortedBy posting_cmp (at_sysno sysno places list)
 unfolding at_sysno
 at_sysno_rises sysno places list up = all_rise posting_total postings_apart (map (posting_at sysno) places) (filter (other_record sysno) list) (kept_rises posting_total (other_record sysno) list up)
 
-at_sysno_part : (sysno : ℕ) (places : List Place) (list : List Posting) → ArePlacesOf sysno places (at_sysno sysno places list)
+pub at_sysno_part : (sysno : ℕ) (places : List Place) (list : List Posting) → ArePlacesOf sysno places (at_sysno sysno places list)
 unfolding at_sysno
 at_sysno_part sysno places list place =
     let there = all_there posting_total postings_apart (map (posting_at sysno) places) (filter (other_record sysno) list) (posting_at sysno place) in (
@@ -96,7 +97,7 @@ at_sysno_part sysno places list place =
       ],
     )
 
-at_sysno_others : (sysno : ℕ) (places : List Place) (list : List Posting) (p : Posting) → p.sysno ≢ sysno → Has (at_sysno sysno places list) p ↔ Has list p
+pub at_sysno_others : (sysno : ℕ) (places : List Place) (list : List Posting) (p : Posting) → p.sysno ≢ sysno → Has (at_sysno sysno places list) p ↔ Has list p
 unfolding at_sysno
 at_sysno_others sysno places list p differs =
     let there = all_there posting_total postings_apart (map (posting_at sysno) places) (filter (other_record sysno) list) p in (
@@ -157,6 +158,28 @@ one_change db key sysno places content a b left right = same_content a b left.ri
     by d k p (inl same) (inl number) = at_part d k p same (same_posting p number)
     by d k p (inl same) (inr differs) = by_others d k p (λ h. differs h.2)
     by d k p (inr other) number = by_others d k p (λ h. other (h.0, h.1))
+
+-- ---- one list changed
+
+-- the content with another list of the key
+pub with_list : ℤ → Key → List Posting → Content → Content
+with_list db key list old d k = choose (told_spot d db k key) list (old d k)
+
+pub with_list_here : (db : ℤ) (key : Key) (list : List Posting) (old : Content) → with_list db key list old db key ≡ list
+unfolding with_list choose
+with_list_here db key list old = at (told_spot db db key key)
+  where
+    at : (spot : ((db ≡ db) × (key ≡ key)) ⊎ ¬ ((db ≡ db) × (key ≡ key))) → choose spot list (old db key) ≡ list
+    at (inl same) = refl
+    at (inr other) = absurd (other (refl, refl))
+
+pub with_list_there : (db : ℤ) (key : Key) (list : List Posting) (old : Content) (d : ℤ) (k : Key) → ¬ ((d ≡ db) × (k ≡ key)) → with_list db key list old d k ≡ old d k
+unfolding with_list choose
+with_list_there db key list old d k differs = at (told_spot d db k key)
+  where
+    at : (spot : ((d ≡ db) × (k ≡ key)) ⊎ ¬ ((d ≡ db) × (k ≡ key))) → choose spot list (old d k) ≡ old d k
+    at (inl same) = absurd (differs same)
+    at (inr other) = refl
 
 -- ---- a database taken
 

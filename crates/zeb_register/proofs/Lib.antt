@@ -39,6 +39,7 @@ pub mod PackedTerms
 pub mod PackedReads
 pub mod PackedWrites
 pub mod PackedParts
+pub mod ListChanges
 pub mod PackedTotals
 pub mod PlaceLemmas
 pub mod PackedChanges

@@ -20,6 +20,7 @@ use Rattle.zeb_register.specs.declared.registers.TermCount.{TermCount}
 use Rattle.zeb_register.specs.Content.{Content, IsRising, IsWithout, posted, posting_cmp}
 use Rattle.zeb_register.specs.Occurring.{AreTermsOf, HasKey, key_in}
 use Rattle.zeb_register.specs.PackedBlocks.{HoldsBlocks, IsBlockRow, IsDictRow, block_row, dict_row, part_in}
+use Rattle.zeb_register.specs.PackedChanges.{HoldsBlockRows}
 use Rattle.zeb_register.specs.PlainRows.{key_row}
 use Rattle.zeb_register.specs.RowPlaces.{DropsRegisters}
 use Rattle.zeb_register.specs.RowTerms.{IsInRecord}
@@ -61,8 +62,11 @@ one_spelled block bytes one two left right = one_list_spelled (start_of block) b
 
 -- ---- what the rows say of the content
 
+pub block_rows : (trees : Trees) (content : Content) → HoldsBlocks trees content → HoldsBlockRows trees content
+block_rows trees content holds = record { rising = holds.rising; numbered = holds.numbered; blocks = holds.blocks }
+
 -- a key has a row for the block of each of its postings
-pub block_there : (trees : Trees) (content : Content) (db : ℤ) (key : Key) (p : Posting) → HoldsBlocks trees content → Has (content db key) p
+pub block_there : (trees : Trees) (content : Content) (db : ℤ) (key : Key) (p : Posting) → HoldsBlockRows trees content → Has (content db key) p
     → let block = p.sysno / 256 in HasRow trees blocks_tree (block_row db key block (spelled_from (start_of block) (part_in block (content db key))))
 block_there trees content db key p holds here =
     let block = p.sysno / 256 in
@@ -81,7 +85,7 @@ block_there trees content db key p holds here =
     )
 
 -- a row of a key and a block spells the postings of the key there
-pub block_spells : (trees : Trees) (content : Content) (db : ℤ) (key : Key) (block : ℕ) (bytes : List ℕ) → HoldsBlocks trees content → HasRow trees blocks_tree (block_row db key block bytes)
+pub block_spells : (trees : Trees) (content : Content) (db : ℤ) (key : Key) (block : ℕ) (bytes : List ℕ) → HoldsBlockRows trees content → HasRow trees blocks_tree (block_row db key block bytes)
     → BlockSpells block (part_in block (content db key)) bytes
 block_spells trees content db key block bytes holds there =
     let found = (holds.blocks (block_row db key block bytes)).0 there in
@@ -101,10 +105,10 @@ block_spells trees content db key block bytes holds there =
 posting_also : (trees : Trees) (one two : Content) (db : ℤ) (key : Key) → HoldsBlocks trees one → HoldsBlocks trees two → (p : Posting) → Has (one db key) p → Has (two db key) p
 posting_also trees one two db key left right p here =
     let block = p.sysno / 256 in
-    let row = block_there trees one db key p left here in
+    let row = block_there trees one db key p (block_rows trees one left) here in
     let bytes = spelled_from (start_of block) (part_in block (one db key)) in
     let same : part_in block (one db key) ≡ part_in block (two db key) =
-    one_spelled block bytes _ _ (block_spells trees one db key block bytes left row) (block_spells trees two db key block bytes right row) in
+    one_spelled block bytes _ _ (block_spells trees one db key block bytes (block_rows trees one left) row) (block_spells trees two db key block bytes (block_rows trees two right) row) in
     part_in_list block (two db key) p (subst (λ (l : List Posting). Has l p) same (in_part block (one db key) p here refl))
 
 pub blocks_hold_one : (trees : Trees) (one two : Content) (db : ℤ) (key : Key) → HoldsBlocks trees one → HoldsBlocks trees two → one db key ≡ two db key

@@ -25,7 +25,7 @@ use Rattle.zeb_register.specs.Store.{IsRest, blocks_tree}
 use Rattle.zeb_register.proofs.ContentChanges.{posting_total}
 use Rattle.zeb_register.proofs.ContentLemmas.{ints_order, told_apart}
 use Rattle.zeb_register.proofs.CountLemmas.{is_less}
-use Rattle.zeb_register.proofs.PackedLemmas.{block_spells, block_there, in_part, not_empty, one_spelled, part_in_block, part_in_list}
+use Rattle.zeb_register.proofs.PackedLemmas.{block_rows, block_spells, block_there, in_part, not_empty, one_spelled, part_in_block, part_in_list}
 use Rattle.zeb_register.proofs.RisingLists.{joined_rises, never_itself, same_list}
 
 -- ---- rows that spell lists
@@ -206,12 +206,12 @@ module _ (trees : Trees) (content : Content) (db : ℤ) (key : Key) (holds : Hol
       let there = (are.each row).0 here in
       let found = (holds.blocks (key_row db key ++ row)).0 there in
       let is : row ≡ Int (pos found.2) ∷ Blob found.3 ∷ [] = (told_apart found.0 db found.1 key row (Int (pos found.2) ∷ Blob found.3 ∷ []) found.5).2 in
-      (found.2, found.3, is, block_spells trees content db key found.2 found.3 holds (subst (λ (r : Row). IsRest blocks_tree (key_row db key) trees r) is there))
+      (found.2, found.3, is, block_spells trees content db key found.2 found.3 (block_rows trees content holds) (subst (λ (r : Row). IsRest blocks_tree (key_row db key) trees r) is there))
 
   there_too : (p : Posting) → Has list p → Has (gathered list rows) p
   there_too p here =
       let row : Row = Int (pos (p.sysno / 256)) ∷ Blob (spelled_from (start_of (p.sysno / 256)) (part_in (p.sysno / 256) list)) ∷ [] in
-      let there : Has rows row = (are.each row).1 (block_there trees content db key p holds here) in
+      let there : Has rows row = (are.each row).1 (block_there trees content db key p (block_rows trees content holds) here) in
       let block : block_at row ≡ p.sysno / 256 = block_shown (p.sysno / 256) _ in
       gathered_has list rows row p there (in_part (block_at row) list p here (sym block))
 

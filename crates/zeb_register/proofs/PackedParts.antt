@@ -11,8 +11,8 @@ use Rattle.sqlite_rules.proofs.ProbeLemmas.{has_mapped, mapped_has}
 use Rattle.zeb_blocks.specs.declared.postings.Posting.{Posting}
 use Rattle.zeb_blocks.specs.Blocks.{IsNumbered, LiesIn}
 use Rattle.zeb_register.specs.declared.registers.Place.{Place}
-use Rattle.zeb_register.specs.Content.{ArePlacesOf, place_cmp, posting_at, posting_cmp}
-use Rattle.zeb_register.specs.PackedChanges.{AreStorablePlaces, IsSplicedAt, IsStorablePlace}
+use Rattle.zeb_register.specs.Content.{ArePlacesOf, IsListChanged, place_cmp, posting_at, posting_cmp}
+use Rattle.zeb_register.specs.PackedChanges.{AreStorablePlaces, IsStorablePlace}
 use Rattle.zeb_register.proofs.ContentChanges.{numbers_apart, posting_total}
 use Rattle.zeb_register.proofs.CountLemmas.{has_end, less_is}
 use Rattle.zeb_register.proofs.RisingLists.{joined_rises, kept_rises, pushed_rises, same_list}
@@ -174,7 +174,7 @@ module _ (sysno : ℕ) (list : List Posting) (places : List Place) (block : ℕ)
     ]);
   }
 
-  pub whole_spliced : IsSplicedAt sysno places list whole
+  pub whole_spliced : IsListChanged sysno places list whole
   whole_spliced = record {
     rising = whole_rises;
     part = λ q. (

@@ -11,7 +11,7 @@ use Rattle.zeb_extract.specs.declared.keys.Key.{Key}
 use Rattle.zeb_register.specs.Content.{Content, IsStorable, posted}
 use Rattle.zeb_register.specs.Occurring.{HasKey, IsCount}
 use Rattle.zeb_register.specs.PackedBlocks.{HoldsBlocks, part_in}
-use Rattle.zeb_register.specs.PackedChanges.{SpellsIn, block_key}
+use Rattle.zeb_register.specs.PackedChanges.{HoldsBlockRows, SpellsIn, block_key}
 use Rattle.zeb_register.specs.PackedRows.{IsRecordNumber}
 use Rattle.zeb_register.specs.PlainRows.{code_of_register, key_row}
 use Rattle.zeb_register.specs.Sql.{IsListOf}
@@ -33,7 +33,7 @@ one_in block row one two left right =
     let bytes : left.0 ≡ right.0 = cc in
     one_spelled block left.0 one two left.2 (subst (λ (d : List ℕ). BlockSpells block two d) (sym bytes) right.2)
 
-pub row_spells : (trees : Trees) (content : Content) (db : ℤ) (key : Key) (block : ℕ) (row : Row) → HoldsBlocks trees content → IsRest blocks_tree (block_front db key block) trees row
+pub row_spells : (trees : Trees) (content : Content) (db : ℤ) (key : Key) (block : ℕ) (row : Row) → HoldsBlockRows trees content → IsRest blocks_tree (block_front db key block) trees row
     → SpellsIn block row (part_in block (content db key))
 row_spells trees content db key block row holds there =
     let it = (holds.blocks _).0 there in
@@ -45,7 +45,7 @@ some_or : (list : List Posting) → ((p : Posting) → ¬ Has list p) → [] ≡
 some_or [] none = refl
 some_or (p ∷ list) none = absurd (none p (inl refl))
 
-pub no_block : (trees : Trees) (content : Content) (db : ℤ) (key : Key) (block : ℕ) (rows : List Row) → HoldsBlocks trees content → IsListOf (IsRest blocks_tree (block_front db key block) trees) rows → slice_get rows 0 ≡ None
+pub no_block : (trees : Trees) (content : Content) (db : ℤ) (key : Key) (block : ℕ) (rows : List Row) → HoldsBlockRows trees content → IsListOf (IsRest blocks_tree (block_front db key block) trees) rows → slice_get rows 0 ≡ None
     → [] ≡ part_in block (content db key)
 no_block trees content db key block rows holds list none = some_or (part_in block (content db key)) (λ p h.
     let row : ℕ → Row = λ b. Blob (spelled_from (start_of b) (part_in b (content db key))) ∷ [] in

@@ -1,6 +1,6 @@
 -- What the registers hold: for each database and each key a list of postings, each the number of a record and a place in it, in
 -- rising order of number, unit and place.
-use Rattle.std.specs.Prelude.{◌≡◌, ◌≢◌, ◌↔◌, ◌≤◌, ℕ, ℤ, List, IsUtf8}
+use Rattle.std.specs.Prelude.{◌≡◌, ◌≢◌, ◌↔◌, ◌≤◌, ℕ, ℤ, List, [], ◌∷◌, IsUtf8}
 use Rattle.std.specs.List.Sorted.{IsStrictlySortedBy}
 use Rattle.std.specs.declared.cmp.Ordering.{Ordering}
 use Rattle.std.specs.Ordering.{nat_cmp, ordering_then}
@@ -11,6 +11,7 @@ pub use Rattle.zeb_blocks.specs.Order.{posting_cmp}
 use Rattle.zeb_extract.specs.declared.keys.Key.{Key}
 use Rattle.zeb_extract.specs.declared.keys.Occurrence.{Occurrence}
 use Rattle.zeb_register.specs.declared.registers.Place.{Place}
+use Rattle.zeb_register.specs.declared.registers.RecordChange.{RecordChange}
 use Rattle.zeb_register.specs.Sql.{Loses}
 use Rattle.zeb_register.specs.Store.{IsStore, meta_tree, databases_tree, records_tree, TakesDatabase, IsRecordIn, IsPostingIn, postings_tree, blocks_tree, dict_tree}
 
@@ -50,6 +51,23 @@ pub record IsChangedAt (db : ℤ) (key : Key) (sysno : ℕ) (places : List Place
   pub rising : IsRising new
   pub part : ArePlacesOf sysno places (new db key)
   pub others : (d : ℤ) (k : Key) (p : Posting) → ¬ ((d ≡ db) × (k ≡ key) × (p.sysno ≡ sysno)) → Has (new d k) p ↔ Has (old d k) p
+
+-- one record's part of a list of postings is changed to these places, and nothing else is changed
+pub record IsListChanged (sysno : ℕ) (places : List Place) (old new : List Posting) : Type 0 where
+  pub rising : IsStrictlySortedBy posting_cmp new
+  pub part : ArePlacesOf sysno places new
+  pub others : (p : Posting) → p.sysno ≢ sysno → Has new p ↔ Has old p
+
+-- changes of one list in turn, each of which says what stood there
+abbrev pub AreListChanges : List RecordChange → List Posting → List Posting → Type 0
+AreListChanges [] old new = new ≡ old
+AreListChanges (change ∷ changes) old new =
+    (next : List Posting) × ArePlacesOf change.sysno change.old.now old × IsListChanged change.sysno change.new.now old next × AreListChanges changes next new
+
+-- one list is changed so, and no other
+pub record AreChangedAt (db : ℤ) (key : Key) (changes : List RecordChange) (old new : Content) : Type 0 where
+  pub list : AreListChanges changes (old db key) (new db key)
+  pub others : (d : ℤ) (k : Key) → ¬ ((d ≡ db) × (k ≡ key)) → new d k ≡ old d k
 
 -- the lists of one database are taken, and nothing else is changed
 pub record IsWithout (db : ℤ) (old new : Content) : Type 0 where

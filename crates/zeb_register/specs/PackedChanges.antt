@@ -1,24 +1,25 @@
--- Steps of private functions, which no public clause speaks of: one record's part of a key's block changed, and what is written of it.
-use Rattle.std.specs.Prelude.{◌≡◌, ◌≢◌, ◌↔◌, ◌⊎◌, ◌+◌, ◌<◌, ◌≤◌, ◌^◌, ◌==◌, ℕ, ℤ, pos, nat_lt, List, [], ◌∷◌, filter, map}
+-- Steps of private functions, which no public clause speaks of: parts of a key's list changed block by block, and what is written of them.
+use Rattle.std.specs.Prelude.{◌≡◌, ◌≢◌, ◌↔◌, ◌⊎◌, ◌+◌, ◌/◌, ◌<◌, ◌≤◌, ◌^◌, ◌==◌, ℕ, ℤ, pos, nat_lt, Bool, true, false, List, [], ◌∷◌, filter, map}
 use Rattle.std.specs.List.{AllByRecursion}
 use Rattle.std.specs.List.Sorted.{IsStrictlySortedBy}
 use Rattle.sqlite.specs.declared.types.Value.TheVariants.{Int, Text, Blob}
 use Rattle.sqlite.specs.Order.{Row, column}
-use Rattle.sqlite.specs.State.{State}
 use Rattle.sqlite.specs.Tree.{Trees}
 use Rattle.sqlite_rules.specs.Lists.{Has}
 use Rattle.zeb_blocks.specs.declared.postings.Posting.{Posting}
-use Rattle.zeb_blocks.specs.Blocks.{BlockSpells}
+use Rattle.zeb_blocks.specs.Blocks.{BlockSpells, IsNumbered}
 use Rattle.zeb_extract.specs.declared.keys.Key.{Key}
 use Rattle.zeb_register.specs.declared.registers.Place.{Place}
+use Rattle.zeb_register.specs.declared.registers.RecordChange.{RecordChange}
 use Rattle.zeb_register.specs.declared.packed_parts.Parted.{Parted}
 use Rattle.zeb_register.specs.declared.packed_parts.Held.{Held}
-use Rattle.zeb_register.specs.Content.{ArePlacesOf, Content, place_cmp, posted, posting_at, posting_cmp}
-use Rattle.zeb_register.specs.Occurring.{HasKey, IsCount}
-use Rattle.zeb_register.specs.PackedBlocks.{block_row, dict_row, part_in}
+use Rattle.zeb_register.specs.Content.{AreChangedAt, Content, IsRising, place_cmp, posting_at}
+use Rattle.zeb_register.specs.Occurring.{IsCount}
+use Rattle.zeb_register.specs.PackedBlocks.{IsBlockRow, block_row, dict_row, part_in}
 use Rattle.zeb_register.specs.PlainRows.{code_of_register}
+use Rattle.zeb_register.specs.RowTerms.{IsInRecord}
 use Rattle.zeb_register.specs.Sql.{HasRow}
-use Rattle.zeb_register.specs.Store.{IsStore, KeepsLists, blocks_tree, dict_tree, postings_tree}
+use Rattle.zeb_register.specs.Store.{blocks_tree}
 
 -- ---- the row of a key and a block, and the row of a key
 
@@ -55,6 +56,15 @@ abbrev pub PutsCount : ℤ → Key → ℕ → ℕ → Trees → Trees → Type 
 PutsCount db key records tree old new =
     (row : Row) → HasRow new tree row ↔ ((HasRow old tree row × ¬ IsDictIn db key row) ⊎ ((records ≢ 0) × (row ≡ dict_row db key records)))
 
+-- it is told rightly whether some row of a table is P
+abbrev pub IsTold : Bool → (Row → Type 0) → ℕ → Trees → Type 0
+IsTold true P tree trees = (row : Row) × HasRow trees tree row × P row
+IsTold false P tree trees = (row : Row) → HasRow trees tree row → ¬ P row
+
+-- where this is told rightly, rows are changed so
+abbrev pub IfTold : Bool → (Row → Type 0) → (ℕ → Trees → Trees → Type 0) → ℕ → Trees → Trees → Type 0
+IfTold is_there P Rows tree old new = IsTold is_there P tree old → Rows tree old new
+
 -- the row shows bytes that spell the list in the block
 abbrev pub SpellsIn : ℕ → Row → List Posting → Type 0
 SpellsIn block row list = (bytes : List ℕ) × (column row 0 ≡ Blob bytes) × BlockSpells block list bytes
@@ -67,23 +77,12 @@ pub record IsParted (sysno : ℕ) (list : List Posting) (parted : Parted) : Type
   pub own : map (posting_at sysno) parted.own.items ≡ filter (λ p. p.sysno == sysno) list
   pub behind : parted.behind.items ≡ filter (λ p. nat_lt sysno p.sysno) list
 
--- the record's part of the list is changed to these places, and nothing else
-pub record IsSplicedAt (sysno : ℕ) (places : List Place) (old new : List Posting) : Type 0 where
-  pub rising : IsStrictlySortedBy posting_cmp new
-  pub part : ArePlacesOf sysno places new
-  pub others : (p : Posting) → p.sysno ≢ sysno → Has new p ↔ Has old p
-
 -- so many records have a key before and after one record's places are changed
 abbrev pub CountsOn : List Place → List Place → ℕ → ℕ → Type 0
 CountsOn [] [] old new = new ≡ old
 CountsOn [] (p ∷ ps) old new = new ≡ old + 1
 CountsOn (p ∷ ps) [] old new = old ≡ new + 1
 CountsOn (p ∷ ps) (q ∷ qs) old new = new ≡ old
-
--- what the tables hold of a key: its postings in a block, and how many records have it at all
-pub record IsHeld (content : Content) (db : ℤ) (key : Key) (block : ℕ) (held : Held) : Type 0 where
-  pub part : held.list.items ≡ part_in block (content db key)
-  pub count : IsCount (HasKey (posted content db) key) held.records
 
 -- a place whose numbers a column stores, and of which none is 0
 pub record IsStorablePlace (place : Place) : Type 0 where
@@ -94,10 +93,31 @@ pub record IsStorablePlace (place : Place) : Type 0 where
 abbrev pub AreStorablePlaces : List Place → Type 0
 AreStorablePlaces places = IsStrictlySortedBy place_cmp places × AllByRecursion IsStorablePlace places
 
--- the rows of a key are written, that of one block and that of the number of its records, and every other row is as it was
-pub record PutsKey (db : ℤ) (key : Key) (block : ℕ) (held : Held) (old new : State) : Type 0 where
-  pub store : IsStore new
-  pub lists : KeepsLists old.now.trees new.now.trees
-  pub postings : new.now.trees postings_tree ≡ old.now.trees postings_tree
-  pub blocks : PutsBlock db key block held.list.items blocks_tree old.now.trees new.now.trees
-  pub dict : PutsCount db key held.records dict_tree old.now.trees new.now.trees
+-- what the tables hold of a key's list: its postings in a block, and how many records it has at all
+pub record IsHeld (list : List Posting) (held : Held) : Type 0 where
+  pub part : held.list.items ≡ part_in held.block list
+  pub count : IsCount (IsInRecord list) held.records
+
+-- ---- changes of many records
+
+-- a change of a record to places, all of which a block can spell
+pub record IsStorableChange (change : RecordChange) : Type 0 where
+  pub sysno : (1 ≤ change.sysno) × (change.sysno < 2 ^ 63)
+  pub places : AreStorablePlaces change.new.now
+
+-- the change is of a record of the block
+abbrev pub IsInBlock : ℕ → RecordChange → Type 0
+IsInBlock block change = change.sysno / 256 ≡ block
+
+-- the rows of `blocks` hold the content, whatever those of `dict` say
+pub record HoldsBlockRows (trees : Trees) (content : Content) : Type 0 where
+  pub rising : IsRising content
+  pub numbered : (db : ℤ) (key : Key) (p : Posting) → Has (content db key) p → IsNumbered p
+  pub blocks : (row : Row) → HasRow trees blocks_tree row ↔ IsBlockRow content row
+
+-- Changes are put into the rows of a key's blocks: where these held a content, and so many records had the key, they hold the content
+-- that is changed so, and so many have the key then.
+abbrev pub PutsChanges : ℤ → Key → List RecordChange → ℕ → ℕ → ℕ → Trees → Trees → Type 0
+PutsChanges db key changes records after tree old new =
+    (now : Content) → HoldsBlockRows old now → IsCount (IsInRecord (now db key)) records
+    → (next : Content) × AreChangedAt db key changes now next × HoldsBlockRows new next × IsCount (IsInRecord (next db key)) after

@@ -10,7 +10,7 @@ use Rattle.sqlite.specs.State.{State, IsUnchanged}
 use Rattle.sqlite.specs.Tree.{Trees}
 use Rattle.zeb_register.specs.Calls.{OnlyReads}
 use Rattle.zeb_register.specs.Kept.{IsRecordCount}
-use Rattle.zeb_register.specs.Sql.{HasRow, IsListOf}
+use Rattle.zeb_register.specs.Sql.{HasRow, IsListOf, Replaces}
 use Rattle.zeb_register.specs.Store.{HasDatabase, HasRecord, IsRest, IsStore, entry, meta_tree}
 
 -- the table has one row more
@@ -31,6 +31,10 @@ Lists P old new rows = IsUnchanged old new × (IsStore old → IsListOf (P old.n
 -- the same inside a transaction
 abbrev pub ListsInside : (Trees → Row → Type 0) → State → State → List Row → Type 0
 ListsInside P old new rows = OnlyReads old new × (IsStore old → IsListOf (P old.now.trees) rows)
+
+-- where some row was P, the table has the row in place of those that were
+abbrev pub Renews : (Row → Type 0) → Row → ℕ → Trees → Trees → Type 0
+Renews P row tree old new = ((was : Row) × HasRow old tree was × P was) → Replaces P row tree old new
 
 abbrev pub posting : ℤ → ℤ → ℤ → List ℕ → ℤ → ℤ → ℤ → Row
 posting db idx reg term sysno seq place = Int db ∷ Int idx ∷ Int reg ∷ Text term ∷ Int sysno ∷ Int seq ∷ Int place ∷ []

@@ -12,9 +12,9 @@ ghost use Rattle.zeb_register.specs.Tallies.{Works};
 
 use crate::dropping::database_drop_whole;
 use crate::packed::{postings_packed, terms_packed, terms_packed_before, terms_packed_from};
-use crate::packed_changes::key_change_packed;
+use crate::packed_runs::{key_change_packed, key_changes_packed};
 use crate::packed_totals::totals_packed;
-use crate::registers::{Layout, Place, TermCount, Totals, Work};
+use crate::registers::{Layout, Place, RecordChange, TermCount, Totals, Work};
 use crate::{DatabaseId, RegFault};
 use sqlite::{Alter, Connection, Transaction};
 use std::alloc::Global;
@@ -51,6 +51,16 @@ impl Layout for Blocks {
         new: &[Place],
     ) -> Result<(), RegFault> {
         key_change_packed(tx, work, db, key, sysno, old, new)
+    }
+
+    fn key_changes<S: Alter>(
+        tx: &mut Transaction<'_, S>,
+        work: &mut Work,
+        db: DatabaseId,
+        key: &Key,
+        changes: &[RecordChange<'_>],
+    ) -> Result<(), RegFault> {
+        key_changes_packed(tx, work, db, key, changes)
     }
 
     fn database_take<S: Alter>(

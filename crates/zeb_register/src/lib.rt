@@ -17,8 +17,10 @@ mod occurring;
 mod packed;
 mod packed_changes;
 mod packed_parts;
+mod packed_runs;
 mod packed_totals;
 mod plain;
+mod plain_changes;
 mod registers;
 mod statements;
 mod tables;
@@ -38,7 +40,8 @@ pub use meta::{meta_of, meta_put};
 pub use occurring::{OccurrenceSet, occurrences_have_one_list_of_terms};
 pub use plain::Rows;
 pub use registers::{
-    Layout, Place, TermCount, Totals, Work, contents_change, registers_hold_one_content,
+    Layout, Place, RecordChange, TermCount, Totals, Work, contents_change,
+    registers_hold_one_content,
 };
 pub use tables::make_tables;
 pub use wiping::wipe;

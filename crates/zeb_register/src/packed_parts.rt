@@ -1,17 +1,18 @@
-//! What the packed tables hold of a key in one block, and what they hold of it after one record's places are changed.
+//! What the packed tables hold of a key in one block, and what they hold of it after records' places are changed.
 
-ghost use Rattle.std.specs.Prelude.{◌≡◌, ◌≢◌, ◌<◌, ◌≤◌, ◌/◌, ◌++◌, ◌^◌, ◌==◌, ◌∷◌, [], ℕ, ℤ, List};
+ghost use Rattle.std.specs.Prelude.{◌≡◌, ◌≢◌, ◌<◌, ◌≤◌, ◌++◌, ◌^◌, ◌==◌, ◌∷◌, [], ℕ, List};
 ghost use Rattle.std.specs.Prelude.{filter, map, true, false, IfOk, MatchOption, OnOk};
 ghost use Rattle.std.specs.declared.cmp.Ordering.TheVariants.{Less};
+ghost use Rattle.std.specs.List.{AllByRecursion};
 ghost use Rattle.std.specs.List.Sorted.{IsStrictlySortedBy};
 ghost use Rattle.zeb_blocks.specs.Blocks.{LiesIn};
 ghost use Rattle.zeb_blocks.specs.declared.postings.Posting.{Posting};
-ghost use Rattle.zeb_extract.specs.declared.keys.Key.{Key};
-ghost use Rattle.zeb_register.specs.Content.{ArePlacesOf, Content, IsRising, place_cmp, posting_at};
-ghost use Rattle.zeb_register.specs.PackedChanges.{AreStorablePlaces, CountsOn, IsHeld, IsParted, IsSplicedAt, IsStorablePlace};
+ghost use Rattle.zeb_register.specs.Content.{AreListChanges, ArePlacesOf, IsListChanged, place_cmp, posting_at, posting_cmp};
+ghost use Rattle.zeb_register.specs.PackedChanges.{AreStorablePlaces, CountsOn, IsHeld, IsInBlock, IsParted};
+ghost use Rattle.zeb_register.specs.PackedChanges.{IsStorableChange, IsStorablePlace};
 
 use crate::RegFault;
-use crate::registers::Place;
+use crate::registers::{Place, RecordChange};
 use crate::values::stored;
 use std::alloc::Global;
 use zeb_blocks::Posting;
@@ -19,35 +20,65 @@ use zeb_blocks::Posting;
 /// What the tables hold of a key: its postings in one block, and how many records have it at all.
 #[derive(Debug, Drop)]
 pub(crate) struct Held {
+    pub(crate) block: u64,
     pub(crate) list: Vec<Posting>,
     pub(crate) records: u64,
 }
 
 impl Held {
-    /// What is held after the record's places `old` are changed to `new`.
+    /// What is held after changes of records of the block, one after the other.
     ///
-    /// `Damaged` where the record has other places than `old`, or where no record has a key with a posting.
-    pub(crate) fn changed(&self, sysno: u64, old: &[Place], new: &[Place]) -> Result<Held, RegFault>
-        requires lies { LiesIn (sysno / 256) self.now.list.items }
-        requires few { self.now.records ≤ 999999999 }
-        requires number { 1 ≤ sysno }
-        requires stored { AreStorablePlaces new.now }
-        ensures list { IfOk result (λ held. IsSplicedAt sysno new.now self.now.list.items held.list.items) }
-        ensures lies { IfOk result (λ held. LiesIn (sysno / 256) held.list.items) }
-        ensures own { OnOk result (map (posting_at sysno) old.now ≡ filter (λ p. p.sysno == sysno) self.now.list.items) }
-        ensures count { IfOk result (λ held. CountsOn old.now new.now self.now.records held.records) }
-        ensures damaged { result ≡ Err RegFault.Damaged → IsStrictlySortedBy place_cmp old.now → (content : Content) (db : ℤ) (key : Key)
-            → IsRising content → IsHeld content db key (sysno / 256) self.now → ¬ ArePlacesOf sysno old.now (content db key) }
+    /// `Damaged` where a record has other places than the change says, or where no record has a key with a posting.
+    pub(crate) fn changed_by(self, changes: &[RecordChange<'_>]) -> Result<Held, RegFault>
+        requires lies { LiesIn self.block self.list.items }
+        requires inside { AllByRecursion (IsInBlock self.block) changes.now }
+        requires stored { AllByRecursion IsStorableChange changes.now }
+        ensures held { IfOk result (λ held. (old : List Posting) → IsStrictlySortedBy posting_cmp old → IsHeld old self
+            → (new : List Posting) × AreListChanges changes.now old new × IsHeld new held) }
+        ensures lies { IfOk result (λ held. LiesIn self.block held.list.items) }
+        ensures block { IfOk result (λ held. held.block ≡ self.block) }
+        ensures damaged { result ≡ Err RegFault.Damaged → AllByRecursion (λ c. IsStrictlySortedBy place_cmp c.old.now) changes.now
+            → (old new : List Posting) → IsStrictlySortedBy posting_cmp old → IsHeld old self → ¬ AreListChanges changes.now old new }
     {
-        let parted = parted_at(*self.list.allocator(), &self.list, sysno)?;
-        if !are_same(&parted.own, old) || self.lacks_records() {
+        let mut held = self;
+        for change in changes {
+            held = held.changed(change)?;
+        }
+        Ok(held)
+    }
+
+    /// What is held after a change of a record of the block.
+    ///
+    /// `Damaged` where the record has other places than the change says, or where no record has a key with a posting. `Store` where more
+    /// records have the key than a column stores.
+    fn changed(&self, change: &RecordChange<'_>) -> Result<Held, RegFault>
+        requires lies { LiesIn self.now.block self.now.list.items }
+        requires inside { IsInBlock self.now.block change.now }
+        requires stored { IsStorableChange change.now }
+        ensures list { IfOk result (λ held. IsListChanged change.now.sysno change.now.new.now self.now.list.items held.list.items) }
+        ensures lies { IfOk result (λ held. LiesIn self.now.block held.list.items) }
+        ensures block { IfOk result (λ held. held.block ≡ self.now.block) }
+        ensures own { OnOk result (map (posting_at change.now.sysno) change.now.old.now
+            ≡ filter (λ p. p.sysno == change.now.sysno) self.now.list.items) }
+        ensures count { IfOk result (λ held. CountsOn change.now.old.now change.now.new.now self.now.records held.records) }
+        ensures damaged { result ≡ Err RegFault.Damaged → IsStrictlySortedBy place_cmp change.now.old.now → (list : List Posting)
+            → IsStrictlySortedBy posting_cmp list → IsHeld list self.now → ¬ ArePlacesOf change.now.sysno change.now.old.now list }
+    {
+        stored(self.records)?;
+        let parted = parted_at(*self.list.allocator(), &self.list, change.sysno)?;
+        if !are_same(&parted.own, change.old) || self.lacks_records() {
             return Err(RegFault::Damaged);
         }
-        let Some(records) = records_after(self.records, old, new) else {
+        let Some(records) = records_after(self.records, change.old, change.new) else {
             return Err(RegFault::Damaged);
         };
-        let list = joined(parted.before, sysno, new, &parted.behind)?;
-        let held = Held { list, records };
+        let list = joined(parted.before, change.sysno, change.new, &parted.behind)?;
+        let block = self.block;
+        let held = Held {
+            block,
+            list,
+            records,
+        };
         if held.lacks_records() {
             return Err(RegFault::Damaged);
         }
@@ -140,7 +171,7 @@ fn joined(
 
 /// How many records have a key after one record's places are changed; `None` where none had it, and this one did.
 fn records_after(records: u64, old: &[Place], new: &[Place]) -> Option<u64>
-    requires { records ≤ 999999999 }
+    requires { records < 2 ^ 63 }
     ensures { MatchOption result ((after : ℕ) → ¬ CountsOn old.now new.now records after) (CountsOn old.now new.now records) }
 {
     match (old.is_empty(), new.is_empty()) {
@@ -150,8 +181,19 @@ fn records_after(records: u64, old: &[Place], new: &[Place]) -> Option<u64>
     }
 }
 
+/// Refuses changes that no row has, as `Store`: one with a number of 0 or above `2^63 - 1`, and one to places that don't rise.
+pub(crate) fn check_changes(changes: &[RecordChange<'_>]) -> Result<(), RegFault>
+    ensures stored { OnOk result (AllByRecursion IsStorableChange changes.now) }
+    ensures honest { result ≢ Err RegFault.Damaged }
+{
+    for change in changes {
+        check_numbers(change.sysno, change.new)?;
+    }
+    Ok(())
+}
+
 /// Refuses what no row has, as `Store`: a number of 0 or above `2^63 - 1`, and places that don't rise.
-pub(crate) fn check_numbers(sysno: u64, places: &[Place]) -> Result<(), RegFault>
+fn check_numbers(sysno: u64, places: &[Place]) -> Result<(), RegFault>
     ensures number { OnOk result ((1 ≤ sysno) × (sysno < 2 ^ 63)) }
     ensures stored { OnOk result (AreStorablePlaces places.now) }
     ensures honest { result ≢ Err RegFault.Damaged }

@@ -1,28 +1,23 @@
 //! Registers with one row for each posting.
 
-ghost use Rattle.std.specs.Prelude.{IsUtf8, ◌≡◌, ◌≢◌, true, false, pos, map, IsTrue, OnOk, IfOk, FitsSigned};
+ghost use Rattle.std.specs.Prelude.{◌≡◌, ◌≢◌, pos, map, IfOk, FitsSigned};
 ghost use Rattle.std.specs.Int.{w64};
 ghost use Rattle.sqlite_rules.specs.Lists.{Has};
 ghost use Rattle.sqlite.specs.Held.{state};
 ghost use Rattle.sqlite.specs.State.{HasCleanDisk, IsUnchanged};
-ghost use Rattle.zeb_register.specs.Content.{Content, ArePlacesOf, place_cmp};
-ghost use Rattle.zeb_register.specs.PlainRows.{HoldsRows, code_of_register, posting_row};
-ghost use Rattle.zeb_register.specs.RowPlaces.{place_row, first_two, IsTwoNumbers, IsPlaceIn, posting_columns, Puts, first_three};
-ghost use Rattle.zeb_register.specs.RowPlaces.{IsThreeNumbers};
-ghost use Rattle.std.specs.List.Sorted.{IsStrictlySortedBy};
-ghost use Rattle.zeb_register.specs.Sql.{Loses};
-ghost use Rattle.zeb_register.specs.RowStatements.{Gains};
-ghost use Rattle.zeb_register.specs.Store.{IsStore, postings_tree};
-ghost use Rattle.zeb_register.specs.Calls.{GoesOn, OnlyReads, Alters, Inside, Reading};
+ghost use Rattle.zeb_register.specs.Calls.{Reading};
+ghost use Rattle.zeb_register.specs.Content.{Content};
 ghost use Rattle.zeb_register.specs.Occurring.{key_in};
+ghost use Rattle.zeb_register.specs.PlainRows.{HoldsRows, code_of_register, posting_row};
+ghost use Rattle.zeb_register.specs.RowPlaces.{first_three, IsThreeNumbers};
+ghost use Rattle.zeb_register.specs.Store.{IsStore};
 
 use crate::dropping::database_drop_whole;
-use crate::registers::{Layout, Place, TermCount, Totals, Work};
-use crate::statements::postings::{
-    nothing_of, place_rows, places_lift, posting_put, posting_rows, register_rows,
-};
+use crate::plain_changes::{key_change_plain, key_changes_plain};
+use crate::registers::{Layout, Place, RecordChange, TermCount, Totals, Work};
+use crate::statements::postings::{nothing_of, posting_rows, register_rows};
 use crate::terms::{count_terms, term_before, term_count, term_from, text_above};
-use crate::values::{read, stored};
+use crate::values::read;
 use crate::{DatabaseId, RegFault};
 use sqlite::{Alter, Connection, Row, Transaction};
 use std::alloc::Global;
@@ -57,11 +52,17 @@ impl Layout for Rows {
         old: &[Place],
         new: &[Place],
     ) -> Result<(), RegFault> {
-        if !holds_places(tx, db, key, sysno, old)? {
-            return Err(RegFault::Damaged);
-        }
-        places_take(tx, db, key, sysno)?;
-        places_put(tx, db, key, sysno, new)
+        key_change_plain(tx, db, key, sysno, old, new)
+    }
+
+    fn key_changes<S: Alter>(
+        tx: &mut Transaction<'_, S>,
+        _work: &mut Work,
+        db: DatabaseId,
+        key: &Key,
+        changes: &[RecordChange<'_>],
+    ) -> Result<(), RegFault> {
+        key_changes_plain(tx, db, key, changes)
     }
 
     fn database_take<S: Alter>(
@@ -215,142 +216,4 @@ fn posting_of(row: &Row) -> Result<Posting, RegFault>
         seq: read(row, 1)?,
         pos: read(row, 2)?,
     })
-}
-
-/// Whether the rows show just these places, in order.
-fn are_places(rows: &[Row], places: &[Place]) -> Result<bool, RegFault>
-    ensures same { result ≡ Ok true → map first_two rows.now ≡ map place_row places.now }
-    ensures other { result ≡ Ok false → map first_two rows.now ≢ map place_row places.now }
-    ensures honest { result ≡ Err RegFault.Damaged → ¬ ((row : _) → Has rows.now row → IsTwoNumbers row) }
-{
-    if rows.len() != places.len() {
-        return Ok(false);
-    }
-    for (at, row) in rows.iter().enumerate() {
-        if !is_place(row, places[at])? {
-            return Ok(false);
-        }
-    }
-    Ok(true)
-}
-
-/// Whether the row shows this place.
-fn is_place(row: &Row, place: Place) -> Result<bool, RegFault>
-    ensures same { result ≡ Ok true → first_two row.now ≡ place_row place }
-    ensures other { result ≡ Ok false → first_two row.now ≢ place_row place }
-    ensures honest { result ≡ Err RegFault.Damaged → ¬ IsTwoNumbers row.now }
-{
-    let seq: u64 = read(row, 0)?;
-    let pos: u64 = read(row, 1)?;
-    Ok(seq == place.seq && pos == place.pos)
-}
-
-/// Whether the register holds just these places of the key in the record.
-fn holds_places<S: Alter>(
-    tx: &mut Transaction<'_, S>,
-    db: DatabaseId,
-    key: &Key,
-    sysno: u64,
-    places: &[Place],
-) -> Result<bool, RegFault>
-    ensures same { tx.new.conn.ghost_name ≡ tx.old.conn.ghost_name }
-    ensures call { Inside (state S.Store tx.old.conn.now) (state S.Store tx.new.conn.now) result (λ _. OnlyReads) }
-    ensures found { HasCleanDisk (state S.Store tx.new.conn.now) → IsTrue (state S.Store tx.old.conn.now).in_transaction
-        → IsStore (state S.Store tx.old.conn.now) → (content : Content) → HoldsRows (state S.Store tx.old.conn.now).now.trees content
-        → result ≡ Ok true → ArePlacesOf sysno places.now (content db.0 key.now) }
-    ensures lost { HasCleanDisk (state S.Store tx.new.conn.now) → IsTrue (state S.Store tx.old.conn.now).in_transaction
-        → IsStore (state S.Store tx.old.conn.now) → (content : Content) → HoldsRows (state S.Store tx.old.conn.now).now.trees content
-        → IsStrictlySortedBy place_cmp places.now → result ≡ Ok false → ¬ ArePlacesOf sysno places.now (content db.0 key.now) }
-    ensures honest { HasCleanDisk (state S.Store tx.new.conn.now) → IsTrue (state S.Store tx.old.conn.now).in_transaction
-        → IsStore (state S.Store tx.old.conn.now) → (content : Content) → HoldsRows (state S.Store tx.old.conn.now).now.trees content
-        → result ≢ Err RegFault.Damaged }
-    ensures text { OnOk result (IsUtf8 key.now.term) }
-{
-    let sysno = stored(sysno)?;
-    let register = code_of(key.register);
-    let rows = place_rows(
-        tx,
-        db.column(),
-        key.index,
-        register,
-        key.term.as_str(),
-        sysno,
-    )?;
-    are_places(&rows, places)
-}
-
-/// Takes the places of the key in the record out.
-fn places_take<S: Alter>(
-    tx: &mut Transaction<'_, S>,
-    db: DatabaseId,
-    key: &Key,
-    sysno: u64,
-) -> Result<(), RegFault>
-    ensures same { tx.new.conn.ghost_name ≡ tx.old.conn.ghost_name }
-    ensures call { Inside (state S.Store tx.old.conn.now) (state S.Store tx.new.conn.now) result
-        (λ _. Alters postings_tree (Loses (IsPlaceIn db.0 key.now sysno))) }
-    ensures honest { result ≢ Err RegFault.Damaged }
-{
-    let sysno = stored(sysno)?;
-    let register = code_of(key.register);
-    places_lift(
-        tx,
-        db.column(),
-        key.index,
-        register,
-        key.term.as_str(),
-        sysno,
-    )?;
-    Ok(())
-}
-
-/// Puts places of the key in the record.
-fn places_put<S: Alter>(
-    tx: &mut Transaction<'_, S>,
-    db: DatabaseId,
-    key: &Key,
-    sysno: u64,
-    places: &[Place],
-) -> Result<(), RegFault>
-    ensures same { tx.new.conn.ghost_name ≡ tx.old.conn.ghost_name }
-    ensures call { Inside (state S.Store tx.old.conn.now) (state S.Store tx.new.conn.now) result (λ _ a b. IsTrue a.is_open → GoesOn a b) }
-    ensures put { HasCleanDisk (state S.Store tx.new.conn.now) → IsTrue (state S.Store tx.old.conn.now).in_transaction
-        → IsStore (state S.Store tx.old.conn.now)
-        → OnOk result (Puts db.0 key.now sysno places.now (state S.Store tx.old.conn.now) (state S.Store tx.new.conn.now)) }
-    ensures honest { result ≢ Err RegFault.Damaged }
-{
-    for place in places {
-        place_put(tx, db, key, sysno, *place)?;
-    }
-    Ok(())
-}
-
-/// Puts a place of the key in the record. `Store` also where a number is above `2^63 - 1`.
-fn place_put<S: Alter>(
-    tx: &mut Transaction<'_, S>,
-    db: DatabaseId,
-    key: &Key,
-    sysno: u64,
-    place: Place,
-) -> Result<(), RegFault>
-    ensures same { tx.new.conn.ghost_name ≡ tx.old.conn.ghost_name }
-    ensures call { Inside (state S.Store tx.old.conn.now) (state S.Store tx.new.conn.now) result
-        (λ _. Alters postings_tree (Gains (posting_columns db.0 key.now sysno place))) }
-    ensures honest { result ≢ Err RegFault.Damaged }
-{
-    let sysno = stored(sysno)?;
-    let seq = stored(place.seq)?;
-    let pos = stored(place.pos)?;
-    let register = code_of(key.register);
-    posting_put(
-        tx,
-        db.column(),
-        key.index,
-        register,
-        key.term.as_str(),
-        sysno,
-        seq,
-        pos,
-    )?;
-    Ok(())
 }

@@ -24,6 +24,14 @@ pub struct Place {
     pub pos: u64,
 }
 
+/// What becomes of a key's places in one record: those that stood there, and those that stand there then. Both lists rise.
+#[derive(Clone, Copy, Debug)]
+pub struct RecordChange<'a> {
+    pub sysno: u64,
+    pub old: &'a [Place],
+    pub new: &'a [Place],
+}
+
 /// A term of a register, and the number of records that have it.
 #[derive(Debug, PartialEq, Eq, Drop)]
 pub struct TermCount {
@@ -54,11 +62,12 @@ pub struct Work {
 /// 999,999,999.
 pub trait Layout {
     ghost use Rattle.std.specs.Prelude.{List, ℕ};
+    ghost use Rattle.std.specs.List.{AllByRecursion};
     ghost use Rattle.std.specs.List.Sorted.{IsStrictlySortedBy};
     ghost use Rattle.sqlite.specs.Tree.{Trees};
     ghost use Rattle.zeb_register.specs.Formats.{Format, version_of, holds_in};
     ghost use Rattle.zeb_register.specs.Store.{IsStore, KeepsLists};
-    ghost use Rattle.zeb_register.specs.Content.{Content, IsChangedAt, ArePlacesOf, IsStorable, place_cmp, posted, IsWithout, TakesWhole};
+    ghost use Rattle.zeb_register.specs.Content.{AreChangedAt, Content, IsChangedAt, ArePlacesOf, IsStorable, place_cmp, posted, IsWithout, TakesWhole};
     ghost use Rattle.zeb_register.specs.Occurring.{AreTermsOf, AreTermsFrom, AreTermsBefore, AreTotals};
     ghost use Rattle.zeb_register.specs.Tallies.{Works, ReadsTerms};
     ghost use Rattle.zeb_blocks.specs.declared.postings.Posting.{Posting};
@@ -110,6 +119,43 @@ pub trait Layout {
             → IsStore (state S.Store tx.old.conn.now)
             → OnOk result ((content : Content) → holds_in format (state S.Store tx.old.conn.now).now.trees content
             → Works row_work row_work row_work row_work work.old work.new) }
+        ensures no_work { row_work ≡ 0 → work.new ≡ work.old };
+
+    /// Puts places of a key in several records, one after the other, each where its `old` stood. A layout may read and write a row once
+    /// for several records that stand next to each other in `changes`; it counts work as if each record had been changed alone.
+    ///
+    /// `Damaged` where the register holds other places in a record than its `old`. `Store` also where a number is none that the layout
+    /// stores, as in `key_change`.
+    fn key_changes<S: Alter>(
+        tx: &mut Transaction<'_, S>,
+        work: &mut Work,
+        db: DatabaseId,
+        key: &Key,
+        changes: &[RecordChange<'_>],
+    ) -> Result<(), RegFault>
+        ensures same { tx.new.conn.ghost_name ≡ tx.old.conn.ghost_name }
+        ensures call { Inside (state S.Store tx.old.conn.now) (state S.Store tx.new.conn.now) result (λ _. GoesOn) }
+        ensures change { HasCleanDisk (state S.Store tx.new.conn.now) → IsTrue (state S.Store tx.old.conn.now).in_transaction
+            → IsStore (state S.Store tx.old.conn.now)
+            → OnOk result (IsStore (state S.Store tx.new.conn.now)
+            × KeepsLists (state S.Store tx.old.conn.now).now.trees (state S.Store tx.new.conn.now).now.trees
+            × ((before after : Content) → holds_in format (state S.Store tx.old.conn.now).now.trees before
+            → AreChangedAt db.0 key.now changes.now before after → holds_in format (state S.Store tx.new.conn.now).now.trees after)) }
+        ensures found { HasCleanDisk (state S.Store tx.new.conn.now) → IsTrue (state S.Store tx.old.conn.now).in_transaction
+            → IsStore (state S.Store tx.old.conn.now)
+            → OnOk result ((content : Content) → holds_in format (state S.Store tx.old.conn.now).now.trees content
+            → (after : Content) × AreChangedAt db.0 key.now changes.now content after) }
+        ensures damaged { HasCleanDisk (state S.Store tx.new.conn.now) → IsTrue (state S.Store tx.old.conn.now).in_transaction
+            → IsStore (state S.Store tx.old.conn.now)
+            → result ≡ Err RegFault.Damaged → AllByRecursion (λ c. IsStrictlySortedBy place_cmp c.old.now) changes.now
+            → (content : Content) → IsStorable content → holds_in format (state S.Store tx.old.conn.now).now.trees content
+            → (after : Content) → ¬ AreChangedAt db.0 key.now changes.now content after }
+        ensures text { OnOk result (changes.now ≢ [] → IsUtf8 key.now.term) }
+        ensures work { HasCleanDisk (state S.Store tx.new.conn.now) → IsTrue (state S.Store tx.old.conn.now).in_transaction
+            → IsStore (state S.Store tx.old.conn.now)
+            → OnOk result ((content : Content) → holds_in format (state S.Store tx.old.conn.now).now.trees content
+            → Works (row_work * length changes.now) (row_work * length changes.now) (row_work * length changes.now)
+            (row_work * length changes.now) work.old work.new) }
         ensures no_work { row_work ≡ 0 → work.new ≡ work.old };
 
     /// Takes a database out, with its records and its rows in every table of the registers.

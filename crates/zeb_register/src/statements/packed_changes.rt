@@ -1,11 +1,11 @@
-//! Statements on one row of `blocks` or `dict`: it is read, put in the place of the row that was there, or taken.
+//! Statements on one row of `blocks` or `dict`: it is read, put where none was, put in the place of the one that was there, or taken.
 
 ghost use Rattle.std.specs.Prelude.{◌≡◌, pos};
 ghost use Rattle.sqlite.specs.Held.{state};
 ghost use Rattle.zeb_register.specs.Calls.{Alters, Inside};
 ghost use Rattle.zeb_register.specs.PackedChanges.{IsBlockOf, IsRowOf, block_columns, block_key, dict_columns};
-ghost use Rattle.zeb_register.specs.RowStatements.{ListsInside};
-ghost use Rattle.zeb_register.specs.Sql.{Loses, Replaces};
+ghost use Rattle.zeb_register.specs.RowStatements.{Gains, ListsInside, Renews};
+ghost use Rattle.zeb_register.specs.Sql.{Loses};
 ghost use Rattle.zeb_register.specs.Store.{IsRest, blocks_tree, dict_tree, key_of};
 
 use sqlite::{Alter, Error, Row, Transaction, params};
@@ -47,7 +47,8 @@ pub(crate) fn dict_records<S: Alter>(
     )
 }
 
-pub(crate) fn block_keep<S: Alter>(
+/// Puts a row. It is refused where the key has one for the block.
+pub(crate) fn block_add<S: Alter>(
     tx: &mut Transaction<'_, S>,
     db: i64,
     idx: u32,
@@ -59,10 +60,30 @@ pub(crate) fn block_keep<S: Alter>(
     ensures same { tx.new.conn.ghost_name ≡ tx.old.conn.ghost_name }
     ensures call { Inside (state S.Store tx.old.conn.now) (state S.Store tx.new.conn.now) result
         (λ _. Alters blocks_tree
-        (Replaces (IsBlockOf db (pos idx) reg term.now block) (block_columns db (pos idx) reg term.now block bytes.now))) }
+        (Gains (block_columns db (pos idx) reg term.now block bytes.now))) }
 {
     tx.execute(
-        "INSERT OR REPLACE INTO blocks VALUES (?1, ?2, ?3, ?4, ?5, ?6)",
+        "INSERT INTO blocks VALUES (?1, ?2, ?3, ?4, ?5, ?6)",
+        params![db, idx, reg, term, block, bytes],
+    )
+}
+
+pub(crate) fn block_set<S: Alter>(
+    tx: &mut Transaction<'_, S>,
+    db: i64,
+    idx: u32,
+    reg: i64,
+    term: &str,
+    block: i64,
+    bytes: &[u8],
+) -> Result<usize, Error>
+    ensures same { tx.new.conn.ghost_name ≡ tx.old.conn.ghost_name }
+    ensures call { Inside (state S.Store tx.old.conn.now) (state S.Store tx.new.conn.now) result
+        (λ _. Alters blocks_tree
+        (Renews (IsBlockOf db (pos idx) reg term.now block) (block_columns db (pos idx) reg term.now block bytes.now))) }
+{
+    tx.execute(
+        "UPDATE blocks SET data = ?6 WHERE db = ?1 AND idx = ?2 AND reg = ?3 AND term = ?4 AND block = ?5",
         params![db, idx, reg, term, block, bytes],
     )
 }
@@ -85,7 +106,8 @@ pub(crate) fn block_remove<S: Alter>(
     )
 }
 
-pub(crate) fn dict_keep<S: Alter>(
+/// Puts a row. It is refused where the key has one.
+pub(crate) fn dict_add<S: Alter>(
     tx: &mut Transaction<'_, S>,
     db: i64,
     idx: u32,
@@ -96,10 +118,29 @@ pub(crate) fn dict_keep<S: Alter>(
     ensures same { tx.new.conn.ghost_name ≡ tx.old.conn.ghost_name }
     ensures call { Inside (state S.Store tx.old.conn.now) (state S.Store tx.new.conn.now) result
         (λ _. Alters dict_tree
-        (Replaces (IsRowOf db (pos idx) reg term.now) (dict_columns db (pos idx) reg term.now records))) }
+        (Gains (dict_columns db (pos idx) reg term.now records))) }
 {
     tx.execute(
-        "INSERT OR REPLACE INTO dict VALUES (?1, ?2, ?3, ?4, ?5)",
+        "INSERT INTO dict VALUES (?1, ?2, ?3, ?4, ?5)",
+        params![db, idx, reg, term, records],
+    )
+}
+
+pub(crate) fn dict_set<S: Alter>(
+    tx: &mut Transaction<'_, S>,
+    db: i64,
+    idx: u32,
+    reg: i64,
+    term: &str,
+    records: i64,
+) -> Result<usize, Error>
+    ensures same { tx.new.conn.ghost_name ≡ tx.old.conn.ghost_name }
+    ensures call { Inside (state S.Store tx.old.conn.now) (state S.Store tx.new.conn.now) result
+        (λ _. Alters dict_tree
+        (Renews (IsRowOf db (pos idx) reg term.now) (dict_columns db (pos idx) reg term.now records))) }
+{
+    tx.execute(
+        "UPDATE dict SET records = ?5 WHERE db = ?1 AND idx = ?2 AND reg = ?3 AND term = ?4",
         params![db, idx, reg, term, records],
     )
 }

@@ -1,0 +1,64 @@
+use Rattle.std.proofs.Common.{◌<◌, arith, drop, get_or, length, refl, rules, subst, suc, sym, take}
+use Rattle.sqlite.specs.Held.{state}
+use Rattle.sqlite.specs.State.{HasCleanDisk}
+use Rattle.zeb_register.specs.PackedChanges.{PutsChanges}
+use Rattle.zeb_register.specs.Store.{Changes, blocks_tree}
+use Rattle.zeb_register.proofs.Calls.{changes_then, stays_then}
+use Rattle.zeb_register.proofs.CallsInTurn.{quiet_then}
+use Rattle.zeb_register.proofs.ListChanges.{no_change, run, run_all, run_first, run_long, run_made, run_more, run_within}
+use Rattle.zeb_register.proofs.PackedWrites.{puts_then}
+use Rattle.zeb_register.proofs.packed_runs.runs_put.Goals as goal
+
+pub loop-done-smaller : goal.loop-done-smaller
+loop-done-smaller g c =
+    let xs = c.args.changes.now in
+    let done = c.loop-done.done in
+    let n = c.run_length.result in
+    let below : done < length xs = c.loop-done-test.true in
+    let some = c.run_length.ensures.some (get_or xs done no_change) (drop (suc done) xs) (run_first xs done n below) refl in
+    let long = run_long xs done n c.run_length.ensures.within in
+    omega (arith, some, long, below)
+
+pub loop-done-preserved : goal.loop-done-preserved
+loop-done-preserved g c =
+    let first = state g.S.Store c.args.tx.now.conn.now in
+    let mid = state g.S.Store c.loop-done.tx.conn.now in
+    let last = state g.S.Store c.run_put.new.tx.conn.now in
+    let db = c.args.db.0 in
+    let key = c.args.key.now in
+    let xs = c.args.changes.now in
+    let done = c.loop-done.done in
+    let n = c.run_length.result in
+    let so_far = c.loop-done.invariant in
+    let it = c.in_ok-records.ensures in
+    record {
+      same = search rules;
+      within = run_within xs done n so_far.within;
+      crash = quiet_then _ _ _ so_far.crash c.run_put.ensures.call.crash;
+      stays = λ clean inside.
+          let was : HasCleanDisk mid = omega (arith, c.run_put.ensures.call.crash.clean) in
+          let before = so_far.stays was inside in
+          stays_then first mid last before (it.call.ok clean before.inside).on;
+      put = λ clean inside store.
+          let was : HasCleanDisk mid = omega (arith, c.run_put.ensures.call.crash.clean) in
+          let before = so_far.put was inside store in
+          let more = (it.call.ok clean (so_far.stays was inside).inside).rows before.layout in
+          let both = changes_then blocks_tree (PutsChanges db key (take done xs) c.args.records c.loop-done.records) (PutsChanges db key (run xs done n) c.loop-done.records c.in_ok-records.records) _ first mid last
+          (puts_then db key (take done xs) (run xs done n) c.args.records c.loop-done.records c.in_ok-records.records first.now.trees mid.now.trees last.now.trees) before more in
+          subst (λ l. Changes blocks_tree (PutsChanges db key l c.args.records c.in_ok-records.records) first last) (sym (run_more xs done n)) both;
+    }
+
+pub returns-in_err-records-clause-damaged : goal.returns-in_err-records-clause-damaged
+returns-in_err-records-clause-damaged g c clean inside store is rises now holds count new all =
+    let mid = state g.S.Store c.loop-done.tx.conn.now in
+    let key = c.args.key.now in
+    let db = c.args.db.0 in
+    let xs = c.args.changes.now in
+    let done = c.loop-done.done in
+    let n = c.run_length.result in
+    let was : HasCleanDisk mid = omega (arith, c.run_put.ensures.call.crash.clean) in
+    let so_far = c.loop-done.invariant in
+    let before = so_far.put was inside store in
+    let next = before.rows now holds count in
+    let made = run_made xs done n (now db key) (next.0 db key) new next.1.list all in
+    c.in_err-records.ensures.damaged clean (so_far.stays was inside).inside before.layout (search rules) (run_all xs done n _ rises) next.0 next.2 next.3 made.0 made.1

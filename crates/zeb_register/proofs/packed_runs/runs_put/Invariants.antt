@@ -1,0 +1,22 @@
+use Rattle.std.proofs.Common.{◌≡◌, ◌≤◌, ◌-◌, IsTrue, length, take}
+use Rattle.sqlite.specs.Held.{state}
+use Rattle.sqlite.specs.State.{HasCleanDisk, Survives}
+use Rattle.zeb_register.specs.PackedChanges.{PutsChanges}
+use Rattle.zeb_register.specs.Store.{Changes, IsStore, blocks_tree}
+use Rattle.zeb_register.proofs.Calls.{Stays}
+use Rattle.zeb_register.proofs.packed_runs.runs_put.Given as goal
+
+abbrev pub invariant-loop-done : goal.invariant-loop-done
+invariant-loop-done g l =
+    let old = state g.S.Store l.fn.tx.conn.now in
+    let now = state g.S.Store l.tx.conn.now in
+    record {
+      same : l.tx.conn.ghost_name ≡ l.fn.tx.conn.ghost_name;
+      within : l.done ≤ length l.changes;
+      crash : Survives old now (λ _. ⊥);
+      stays : HasCleanDisk now → IsTrue old.in_transaction → Stays old now;
+      put : HasCleanDisk now → IsTrue old.in_transaction → IsStore old → Changes blocks_tree (PutsChanges l.db.0 l.key (take l.done l.changes) l.fn.records l.records) old now;
+    }
+
+abbrev pub decreases-loop-done : goal.decreases-loop-done
+decreases-loop-done g l = length l.changes - l.done

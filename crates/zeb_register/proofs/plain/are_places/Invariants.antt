@@ -1,6 +1,0 @@
-use Rattle.std.proofs.Common.{◌≡◌, map, take, length}
-use Rattle.zeb_register.specs.RowPlaces.{first_two, place_row}
-use Rattle.zeb_register.proofs.plain.are_places.Given as goal
-
-abbrev pub invariant-loop-at : goal.invariant-loop-at
-invariant-loop-at l = (map first_two (take l.at l.rows) ≡ map place_row (take l.at l.places)) × (length l.rows ≡ length l.places)
