@@ -13,7 +13,7 @@ use Rattle.zeb_extract.specs.declared.keys.Occurrence.{Occurrence}
 use Rattle.zeb_extract.specs.Order.{key_order}
 use Rattle.zeb_extract.proofs.Rising.{key_total, keys_apart}
 use Rattle.zeb_register.specs.declared.registers.Place.{Place}
-use Rattle.zeb_register.specs.Content.{Content, IsChangedAt, IsRising, IsStorable, IsStorablePosting, posting_at, ArePlacesOf, Posting}
+use Rattle.zeb_register.specs.Content.{Content, IsRising, posting_at, ArePlacesOf, Posting}
 use Rattle.sqlite.specs.Tree.{Trees}
 use Rattle.zeb_register.specs.Store.{KeepsLists}
 use Rattle.zeb_register.specs.declared.faults.RegFault.{RegFault}
@@ -23,7 +23,7 @@ use Rattle.zeb_change.specs.Outcomes.{register_refusal}
 use Rattle.zeb_register.proofs.RisingLists.{never_itself, told_by}
 use Rattle.zeb_register.proofs.ContentChanges.{changed_at, change_is, same_content}
 use Rattle.zeb_change.specs.declared.changed_keys.ChangedKey.{ChangedKey}
-use Rattle.zeb_change.specs.PrivateChangedKeys.{AreChangedKeys, ArePlacesIn, ArePostingsOf, CanBeStored, IsReposted, key_in, occurrence_at}
+use Rattle.zeb_change.specs.PrivateChangedKeys.{AreChangedKeys, ArePostingsOf, IsReposted, key_in, occurrence_at}
 
 pub moved : ℤ → ℕ → List ChangedKey → Content → Content
 moved db sysno [] content = content
@@ -131,39 +131,6 @@ numbers_apart m n e = ranked m n Equal (sym e)
 
 integers_apart : (m n : ℤ) → int_cmp m n ≡ Equal → m ≡ n
 integers_apart m n e = int_ranked m n Equal (sym e)
-
--- the places of a change are occurrences of the record
-new_stored : (sysno : ℕ) (newer : List Occurrence) (key : Key) (places : List Place) → CanBeStored sysno newer → ArePlacesIn newer key places → (place : Place) → Has places place → IsStorablePosting key (posting_at sysno place)
-new_stored sysno newer key places can are place there = can (occurrence_at key place) ((are.each place).0 there)
-
--- what can be stored can be stored still
-pub moved_storable : (db : ℤ) (sysno : ℕ) (newer : List Occurrence) (changed : List ChangedKey) (content : Content) → IsRising content → CanBeStored sysno newer
-    → ((c : ChangedKey) → Has changed c → ArePlacesIn newer (key_in c) c.new.items) → IsStorable content → IsStorable (moved db sysno changed content)
-unfolding moved
-moved_storable db sysno newer [] content up can are storable = storable
-moved_storable db sysno newer (c ∷ changed) content up can are storable =
-    moved_storable db sysno newer changed next change.rising can (λ d there. are d (inr there)) once
-  where
-    next : Content
-    next = changed_at db (key_in c) sysno c.new.items content
-
-    change : IsChangedAt db (key_in c) sysno c.new.items content next
-    change = change_is db (key_in c) sysno c.new.items content up
-
-    by : (d : ℤ) (key : Key) (p : Posting) → Has (next d key) p → (d ≡ db) ⊎ (d ≢ db) → (key ≡ key_in c) ⊎ (key ≢ key_in c) → (p.sysno ≡ sysno) ⊎ (p.sysno ≢ sysno) → IsStorablePosting key p
-    by d key p there (inl at) (inl of) (inl number) =
-        let place : Place = record { seq = p.seq; pos = p.pos } in
-        let is : p ≡ posting_at sysno place = λ i. record { sysno = number i; seq = p.seq; pos = p.pos } in
-        let moved_there : Has (next db (key_in c)) (posting_at sysno place) =
-        subst (Has (next db (key_in c))) is (subst (λ (k : Key). Has (next db k) p) of (subst (λ (x : ℤ). Has (next x key) p) at there)) in
-        let stored = new_stored sysno newer (key_in c) c.new.items can (are c (inl refl)) place ((change.part place).1 moved_there) in
-        subst (λ (k : Key). IsStorablePosting k p) (sym of) (subst (IsStorablePosting (key_in c)) (sym is) stored)
-    by d key p there (inr other) of number = storable d key p ((change.others d key p (λ h. other h.0)).0 there)
-    by d key p there (inl at) (inr other) number = storable d key p ((change.others d key p (λ h. other h.1)).0 there)
-    by d key p there (inl at) (inl of) (inr other) = storable d key p ((change.others d key p (λ h. other h.2)).0 there)
-
-    once : IsStorable next
-    once d key p there = by d key p there (told_by int_cmp_total integers_apart d db) (told_by key_total keys_apart key (key_in c)) (told_by nat_cmp_total numbers_apart p.sysno sysno)
 
 -- there is one content in which the record has just these occurrences
 pub one_reposted : (db : ℤ) (sysno : ℕ) (newer : List Occurrence) (before a b : Content) → IsReposted db sysno newer before a → IsReposted db sysno newer before b → a ≡ b

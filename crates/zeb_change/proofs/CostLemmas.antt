@@ -1,6 +1,6 @@
 -- What is counted for the keys of records, one record after the other.
 use Rattle.std.proofs.Common.{◌≡◌, ◌↔◌, ◌∙◌, ◌+◌, ◌*◌, ◌<◌, ◌^◌, ℕ, List, [], Option, Some, None, Result, Ok, Err, OnOk, map, length, inl, inr, refl, sym, ap, subst, subst₂, arith}
-use Rattle.std.proofs.Math.Nat.{mul-zero, mul-one, mul-add}
+use Rattle.std.proofs.Math.Nat.{mul-zero, mul-add}
 use Rattle.std.proofs.lemmas.List.{length-map}
 use Rattle.std.specs.List.{Contains}
 use Rattle.sqlite_rules.proofs.ListLemmas.{has_contained, contains_had}
@@ -8,7 +8,7 @@ use Rattle.sqlite_rules.proofs.ProbeLemmas.{has_mapped}
 use Rattle.zeb_extract.specs.declared.keys.Occurrence.{Occurrence}
 use Rattle.zeb_register.specs.declared.registers.Place.{Place}
 use Rattle.zeb_register.specs.declared.registers.Work.{Work}
-use Rattle.zeb_register.specs.Tallies.{Rises, Works}
+use Rattle.zeb_register.specs.Tallies.{Rises}
 use Rattle.zeb_register.proofs.PackedTotals.{rises_then}
 use Rattle.zeb_register.proofs.RisingLists.{same_list}
 use Rattle.zeb_change.specs.declared.changed_keys.ChangedKey.{ChangedKey}
@@ -20,6 +20,9 @@ use Rattle.zeb_change.specs.PrivateRecords.{AreOccurrencesOf, IsElderAs, elder_b
 use Rattle.zeb_change.specs.Costs.{IsRecordCost, IsWorkFor, bytes_of, newer_of, occurs_by, IsCostIn}
 use Rattle.zeb_change.specs.declared.settings.Kind.{Kind}
 use Rattle.zeb_change.specs.Folding.{ident_in}
+use Rattle.zeb_change.specs.declared.pending.Pending.{Pending}
+use Rattle.zeb_change.specs.PrivatePending.{IsDueFor, IsNothingNoted, noted_count}
+use Rattle.zeb_change.proofs.Noting.{nothing_count}
 use Rattle.zeb_change.specs.PrivateTallies.{AreInRange}
 use Rattle.zeb_change.specs.PrivateChangedKeys.{AreChangedKeys, key_in, occurrence_at}
 use Rattle.zeb_change.proofs.ChangeKeysContent.{told_key}
@@ -44,8 +47,36 @@ works_then w a b old mid new are one two = record {
     rises : (x y z : ℕ) → z < 2 ^ 64 → Rises (w * a) x y → Rises (w * b) y z → Rises (w * (a + b)) x z
     rises x y z below first then = subst (λ n. Rises n x z) (sym (mul-add w a b)) (rises_then (w * a) (w * b) x y z below first then)
 
-pub one_more : (w n : ℕ) (old mid new : Work) → AreInRange new → IsWorkFor w n old mid → Works w w w w mid new → IsWorkFor w (n + 1) old new
-one_more w n old mid new are one two = works_then w n 1 old mid new are one (subst (λ k. Works k k k k mid new) (sym (mul-one w)) two)
+-- changes that are noted are due
+pub due_noted : (w n : ℕ) (work : Work) (before after : Pending) → noted_count after ≡ noted_count before + n → IsDueFor w n work work before after
+due_noted w n work before after more = (0, no_work w work, omega (arith, more))
+
+pub due_then : (w a b : ℕ) (old mid new : Work) (before between after : Pending) → AreInRange new → IsDueFor w a old mid before between → IsDueFor w b mid new between after
+    → IsDueFor w (a + b) old new before after
+due_then w a b old mid new before between after are one two = (one.0 + two.0, works_then w one.0 two.0 old mid new are one.1 two.1, omega (arith, one.2, two.2))
+
+-- changes are noted, and then some are written
+pub due_more : (w n : ℕ) (old now : Work) (before between after : Pending) → noted_count between ≡ noted_count before + n → IsDueFor w 0 old now between after → IsDueFor w n old now before after
+due_more w n old now before between after more due = (due.0, due.1, omega (arith, due.2, more))
+
+-- a key's changes are written
+pub due_written : (w n : ℕ) (old mid new : Work) (before between after : Pending) → AreInRange new → IsDueFor w 0 old mid before between → IsWorkFor w n mid new
+    → noted_count between ≡ n + noted_count after → IsDueFor w 0 old new before after
+due_written w n old mid new before between after are one two more = (one.0 + n, works_then w one.0 n old mid new are one.1 two, omega (arith, one.2, more))
+
+pub due_nothing : (w n : ℕ) (old now : Work) (before one two : Pending) → IsNothingNoted one → IsNothingNoted two → IsDueFor w n old now before one → IsDueFor w n old now before two
+due_nothing w n old now before one two none never due =
+    let empty = nothing_count one none in
+    let emptied = nothing_count two never in
+    (due.0, due.1, omega (arith, due.2, empty, emptied))
+
+-- where nothing is noted at first and nothing at the end, what came up is counted
+pub due_end : (w n : ℕ) (old mid new : Work) (before between after : Pending) → AreInRange new → noted_count before ≡ 0 → noted_count after ≡ 0 → IsDueFor w n old mid before between → IsDueFor w 0 mid new between after
+    → IsWorkFor w n old new
+due_end w n old mid new before between after are none done one two =
+    let all = due_then w n 0 old mid new before between after are one two in
+    let same : all.0 ≡ n = omega (arith, all.2, none, done) in
+    subst (λ m. IsWorkFor w m old new) same all.1
 
 -- ---- keys
 

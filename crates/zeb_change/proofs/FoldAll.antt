@@ -2,7 +2,6 @@
 use Rattle.std.proofs.Common.{◌≡◌, ◌⊎◌, ◌∙◌, ◌+◌, ◌<◌, ◌≤◌, ℕ, zero, suc, ℤ, List, [], ◌∷◌, Bool, true, false, Option, Some, Result, Ok, Err, map, length, drop, get_or, set, length-set, get_or-set_other, get_or-set_same, arith, refl, sym, ap, subst, inl, inr}
 use Rattle.std.specs.List.{AllByRecursion}
 use Rattle.std.proofs.lemmas.Bool.{cases_order}
-use Rattle.sqlite.specs.State.{State}
 use Rattle.zeb_marc.specs.Splits.{split_of}
 use Rattle.zeb_change.specs.declared.files.Fold.{Fold}
 use Rattle.zeb_change.specs.declared.settings.Kind.{Kind}
@@ -11,7 +10,8 @@ use Rattle.zeb_change.specs.Conditions.{Conditions}
 use Rattle.zeb_change.specs.Folding.{Progress, file_folded, files_folded, ◌then◌, splits_of}
 use Rattle.zeb_change.specs.Base.{Kept}
 use Rattle.zeb_change.specs.Reading.{HasFailedAt, NoneFailed}
-use Rattle.zeb_change.specs.UnderWay.{IsFolded, IsUnderWay, StandsFor}
+use Rattle.zeb_change.specs.PrivateStanding.{Standing, WillBe, WillBeFolded}
+use Rattle.zeb_change.specs.UnderWay.{StandsFor}
 use Rattle.zeb_change.proofs.FoldFiles.{Good}
 use Rattle.zeb_register.specs.Formats.{Format}
 
@@ -105,16 +105,16 @@ one_failed failed (x ∷ xs) = by (failed x) refl (one_failed failed xs)
     )
 
 -- the progress of which the tables are the image, and the files that are left
-pub record Over (format : Format) (c : Conditions) (kind : Kind) (index : ℕ) (texts : List (List ℕ)) (id : ℤ) (records_of : ℤ → List Kept) (told : Result Progress Why) (old now : State) (fold : Fold) : Type 0 where
+pub record Over (format : Format) (c : Conditions) (kind : Kind) (index : ℕ) (texts : List (List ℕ)) (id : ℤ) (records_of : ℤ → List Kept) (told : Result Progress Why) (old now : Standing) (fold : Fold) : Type 0 where
   pub progress : Progress
-  pub is_folded : IsFolded format c.profile id records_of old now fold progress
+  pub is_folded : WillBeFolded format c.profile id records_of old now fold progress
   pub rest : told ≡ files_folded c kind (index + 1) (splits_of (drop index texts)) progress
 
-unfoldable pub before_files : (format : Format) (c : Conditions) (kind : Kind) (texts : List (List ℕ)) (id : ℤ) (records_of : ℤ → List Kept) (old : State) (fold : Fold) (p : Progress) → StandsFor fold p → IsUnderWay format c.profile id records_of old p.base
+unfoldable pub before_files : (format : Format) (c : Conditions) (kind : Kind) (texts : List (List ℕ)) (id : ℤ) (records_of : ℤ → List Kept) (old : Standing) (fold : Fold) (p : Progress) → StandsFor fold p → WillBe format c.profile id records_of old p.base
     → Over format c kind 0 texts id records_of (files_folded c kind 1 (splits_of texts) p) old old fold
 before_files format c kind texts id records_of old fold p stands under_way = record { progress = p; is_folded = record { stands = stands; under_way = under_way; names = (refl, refl) }; rest = refl }
 
-module _ (format : Format) (c : Conditions) (kind : Kind) (index : ℕ) (texts : List (List ℕ)) (id : ℤ) (records_of : ℤ → List Kept) (told : Result Progress Why) (old now : State) (fold : Fold)
+module _ (format : Format) (c : Conditions) (kind : Kind) (index : ℕ) (texts : List (List ℕ)) (id : ℤ) (records_of : ℤ → List Kept) (told : Result Progress Why) (old now : Standing) (fold : Fold)
     (over : Over format c kind index texts id records_of told old now fold) where
   pub all_files : length texts ≤ index → Meets {A = Progress} {X = Unit {0}} (Good format c id records_of old now fold) told (Ok tt)
   all_files none =
@@ -131,7 +131,7 @@ module _ (format : Format) (c : Conditions) (kind : Kind) (index : ℕ) (texts :
     pub file_refused : (why : Why) → file_folded c kind (index + 1) (split_of text) over.progress ≡ Err why → told ≡ Err why
     file_refused why is = says ∙ ap (λ r. r then files_folded c kind (index + 1 + 1) (splits_of (drop (index + 1) texts))) is
 
-    pub file_taken : (new : State) (then_fold : Fold) → Meets {A = Progress} {X = Unit {0}} (Good format c id records_of now new then_fold) (file_folded c kind (index + 1) (split_of text) over.progress) (Ok tt)
+    pub file_taken : (new : Standing) (then_fold : Fold) → Meets {A = Progress} {X = Unit {0}} (Good format c id records_of now new then_fold) (file_folded c kind (index + 1) (split_of text) over.progress) (Ok tt)
         → (further : Over format c kind (index + 1) texts id records_of told old new then_fold) × (file_folded c kind (index + 1) (split_of text) over.progress ≡ Ok further.progress)
     file_taken new then_fold meets = by (file_folded c kind (index + 1) (split_of text) over.progress) refl meets
       where

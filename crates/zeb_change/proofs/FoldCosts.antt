@@ -5,35 +5,38 @@ use Rattle.zeb_marc.proofs.SplitLaws.{split_of-next}
 use Rattle.zeb_register.specs.declared.registers.Work.{Work}
 use Rattle.zeb_change.specs.declared.settings.Kind.{Kind}
 use Rattle.zeb_change.specs.Conditions.{Conditions}
-use Rattle.zeb_change.specs.Costs.{IsCostIn, IsFilesCost, IsSlicesCost, IsWorkFor}
+use Rattle.zeb_change.specs.Costs.{IsCostIn, IsFilesCost, IsSlicesCost}
 use Rattle.zeb_change.specs.Folding.{Progress, folded, file_folded, splits_of}
+use Rattle.zeb_change.specs.declared.pending.Pending.{Pending}
+use Rattle.zeb_change.specs.PrivatePending.{IsDueFor}
 use Rattle.zeb_change.specs.PrivateTallies.{AreInRange}
-use Rattle.zeb_change.proofs.CostLemmas.{no_work, works_then}
+use Rattle.zeb_change.proofs.CostLemmas.{due_noted, due_then}
 use Rattle.zeb_change.proofs.FoldAll.{drop_all}
 
--- so much is counted, and with what the rest costs it is what the whole costs
-pub record Spent (row_work : ℕ) (Rest Whole : ℕ → Type 0) (old now : Work) : Type 0 where
+-- so much is due, and with what the rest costs it is what the whole costs
+pub record Spent (row_work : ℕ) (Rest Whole : ℕ → Type 0) (old now : Work) (before after : Pending) : Type 0 where
   pub spent : ℕ
-  pub work : IsWorkFor row_work spent old now
+  pub work : IsDueFor row_work spent old now before after
   pub whole : (m : ℕ) → Rest m → Whole (spent + m)
 
-pub none_spent : (row_work : ℕ) (Whole : ℕ → Type 0) (work : Work) → Spent row_work Whole Whole work work
-none_spent row_work Whole work = record {
+pub none_spent : (row_work : ℕ) (Whole : ℕ → Type 0) (work : Work) (pending : Pending) → Spent row_work Whole Whole work work pending pending
+none_spent row_work Whole work pending = record {
   spent = 0;
-  work = no_work row_work work;
+  work = due_noted row_work 0 work pending pending (omega arith);
   whole = λ m rest. (let same : m ≡ 0 + m = omega arith in subst Whole same rest);
 }
 
-pub spent_more : (row_work first : ℕ) (Rest Next Whole : ℕ → Type 0) (old mid new : Work) → AreInRange new → Spent row_work Rest Whole old mid → IsWorkFor row_work first mid new
-    → ((m : ℕ) → Next m → Rest (first + m)) → Spent row_work Next Whole old new
-spent_more row_work first Rest Next Whole old mid new are so_far more step = record {
+pub spent_more : (row_work first : ℕ) (Rest Next Whole : ℕ → Type 0) (old mid new : Work) (before between after : Pending) → AreInRange new → Spent row_work Rest Whole old mid before between
+    → IsDueFor row_work first mid new between after → ((m : ℕ) → Next m → Rest (first + m)) → Spent row_work Next Whole old new before after
+spent_more row_work first Rest Next Whole old mid new before between after are so_far more step = record {
   spent = so_far.spent + first;
-  work = works_then row_work so_far.spent first old mid new are so_far.work more;
+  work = due_then row_work so_far.spent first old mid new before between after are so_far.work more;
   whole = λ m next. (let same : so_far.spent + (first + m) ≡ so_far.spent + first + m = omega arith in subst Whole same (so_far.whole (first + m) (step m next)));
 }
 
-pub all_spent : (row_work : ℕ) (Rest Whole : ℕ → Type 0) (old now : Work) → Rest 0 → Spent row_work Rest Whole old now → (n : ℕ) × Whole n × IsWorkFor row_work n old now
-all_spent row_work Rest Whole old now none so_far =
+pub all_spent : (row_work : ℕ) (Rest Whole : ℕ → Type 0) (old now : Work) (before after : Pending) → Rest 0 → Spent row_work Rest Whole old now before after
+    → (n : ℕ) × Whole n × IsDueFor row_work n old now before after
+all_spent row_work Rest Whole old now before after none so_far =
     let same : so_far.spent + 0 ≡ so_far.spent = omega arith in
     (so_far.spent, subst Whole same (so_far.whole 0 none), so_far.work)
 

@@ -1,6 +1,5 @@
 -- A file that is folded record by record: what the definition says of what is left of it.
 use Rattle.std.proofs.Common.{◌≡◌, ◌∙◌, ◌+◌, ℕ, ℤ, List, Bool, true, false, Option, Some, Result, Ok, Err, refl, sym, ap, subst}
-use Rattle.sqlite.specs.State.{State}
 use Rattle.zeb_marc.specs.declared.faults.MarcFault.{MarcFault}
 use Rattle.zeb_marc.specs.Splits.{Next, at_end, a_slice, a_fault, next_of, split_of}
 use Rattle.zeb_marc.proofs.SplitLaws.{split_of-next}
@@ -13,7 +12,8 @@ use Rattle.zeb_change.specs.Folding.{Progress, folded, slices_folded, file_folde
 use Rattle.zeb_change.specs.Base.{Kept}
 use Rattle.zeb_change.specs.Outcomes.{marc_refusal}
 use Rattle.zeb_change.specs.Reading.{ReadsNext}
-use Rattle.zeb_change.specs.UnderWay.{IsFolded, IsUnderWay, KeepsNames, StandsFor}
+use Rattle.zeb_change.specs.PrivateStanding.{Standing, WillBe, WillBeFolded}
+use Rattle.zeb_change.specs.UnderWay.{KeepsNames, StandsFor}
 use Rattle.zeb_register.specs.Formats.{Format}
 
 -- ---- what was read tells what stood next
@@ -50,20 +50,20 @@ module _ (c : Conditions) (kind : Kind) (file nth : ℕ) (left : List ℕ) (p : 
   slice_folded slice rest is = rw (split_of-next left, is) refl
 
 -- so far: what is left of the file, and the progress of which the tables are the image
-pub record Under (format : Format) (c : Conditions) (kind : Kind) (file nth : ℕ) (id : ℤ) (records_of : ℤ → List Kept) (told : Result Progress Why) (remaining : Option (List ℕ)) (old now : State) (fold : Fold) : Type 0 where
+pub record Under (format : Format) (c : Conditions) (kind : Kind) (file nth : ℕ) (id : ℤ) (records_of : ℤ → List Kept) (told : Result Progress Why) (remaining : Option (List ℕ)) (old now : Standing) (fold : Fold) : Type 0 where
   pub left : List ℕ
   pub progress : Progress
   pub remains : remaining ≡ Some left
-  pub is_folded : IsFolded format c.profile id records_of old now fold progress
+  pub is_folded : WillBeFolded format c.profile id records_of old now fold progress
   pub rest : told ≡ rest_folded c kind file nth left progress
 
-abbrev pub Good : (format : Format) → Conditions → ℤ → (ℤ → List Kept) → State → State → Fold → Progress → Unit {0} → Type 0
-Good format c id records_of old new fold = λ q _. IsFolded format c.profile id records_of old new fold q
+abbrev pub Good : (format : Format) → Conditions → ℤ → (ℤ → List Kept) → Standing → Standing → Fold → Progress → Unit {0} → Type 0
+Good format c id records_of old new fold = λ q _. WillBeFolded format c.profile id records_of old new fold q
 
-names_then : (old mid new : State) → KeepsNames old mid → KeepsNames mid new → KeepsNames old new
+pub names_then : (old mid new : Standing) → KeepsNames old.tables mid.tables → KeepsNames mid.tables new.tables → KeepsNames old.tables new.tables
 names_then old mid new one two = (two.0 ∙ one.0, two.1 ∙ one.1)
 
-module _ (format : Format) (c : Conditions) (kind : Kind) (file nth : ℕ) (id : ℤ) (records_of : ℤ → List Kept) (told : Result Progress Why) (remaining : Option (List ℕ)) (old now : State) (fold : Fold)
+module _ (format : Format) (c : Conditions) (kind : Kind) (file nth : ℕ) (id : ℤ) (records_of : ℤ → List Kept) (told : Result Progress Why) (remaining : Option (List ℕ)) (old now : Standing) (fold : Fold)
     (under : Under format c kind file nth id records_of told remaining old now fold) where
   -- the file ends
   pub ended : (kept : List ℕ) (after : Option (List ℕ)) → ReadsNext file nth (next_of under.left) (Ok false) kept after → Meets {A = Progress} {X = Unit {0}} (Good format c id records_of old now fold) told (Ok tt)
@@ -89,7 +89,7 @@ module _ (format : Format) (c : Conditions) (kind : Kind) (file nth : ℕ) (id :
     record_refused why is = says ∙ ap (λ r. r then rest_folded c kind file (nth + 1) next.0) is
 
     -- a record is folded in
-    pub record_taken : (new : State) (then_fold : Fold) → Meets {A = Progress} {X = Unit {0}} (Good format c id records_of now new then_fold) (folded c kind file nth slice under.progress) (Ok tt)
+    pub record_taken : (new : Standing) (then_fold : Fold) → Meets {A = Progress} {X = Unit {0}} (Good format c id records_of now new then_fold) (folded c kind file nth slice under.progress) (Ok tt)
         → (further : Under format c kind file (nth + 1) id records_of told after old new then_fold) × (folded c kind file nth slice under.progress ≡ Ok further.progress) × (next_of under.left ≡ a_slice slice further.left)
     record_taken new then_fold meets = by (folded c kind file nth slice under.progress) refl meets
       where
@@ -109,8 +109,8 @@ module _ (format : Format) (c : Conditions) (kind : Kind) (file nth : ℕ) (id :
         by (Err why) is none = absurd none
 
 -- before the first record
-unfoldable pub at_first : (format : Format) (c : Conditions) (kind : Kind) (file : ℕ) (id : ℤ) (records_of : ℤ → List Kept) (text : List ℕ) (remaining : Option (List ℕ)) (old : State) (fold : Fold) (p : Progress)
-    → remaining ≡ Some text → StandsFor fold p → IsUnderWay format c.profile id records_of old p.base → Under format c kind file 1 id records_of (file_folded c kind file (split_of text) p) remaining old old fold
+unfoldable pub at_first : (format : Format) (c : Conditions) (kind : Kind) (file : ℕ) (id : ℤ) (records_of : ℤ → List Kept) (text : List ℕ) (remaining : Option (List ℕ)) (old : Standing) (fold : Fold) (p : Progress)
+    → remaining ≡ Some text → StandsFor fold p → WillBe format c.profile id records_of old p.base → Under format c kind file 1 id records_of (file_folded c kind file (split_of text) p) remaining old old fold
 unfolding file_folded
 at_first format c kind file id records_of text remaining old fold p is stands under_way = record {
   left = text;

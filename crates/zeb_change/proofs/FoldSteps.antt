@@ -1,6 +1,5 @@
 -- One record more of a change: what the definition says of it, and that the code counts the same.
 use Rattle.std.proofs.Common.{◌≡◌, ◌∙◌, ◌+◌, ℕ, ℤ, List, true, false, Result, Ok, Err, nat_le, refl, sym, ap, subst}
-use Rattle.sqlite.specs.State.{State}
 use Rattle.zeb_change.specs.declared.files.Fold.{Fold}
 use Rattle.zeb_change.specs.declared.settings.Kind.{Kind}
 use Rattle.zeb_change.specs.declared.tally.Fate.{Fate}
@@ -11,7 +10,8 @@ use Rattle.zeb_change.specs.Conditions.{Conditions}
 use Rattle.zeb_change.specs.Folding.{Changed, Progress, changed_record, counted, folded}
 use Rattle.zeb_change.specs.Base.{Base, Kept}
 use Rattle.zeb_change.specs.PrivateTallies.{IsTallied}
-use Rattle.zeb_change.specs.UnderWay.{IsTaken, IsFolded, IsUnderWay, StandsFor}
+use Rattle.zeb_change.specs.PrivateStanding.{Standing, WillBe, WillBeFolded, WillBeTaken}
+use Rattle.zeb_change.specs.UnderWay.{StandsFor}
 use Rattle.zeb_register.specs.Formats.{Format}
 
 module _ (c : Conditions) (kind : Kind) (file nth : ℕ) (bytes : List ℕ) (p : Progress) where
@@ -59,23 +59,23 @@ stands_by fold p tally base PassedOver stands one new is last = record {
   deleted = ap (λ (t : Tally). t.deleted) is ∙ one.3 ∙ stands.deleted;
 }
 
-module _ (format : Format) (c : Conditions) (id : ℤ) (records_of : ℤ → List Kept) (old new : State) (kind : Kind) (file nth : ℕ) (bytes : List ℕ) (p : Progress) (before after : Fold) (fate : Fate) where
+module _ (format : Format) (c : Conditions) (id : ℤ) (records_of : ℤ → List Kept) (old new : Standing) (kind : Kind) (file nth : ℕ) (bytes : List ℕ) (p : Progress) (before after : Fold) (fate : Fate) where
   pub one_folded : nat_le c.limits.records p.taken ≡ false → StandsFor before p → IsTallied fate before.tally after.tally
-      → Meets (IsTaken format c.profile id records_of old new after.progress.last) (changed_record c kind file nth bytes p.base) (Ok fate)
-      → (done : Unit {0}) → Meets {A = Progress} {X = Unit {0}} (λ q _. IsFolded format c.profile id records_of old new after q) (folded c kind file nth bytes p) (Ok done)
+      → Meets (WillBeTaken format c.profile id records_of old new after.progress.last) (changed_record c kind file nth bytes p.base) (Ok fate)
+      → (done : Unit {0}) → Meets {A = Progress} {X = Unit {0}} (λ q _. WillBeFolded format c.profile id records_of old new after q) (folded c kind file nth bytes p) (Ok done)
   one_folded room stands one taken done = by (changed_record c kind file nth bytes p.base) refl taken
     where
-      by : (said : Result Changed Why) → changed_record c kind file nth bytes p.base ≡ said → Meets (IsTaken format c.profile id records_of old new after.progress.last) said (Ok fate)
-          → Meets {A = Progress} {X = Unit {0}} (λ q _. IsFolded format c.profile id records_of old new after q) (folded c kind file nth bytes p) (Ok done)
+      by : (said : Result Changed Why) → changed_record c kind file nth bytes p.base ≡ said → Meets (WillBeTaken format c.profile id records_of old new after.progress.last) said (Ok fate)
+          → Meets {A = Progress} {X = Unit {0}} (λ q _. WillBeFolded format c.profile id records_of old new after q) (folded c kind file nth bytes p) (Ok done)
       by (Ok changed) is taken =
-          let told : IsFolded format c.profile id records_of old new after (counted changed.0 p changed.1) = record {
+          let told : WillBeFolded format c.profile id records_of old new after (counted changed.0 p changed.1) = record {
             stands = stands_by before p after.tally changed.0 changed.1 stands (subst (λ f. IsTallied f before.tally after.tally) taken.fate_is one) after refl taken.last_is;
             under_way = in_base changed.1 changed.0 taken.under_way;
             names = taken.names;
           } in
-          subst (λ said. Meets {A = Progress} {X = Unit {0}} (λ q _. IsFolded format c.profile id records_of old new after q) said (Ok done)) (sym (folded_ok c kind file nth bytes p room changed is)) told
+          subst (λ said. Meets {A = Progress} {X = Unit {0}} (λ q _. WillBeFolded format c.profile id records_of old new after q) said (Ok done)) (sym (folded_ok c kind file nth bytes p room changed is)) told
         where
-          in_base : (f : Fate) (base : Base) → IsUnderWay format c.profile id records_of new base → IsUnderWay format c.profile id records_of new (counted base p f).base
+          in_base : (f : Fate) (base : Base) → WillBe format c.profile id records_of new base → WillBe format c.profile id records_of new (counted base p f).base
           in_base Inserted base h = h
           in_base Updated base h = h
           in_base Deleted base h = h

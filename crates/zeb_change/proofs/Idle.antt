@@ -57,8 +57,8 @@ module _ (profile : List Directive) (base : Base) (is : IsBase profile base) (id
       (elder, refl, sym its_bytes ∙ ap (λ (k : Kept). k.bytes) same ∙ alike)
 
 -- it is idle too where the elder was looked for before, which changes nothing
-pub idle_after : (old mid new : State) (Stays : Type 0) (result : Result Fate Refusal) → mid.now ≡ old.now → IfOk result (λ fate. IsIdle mid new fate × Stays) → IfOk result (λ fate. IsIdle old new fate × Stays)
-idle_after old mid new Stays (Ok fate) same idle = (
+pub idle_after : (old mid new : State) (One Two : Type 0) (result : Result Fate Refusal) → mid.now ≡ old.now → IfOk result (λ fate. IsIdle mid new fate × One × Two) → IfOk result (λ fate. IsIdle old new fate × One × Two)
+idle_after old mid new One Two (Ok fate) same idle = (
   (
     idle.0.0,
     (
@@ -68,5 +68,6 @@ idle_after old mid new Stays (Ok fate) same idle = (
     ),
   ),
   idle.1,
+  idle.2,
 )
-idle_after old mid new Stays (Err refusal) same idle = idle
+idle_after old mid new One Two (Err refusal) same idle = idle

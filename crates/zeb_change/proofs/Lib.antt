@@ -5,6 +5,8 @@ pub mod BaseLemmas
 pub mod StoredLemmas
 pub mod PostedLemmas
 pub mod Reposted
+pub mod Noting
+pub mod Leading
 pub mod UnderWay
 pub mod TakenLemmas
 pub mod TurnLemmas
@@ -14,6 +16,7 @@ pub mod KeyChanges
 pub mod ChangeKeysContent
 pub mod Idle
 pub mod FoldSteps
+pub mod Settling
 pub mod FoldFiles
 pub mod FoldAll
 pub mod NoDamage

@@ -1,7 +1,6 @@
 -- The definition of a change never tells damage. So where it says what a call answers, damage is no answer.
 use Rattle.std.proofs.Common.{◌≢◌, ℕ, ℤ, true, false, cond, List, Option, Some, None, Result, Ok, Err, nat_le, inl, inr, subst}
 use Rattle.std.specs.Prelude.{⊤}
-use Rattle.sqlite.specs.State.{State}
 use Rattle.zeb_marc.specs.declared.faults.MarcFault.{MarcFault}
 use Rattle.zeb_marc.specs.declared.faults.MarcFault.TheVariants as marc
 use Rattle.zeb_marc.specs.Records.{first_fault}
@@ -20,8 +19,7 @@ use Rattle.zeb_change.specs.Conditions.{Conditions}
 use Rattle.zeb_change.specs.Folding.{Changed, changed_by, changed_record, deleted, ident_in, updated, with_ident, with_record}
 use Rattle.zeb_change.specs.Base.{Base, Kept, kept_as, with_new}
 use Rattle.zeb_change.specs.Outcomes.{marc_refusal}
-use Rattle.zeb_change.specs.Holding.{HoldsSome}
-use Rattle.zeb_change.specs.UnderWay.{IsTaken}
+use Rattle.zeb_change.specs.PrivateStanding.{Standing, WillBeTaken, WillHoldSome}
 
 abbrev IsNoDamage : Why → Type 0
 IsNoDamage damaged = ⊥
@@ -92,8 +90,8 @@ refused_honest {A} {X} Good said refusal tells met same = by said tells (subst (
     by (Err why) told (inl failed) = no_failing failed
     by (Err why) told (inr is) = subst (λ (r : Result A Why). TellsNoDamage r) is told
 
--- a record that was taken leaves tables that hold a database
-pub taken_holds : (format : Format) (profile : List Directive) (id : ℤ) (records_of : ℤ → List Kept) (old new : State) (last : ℕ) (said : Result Changed Why) (fate : Fate)
-    → Meets (IsTaken format profile id records_of old new last) said (Ok fate) → HoldsSome format profile id records_of new last
+-- a record that was taken leaves tables that will hold a database
+pub taken_holds : (format : Format) (profile : List Directive) (id : ℤ) (records_of : ℤ → List Kept) (old new : Standing) (last : ℕ) (said : Result Changed Why) (fate : Fate)
+    → Meets (WillBeTaken format profile id records_of old new last) said (Ok fate) → WillHoldSome format profile id records_of new last
 taken_holds format profile id records_of old new last (Ok changed) fate taken = (changed.0, taken.last_is, taken.under_way)
 taken_holds format profile id records_of old new last (Err why) fate taken = absurd taken

@@ -1,63 +1,35 @@
 -- One record is taken: it is added, stands in its elder's place, or takes it away.
-use Rattle.std.proofs.Common.{◌≡◌, ◌≤◌, ℕ, ℤ, pos, ◌+◌, ◌<◌, List, [], Some, None, refl, sym, subst, arith}
+use Rattle.std.proofs.Common.{◌≡◌, ℕ, ℤ, pos, ◌+◌, ◌<◌, List, [], Some, None, refl, arith}
 use Rattle.sqlite.specs.Tree.{Trees}
 use Rattle.sqlite.specs.State.{State}
 use Rattle.zeb_profile.specs.declared.directives.Directive.{Directive}
-use Rattle.sqlite_rules.proofs.ListLemmas.{contains_had, has_contained}
-use Rattle.zeb_marc.specs.Records.{fields_of}
-use Rattle.zeb_profile.specs.Indexes.{unit_targets}
 use Rattle.zeb_extract.specs.declared.keys.Occurrence.{Occurrence}
-use Rattle.zeb_register.specs.declared.kept.Elder.{Elder}
-use Rattle.zeb_register.specs.Content.{Content, IsRising, IsStorable}
+use Rattle.zeb_register.specs.Content.{Content}
 use Rattle.zeb_register.specs.Sql.{Loses, Replaces}
 use Rattle.zeb_register.specs.Store.{Changes, KeepsRegisters, records_tree, record_row, HasNumber, SharesRecord}
 use Rattle.zeb_change.specs.declared.tally.Fate.TheVariants.{Inserted, Updated, Deleted}
-use Rattle.zeb_change.specs.PrivateChangedKeys.{ArePostingsOf, CanBeStored}
+use Rattle.zeb_change.specs.declared.pending.Pending.{Pending}
+use Rattle.zeb_change.specs.PrivateStanding.{WillBe, WillBeTaken, standing}
 use Rattle.zeb_change.specs.Base.{Base, Kept, kept_as, with_new, with_bytes, without_ident}
-use Rattle.zeb_change.specs.Stored.{IsBase, IsKept}
-use Rattle.zeb_change.specs.PrivateRecords.{AreOccurrencesOf, IsElderAs, IsNewer}
-use Rattle.zeb_change.specs.UnderWay.{IsTaken, IsUnderWay, with_records}
-use Rattle.zeb_change.proofs.BaseLemmas.{one_ident, within_last, new_base, bytes_base, ident_base, base_numbered, with_numbered}
+use Rattle.zeb_change.specs.Stored.{IsKept}
+use Rattle.zeb_change.specs.PrivateRecords.{AreOccurrencesOf, IsNewer}
+use Rattle.zeb_change.proofs.BaseLemmas.{one_ident, within_last, new_base, bytes_base, ident_base}
 use Rattle.zeb_change.proofs.StoredLemmas.{put_kept, take_kept}
-use Rattle.zeb_change.proofs.TermTexts.{occurrence_storable, posted_storable}
 use Rattle.zeb_change.proofs.KeptLemmas.{kept_found}
 use Rattle.zeb_change.proofs.KeptChanges.{IsPutIn, IsTakenFrom, kept_of, new_put, bytes_put, ident_taken, others_put, others_taken}
 use Rattle.zeb_change.proofs.PostedLemmas.{IsSwap, no_occurrences, put_occurrences, elder_occurrences}
-use Rattle.zeb_change.proofs.UnderWay.{IsMoved, held_still, found_still, further}
+use Rattle.zeb_change.proofs.UnderWay.{IsMoved, further}
 use Rattle.zeb_register.specs.Formats.{Format, holds_in}
 
 -- a record with its identifier and its occurrences can be kept
 newer_kept : (profile : List Directive) (sysno : ℕ) (ident bytes : List ℕ) (newer : List Occurrence) → IsNewer profile ident bytes newer → IsKept profile (kept_of sysno ident bytes)
 newer_kept profile sysno ident bytes newer is = record { whole = is.whole; named = is.named; text = is.text }
 
--- the occurrences of a record can be stored under a number that a register gives
-pub newer_storable : (profile : List Directive) (bytes : List ℕ) (newer : List Occurrence) → AreOccurrencesOf profile bytes newer → (sysno : ℕ) → (1 ≤ sysno) × (sysno ≤ 999999999) → CanBeStored sysno newer
-newer_storable profile bytes newer are sysno number o there = occurrence_storable (unit_targets profile) (fields_of bytes) o sysno ((are.each o).0 there) number
-
-pub none_storable : (sysno : ℕ) → CanBeStored sysno []
-none_storable sysno o there = absurd (has_contained [] o there)
-
--- the record that the database keeps has such a number
-pub elder_numbered : (profile : List Directive) (ident : List ℕ) (base : Base) (elder : Elder) → IsBase profile base → IsElderAs ident base (Some elder) → (1 ≤ elder.sysno) × (elder.sysno ≤ 999999999)
-elder_numbered profile ident base elder is there =
-    subst (λ (n : ℕ). (1 ≤ n) × (n ≤ 999999999)) (sym there.2) (base_numbered profile base is there.0 (contains_had base.records there.0 (kept_found ident base there.0 there.1).0))
-
--- what the registers hold of a record, if it is just these occurrences
-pub record IsFoundAt (format : Format) (id : ℤ) (sysno : ℕ) (elder : List Occurrence) (s : State) : Type 0 where
-  pub content : Content
-  pub held : holds_in format s.now.trees content
-  pub rising : IsRising content
-  pub storable : IsStorable content
-  pub found : ArePostingsOf sysno elder (content id)
-
 module _ (format : Format) (stays : (old new : Trees) (content : Content) → KeepsRegisters old new → holds_in format old content → holds_in format new content)
-    (profile : List Directive) (id : ℤ) (records_of : ℤ → List Kept) (old mid : State) (base : Base) (under : IsUnderWay format profile id records_of old base) where
+    (profile : List Directive) (id : ℤ) (records_of : ℤ → List Kept) (old mid : State) (pending pending' : Pending) (base : Base)
+    (under : WillBe format profile id records_of (standing old pending) base) where
   abbrev pub PutAs : ℕ → List ℕ → List ℕ → Type 0
   PutAs sysno ident bytes = Changes records_tree (Replaces (SharesRecord id (pos sysno) ident) (record_row id (pos sysno) ident bytes)) old mid
-
-  -- what the registers hold can be stored
-  all_storable : IsStorable under.1.content
-  all_storable = posted_storable profile (with_records id base.records records_of) (with_numbered profile id records_of base under.2 under.3) under.1.content under.1.posted
 
   -- ---- a record is added
 
@@ -72,20 +44,11 @@ module _ (format : Format) (stays : (old new : Trees) (content : Content) → Ke
       others = others_put (kept_of (base.last + 1) ident bytes) base.records (with_new ident bytes base).records new_one;
     }
 
-    pub insert_found : IsFoundAt format id (base.last + 1) [] mid
-    insert_found = record {
-      content = under.1.content;
-      held = held_still format profile id records_of stays old mid base (with_new ident bytes base) under _ put;
-      rising = under.1.posted.rising;
-      storable = all_storable;
-      found = found_still format profile id records_of stays old mid base (with_new ident bytes base) under _ put (base.last + 1) [] newer new_swap;
-    }
-
-    pub insert_taken : (new : State) → base.last < 999999999 → IsMoved format profile id records_of (base.last + 1) [] newer mid new
-        → IsTaken format profile id records_of old new (base.last + 1) (with_new ident bytes base, Inserted) Inserted
-    insert_taken new few moved =
+    pub insert_taken : base.last < 999999999 → IsMoved format profile id records_of (base.last + 1) [] newer pending pending'
+        → WillBeTaken format profile id records_of (standing old pending) (standing mid pending') (base.last + 1) (with_new ident bytes base, Inserted) Inserted
+    insert_taken few moved =
         let kept = put_kept id records_of old.now.trees mid.now.trees base.records (with_new ident bytes base).records under.1.kept (kept_of (base.last + 1) ident bytes) new_one put.rows in
-        let on = further format profile id records_of stays old mid base (with_new ident bytes base) under _ put (base.last + 1) [] newer new_swap new kept
+        let on = further format profile id records_of stays old mid pending base (with_new ident bytes base) under _ put (base.last + 1) [] newer new_swap pending' kept
         (new_base profile base under.2 ident bytes none few (newer_kept profile (base.last + 1) ident bytes newer is)) moved in
         record { fate_is = refl; last_is = refl; under_way = on.0; names = on.1 }
 
@@ -103,19 +66,10 @@ module _ (format : Format) (stays : (old new : Trees) (content : Content) → Ke
         others = others_put (kept_of kept.sysno ident bytes) base.records (with_bytes ident bytes base).records one_put;
       }
 
-      pub replace_found : IsFoundAt format id kept.sysno elder mid
-      replace_found = record {
-        content = under.1.content;
-        held = held_still format profile id records_of stays old mid base (with_bytes ident bytes base) under _ put;
-        rising = under.1.posted.rising;
-        storable = all_storable;
-        found = found_still format profile id records_of stays old mid base (with_bytes ident bytes base) under _ put kept.sysno elder newer put_swap;
-      }
-
-      pub replace_taken : (new : State) → IsMoved format profile id records_of kept.sysno elder newer mid new → IsTaken format profile id records_of old new base.last (with_bytes ident bytes base, Updated) Updated
-      replace_taken new moved =
+      pub replace_taken : IsMoved format profile id records_of kept.sysno elder newer pending pending' → WillBeTaken format profile id records_of (standing old pending) (standing mid pending') base.last (with_bytes ident bytes base, Updated) Updated
+      replace_taken moved =
           let rows = put_kept id records_of old.now.trees mid.now.trees base.records (with_bytes ident bytes base).records under.1.kept (kept_of kept.sysno ident bytes) one_put put.rows in
-          let on = further format profile id records_of stays old mid base (with_bytes ident bytes base) under _ put kept.sysno elder newer put_swap new rows
+          let on = further format profile id records_of stays old mid pending base (with_bytes ident bytes base) under _ put kept.sysno elder newer put_swap pending' rows
           (bytes_base profile base under.2 ident kept there bytes (newer_kept profile kept.sysno ident bytes newer is)) moved in
           record { fate_is = refl; last_is = refl; under_way = on.0; names = on.1 }
 
@@ -130,18 +84,9 @@ module _ (format : Format) (stays : (old new : Trees) (content : Content) → Ke
         others = others_taken kept.sysno base.records (without_ident ident base).records one_taken;
       }
 
-      pub withdraw_found : IsFoundAt format id kept.sysno elder mid
-      withdraw_found = record {
-        content = under.1.content;
-        held = held_still format profile id records_of stays old mid base (without_ident ident base) under _ take;
-        rising = under.1.posted.rising;
-        storable = all_storable;
-        found = found_still format profile id records_of stays old mid base (without_ident ident base) under _ take kept.sysno elder [] take_swap;
-      }
-
-      pub withdraw_taken : (new : State) → IsMoved format profile id records_of kept.sysno elder [] mid new → IsTaken format profile id records_of old new base.last (without_ident ident base, Deleted) Deleted
-      withdraw_taken new moved =
+      pub withdraw_taken : IsMoved format profile id records_of kept.sysno elder [] pending pending' → WillBeTaken format profile id records_of (standing old pending) (standing mid pending') base.last (without_ident ident base, Deleted) Deleted
+      withdraw_taken moved =
           let rows = take_kept id records_of old.now.trees mid.now.trees base.records (without_ident ident base).records under.1.kept kept.sysno one_taken take.rows in
-          let on = further format profile id records_of stays old mid base (without_ident ident base) under _ take kept.sysno elder [] take_swap new rows
+          let on = further format profile id records_of stays old mid pending base (without_ident ident base) under _ take kept.sysno elder [] take_swap pending' rows
           (ident_base profile base under.2 ident kept there) moved in
           record { fate_is = refl; last_is = refl; under_way = on.0; names = on.1 }

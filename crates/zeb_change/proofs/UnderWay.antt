@@ -1,5 +1,5 @@
 -- A change on its way, one record further: the table of records is written first, and then the registers.
-use Rattle.std.proofs.Common.{◌≡◌, ◌≢◌, ◌∙◌, ℕ, ℤ, List, ◌∷◌, Result, Ok, Err, inl, inr, refl, sym, ap, subst, arith}
+use Rattle.std.proofs.Common.{◌≡◌, ◌≢◌, ℕ, ℤ, List, ◌∷◌, Result, Ok, Err, inl, inr, refl, sym, ap, subst, arith}
 use Rattle.sqlite.specs.declared.types.Value.TheVariants.{Int}
 use Rattle.sqlite.specs.Tree.{Trees}
 use Rattle.sqlite.specs.Effect.{Database}
@@ -10,7 +10,7 @@ use Rattle.zeb_extract.specs.declared.keys.Occurrence.{Occurrence}
 use Rattle.zeb_register.specs.declared.RegFault.{RegFault}
 use Rattle.zeb_register.specs.declared.RegFault.TheVariants as fault
 use Rattle.zeb_register.specs.Content.{Content, IsRising}
-use Rattle.zeb_register.specs.Store.{IsStore, Changes, KeepsLists, KeepsRegisters, records_tree, record_row}
+use Rattle.zeb_register.specs.Store.{Changes, KeepsRegisters, records_tree, record_row}
 use Rattle.zeb_register.proofs.Calls.{store_same}
 use Rattle.zeb_change.specs.declared.refusals.Refusal.{Refusal}
 use Rattle.zeb_change.specs.declared.tally.Fate.{Fate}
@@ -18,9 +18,12 @@ use Rattle.zeb_change.specs.Refused.{Why, why_of, Meets, IsFailing}
 use Rattle.zeb_change.specs.PrivateChangedKeys.{ArePostingsOf, IsReposted}
 use Rattle.zeb_change.specs.Folding.{Changed}
 use Rattle.zeb_change.specs.Base.{Base, Kept}
-use Rattle.zeb_change.specs.Stored.{IsBase, AreKept, AreStored}
+use Rattle.zeb_change.specs.declared.pending.Pending.{Pending}
+use Rattle.zeb_change.specs.PrivatePending.{LeadsTo, WillHold}
+use Rattle.zeb_change.specs.PrivateStanding.{Standing, WillBe, WillBeTaken, standing}
+use Rattle.zeb_change.specs.Stored.{IsBase, AreKept}
 use Rattle.zeb_change.specs.Outcomes.{register_refusal}
-use Rattle.zeb_change.specs.UnderWay.{IsTaken, IsUnderWay, KeepsNames, with_records}
+use Rattle.zeb_change.specs.UnderWay.{KeepsNames, with_records}
 use Rattle.zeb_change.proofs.PostedLemmas.{IsSwap, posted_elder, posted_after}
 use Rattle.zeb_change.proofs.Reposted.{reposted, reposted_is}
 use Rattle.zeb_register.specs.Formats.{Format, holds_in}
@@ -65,10 +68,15 @@ same_kept old new records_of same are i sysno ident bytes = (
 
 module _ (format : Format) (profile : List Directive) (id : ℤ) (records_of : ℤ → List Kept) where
   -- what is seen tells how far a change is
-  pub same_way : (old new : State) (base : Base) → new.now ≡ old.now → IsUnderWay format profile id records_of old base → IsUnderWay format profile id records_of new base
-  same_way old new base same under = (
+  pub same_way : (old new : State) (pending : Pending) (base : Base) → new.now ≡ old.now → WillBe format profile id records_of (standing old pending) base → WillBe format profile id records_of (standing new pending) base
+  same_way old new pending base same under = (
     store_same old new same under.0,
-    subst (λ (db : Database). AreStored format profile db.trees (with_records id base.records records_of)) (sym same) under.1,
+    record {
+      kept = subst (λ (db : Database). AreKept db.trees (with_records id base.records records_of)) (sym same) under.1.kept;
+      content = under.1.content;
+      held = subst (λ (db : Database). WillHold format db.trees id pending under.1.content) (sym same) under.1.held;
+      posted = under.1.posted;
+    },
     under.2,
     under.3,
   )
@@ -76,49 +84,49 @@ module _ (format : Format) (profile : List Directive) (id : ℤ) (records_of : �
   pub same_names : (old new : State) → new.now ≡ old.now → KeepsNames old new
   same_names old new same = (ap (λ (db : Database). db.trees 0) same, ap (λ (db : Database). db.trees 2) same)
 
-  pub taken_after : (old mid new : State) (last : ℕ) (changed : Changed) (fate : Fate) → mid.now ≡ old.now → IsTaken format profile id records_of mid new last changed fate → IsTaken format profile id records_of old new last changed fate
-  taken_after old mid new last changed fate same taken = record {
+  pub taken_after : (old mid : State) (pending : Pending) (new : Standing) (last : ℕ) (changed : Changed) (fate : Fate) → mid.now ≡ old.now
+      → WillBeTaken format profile id records_of (standing mid pending) new last changed fate → WillBeTaken format profile id records_of (standing old pending) new last changed fate
+  taken_after old mid pending new last changed fate same taken = record {
     fate_is = taken.fate_is;
     last_is = taken.last_is;
     under_way = taken.under_way;
-    names = subst (λ (db : Database). (new.now.trees 0 ≡ db.trees 0) × (new.now.trees 2 ≡ db.trees 2)) same taken.names;
+    names = subst (λ (db : Database). (new.tables.now.trees 0 ≡ db.trees 0) × (new.tables.now.trees 2 ≡ db.trees 2)) same taken.names;
   }
 
-  -- the registers were changed as the occurrences of one record
-  abbrev pub IsMoved : ℕ → List Occurrence → List Occurrence → State → State → Type 0
-  IsMoved sysno elder newer mid new =
-      IsStore new × KeepsLists mid.now.trees new.now.trees
-      × ((before after : Content) → holds_in format mid.now.trees before → IsRising before → ArePostingsOf sysno elder (before id) → IsReposted id sysno newer before after → holds_in format new.now.trees after)
+  -- the keys of one record are noted
+  abbrev pub IsMoved : ℕ → List Occurrence → List Occurrence → Pending → Pending → Type 0
+  IsMoved sysno elder newer pending pending' =
+      (behind before after : Content) → LeadsTo id pending behind before → IsRising before → ArePostingsOf sysno elder (before id) → IsReposted id sysno newer before after
+      → LeadsTo id pending' behind after
 
-  module _ (stays : (old new : Trees) (content : Content) → KeepsRegisters old new → holds_in format old content → holds_in format new content) (old mid : State) (base next : Base)
-      (under : IsUnderWay format profile id records_of old base) (Rows : ℕ → Trees → Trees → Type 0) (put : Changes records_tree Rows old mid) where
-    registers_kept : KeepsRegisters old.now.trees mid.now.trees
-    registers_kept = registers_still old mid Rows put
-
-    -- the registers hold then what they held
-    pub held_still : holds_in format mid.now.trees under.1.content
-    held_still = stays old.now.trees mid.now.trees under.1.content registers_kept under.1.held
-
+  module _ (stays : (old new : Trees) (content : Content) → KeepsRegisters old new → holds_in format old content → holds_in format new content) (old mid : State) (pending : Pending) (base next : Base)
+      (under : WillBe format profile id records_of (standing old pending) base) (Rows : ℕ → Trees → Trees → Type 0) (put : Changes records_tree Rows old mid) where
     module _ (sysno : ℕ) (elder newer : List Occurrence) (swap : IsSwap profile sysno elder newer base.records next.records) where
-      -- and so what they hold of the record
-      pub found_still : ArePostingsOf sysno elder (under.1.content id)
+      -- what the registers will hold of the record
+      found_still : ArePostingsOf sysno elder (under.1.content id)
       found_still = posted_elder profile id records_of sysno elder newer base.records next.records swap under.1.content under.1.posted
 
-      pub further : (new : State) → AreKept mid.now.trees (with_records id next.records records_of) → IsBase profile next → IsMoved sysno elder newer mid new
-          → IsUnderWay format profile id records_of new next × KeepsNames old new
-      further new kept is moved =
+      pub further : (pending' : Pending) → AreKept mid.now.trees (with_records id next.records records_of) → IsBase profile next → IsMoved sysno elder newer pending pending'
+          → WillBe format profile id records_of (standing mid pending') next × KeepsNames old mid
+      further pending' kept is moved =
           let after = reposted id sysno newer under.1.content in
-          let change = reposted_is id sysno newer under.1.content under.1.posted.rising in (
+          let change = reposted_is id sysno newer under.1.content under.1.posted.rising in
+          let holds = under.1.held in (
             (
-              moved.0,
+              put.layout,
               record {
-                kept = same_kept mid.now.trees new.now.trees (with_records id next.records records_of) moved.1.2 kept;
+                kept = kept;
                 content = after;
-                held = moved.2 under.1.content after held_still under.1.posted.rising found_still change;
+                held = record {
+                  behind = holds.behind;
+                  held = stays old.now.trees mid.now.trees holds.behind (registers_still old mid Rows put) holds.held;
+                  storable = holds.storable;
+                  leads = moved holds.behind under.1.content after holds.leads under.1.posted.rising found_still change;
+                };
                 posted = posted_after profile id records_of sysno elder newer base.records next.records swap under.1.content under.1.posted after change;
               },
               is,
               under.3,
             ),
-            (moved.1.0 ∙ put.others.0 (λ same. omega (arith, same)), moved.1.1 ∙ put.others.1.0 (λ same. omega (arith, same))),
+            (put.others.0 (λ same. omega (arith, same)), put.others.1.0 (λ same. omega (arith, same))),
           )

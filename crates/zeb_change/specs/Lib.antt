@@ -14,4 +14,6 @@ pub mod Holding
 pub mod PrivateKeyRuns
 pub mod PrivateChangedKeys
 pub mod PrivateTallies
+pub mod PrivatePending
+pub mod PrivateStanding
 pub mod PrivateRecords

@@ -9,7 +9,7 @@ use Rattle.zeb_extract.specs.declared.keys.Key.{Key}
 use Rattle.zeb_extract.specs.declared.keys.Occurrence.{Occurrence}
 use Rattle.zeb_extract.specs.Order.{key_order}
 use Rattle.zeb_register.specs.declared.registers.Place.{Place}
-use Rattle.zeb_register.specs.Content.{Content, IsRising, IsStorablePosting, place_cmp, posting_at, Posting}
+use Rattle.zeb_register.specs.Content.{Content, IsRising, place_cmp, posting_at, Posting}
 use Rattle.zeb_change.specs.declared.changed_keys.ChangedKey.{ChangedKey}
 
 abbrev pub occurrence_at : Key → Place → Occurrence
@@ -43,10 +43,6 @@ pub record AreChangedKeys (elder newer : List Occurrence) (changed : List Change
   pub differ : (c : ChangedKey) → Contains changed c → c.old.items ≢ c.new.items
   pub others : (key : Key) → ¬ Contains (map key_in changed) key → (place : Place)
       → Contains elder (occurrence_at key place) ↔ Contains newer (occurrence_at key place)
-
--- the postings of these occurrences of the record with this number can be stored in every format
-abbrev pub CanBeStored : ℕ → List Occurrence → Type 0
-CanBeStored sysno occurrences = (o : Occurrence) → Contains occurrences o → IsStorablePosting o.key (record { sysno = sysno; seq = o.seq; pos = o.pos })
 
 -- the lists of a database hold these occurrences of the record with this number, and no others of it
 abbrev pub ArePostingsOf : ℕ → List Occurrence → (Key → List Posting) → Type 0

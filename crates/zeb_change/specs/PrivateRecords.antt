@@ -1,6 +1,6 @@
 -- What only the contracts of private functions speak of; no public clause reaches it.
 -- One record of a change, beside what a database keeps.
-use Rattle.std.specs.Prelude.{◌≡◌, ◌↔◌, ℕ, ℤ, List, Option, Some, None, Result, Ok, IsUtf8}
+use Rattle.std.specs.Prelude.{◌≡◌, ◌↔◌, ◌+◌, ℕ, ℤ, List, Option, Some, None, Result, Ok, IsUtf8}
 use Rattle.std.specs.List.{Contains}
 use Rattle.sqlite.specs.State.{State}
 use Rattle.zeb_marc.specs.Records.{first_fault, fields_of}
@@ -18,11 +18,11 @@ use Rattle.zeb_change.specs.declared.tally.Fate.TheVariants.{Updated}
 use Rattle.zeb_change.specs.Refused.{Why, Meets}
 use Rattle.zeb_change.specs.Folding.{Changed, ident_in}
 use Rattle.zeb_change.specs.Base.{Base, Kept, kept_as}
-use Rattle.zeb_change.specs.UnderWay.{IsTaken, IsUnderWay}
-use Rattle.zeb_register.specs.Formats.{Format, holds_in}
-use Rattle.zeb_register.specs.Content.{Content, IsRising as IsRisingContent}
-use Rattle.zeb_register.specs.declared.registers.Work.{Work}
-use Rattle.zeb_change.specs.Costs.{IsRecordCost, IsWorkFor, occurs_by}
+use Rattle.zeb_register.specs.Formats.{Format}
+use Rattle.zeb_change.specs.declared.pending.Pending.{Pending}
+use Rattle.zeb_change.specs.Costs.{IsRecordCost, occurs_by}
+use Rattle.zeb_change.specs.PrivatePending.{noted_count}
+use Rattle.zeb_change.specs.PrivateStanding.{Standing, WillBe, WillBeTaken}
 
 -- the occurrences of the record with these bytes, rising
 pub record AreOccurrencesOf (profile : List Directive) (bytes : List ℕ) (occurrences : List Occurrence) : Type 0 where
@@ -43,10 +43,10 @@ IsElderAs ident base (Some elder) = (kept : Kept) × (kept_as ident base ≡ Som
 
 -- One record of a change is taken as the definition says of each database that fits; `last` and `after` are the last numbers before
 -- it and after it.
-abbrev pub Takes : (format : Format) → List Directive → ℤ → State → State → ℕ → ℕ → (Base → Type 0) → (Base → Result Changed Why) → Result Fate Refusal → Type 0
-Takes format profile id old new last after Fits said result =
-    (records_of : ℤ → List Kept) (base : Base) → last ≡ base.last → IsUnderWay format profile id records_of old base → Fits base
-    → Meets (IsTaken format profile id records_of old new after) (said base) result
+abbrev pub Takes : List Directive → ℤ → Standing → Standing → ℕ → ℕ → (Base → Type 0) → (Base → Result Changed Why) → Result Fate Refusal → Type 0
+Takes profile id old new last after Fits said result =
+    (format : Format) (records_of : ℤ → List Kept) (base : Base) → last ≡ base.last → WillBe format profile id records_of old base → Fits base
+    → Meets (WillBeTaken format profile id records_of old new after) (said base) result
 
 -- a record that is replaced by the same bytes counts as updated, and each table of the registers has the rows that it had
 abbrev pub IsIdle : State → State → Fate → Type 0
@@ -57,8 +57,7 @@ abbrev pub elder_bytes : Option Elder → Option (List ℕ)
 elder_bytes None = None
 elder_bytes (Some elder) = Some elder.bytes.items
 
--- on registers that hold some content, the work of putting the one record in the other's place is that for the keys whose places differ
-abbrev pub WorksAs : (format : Format) → ℕ → List Directive → (elder newer : Option (List ℕ)) → State → Work → Work → Type 0
-WorksAs format row_work profile elder newer old before after =
-    (content : Content) → holds_in format old.now.trees content → IsRisingContent content
-    → (n : ℕ) × IsRecordCost (occurs_by profile elder) (occurs_by profile newer) n × IsWorkFor row_work n before after
+-- the one record's occurrences in the other's place: just the keys whose places differ are noted
+abbrev pub NotesAs : List Directive → (elder newer : Option (List ℕ)) → Pending → Pending → Type 0
+NotesAs profile elder newer old new =
+    (n : ℕ) × IsRecordCost (occurs_by profile elder) (occurs_by profile newer) n × (noted_count new ≡ noted_count old + n)

@@ -4,6 +4,7 @@ ghost use Rattle.std.specs.Prelude.{◌≡◌, ◌≢◌, ◌+◌, ℕ, ℤ, Lis
 ghost use Rattle.sqlite.specs.Held.{state};
 ghost use Rattle.sqlite.specs.State.{HasCleanDisk, Survives};
 ghost use Rattle.zeb_marc.specs.Splits.{next_of, split_of};
+ghost use Rattle.zeb_register.specs.Formats.{Format};
 ghost use Rattle.zeb_change.specs.Folding.{Progress as FoldProgress, folded, file_folded, files_folded, splits_of};
 ghost use Rattle.zeb_change.specs.Base.{Base, Kept};
 ghost use Rattle.zeb_change.specs.Costs.{IsCostIn, IsFilesCost, IsSlicesCost, IsWorkFor};
@@ -12,12 +13,16 @@ ghost use Rattle.zeb_change.specs.Reading.{HasFailedAt, NamesFailed, NoneFailed,
 ghost use Rattle.zeb_change.specs.Inside.{Stays};
 ghost use Rattle.zeb_change.specs.Holding.{HoldsSome};
 ghost use Rattle.zeb_change.specs.UnderWay.{IsFolded, IsUnderWay, StandsFor, conditions_of};
+ghost use Rattle.zeb_change.specs.PrivatePending.{IsDueFor, noted_count};
+ghost use Rattle.zeb_change.specs.PrivateStanding.{WillBe, WillBeFolded, WillHoldSome, standing};
 
 use crate::counts::counts_are_numbers;
+use crate::pending::Pending;
 use crate::records::{Incoming, Progress, change_record};
 use crate::refusals::Refusal;
 use crate::settings::Setting;
 use crate::tally::Tally;
+use crate::writing::{write_pending, write_where_full};
 use sqlite::{Alter, Transaction};
 use zeb_marc::{RecordBuf, Source, next_record};
 use zeb_register::Layout;
@@ -68,11 +73,58 @@ pub struct Fold {
     pub tally: Tally,
 }
 
-/// Folds in one record, which is one of those that the limits allow.
+/// Folds in one record, which is one of those that the limits allow, and notes its keys.
+fn note_record<S: Alter>(
+    tx: &mut Transaction<'_, S>,
+    setting: &Setting<'_>,
+    fold: &mut Fold,
+    pending: &mut Pending,
+    incoming: Incoming<'_>,
+) -> Result<(), Refusal>
+    ensures same { tx.new.conn.ghost_name ≡ tx.old.conn.ghost_name }
+    ensures stays { HasCleanDisk (state S.Store tx.new.conn.now) → IsTrue (state S.Store tx.old.conn.now).in_transaction
+        → Stays (state S.Store tx.old.conn.now) (state S.Store tx.new.conn.now) result }
+    ensures place { (fold.new.progress.database ≡ fold.old.progress.database) × (fold.new.progress.work ≡ fold.old.progress.work) }
+    ensures counted { OnOk result (fold.new.tally.records ≡ fold.old.tally.records + 1) }
+    ensures folded { HasCleanDisk (state S.Store tx.new.conn.now) → IsTrue (state S.Store tx.old.conn.now).in_transaction
+        → (version : List ℕ) (format : Format) (records_of : ℤ → List Kept) (p : FoldProgress) → StandsFor fold.old p
+        → WillBe format setting.now.profile.now fold.old.progress.database.0 records_of
+        (standing (state S.Store tx.old.conn.now) pending.old) p.base
+        → Meets (λ after _. WillBeFolded format setting.now.profile.now fold.old.progress.database.0 records_of
+        (standing (state S.Store tx.old.conn.now) pending.old) (standing (state S.Store tx.new.conn.now) pending.new) fold.new after)
+        (folded (conditions_of version setting.now) setting.now.kind incoming.entry.file incoming.entry.nth incoming.entry.bytes.now p)
+        result }
+    ensures honest { HasCleanDisk (state S.Store tx.new.conn.now) → IsTrue (state S.Store tx.old.conn.now).in_transaction
+        → (format : Format) (records_of : ℤ → List Kept)
+        → WillHoldSome format setting.now.profile.now fold.old.progress.database.0 records_of
+        (standing (state S.Store tx.old.conn.now) pending.old) fold.old.progress.last
+        → (result ≢ Err Refusal.Damaged)
+        × OnOk result (WillHoldSome format setting.now.profile.now fold.old.progress.database.0 records_of
+        (standing (state S.Store tx.new.conn.now) pending.new) fold.new.progress.last) }
+    ensures unread { NoReadFault result }
+    ensures ready { NeverUnready result }
+    ensures crash { Survives (state S.Store tx.old.conn.now) (state S.Store tx.new.conn.now) (λ _. ⊥) }
+    ensures cost { HasCleanDisk (state S.Store tx.new.conn.now) → IsTrue (state S.Store tx.old.conn.now).in_transaction
+        → (format : Format) (records_of : ℤ → List Kept) (base : Base)
+        → WillBe format setting.now.profile.now fold.old.progress.database.0 records_of
+        (standing (state S.Store tx.old.conn.now) pending.old) base
+        → OnOk result ((n : ℕ) × IsCostIn setting.now.profile.now setting.now.kind incoming.entry.bytes.now base n
+        × (noted_count pending.new ≡ noted_count pending.old + n)) }
+{
+    if fold.tally.records >= setting.limits.records {
+        return Err(Refusal::TooManyRecords);
+    }
+    let fate = change_record(tx, setting, &mut fold.progress, pending, incoming)?;
+    fold.tally.count(fate);
+    Ok(())
+}
+
+/// Folds in one record, and then writes what is noted where that is much.
 fn take_record<S: Alter, L: Layout>(
     tx: &mut Transaction<'_, S>,
     setting: &Setting<'_>,
     fold: &mut Fold,
+    pending: &mut Pending,
     incoming: Incoming<'_>,
 ) -> Result<(), Refusal>
     ensures same { tx.new.conn.ghost_name ≡ tx.old.conn.ghost_name }
@@ -82,31 +134,31 @@ fn take_record<S: Alter, L: Layout>(
     ensures counted { OnOk result (fold.new.tally.records ≡ fold.old.tally.records + 1) }
     ensures folded { HasCleanDisk (state S.Store tx.new.conn.now) → IsTrue (state S.Store tx.old.conn.now).in_transaction
         → (version : List ℕ) (records_of : ℤ → List Kept) (p : FoldProgress) → StandsFor fold.old p
-        → IsUnderWay L.format setting.now.profile.now fold.old.progress.database.0 records_of (state S.Store tx.old.conn.now) p.base
-        → Meets (λ after _. IsFolded L.format setting.now.profile.now fold.old.progress.database.0 records_of
-        (state S.Store tx.old.conn.now) (state S.Store tx.new.conn.now) fold.new after)
+        → WillBe L.format setting.now.profile.now fold.old.progress.database.0 records_of
+        (standing (state S.Store tx.old.conn.now) pending.old) p.base
+        → Meets (λ after _. WillBeFolded L.format setting.now.profile.now fold.old.progress.database.0 records_of
+        (standing (state S.Store tx.old.conn.now) pending.old) (standing (state S.Store tx.new.conn.now) pending.new) fold.new after)
         (folded (conditions_of version setting.now) setting.now.kind incoming.entry.file incoming.entry.nth incoming.entry.bytes.now p)
         result }
     ensures honest { HasCleanDisk (state S.Store tx.new.conn.now) → IsTrue (state S.Store tx.old.conn.now).in_transaction
         → (records_of : ℤ → List Kept)
-        → HoldsSome L.format setting.now.profile.now fold.old.progress.database.0 records_of (state S.Store tx.old.conn.now)
-        fold.old.progress.last
-        → (result ≢ Err Refusal.Damaged) × OnOk result (HoldsSome L.format setting.now.profile.now fold.old.progress.database.0 records_of
-        (state S.Store tx.new.conn.now) fold.new.progress.last) }
+        → WillHoldSome L.format setting.now.profile.now fold.old.progress.database.0 records_of
+        (standing (state S.Store tx.old.conn.now) pending.old) fold.old.progress.last
+        → (result ≢ Err Refusal.Damaged)
+        × OnOk result (WillHoldSome L.format setting.now.profile.now fold.old.progress.database.0 records_of
+        (standing (state S.Store tx.new.conn.now) pending.new) fold.new.progress.last) }
     ensures unread { NoReadFault result }
     ensures ready { NeverUnready result }
     ensures crash { Survives (state S.Store tx.old.conn.now) (state S.Store tx.new.conn.now) (λ _. ⊥) }
     ensures work { HasCleanDisk (state S.Store tx.new.conn.now) → IsTrue (state S.Store tx.old.conn.now).in_transaction
-        → (records_of : ℤ → List Kept) (base : Base)
-        → IsUnderWay L.format setting.now.profile.now fold.old.progress.database.0 records_of (state S.Store tx.old.conn.now) base
-        → OnOk result ((n : ℕ) × IsCostIn setting.now.profile.now setting.now.kind incoming.entry.bytes.now base n
-        × IsWorkFor L.row_work n fold.old.progress.work fold.new.progress.work) }
+        → (records_of : ℤ → List Kept) (p : FoldProgress) → StandsFor fold.old p
+        → WillBe L.format setting.now.profile.now fold.old.progress.database.0 records_of
+        (standing (state S.Store tx.old.conn.now) pending.old) p.base
+        → OnOk result ((n : ℕ) × IsCostIn setting.now.profile.now setting.now.kind incoming.entry.bytes.now p.base n
+        × IsDueFor L.row_work n fold.old.progress.work fold.new.progress.work pending.old pending.new) }
 {
-    if fold.tally.records >= setting.limits.records {
-        return Err(Refusal::TooManyRecords);
-    }
-    let fate = change_record::<S, L>(tx, setting, &mut fold.progress, incoming)?;
-    fold.tally.count(fate);
+    note_record(tx, setting, fold, pending, incoming)?;
+    write_where_full::<S, L>(tx, setting.alloc, &mut fold.progress, pending)?;
     Ok(())
 }
 
@@ -115,6 +167,7 @@ fn fold_file<S: Alter, L: Layout, R: Source>(
     tx: &mut Transaction<'_, S>,
     setting: &Setting<'_>,
     fold: &mut Fold,
+    pending: &mut Pending,
     buffer: &mut RecordBuf,
     reader: &mut R,
     file: u64,
@@ -126,16 +179,18 @@ fn fold_file<S: Alter, L: Layout, R: Source>(
     ensures folded { HasCleanDisk (state S.Store tx.new.conn.now) → IsTrue (state S.Store tx.old.conn.now).in_transaction
         → (text : List ℕ) → R.remaining reader.old ≡ Some text → R.has_failed reader.new ≡ false
         → (version : List ℕ) (records_of : ℤ → List Kept) (p : FoldProgress) → StandsFor fold.old p
-        → IsUnderWay L.format setting.now.profile.now fold.old.progress.database.0 records_of (state S.Store tx.old.conn.now) p.base
-        → Meets (λ after _. IsFolded L.format setting.now.profile.now fold.old.progress.database.0 records_of
-        (state S.Store tx.old.conn.now) (state S.Store tx.new.conn.now) fold.new after)
+        → WillBe L.format setting.now.profile.now fold.old.progress.database.0 records_of
+        (standing (state S.Store tx.old.conn.now) pending.old) p.base
+        → Meets (λ after _. WillBeFolded L.format setting.now.profile.now fold.old.progress.database.0 records_of
+        (standing (state S.Store tx.old.conn.now) pending.old) (standing (state S.Store tx.new.conn.now) pending.new) fold.new after)
         (file_folded (conditions_of version setting.now) setting.now.kind file (split_of text) p) result }
     ensures honest { HasCleanDisk (state S.Store tx.new.conn.now) → IsTrue (state S.Store tx.old.conn.now).in_transaction
         → (records_of : ℤ → List Kept)
-        → HoldsSome L.format setting.now.profile.now fold.old.progress.database.0 records_of (state S.Store tx.old.conn.now)
-        fold.old.progress.last
-        → (result ≢ Err Refusal.Damaged) × OnOk result (HoldsSome L.format setting.now.profile.now fold.old.progress.database.0 records_of
-        (state S.Store tx.new.conn.now) fold.new.progress.last) }
+        → WillHoldSome L.format setting.now.profile.now fold.old.progress.database.0 records_of
+        (standing (state S.Store tx.old.conn.now) pending.old) fold.old.progress.last
+        → (result ≢ Err Refusal.Damaged)
+        × OnOk result (WillHoldSome L.format setting.now.profile.now fold.old.progress.database.0 records_of
+        (standing (state S.Store tx.new.conn.now) pending.new) fold.new.progress.last) }
     ensures failed { R.has_failed reader.new ≡ true → result ≡ Err (Refusal.ReadFault file) }
     ensures fault { (other : ℕ) → result ≡ Err (Refusal.ReadFault other) → (other ≡ file) × (R.has_failed reader.new ≡ true) }
     ensures ready { NeverUnready result }
@@ -143,10 +198,11 @@ fn fold_file<S: Alter, L: Layout, R: Source>(
     ensures work { HasCleanDisk (state S.Store tx.new.conn.now) → IsTrue (state S.Store tx.old.conn.now).in_transaction
         → (text : List ℕ) → R.remaining reader.old ≡ Some text
         → (version : List ℕ) (records_of : ℤ → List Kept) (p : FoldProgress) → StandsFor fold.old p
-        → IsUnderWay L.format setting.now.profile.now fold.old.progress.database.0 records_of (state S.Store tx.old.conn.now) p.base
+        → WillBe L.format setting.now.profile.now fold.old.progress.database.0 records_of
+        (standing (state S.Store tx.old.conn.now) pending.old) p.base
         → OnOk result ((n : ℕ)
         × IsSlicesCost (conditions_of version setting.now) setting.now.kind file 1 (split_of text).slices p n
-        × IsWorkFor L.row_work n fold.old.progress.work fold.new.progress.work) }
+        × IsDueFor L.row_work n fold.old.progress.work fold.new.progress.work pending.old pending.new) }
 {
     for nth in 1..u64::MAX {
         if !read_record(reader, buffer, file, nth)? {
@@ -157,7 +213,56 @@ fn fold_file<S: Alter, L: Layout, R: Source>(
             file,
             nth,
         };
-        take_record::<S, L>(tx, setting, fold, incoming)?;
+        take_record::<S, L>(tx, setting, fold, pending, incoming)?;
+        counts_are_numbers(&fold.progress.work);
+    }
+    Ok(())
+}
+
+/// Folds in the records of all files, in their order. Changes of keys may be noted and not yet written then.
+fn fold_readers<S: Alter, L: Layout, R: Source>(
+    tx: &mut Transaction<'_, S>,
+    setting: &Setting<'_>,
+    fold: &mut Fold,
+    pending: &mut Pending,
+    buffer: &mut RecordBuf,
+    readers: &mut [R],
+) -> Result<(), Refusal>
+    ensures same { tx.new.conn.ghost_name ≡ tx.old.conn.ghost_name }
+    ensures stays { HasCleanDisk (state S.Store tx.new.conn.now) → IsTrue (state S.Store tx.old.conn.now).in_transaction
+        → Stays (state S.Store tx.old.conn.now) (state S.Store tx.new.conn.now) result }
+    ensures database { fold.new.progress.database ≡ fold.old.progress.database }
+    ensures folded { HasCleanDisk (state S.Store tx.new.conn.now) → IsTrue (state S.Store tx.old.conn.now).in_transaction
+        → (texts : List (List ℕ)) → map R.remaining readers.old ≡ map Some texts → NoneFailed R.has_failed readers.new
+        → (version : List ℕ) (records_of : ℤ → List Kept) (p : FoldProgress) → StandsFor fold.old p
+        → WillBe L.format setting.now.profile.now fold.old.progress.database.0 records_of
+        (standing (state S.Store tx.old.conn.now) pending.old) p.base
+        → Meets (λ after _. WillBeFolded L.format setting.now.profile.now fold.old.progress.database.0 records_of
+        (standing (state S.Store tx.old.conn.now) pending.old) (standing (state S.Store tx.new.conn.now) pending.new) fold.new after)
+        (files_folded (conditions_of version setting.now) setting.now.kind 1 (splits_of texts) p) result }
+    ensures honest { HasCleanDisk (state S.Store tx.new.conn.now) → IsTrue (state S.Store tx.old.conn.now).in_transaction
+        → (records_of : ℤ → List Kept)
+        → WillHoldSome L.format setting.now.profile.now fold.old.progress.database.0 records_of
+        (standing (state S.Store tx.old.conn.now) pending.old) fold.old.progress.last
+        → (result ≢ Err Refusal.Damaged)
+        × OnOk result (WillHoldSome L.format setting.now.profile.now fold.old.progress.database.0 records_of
+        (standing (state S.Store tx.new.conn.now) pending.new) fold.new.progress.last) }
+    ensures failed { NoneFailed R.has_failed readers.old → (file : ℕ) → HasFailedAt R.has_failed readers.new file
+        → result ≡ Err (Refusal.ReadFault file) }
+    ensures fault { (file : ℕ) → result ≡ Err (Refusal.ReadFault file) → HasFailedAt R.has_failed readers.new file }
+    ensures ready { NeverUnready result }
+    ensures crash { Survives (state S.Store tx.old.conn.now) (state S.Store tx.new.conn.now) (λ _. ⊥) }
+    ensures work { HasCleanDisk (state S.Store tx.new.conn.now) → IsTrue (state S.Store tx.old.conn.now).in_transaction
+        → (texts : List (List ℕ)) → map R.remaining readers.old ≡ map Some texts
+        → (version : List ℕ) (records_of : ℤ → List Kept) (p : FoldProgress) → StandsFor fold.old p
+        → WillBe L.format setting.now.profile.now fold.old.progress.database.0 records_of
+        (standing (state S.Store tx.old.conn.now) pending.old) p.base
+        → OnOk result ((n : ℕ) × IsFilesCost (conditions_of version setting.now) setting.now.kind 1 (splits_of texts) p n
+        × IsDueFor L.row_work n fold.old.progress.work fold.new.progress.work pending.old pending.new) }
+{
+    for (index, reader) in readers.iter_mut().enumerate() {
+        let file = index as u64 + 1;
+        fold_file::<S, L, R>(tx, setting, fold, pending, buffer, reader, file)?;
         counts_are_numbers(&fold.progress.work);
     }
     Ok(())
@@ -205,10 +310,9 @@ pub fn fold_files<S: Alter, L: Layout, R: Source>(
         → OnOk result ((n : ℕ) × IsFilesCost (conditions_of version setting.now) setting.now.kind 1 (splits_of texts) p n
         × IsWorkFor L.row_work n fold.old.progress.work fold.new.progress.work) }
 {
-    for (index, reader) in readers.iter_mut().enumerate() {
-        let file = index as u64 + 1;
-        fold_file::<S, L, R>(tx, setting, fold, buffer, reader, file)?;
-        counts_are_numbers(&fold.progress.work);
-    }
+    let mut pending = Pending::new(setting.alloc);
+    fold_readers::<S, L, R>(tx, setting, fold, &mut pending, buffer, readers)?;
+    write_pending::<S, L>(tx, setting.alloc, &mut fold.progress, &mut pending)?;
+    counts_are_numbers(&fold.progress.work);
     Ok(())
 }

@@ -5,10 +5,12 @@ mod changed_keys;
 mod counts;
 mod faults;
 mod files;
+mod pending;
 mod records;
 mod refusals;
 mod settings;
 mod tally;
+mod writing;
 
 pub use faults::RecordFault;
 pub use files::{Fold, check_readers, fold_files};

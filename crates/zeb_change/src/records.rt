@@ -1,35 +1,37 @@
 //! One record of a change: it is added, replaces a kept one, or takes it away.
 
-ghost use Rattle.std.specs.Prelude.{◌≡◌, ◌⊎◌, ℕ, ℤ, List, Some, None, Result, Ok, Err, string_bytes, IsTrue, OnOk, IfOk, IfErr};
+ghost use Rattle.std.specs.Prelude.{◌≡◌, ◌⊎◌, ◌+◌, ℕ, ℤ, List, Some, None, Result, Ok, Err, string_bytes, IsTrue, OnOk, IfOk, IfErr};
 ghost use Rattle.std.specs.List.{Contains};
 ghost use Rattle.sqlite.specs.Held.{state};
-ghost use Rattle.sqlite.specs.State.{HasCleanDisk, KeepsCounts, Survives};
+ghost use Rattle.sqlite.specs.State.{HasCleanDisk, Survives};
 ghost use Rattle.zeb_marc.specs.Records.{first_fault, IsRecord};
 ghost use Rattle.zeb_extract.specs.Order.{IsRising as AreRising};
-ghost use Rattle.zeb_register.specs.Content.{Content, IsRising, IsStorable};
-ghost use Rattle.zeb_register.specs.Formats.{holds_in};
-ghost use Rattle.zeb_register.specs.Store.{IsStore, KeepsLists};
-ghost use Rattle.zeb_change.specs.PrivateChangedKeys.{ArePostingsOf, AreTheSame, CanBeStored, IsReposted};
+ghost use Rattle.zeb_register.specs.Content.{Content, IsRising};
+ghost use Rattle.zeb_register.specs.Formats.{Format};
+ghost use Rattle.zeb_register.specs.Store.{IsStore};
+ghost use Rattle.zeb_change.specs.PrivateChangedKeys.{ArePostingsOf, AreTheSame, IsReposted};
+ghost use Rattle.zeb_change.specs.PrivatePending.{LeadsTo, noted_count};
+ghost use Rattle.zeb_change.specs.PrivateStanding.{WillBe, WillBeTaken, standing};
 ghost use Rattle.zeb_change.specs.Refused.{Why, why_of, IsFailing, NeverUnready, Meets};
 ghost use Rattle.zeb_change.specs.Folding.{Changed, changed_record, updated, deleted, ident_in};
 ghost use Rattle.zeb_change.specs.Base.{Base, Kept, kept_as};
 ghost use Rattle.zeb_change.specs.Reading.{NoReadFault};
-ghost use Rattle.zeb_change.specs.PrivateRecords.{AreOccurrencesOf, IsElderAs, IsIdle, IsNewer, Takes, WorksAs, elder_bytes};
-ghost use Rattle.zeb_change.specs.Costs.{IsCostIn, IsRecordCost, IsWorkFor};
+ghost use Rattle.zeb_change.specs.PrivateRecords.{AreOccurrencesOf, IsElderAs, IsIdle, IsNewer, NotesAs, Takes, elder_bytes};
+ghost use Rattle.zeb_change.specs.Costs.{IsCostIn, IsRecordCost};
 ghost use Rattle.zeb_change.specs.Inside.{Stays};
-ghost use Rattle.zeb_change.specs.UnderWay.{IsTaken, IsUnderWay, conditions_of};
+ghost use Rattle.zeb_change.specs.UnderWay.{conditions_of};
 
 use crate::changed_keys::changed_keys;
-use crate::counts::counts_are_numbers;
+use crate::pending::{KeyChange, Pending};
 use crate::refusals::Refusal;
 use crate::settings::{Kind, Setting};
 use crate::tally::Fate;
 use sqlite::{Alter, Transaction};
-use std::alloc::Global;
+use std::alloc::{AllocError, Global};
 use zeb_extract::{Occurrence, identifier, occurrences};
 use zeb_marc::Marc;
 use zeb_profile::Profile;
-use zeb_register::{DatabaseId, Elder, Layout, Work, record_of_ident, record_put, record_take};
+use zeb_register::{DatabaseId, Elder, Work, record_of_ident, record_put, record_take};
 
 /// How far a change has come: the database with its last system number, and the work on its registers.
 #[derive(Clone, Copy, Debug)]
@@ -56,57 +58,32 @@ struct Newer<'a> {
     occurrences: Vec<Occurrence>,
 }
 
-/// Writes the lists of just those keys whose places changed, for the record with this number.
-fn change_keys<S: Alter, L: Layout>(
-    tx: &mut Transaction<'_, S>,
+/// Notes what becomes of just those keys whose places changed, in the record with this number.
+fn note_keys(
     alloc: Global,
-    progress: &mut Progress,
+    pending: &mut Pending,
     sysno: u64,
     elder: &[Occurrence],
     newer: &[Occurrence],
-) -> Result<(), Refusal>
-    ensures same { tx.new.conn.ghost_name ≡ tx.old.conn.ghost_name }
-    ensures stays { HasCleanDisk (state S.Store tx.new.conn.now) → IsTrue (state S.Store tx.old.conn.now).in_transaction
-        → Stays (state S.Store tx.old.conn.now) (state S.Store tx.new.conn.now) result }
-    ensures place { (progress.new.database ≡ progress.old.database) × (progress.new.last ≡ progress.old.last) }
-    ensures moved { HasCleanDisk (state S.Store tx.new.conn.now) → IsTrue (state S.Store tx.old.conn.now).in_transaction
-        → IsStore (state S.Store tx.old.conn.now)
-        → AreRising elder.now → AreRising newer.now
-        → OnOk result (IsStore (state S.Store tx.new.conn.now)
-        × KeepsLists (state S.Store tx.old.conn.now).now.trees (state S.Store tx.new.conn.now).now.trees
-        × ((before after : Content) → holds_in L.format (state S.Store tx.old.conn.now).now.trees before → IsRising before
-        → ArePostingsOf sysno elder.now (before progress.old.database.0)
-        → IsReposted progress.old.database.0 sysno newer.now before after
-        → holds_in L.format (state S.Store tx.new.conn.now).now.trees after)) }
-    ensures fails { IfErr result (λ refusal. (refusal ≡ Refusal.Damaged) ⊎ IsFailing (why_of refusal)) }
-    ensures honest { HasCleanDisk (state S.Store tx.new.conn.now) → IsTrue (state S.Store tx.old.conn.now).in_transaction
-        → IsStore (state S.Store tx.old.conn.now)
-        → AreRising elder.now → AreRising newer.now → result ≡ Err Refusal.Damaged → CanBeStored sysno newer.now
-        → (content : Content) → IsStorable content → holds_in L.format (state S.Store tx.old.conn.now).now.trees content
-        → IsRising content → ¬ ArePostingsOf sysno elder.now (content progress.old.database.0) }
-    ensures crash { Survives (state S.Store tx.old.conn.now) (state S.Store tx.new.conn.now) (λ _. ⊥) }
+) -> Result<(), AllocError>
+    ensures moved { AreRising elder.now → AreRising newer.now
+        → OnOk result ((db : ℤ) (behind before after : Content) → LeadsTo db pending.old behind before → IsRising before
+        → ArePostingsOf sysno elder.now (before db) → IsReposted db sysno newer.now before after
+        → LeadsTo db pending.new behind after) }
     ensures idle { AreRising elder.now → AreRising newer.now → AreTheSame elder.now newer.now
-        → ((state S.Store tx.new.conn.now).now ≡ (state S.Store tx.old.conn.now).now)
-        × KeepsCounts (state S.Store tx.old.conn.now) (state S.Store tx.new.conn.now) × (progress.new ≡ progress.old) }
-    ensures work { HasCleanDisk (state S.Store tx.new.conn.now) → IsTrue (state S.Store tx.old.conn.now).in_transaction
-        → IsStore (state S.Store tx.old.conn.now)
-        → AreRising elder.now → AreRising newer.now
-        → OnOk result ((content : Content) → holds_in L.format (state S.Store tx.old.conn.now).now.trees content → IsRising content
-        → (n : ℕ) × IsRecordCost (Contains elder.now) (Contains newer.now) n
-        × IsWorkFor L.row_work n progress.old.work progress.new.work) }
+        → OnOk result (pending.new ≡ pending.old) }
+    ensures cost { AreRising elder.now → AreRising newer.now
+        → OnOk result ((n : ℕ) × IsRecordCost (Contains elder.now) (Contains newer.now) n
+        × (noted_count pending.new ≡ noted_count pending.old + n)) }
 {
     let changed_keys = changed_keys(alloc, elder, newer)?;
-    for changed in &changed_keys {
-        L::key_change(
-            tx,
-            &mut progress.work,
-            progress.database,
-            changed.key,
+    for changed in changed_keys {
+        let change = KeyChange {
             sysno,
-            &changed.old,
-            &changed.new,
-        )?;
-        counts_are_numbers(&progress.work);
+            old: changed.old,
+            new: changed.new,
+        };
+        pending.note(changed.key, change)?;
     }
     Ok(())
 }
@@ -125,30 +102,28 @@ fn kept_occurrences(setting: &Setting<'_>, elder: &Elder) -> Result<Vec<Occurren
 }
 
 /// The record is kept under the number after the last; `DatabaseFull` where the limits leave none.
-fn insert<S: Alter, L: Layout>(
+fn insert<S: Alter>(
     tx: &mut Transaction<'_, S>,
     setting: &Setting<'_>,
     progress: &mut Progress,
+    pending: &mut Pending,
     newer: &Newer<'_>,
 ) -> Result<Fate, Refusal>
     ensures same { tx.new.conn.ghost_name ≡ tx.old.conn.ghost_name }
     ensures stays { HasCleanDisk (state S.Store tx.new.conn.now) → IsTrue (state S.Store tx.old.conn.now).in_transaction
         → Stays (state S.Store tx.old.conn.now) (state S.Store tx.new.conn.now) result }
-    ensures place { progress.new.database ≡ progress.old.database }
+    ensures place { (progress.new.database ≡ progress.old.database) × (progress.new.work ≡ progress.old.work) }
     ensures taken { HasCleanDisk (state S.Store tx.new.conn.now) → IsTrue (state S.Store tx.old.conn.now).in_transaction
         → (version : List ℕ) → IsNewer setting.now.profile.now newer.now.ident.now newer.now.bytes.now newer.now.occurrences.items
-        → Takes L.format setting.now.profile.now progress.old.database.0 (state S.Store tx.old.conn.now)
-        (state S.Store tx.new.conn.now) progress.old.last progress.new.last
+        → Takes setting.now.profile.now progress.old.database.0 (standing (state S.Store tx.old.conn.now) pending.old)
+        (standing (state S.Store tx.new.conn.now) pending.new) progress.old.last progress.new.last
         (λ base. IsElderAs newer.now.ident.now base None) (λ base. updated
         (conditions_of version setting.now) newer.now.ident.now newer.now.bytes.now base (kept_as newer.now.ident.now base)) result }
     ensures unread { NoReadFault result }
     ensures ready { NeverUnready result }
     ensures crash { Survives (state S.Store tx.old.conn.now) (state S.Store tx.new.conn.now) (λ _. ⊥) }
-    ensures work { HasCleanDisk (state S.Store tx.new.conn.now) → IsTrue (state S.Store tx.old.conn.now).in_transaction
-        → IsStore (state S.Store tx.old.conn.now)
-        → IsNewer setting.now.profile.now newer.now.ident.now newer.now.bytes.now newer.now.occurrences.items
-        → OnOk result (WorksAs L.format L.row_work setting.now.profile.now None (Some newer.now.bytes.now)
-        (state S.Store tx.old.conn.now) progress.old.work progress.new.work) }
+    ensures cost { IsNewer setting.now.profile.now newer.now.ident.now newer.now.bytes.now newer.now.occurrences.items
+        → OnOk result (NotesAs setting.now.profile.now None (Some newer.now.bytes.now) pending.old pending.new) }
 {
     if progress.last >= setting.limits.numbers {
         return Err(Refusal::DatabaseFull);
@@ -156,26 +131,26 @@ fn insert<S: Alter, L: Layout>(
     progress.last += 1;
     let sysno = progress.last;
     record_put(tx, progress.database, sysno, newer.ident, newer.bytes)?;
-    change_keys::<S, L>(tx, setting.alloc, progress, sysno, &[], &newer.occurrences)?;
+    note_keys(setting.alloc, pending, sysno, &[], &newer.occurrences)?;
     Ok(Fate::Inserted)
 }
 
 /// The record takes its elder's place, under the same number.
-fn replace<S: Alter, L: Layout>(
+fn replace<S: Alter>(
     tx: &mut Transaction<'_, S>,
     setting: &Setting<'_>,
-    progress: &mut Progress,
+    progress: &Progress,
+    pending: &mut Pending,
     elder: &Elder,
     newer: &Newer<'_>,
 ) -> Result<Fate, Refusal>
     ensures same { tx.new.conn.ghost_name ≡ tx.old.conn.ghost_name }
     ensures stays { HasCleanDisk (state S.Store tx.new.conn.now) → IsTrue (state S.Store tx.old.conn.now).in_transaction
         → Stays (state S.Store tx.old.conn.now) (state S.Store tx.new.conn.now) result }
-    ensures place { progress.new.database ≡ progress.old.database }
     ensures taken { HasCleanDisk (state S.Store tx.new.conn.now) → IsTrue (state S.Store tx.old.conn.now).in_transaction
         → (version : List ℕ) → IsNewer setting.now.profile.now newer.now.ident.now newer.now.bytes.now newer.now.occurrences.items
-        → Takes L.format setting.now.profile.now progress.old.database.0 (state S.Store tx.old.conn.now)
-        (state S.Store tx.new.conn.now) progress.old.last progress.new.last
+        → Takes setting.now.profile.now progress.now.database.0 (standing (state S.Store tx.old.conn.now) pending.old)
+        (standing (state S.Store tx.new.conn.now) pending.new) progress.now.last progress.now.last
         (λ base. IsElderAs newer.now.ident.now base (Some elder.now))
         (λ base. updated (conditions_of version setting.now) newer.now.ident.now newer.now.bytes.now base
         (kept_as newer.now.ident.now base)) result }
@@ -187,67 +162,62 @@ fn replace<S: Alter, L: Layout>(
         → IsNewer setting.now.profile.now newer.now.ident.now newer.now.bytes.now newer.now.occurrences.items
         → elder.now.bytes.items ≡ newer.now.bytes.now
         → IfOk result (λ fate. IsIdle (state S.Store tx.old.conn.now) (state S.Store tx.new.conn.now) fate
-        × (progress.new ≡ progress.old)) }
-    ensures work { HasCleanDisk (state S.Store tx.new.conn.now) → IsTrue (state S.Store tx.old.conn.now).in_transaction
-        → IsStore (state S.Store tx.old.conn.now)
-        → IsNewer setting.now.profile.now newer.now.ident.now newer.now.bytes.now newer.now.occurrences.items
-        → OnOk result (WorksAs L.format L.row_work setting.now.profile.now (Some elder.now.bytes.items) (Some newer.now.bytes.now)
-        (state S.Store tx.old.conn.now) progress.old.work progress.new.work) }
+        × (pending.new ≡ pending.old)) }
+    ensures cost { IsNewer setting.now.profile.now newer.now.ident.now newer.now.bytes.now newer.now.occurrences.items
+        → OnOk result (NotesAs setting.now.profile.now (Some elder.now.bytes.items) (Some newer.now.bytes.now) pending.old pending.new) }
 {
     let old = kept_occurrences(setting, elder)?;
     let sysno = elder.sysno;
     record_put(tx, progress.database, sysno, newer.ident, newer.bytes)?;
-    change_keys::<S, L>(tx, setting.alloc, progress, sysno, &old, &newer.occurrences)?;
+    note_keys(setting.alloc, pending, sysno, &old, &newer.occurrences)?;
     Ok(Fate::Updated)
 }
 
 /// The record is kept no longer.
-fn withdraw<S: Alter, L: Layout>(
+fn withdraw<S: Alter>(
     tx: &mut Transaction<'_, S>,
     setting: &Setting<'_>,
-    progress: &mut Progress,
+    progress: &Progress,
+    pending: &mut Pending,
     elder: &Elder,
 ) -> Result<Fate, Refusal>
     ensures same { tx.new.conn.ghost_name ≡ tx.old.conn.ghost_name }
     ensures stays { HasCleanDisk (state S.Store tx.new.conn.now) → IsTrue (state S.Store tx.old.conn.now).in_transaction
         → Stays (state S.Store tx.old.conn.now) (state S.Store tx.new.conn.now) result }
-    ensures place { progress.new.database ≡ progress.old.database }
     ensures taken { HasCleanDisk (state S.Store tx.new.conn.now) → IsTrue (state S.Store tx.old.conn.now).in_transaction
         → (ident : List ℕ) (absent : Result Changed Why)
-        → Takes L.format setting.now.profile.now progress.old.database.0 (state S.Store tx.old.conn.now)
-        (state S.Store tx.new.conn.now) progress.old.last progress.new.last
+        → Takes setting.now.profile.now progress.now.database.0 (standing (state S.Store tx.old.conn.now) pending.old)
+        (standing (state S.Store tx.new.conn.now) pending.new) progress.now.last progress.now.last
         (λ base. IsElderAs ident base (Some elder.now)) (λ base. deleted absent ident base (kept_as ident base)) result }
     ensures unread { NoReadFault result }
     ensures ready { NeverUnready result }
     ensures crash { Survives (state S.Store tx.old.conn.now) (state S.Store tx.new.conn.now) (λ _. ⊥) }
-    ensures work { HasCleanDisk (state S.Store tx.new.conn.now) → IsTrue (state S.Store tx.old.conn.now).in_transaction
-        → IsStore (state S.Store tx.old.conn.now)
-        → OnOk result (WorksAs L.format L.row_work setting.now.profile.now (Some elder.now.bytes.items) None
-        (state S.Store tx.old.conn.now) progress.old.work progress.new.work) }
+    ensures cost { OnOk result (NotesAs setting.now.profile.now (Some elder.now.bytes.items) None pending.old pending.new) }
 {
     let old = kept_occurrences(setting, elder)?;
     let sysno = elder.sysno;
     record_take(tx, progress.database, sysno)?;
-    change_keys::<S, L>(tx, setting.alloc, progress, sysno, &old, &[])?;
+    note_keys(setting.alloc, pending, sysno, &old, &[])?;
     Ok(Fate::Deleted)
 }
 
 /// Keeps a record: in its elder's place where there is one.
-fn keep<S: Alter, L: Layout>(
+fn keep<S: Alter>(
     tx: &mut Transaction<'_, S>,
     setting: &Setting<'_>,
     progress: &mut Progress,
+    pending: &mut Pending,
     elder: Option<Elder>,
     newer: &Newer<'_>,
 ) -> Result<Fate, Refusal>
     ensures same { tx.new.conn.ghost_name ≡ tx.old.conn.ghost_name }
     ensures stays { HasCleanDisk (state S.Store tx.new.conn.now) → IsTrue (state S.Store tx.old.conn.now).in_transaction
         → Stays (state S.Store tx.old.conn.now) (state S.Store tx.new.conn.now) result }
-    ensures place { progress.new.database ≡ progress.old.database }
+    ensures place { (progress.new.database ≡ progress.old.database) × (progress.new.work ≡ progress.old.work) }
     ensures taken { HasCleanDisk (state S.Store tx.new.conn.now) → IsTrue (state S.Store tx.old.conn.now).in_transaction
         → (version : List ℕ) → IsNewer setting.now.profile.now newer.now.ident.now newer.now.bytes.now newer.now.occurrences.items
-        → Takes L.format setting.now.profile.now progress.old.database.0 (state S.Store tx.old.conn.now)
-        (state S.Store tx.new.conn.now) progress.old.last progress.new.last
+        → Takes setting.now.profile.now progress.old.database.0 (standing (state S.Store tx.old.conn.now) pending.old)
+        (standing (state S.Store tx.new.conn.now) pending.new) progress.old.last progress.new.last
         (λ base. IsElderAs newer.now.ident.now base elder) (λ base. updated
         (conditions_of version setting.now) newer.now.ident.now newer.now.bytes.now base (kept_as newer.now.ident.now base)) result }
     ensures unread { NoReadFault result }
@@ -258,16 +228,13 @@ fn keep<S: Alter, L: Layout>(
         → IsNewer setting.now.profile.now newer.now.ident.now newer.now.bytes.now newer.now.occurrences.items
         → (same : Elder) → elder ≡ Some same → same.bytes.items ≡ newer.now.bytes.now
         → IfOk result (λ fate. IsIdle (state S.Store tx.old.conn.now) (state S.Store tx.new.conn.now) fate
-        × (progress.new ≡ progress.old)) }
-    ensures work { HasCleanDisk (state S.Store tx.new.conn.now) → IsTrue (state S.Store tx.old.conn.now).in_transaction
-        → IsStore (state S.Store tx.old.conn.now)
-        → IsNewer setting.now.profile.now newer.now.ident.now newer.now.bytes.now newer.now.occurrences.items
-        → OnOk result (WorksAs L.format L.row_work setting.now.profile.now (elder_bytes elder) (Some newer.now.bytes.now)
-        (state S.Store tx.old.conn.now) progress.old.work progress.new.work) }
+        × (progress.new ≡ progress.old) × (pending.new ≡ pending.old)) }
+    ensures cost { IsNewer setting.now.profile.now newer.now.ident.now newer.now.bytes.now newer.now.occurrences.items
+        → OnOk result (NotesAs setting.now.profile.now (elder_bytes elder) (Some newer.now.bytes.now) pending.old pending.new) }
 {
     match elder {
-        Some(elder) => replace::<S, L>(tx, setting, progress, &elder, newer),
-        None => insert::<S, L>(tx, setting, progress, newer),
+        Some(elder) => replace(tx, setting, progress, pending, &elder, newer),
+        None => insert(tx, setting, progress, pending, newer),
     }
 }
 
@@ -297,21 +264,23 @@ fn sound_record<'a>(
 }
 
 /// Does with one record what the change's kind says.
-pub(crate) fn change_record<S: Alter, L: Layout>(
+pub(crate) fn change_record<S: Alter>(
     tx: &mut Transaction<'_, S>,
     setting: &Setting<'_>,
     progress: &mut Progress,
+    pending: &mut Pending,
     incoming: Incoming<'_>,
 ) -> Result<Fate, Refusal>
     ensures same { tx.new.conn.ghost_name ≡ tx.old.conn.ghost_name }
     ensures stays { HasCleanDisk (state S.Store tx.new.conn.now) → IsTrue (state S.Store tx.old.conn.now).in_transaction
         → Stays (state S.Store tx.old.conn.now) (state S.Store tx.new.conn.now) result }
-    ensures database { progress.new.database ≡ progress.old.database }
+    ensures place { (progress.new.database ≡ progress.old.database) × (progress.new.work ≡ progress.old.work) }
     ensures taken { HasCleanDisk (state S.Store tx.new.conn.now) → IsTrue (state S.Store tx.old.conn.now).in_transaction
-        → (version : List ℕ) (records_of : ℤ → List Kept) (base : Base) → progress.old.last ≡ base.last
-        → IsUnderWay L.format setting.now.profile.now progress.old.database.0 records_of (state S.Store tx.old.conn.now) base
-        → Meets (IsTaken L.format setting.now.profile.now progress.old.database.0 records_of (state S.Store tx.old.conn.now)
-        (state S.Store tx.new.conn.now) progress.new.last)
+        → (version : List ℕ) (format : Format) (records_of : ℤ → List Kept) (base : Base) → progress.old.last ≡ base.last
+        → WillBe format setting.now.profile.now progress.old.database.0 records_of
+        (standing (state S.Store tx.old.conn.now) pending.old) base
+        → Meets (WillBeTaken format setting.now.profile.now progress.old.database.0 records_of
+        (standing (state S.Store tx.old.conn.now) pending.old) (standing (state S.Store tx.new.conn.now) pending.new) progress.new.last)
         (changed_record
         (conditions_of version setting.now) setting.now.kind incoming.entry.file incoming.entry.nth incoming.entry.bytes.now base) result }
     ensures unread { NoReadFault result }
@@ -319,16 +288,18 @@ pub(crate) fn change_record<S: Alter, L: Layout>(
     ensures crash { Survives (state S.Store tx.old.conn.now) (state S.Store tx.new.conn.now) (λ _. ⊥) }
     ensures idle { HasCleanDisk (state S.Store tx.new.conn.now) → IsTrue (state S.Store tx.old.conn.now).in_transaction
         → setting.now.kind ≡ Kind.Update
-        → (records_of : ℤ → List Kept) (base : Base)
-        → IsUnderWay L.format setting.now.profile.now progress.old.database.0 records_of (state S.Store tx.old.conn.now) base
+        → (format : Format) (records_of : ℤ → List Kept) (base : Base)
+        → WillBe format setting.now.profile.now progress.old.database.0 records_of
+        (standing (state S.Store tx.old.conn.now) pending.old) base
         → (kept : Kept) → Contains base.records kept → kept.bytes ≡ incoming.entry.bytes.now
         → IfOk result (λ fate. IsIdle (state S.Store tx.old.conn.now) (state S.Store tx.new.conn.now) fate
-        × (progress.new ≡ progress.old)) }
-    ensures work { HasCleanDisk (state S.Store tx.new.conn.now) → IsTrue (state S.Store tx.old.conn.now).in_transaction
-        → (records_of : ℤ → List Kept) (base : Base)
-        → IsUnderWay L.format setting.now.profile.now progress.old.database.0 records_of (state S.Store tx.old.conn.now) base
+        × (progress.new ≡ progress.old) × (pending.new ≡ pending.old)) }
+    ensures cost { HasCleanDisk (state S.Store tx.new.conn.now) → IsTrue (state S.Store tx.old.conn.now).in_transaction
+        → (format : Format) (records_of : ℤ → List Kept) (base : Base)
+        → WillBe format setting.now.profile.now progress.old.database.0 records_of
+        (standing (state S.Store tx.old.conn.now) pending.old) base
         → OnOk result ((n : ℕ) × IsCostIn setting.now.profile.now setting.now.kind incoming.entry.bytes.now base n
-        × IsWorkFor L.row_work n progress.old.work progress.new.work) }
+        × (noted_count pending.new ≡ noted_count pending.old + n)) }
 {
     let Incoming { bytes, file, nth } = incoming;
     let (record, ident) = sound_record(setting, incoming)?;
@@ -340,10 +311,10 @@ pub(crate) fn change_record<S: Alter, L: Layout>(
                 bytes,
                 occurrences: occurrences(setting.alloc, &record, setting.profile)?,
             };
-            keep::<S, L>(tx, setting, progress, elder, &newer)
+            keep(tx, setting, progress, pending, elder, &newer)
         }
-        (Kind::Delete, Some(elder)) => withdraw::<S, L>(tx, setting, progress, &elder),
-        (Kind::Adelete, Some(elder)) => withdraw::<S, L>(tx, setting, progress, &elder),
+        (Kind::Delete, Some(elder)) => withdraw(tx, setting, progress, pending, &elder),
+        (Kind::Adelete, Some(elder)) => withdraw(tx, setting, progress, pending, &elder),
         (Kind::Delete, None) => Err(Refusal::Unknown { file, nth }),
         (Kind::Adelete, None) => Ok(Fate::PassedOver),
     }

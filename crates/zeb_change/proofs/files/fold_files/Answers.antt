@@ -1,164 +1,163 @@
-use Rattle.std.proofs.Common.{rules, arith, ◌≡◌, ◌≢◌, ◌∙◌, ◌+◌, ◌≤◌, ◌<◌, length, false, inl, inr, refl, sym, Ok, Err, ap, subst, get_or, get_or-set_other, get_or-set_same, slice_set, length-set}
+use Rattle.std.proofs.Common.{◌≡◌, ◌≢◌, ◌∙◌, ℤ, rules, arith, Err, ap, refl, subst, sym}
 use Rattle.sqlite.specs.Held.{state}
 use Rattle.sqlite.specs.State.{HasCleanDisk}
-use Rattle.zeb_marc.specs.Splits.{split_of}
-use Rattle.zeb_change.specs.Refused.{why_of, Meets}
-use Rattle.zeb_change.specs.Folding.{Progress, file_folded, files_folded, splits_of}
-use Rattle.zeb_change.specs.Reading.{HasFailedAt}
-use Rattle.zeb_change.specs.declared.refusals.Refusal.TheVariants.{ReadFault}
-use Rattle.zeb_change.specs.Holding.{HoldsSome}
-use Rattle.zeb_change.specs.UnderWay.{IsFolded, IsUnderWay, conditions_of}
-use Rattle.zeb_change.proofs.FoldFiles.{Good, sound}
-use Rattle.zeb_change.proofs.FoldAll.{text_at, as_many, fine_at, fine_more, failed_here, failed_now, none_at, before_files, all_files, file_refused, file_taken}
-use Rattle.zeb_change.specs.Costs.{IsFilesCost}
-use Rattle.zeb_change.proofs.FoldCosts.{RestCost, none_spent, spent_more, all_spent, file_cost, no_file_cost}
+use Rattle.zeb_change.specs.declared.files.Fold.{Fold}
+use Rattle.zeb_change.specs.declared.refusals.Refusal.TheVariants.{Damaged}
+use Rattle.zeb_change.specs.Folding.{Progress, files_folded, splits_of}
+use Rattle.zeb_change.specs.PrivatePending.{WillHold}
+use Rattle.zeb_change.specs.Refused.{Meets}
+use Rattle.zeb_change.specs.UnderWay.{IsFolded, conditions_of}
+use Rattle.zeb_change.proofs.CostLemmas.{due_end}
+use Rattle.zeb_change.proofs.Noting.{nothing_count}
+use Rattle.zeb_change.proofs.Settling.{IsSettled, begun, ended, ended_fold, no_damage, refused_fold, settled_due, settled_fails, settled_fold, settled_way}
+use Rattle.zeb_change.proofs.TurnLemmas.{passed_on}
 use Rattle.zeb_change.proofs.files.fold_files.Goals as goal
 
-pub loop-index-init : goal.loop-index-init
-unfolding before_files
-loop-index-init g c = record {
-  same = refl;
-  crash = search rules;
-  stays = search rules;
-  database = refl;
-  unread = λ j d behind. refl;
-  fine = λ j none d. absurd (omega (arith, none));
-  over = λ clean mode texts told version records_of p stands under_way. (
-    before_files g.L.Layout.format (conditions_of version c.args.setting.now) c.args.setting.now.kind texts c.args.fold.now.progress.database.0 records_of (state g.S.Store c.args.tx.now.conn.now) c.args.fold.now p stands under_way,
-    none_spent g.L.Layout.row_work (IsFilesCost (conditions_of version c.args.setting.now) c.args.setting.now.kind 1 (splits_of texts) p) c.args.fold.now.progress.work,
-  );
-  honest = λ clean mode records_of some. some;
-}
+-- a file that is refused
+pub returns-in_err-fold_readers-clause-folded : goal.returns-in_err-fold_readers-clause-folded
+returns-in_err-fold_readers-clause-folded g c clean mode texts told fine version records_of p stands under =
+    let setting = c.args.setting.now in
+    let id = c.args.fold.now.progress.database.0 in
+    let old = state g.S.Store c.args.tx.now.conn.now in
+    let new = state g.S.Store c.fold_readers.new.tx.conn.now in
+    let pending = c.new-pending.result in
+    let said = files_folded (conditions_of version setting) setting.kind 1 (splits_of texts) p in
+    let result : c.from_residual.result ≡ Err c.in_err-fold_readers.field-0.0 = search rules in
+    subst (λ r. Meets {A = Progress} {X = Unit {0}} (λ after _. IsFolded g.L.Layout.format setting.profile.now id records_of old new c.fold_readers.new.fold after) said r) (sym result)
+    (refused_fold g.L.Layout.format setting.profile.now id records_of old new pending c.fold_readers.new.pending c.fold_readers.new.fold said c.in_err-fold_readers.field-0.0
+    (c.in_err-fold_readers.ensures.folded clean mode texts told fine version records_of p stands (begun g.L.Layout.format setting.profile.now id records_of pending c.new-pending.ensures old p.base under)))
 
+pub returns-in_err-fold_readers-clause-honest : goal.returns-in_err-fold_readers-clause-honest
+returns-in_err-fold_readers-clause-honest g c clean mode records_of some =
+    let old = state g.S.Store c.args.tx.now.conn.now in
+    let will = begun g.L.Layout.format c.args.setting.now.profile.now c.args.fold.now.progress.database.0 records_of c.new-pending.result c.new-pending.ensures old some.0 some.2 in
+    let result : c.from_residual.result ≡ Err c.in_err-fold_readers.field-0.0 = search rules in
+    let sound = (c.in_err-fold_readers.ensures.honest clean mode records_of (some.0, some.1, will)).0 in
+    rw result (λ is. sound cc, tt)
+
+pub returns-in_err-fold_readers-clause-failed : goal.returns-in_err-fold_readers-clause-failed
+returns-in_err-fold_readers-clause-failed g c none file at =
+    let result : c.from_residual.result ≡ Err c.in_err-fold_readers.field-0.0 = search rules in
+    result ∙ c.in_err-fold_readers.ensures.failed none file at
+
+-- a write that isn't done
+pub returns-in_err-write_pending-clause-failed : goal.returns-in_err-write_pending-clause-failed
+returns-in_err-write_pending-clause-failed g c none file at = let no = c.in_ok-fold_readers.ensures.failed none file at in absurd (cc)
+
+pub returns-in_err-write_pending-clause-folded : goal.returns-in_err-write_pending-clause-folded
+returns-in_err-write_pending-clause-folded g c clean mode texts told fine version records_of p stands under =
+    let format = g.L.Layout.format in
+    let setting = c.args.setting.now in
+    let id = c.args.fold.now.progress.database.0 in
+    let old = state g.S.Store c.args.tx.now.conn.now in
+    let mid = state g.S.Store c.fold_readers.new.tx.conn.now in
+    let new = state g.S.Store c.write_pending.new.tx.conn.now in
+    let pending = c.fold_readers.new.pending in
+    let after : Fold = record { progress = c.write_pending.new.progress; tally = c.fold_readers.new.fold.tally } in
+    let said = files_folded (conditions_of version setting) setting.kind 1 (splits_of texts) p in
+    let was : HasCleanDisk mid = omega (arith, c.write_pending.ensures.crash.clean) in
+    let stays = c.in_ok-fold_readers.ensures.stays was mode in
+    let will = begun format setting.profile.now id records_of c.new-pending.result c.new-pending.ensures old p.base under in
+    let holds = (c.in_ok-fold_readers.ensures.honest was mode records_of (p.base, stands.last, will)).1 in
+    let same_id : c.fold_readers.new.fold.progress.database.0 ≡ id = ap (λ d. d.0) c.fold_readers.ensures.database in
+    let refusal = c.in_err-write_pending.field-0.0 in
+    let failed = settled_fails format setting.profile.now id records_of mid pending holds.0 refusal holds.2 c.in_err-write_pending.ensures.fails
+    (λ damaged ahead storable held. c.write_pending.ensures.honest clean stays.mode holds.2.0 (c.in_err-write_pending.was ∙ ap Err damaged) ahead storable
+    (subst (λ (d : ℤ). WillHold format mid.now.trees d pending ahead) (sym same_id) held)) in
+    let result : c.from_residual-in_err-write_pending.result ≡ Err refusal = search rules in
+    passed_on {A = Progress} {X = Unit {0}} (λ q _. IsFolded format setting.profile.now id records_of old new after q) said c.from_residual-in_err-write_pending.result refusal result failed
+
+pub returns-in_err-write_pending-clause-honest : goal.returns-in_err-write_pending-clause-honest
+returns-in_err-write_pending-clause-honest g c clean mode records_of some =
+    let format = g.L.Layout.format in
+    let profile = c.args.setting.now.profile.now in
+    let id = c.args.fold.now.progress.database.0 in
+    let old = state g.S.Store c.args.tx.now.conn.now in
+    let mid = state g.S.Store c.fold_readers.new.tx.conn.now in
+    let pending = c.fold_readers.new.pending in
+    let was : HasCleanDisk mid = omega (arith, c.write_pending.ensures.crash.clean) in
+    let stays = c.in_ok-fold_readers.ensures.stays was mode in
+    let will = begun format profile id records_of c.new-pending.result c.new-pending.ensures old some.0 some.2 in
+    let holds = (c.in_ok-fold_readers.ensures.honest was mode records_of (some.0, some.1, will)).1 in
+    let same_id : c.fold_readers.new.fold.progress.database.0 ≡ id = ap (λ d. d.0) c.fold_readers.ensures.database in
+    let refusal = c.in_err-write_pending.field-0.0 in
+    let sound : refusal ≢ Damaged = λ damaged. no_damage format profile id records_of mid pending holds.0
+    (λ ahead storable held. c.write_pending.ensures.honest clean stays.mode holds.2.0 (c.in_err-write_pending.was ∙ ap Err damaged) ahead storable
+    (subst (λ (d : ℤ). WillHold format mid.now.trees d pending ahead) (sym same_id) held)) holds.2 in
+    let result : c.from_residual-in_err-write_pending.result ≡ Err refusal = search rules in
+    rw result (λ is. sound cc, tt)
+
+-- all files are folded in, and all that is noted is written
 pub returns-clause-folded : goal.returns-clause-folded
-returns-clause-folded g c = λ clean mode texts told fine version records_of p stands under_way.
-    let conditions = conditions_of version c.args.setting.now in
-    let id = c.args.fold.now.progress.database.0 in
-    let over = (c.loop-index.invariant.over clean mode texts told version records_of p stands under_way).0 in
-    let many = as_many g.R.Source.remaining c.args.readers.now texts told in
-    let none : length texts ≤ c.loop-index.index = omega (arith, c.loop-index-test.false, c.loop-index.auto.readers, many) in
-    all_files g.L.Layout.format conditions c.args.setting.now.kind c.loop-index.index texts id records_of (files_folded conditions c.args.setting.now.kind 1 (splits_of texts) p)
-    (state g.S.Store c.args.tx.now.conn.now) (state g.S.Store c.loop-index.tx.conn.now) c.loop-index.fold over none
-
-pub returns-in_err-fold_file-clause-folded : goal.returns-in_err-fold_file-clause-folded
-returns-in_err-fold_file-clause-folded g c = λ clean mode texts told fine version records_of p stands under_way.
+returns-clause-folded g c clean mode texts told fine version records_of p stands under =
+    let format = g.L.Layout.format in
     let setting = c.args.setting.now in
-    let conditions = conditions_of version setting in
-    let old = state g.S.Store c.args.tx.now.conn.now in
-    let now = state g.S.Store c.loop-index.tx.conn.now in
-    let next = state g.S.Store c.fold_file.new.tx.conn.now in
+    let profile = setting.profile.now in
     let id = c.args.fold.now.progress.database.0 in
-    let index = c.loop-index.index in
-    let readers = c.loop-index.readers in
-    let was : HasCleanDisk now = omega (arith, c.fold_file.ensures.crash.clean) in
-    let over = (c.loop-index.invariant.over was mode texts told version records_of p stands under_way).0 in
-    let here = c.index-readers-index.is ∙ c.loop-index.invariant.unread index c.index-readers-index.result (omega arith) in
-    let text = text_at g.R.Source.remaining c.args.readers.now texts index c.index-readers-index.result told (omega (arith, c.loop-index-test.true, c.loop-index.auto.readers)) here in
-    let within : index < length (slice_set readers index c.fold_file.new.reader) = subst (λ n. index < n) (sym (length-set readers index c.fold_file.new.reader)) (omega (arith, c.loop-index-test.true, c.loop-index.auto.readers)) in
-    let taken : get_or (slice_set readers index c.fold_file.new.reader) index c.fold_file.new.reader ≡ c.fold_file.new.reader = get_or-set_same readers index _ _ (omega (arith, c.loop-index-test.true, c.loop-index.auto.readers)) in
-    let sound_one : g.R.Source.has_failed c.fold_file.new.reader ≡ false =
-    ap g.R.Source.has_failed (sym taken) ∙ fine_at g.R.Source.has_failed (slice_set readers index c.fold_file.new.reader) index c.fold_file.new.reader fine within in
-    let same_id : c.loop-index.fold.progress.database.0 ≡ id = ap (λ d. d.0) c.loop-index.invariant.database in
-    let way = subst (λ i. IsUnderWay g.L.Layout.format setting.profile.now i records_of now over.progress.base) (sym same_id) over.is_folded.under_way in
-    let took = c.in_err-fold_file.ensures.folded clean (c.loop-index.invariant.stays was mode).mode text.0 (ap g.R.Source.remaining (sym c.index-readers-index.is) ∙ text.1) sound_one version records_of over.progress over.is_folded.stands way in
-    let said = files_folded conditions setting.kind 1 (splits_of texts) p in
-    let result : c.from_residual.result ≡ Err c.in_err-fold_file.field-0.0 = search rules in
-    subst (λ r. Meets {A = Progress} {X = Unit {0}} (Good g.L.Layout.format conditions id records_of old next c.fold_file.new.fold) said r) (sym result)
-    (elim took [
-      | inl failed ↦ inl failed
-      | inr why ↦ inr (file_refused g.L.Layout.format conditions setting.kind index texts id records_of said old now c.loop-index.fold over text.0 text.2 (why_of c.in_err-fold_file.field-0.0) why)
-    ])
-
-pub loop-index-preserved : goal.loop-index-preserved
-loop-index-preserved g c =
-    let setting = c.args.setting.now in
     let old = state g.S.Store c.args.tx.now.conn.now in
-    let now = state g.S.Store c.loop-index.tx.conn.now in
-    let next = state g.S.Store c.fold_file.new.tx.conn.now in
-    let id = c.args.fold.now.progress.database.0 in
-    let index = c.loop-index.index in
-    let readers = c.loop-index.readers in
-    record {
-      same = search rules;
-      crash = search rules;
-      stays = search rules;
-      database = search rules;
-      unread = λ j d behind.
-          let other : j ≢ index = omega (arith, behind) in
-          get_or-set_other readers index j _ d other ∙ c.loop-index.invariant.unread j d (omega (arith, behind));
-      fine =
-          let sound_one : g.R.Source.has_failed c.fold_file.new.reader ≡ false = sound (g.R.Source.has_failed c.fold_file.new.reader) (λ failed. let no = c.in_ok-fold_file.ensures.failed failed in absurd (cc)) in
-          fine_more g.R.Source.has_failed readers index c.loop-index.invariant.fine c.fold_file.new.reader (omega (arith, c.loop-index-test.true, c.loop-index.auto.readers)) sound_one;
-      over = λ clean mode texts told version records_of p stands under_way.
-          let conditions = conditions_of version setting in
-          let was : HasCleanDisk now = omega (arith, c.fold_file.ensures.crash.clean) in
-          let so_far = c.loop-index.invariant.over was mode texts told version records_of p stands under_way in
-          let over = so_far.0 in
-          let here = c.index-readers-index.is ∙ c.loop-index.invariant.unread index c.index-readers-index.result (omega arith) in
-          let text = text_at g.R.Source.remaining c.args.readers.now texts index c.index-readers-index.result told (omega (arith, c.loop-index-test.true, c.loop-index.auto.readers)) here in
-          let fine : g.R.Source.has_failed c.fold_file.new.reader ≡ false = sound (g.R.Source.has_failed c.fold_file.new.reader) (λ failed. let no = c.in_ok-fold_file.ensures.failed failed in absurd (cc)) in
-          let same_id : c.loop-index.fold.progress.database.0 ≡ id = ap (λ d. d.0) c.loop-index.invariant.database in
-          let way = subst (λ i. IsUnderWay g.L.Layout.format setting.profile.now i records_of now over.progress.base) (sym same_id) over.is_folded.under_way in
-          let took = c.in_ok-fold_file.ensures.folded clean (c.loop-index.invariant.stays was mode).mode text.0 (ap g.R.Source.remaining (sym c.index-readers-index.is) ∙ text.1) fine version records_of over.progress over.is_folded.stands way in
-          let said = files_folded conditions setting.kind 1 (splits_of texts) p in
-          let further = file_taken g.L.Layout.format conditions setting.kind index texts id records_of said old now c.loop-index.fold over text.0 text.2 next c.fold_file.new.fold
-          (subst (λ i. Meets {A = Progress} {X = Unit {0}} (λ q _. IsFolded g.L.Layout.format setting.profile.now i records_of now next c.fold_file.new.fold q) (file_folded conditions setting.kind (index + 1) (split_of text.0) over.progress) (Ok tt))
-          same_id took) in
-          let worked = c.in_ok-fold_file.ensures.work clean (c.loop-index.invariant.stays was mode).mode text.0 (ap g.R.Source.remaining (sym c.index-readers-index.is) ∙ text.1) version records_of over.progress over.is_folded.stands way in (
-            further.0,
-            spent_more g.L.Layout.row_work worked.0 (RestCost conditions setting.kind index texts over.progress) _ _
-                c.args.fold.now.progress.work c.loop-index.fold.progress.work c.fold_file.new.fold.progress.work c.counts_are_numbers.ensures so_far.1 worked.2
-                (λ m more. file_cost conditions setting.kind index texts over.progress text.0 further.0.progress worked.0 m text.2 worked.1 further.1 more),
-          );
-      honest = λ clean mode records_of some.
-          let was : HasCleanDisk now = omega (arith, c.fold_file.ensures.crash.clean) in
-          let same_id : c.loop-index.fold.progress.database.0 ≡ id = ap (λ d. d.0) c.loop-index.invariant.database in
-          let way = subst (λ i. HoldsSome g.L.Layout.format setting.profile.now i records_of now c.loop-index.fold.progress.last) (sym same_id) (c.loop-index.invariant.honest was mode records_of some) in
-          let held = (c.in_ok-fold_file.ensures.honest clean (c.loop-index.invariant.stays was mode).mode records_of way).1 in
-          subst (λ i. HoldsSome g.L.Layout.format setting.profile.now i records_of next c.fold_file.new.fold.progress.last) same_id held;
-    }
-
-pub returns-clause-failed : goal.returns-clause-failed
-returns-clause-failed g c none file at =
-    absurd (none_at g.R.Source.has_failed c.loop-index.readers c.loop-index.index c.loop-index.invariant.fine (omega (arith, c.loop-index-test.false, c.loop-index.auto.readers)) file at)
-
-pub returns-in_err-fold_file-clause-failed : goal.returns-in_err-fold_file-clause-failed
-returns-in_err-fold_file-clause-failed g c none file at =
-    let index = c.loop-index.index in
-    let within : index < length c.loop-index.readers = omega (arith, c.loop-index-test.true, c.loop-index.auto.readers) in
-    let here = failed_here g.R.Source.has_failed c.loop-index.readers index c.loop-index.invariant.fine c.fold_file.new.reader within c.args.readers.now c.loop-index.auto.readers none c.loop-index.invariant.unread file at in
-    let told = c.in_err-fold_file.ensures.failed here.1 in
-    let numbered = here.0 in
-    search rules
-
-pub returns-in_err-fold_file-clause-fault : goal.returns-in_err-fold_file-clause-fault
-returns-in_err-fold_file-clause-fault g c file told =
-    let index = c.loop-index.index in
-    let within : index < length c.loop-index.readers = omega (arith, c.loop-index-test.true, c.loop-index.auto.readers) in
-    let given : c.from_residual.result ≡ Err c.in_err-fold_file.field-0.0 = search rules in
-    let said : c.fold_file.result ≡ Err (ReadFault file) = cc in
-    let fault = c.fold_file.ensures.fault file said in
-    subst (HasFailedAt g.R.Source.has_failed (slice_set c.loop-index.readers index c.fold_file.new.reader)) (sym fault.0) (failed_now g.R.Source.has_failed c.loop-index.readers index c.loop-index.invariant.fine c.fold_file.new.reader within fault.1)
-
-pub returns-clause-work : goal.returns-clause-work
-returns-clause-work g c = λ clean mode texts told version records_of p stands under_way.
-    let conditions = conditions_of version c.args.setting.now in
-    let so_far = c.loop-index.invariant.over clean mode texts told version records_of p stands under_way in
-    let many = as_many g.R.Source.remaining c.args.readers.now texts told in
-    let none : length texts ≤ c.loop-index.index = omega (arith, c.loop-index-test.false, c.loop-index.auto.readers, many) in
-    all_spent g.L.Layout.row_work (RestCost conditions c.args.setting.now.kind c.loop-index.index texts so_far.0.progress) _ c.args.fold.now.progress.work c.loop-index.fold.progress.work
-    (no_file_cost conditions c.args.setting.now.kind c.loop-index.index texts so_far.0.progress none) so_far.1
+    let mid = state g.S.Store c.fold_readers.new.tx.conn.now in
+    let new = state g.S.Store c.write_pending.new.tx.conn.now in
+    let first = c.new-pending.result in
+    let pending = c.fold_readers.new.pending in
+    let left = c.write_pending.new.pending in
+    let between = c.fold_readers.new.fold in
+    let after : Fold = record { progress = c.write_pending.new.progress; tally = between.tally } in
+    let said = files_folded (conditions_of version setting) setting.kind 1 (splits_of texts) p in
+    let was : HasCleanDisk mid = omega (arith, c.write_pending.ensures.crash.clean) in
+    let stays = c.in_ok-fold_readers.ensures.stays was mode in
+    let will = begun format profile id records_of first c.new-pending.ensures old p.base under in
+    let holds = (c.in_ok-fold_readers.ensures.honest was mode records_of (p.base, stands.last, will)).1 in
+    let same_id : between.progress.database.0 ≡ id = ap (λ d. d.0) c.fold_readers.ensures.database in
+    let settled = subst (λ (d : ℤ). IsSettled format g.L.Layout.row_work d mid new pending left between.progress.work after.progress.work) same_id (c.in_ok-write_pending.ensures.written clean stays.mode holds.2.0) in
+    ended_fold format profile id records_of left c.in_ok-write_pending.ensures.all old new first after said
+    (settled_fold format profile id records_of mid new pending left g.L.Layout.row_work between.progress.work after.progress.work settled old first between after said refl c.write_pending.ensures.place.1
+    (c.in_ok-fold_readers.ensures.folded was mode texts told fine version records_of p stands will))
 
 pub returns-clause-honest : goal.returns-clause-honest
-returns-clause-honest g c clean mode records_of some = (λ is. cc, c.loop-index.invariant.honest clean mode records_of some)
-
-pub returns-in_err-fold_file-clause-honest : goal.returns-in_err-fold_file-clause-honest
-returns-in_err-fold_file-clause-honest g c clean mode records_of some =
-    let now = state g.S.Store c.loop-index.tx.conn.now in
+returns-clause-honest g c clean mode records_of some =
+    let format = g.L.Layout.format in
     let profile = c.args.setting.now.profile.now in
-    let was : HasCleanDisk now = omega (arith, c.fold_file.ensures.crash.clean) in
-    let same_id : c.loop-index.fold.progress.database.0 ≡ c.args.fold.now.progress.database.0 = ap (λ d. d.0) c.loop-index.invariant.database in
-    let way = subst (λ i. HoldsSome g.L.Layout.format profile i records_of now c.loop-index.fold.progress.last) (sym same_id) (c.loop-index.invariant.honest was mode records_of some) in
-    let sound = (c.in_err-fold_file.ensures.honest clean (c.loop-index.invariant.stays was mode).mode records_of way).0 in
-    let result : c.from_residual.result ≡ Err c.in_err-fold_file.field-0.0 = search rules in
-    rw result (λ is. sound cc, tt)
+    let id = c.args.fold.now.progress.database.0 in
+    let old = state g.S.Store c.args.tx.now.conn.now in
+    let mid = state g.S.Store c.fold_readers.new.tx.conn.now in
+    let new = state g.S.Store c.write_pending.new.tx.conn.now in
+    let pending = c.fold_readers.new.pending in
+    let left = c.write_pending.new.pending in
+    let between = c.fold_readers.new.fold in
+    let now = c.write_pending.new.progress.work in
+    let was : HasCleanDisk mid = omega (arith, c.write_pending.ensures.crash.clean) in
+    let stays = c.in_ok-fold_readers.ensures.stays was mode in
+    let will = begun format profile id records_of c.new-pending.result c.new-pending.ensures old some.0 some.2 in
+    let holds = (c.in_ok-fold_readers.ensures.honest was mode records_of (some.0, some.1, will)).1 in
+    let same_id : between.progress.database.0 ≡ id = ap (λ d. d.0) c.fold_readers.ensures.database in
+    let settled = subst (λ (d : ℤ). IsSettled format g.L.Layout.row_work d mid new pending left between.progress.work now) same_id (c.in_ok-write_pending.ensures.written clean stays.mode holds.2.0) in
+    let way = settled_way format profile id records_of mid new pending left g.L.Layout.row_work between.progress.work now settled holds.0 holds.2 in
+    (λ is. cc, (holds.0, c.write_pending.ensures.place.1 ∙ holds.1, ended format profile id records_of left c.in_ok-write_pending.ensures.all new holds.0 way))
+
+pub returns-clause-work : goal.returns-clause-work
+returns-clause-work g c clean mode texts told version records_of p stands under =
+    let format = g.L.Layout.format in
+    let row_work = g.L.Layout.row_work in
+    let profile = c.args.setting.now.profile.now in
+    let id = c.args.fold.now.progress.database.0 in
+    let old = state g.S.Store c.args.tx.now.conn.now in
+    let mid = state g.S.Store c.fold_readers.new.tx.conn.now in
+    let new = state g.S.Store c.write_pending.new.tx.conn.now in
+    let first = c.new-pending.result in
+    let pending = c.fold_readers.new.pending in
+    let left = c.write_pending.new.pending in
+    let between = c.fold_readers.new.fold in
+    let before = c.args.fold.now.progress.work in
+    let now = c.write_pending.new.progress.work in
+    let was : HasCleanDisk mid = omega (arith, c.write_pending.ensures.crash.clean) in
+    let stays = c.in_ok-fold_readers.ensures.stays was mode in
+    let will = begun format profile id records_of first c.new-pending.ensures old p.base under in
+    let holds = (c.in_ok-fold_readers.ensures.honest was mode records_of (p.base, stands.last, will)).1 in
+    let same_id : between.progress.database.0 ≡ id = ap (λ d. d.0) c.fold_readers.ensures.database in
+    let settled = subst (λ (d : ℤ). IsSettled format row_work d mid new pending left between.progress.work now) same_id (c.in_ok-write_pending.ensures.written clean stays.mode holds.2.0) in
+    let read = c.in_ok-fold_readers.ensures.work was mode texts told version records_of p stands will in
+    let due = settled_due format profile id records_of mid new pending left row_work between.progress.work now settled holds.0 holds.2 in (
+      read.0,
+      read.1,
+      due_end row_work read.0 before between.progress.work now first pending left c.counts_are_numbers.ensures (nothing_count first c.new-pending.ensures) (nothing_count left c.in_ok-write_pending.ensures.all) read.2 due,
+    )

@@ -1,62 +1,147 @@
-use Rattle.std.proofs.Common.{rules, arith, ◌≡◌, true, false, inl, inr, sym, nat_le, [], Err, subst}
-use Rattle.std.proofs.lemmas.Bool.Decides.{nat_tests}
+use Rattle.std.proofs.Common.{◌≡◌, ◌≢◌, ◌∙◌, ℤ, rules, arith, Err, ap, refl, subst, sym}
 use Rattle.sqlite.specs.Held.{state}
-use Rattle.zeb_change.specs.Folding.{Progress, changed_record, folded}
+use Rattle.sqlite.specs.State.{HasCleanDisk}
+use Rattle.zeb_register.specs.declared.registers.Work.{Work}
 use Rattle.zeb_change.specs.declared.files.Fold.{Fold}
-use Rattle.zeb_change.specs.declared.tally.Fate.{Fate}
-use Rattle.zeb_change.specs.UnderWay.{IsFolded, IsTaken, conditions_of}
+use Rattle.zeb_change.specs.declared.refusals.Refusal.TheVariants.{Damaged}
+use Rattle.zeb_change.specs.Folding.{Progress, folded}
+use Rattle.zeb_change.specs.PrivatePending.{IsDueFor, WillHold}
+use Rattle.zeb_change.specs.PrivateStanding.{WillBeFolded, standing}
 use Rattle.zeb_change.specs.Refused.{Meets}
-use Rattle.zeb_change.proofs.FoldSteps.{too_many, folded_err, one_folded}
-use Rattle.zeb_change.proofs.NoDamage.{record_tells, refused_honest, taken_holds}
+use Rattle.zeb_change.specs.UnderWay.{conditions_of}
+use Rattle.zeb_change.proofs.CostLemmas.{due_more}
+use Rattle.zeb_change.proofs.Settling.{IsSettled, no_damage, settled_due, settled_fails, settled_fold, settled_way}
+use Rattle.zeb_change.proofs.TransactionLemmas.{continues_then}
+use Rattle.zeb_change.proofs.TurnLemmas.{passed_on}
 use Rattle.zeb_change.proofs.files.take_record.Goals as goal
 
-pub returns-then-fold-setting-clause-folded : goal.returns-then-fold-setting-clause-folded
-returns-then-fold-setting-clause-folded g c = λ clean mode version records_of p stands under_way.
-    let full : nat_le c.args.setting.now.limits.records p.taken ≡ true = grind (arith, nat_tests, c.if-fold-setting.true, stands.taken) in
-    inr (too_many (conditions_of version c.args.setting.now) c.args.setting.now.kind c.args.incoming.file c.args.incoming.nth c.args.incoming.bytes.now p full)
+pub returns-clause-stays : goal.returns-clause-stays
+returns-clause-stays g c clean mode =
+    let was : HasCleanDisk (state g.S.Store c.note_record.new.tx.conn.now) = omega (arith, c.write_where_full.ensures.crash.clean) in
+    let stays = c.in_ok-note_record.ensures.stays was mode in
+    continues_then _ _ _ stays (c.in_ok-write_where_full.ensures.stays clean stays.mode)
 
-pub returns-in_err-fate-clause-folded : goal.returns-in_err-fate-clause-folded
-returns-in_err-fate-clause-folded g c = λ clean mode version records_of p stands under_way.
-    let room : nat_le c.args.setting.now.limits.records p.taken ≡ false = grind (arith, nat_tests, c.if-fold-setting.false, stands.taken) in
-    let told : c.from_residual.result ≡ Err c.in_err-fate.field-0.0 = search rules in
-    let new : Fold = record { progress = c.change_record.new.progress; tally = c.args.fold.now.tally } in
-    let said = folded (conditions_of version c.args.setting.now) c.args.setting.now.kind c.args.incoming.file c.args.incoming.nth c.args.incoming.bytes.now p in
-    subst (λ r. Meets {A = Progress} {X = Unit {0}} (λ after _. IsFolded g.L.Layout.format c.args.setting.now.profile.now c.args.fold.now.progress.database.0 records_of (state g.S.Store c.args.tx.now.conn.now) (state g.S.Store c.change_record.new.tx.conn.now) new after) said r)
-    (sym told)
-    (elim (c.in_err-fate.ensures.taken clean mode version records_of p.base stands.last under_way) [
-      | inl failed ↦ inl failed
-      | inr why ↦ inr (folded_err (conditions_of version c.args.setting.now) c.args.setting.now.kind c.args.incoming.file c.args.incoming.nth c.args.incoming.bytes.now p room _ why)
-    ])
+-- a record that is refused
+pub returns-in_err-note_record-clause-folded : goal.returns-in_err-note_record-clause-folded
+returns-in_err-note_record-clause-folded g c clean mode version records_of p stands under =
+    let setting = c.args.setting.now in
+    let old = standing (state g.S.Store c.args.tx.now.conn.now) c.args.pending.now in
+    let new = standing (state g.S.Store c.note_record.new.tx.conn.now) c.note_record.new.pending in
+    let said = folded (conditions_of version setting) setting.kind c.args.incoming.file c.args.incoming.nth c.args.incoming.bytes.now p in
+    let result : c.from_residual.result ≡ Err c.in_err-note_record.field-0.0 = search rules in
+    subst (λ r. Meets {A = Progress} {X = Unit {0}} (λ after _. WillBeFolded g.L.Layout.format setting.profile.now c.args.fold.now.progress.database.0 records_of old new c.note_record.new.fold after) said r)
+    (sym result) (c.in_err-note_record.ensures.folded clean mode version g.L.Layout.format records_of p stands under)
 
-pub returns-clause-folded : goal.returns-clause-folded
-returns-clause-folded g c = λ clean mode version records_of p stands under_way.
-    let room : nat_le c.args.setting.now.limits.records p.taken ≡ false = grind (arith, nat_tests, c.if-fold-setting.false, stands.taken) in
-    let after : Fold = record { progress = c.change_record.new.progress; tally = c.count.new.self } in
-    one_folded g.L.Layout.format (conditions_of version c.args.setting.now) c.args.fold.now.progress.database.0 records_of (state g.S.Store c.args.tx.now.conn.now) (state g.S.Store c.change_record.new.tx.conn.now)
-    c.args.setting.now.kind c.args.incoming.file c.args.incoming.nth c.args.incoming.bytes.now p c.args.fold.now after c.in_ok-fate.fate
-    room stands c.count.ensures (c.in_ok-fate.ensures.taken clean mode version records_of p.base stands.last under_way) tt
+pub returns-in_err-note_record-clause-honest : goal.returns-in_err-note_record-clause-honest
+returns-in_err-note_record-clause-honest g c clean mode records_of some =
+    let result : c.from_residual.result ≡ Err c.in_err-note_record.field-0.0 = search rules in
+    let sound = (c.in_err-note_record.ensures.honest clean mode g.L.Layout.format records_of some).0 in
+    rw result (λ is. sound cc, tt)
 
-pub returns-in_err-fate-clause-honest : goal.returns-in_err-fate-clause-honest
-returns-in_err-fate-clause-honest g c clean mode records_of some =
-    let told : c.from_residual.result ≡ Err c.in_err-fate.field-0.0 = search rules in
-    let incoming = c.args.incoming in
-    let conditions = conditions_of [] c.args.setting.now in
+-- a write that isn't done
+pub returns-in_err-write_where_full-clause-folded : goal.returns-in_err-write_where_full-clause-folded
+returns-in_err-write_where_full-clause-folded g c clean mode version records_of p stands under =
+    let format = g.L.Layout.format in
+    let setting = c.args.setting.now in
+    let id = c.args.fold.now.progress.database.0 in
     let old = state g.S.Store c.args.tx.now.conn.now in
-    let new = state g.S.Store c.change_record.new.tx.conn.now in
-    let taken = IsTaken g.L.Layout.format c.args.setting.now.profile.now c.args.fold.now.progress.database.0 records_of old new c.change_record.new.progress.last in
-    let said = changed_record conditions c.args.setting.now.kind incoming.file incoming.nth incoming.bytes.now some.0 in
-    let sound = refused_honest {X = Fate} taken said c.in_err-fate.field-0.0 (record_tells conditions incoming.file incoming.nth incoming.bytes.now some.0 c.args.setting.now.kind)
-    (c.in_err-fate.ensures.taken clean mode [] records_of some.0 some.1 some.2) in
-    rw told (λ is. sound cc, tt)
+    let mid = state g.S.Store c.note_record.new.tx.conn.now in
+    let new = state g.S.Store c.write_where_full.new.tx.conn.now in
+    let pending = c.note_record.new.pending in
+    let after : Fold = record { progress = c.write_where_full.new.progress; tally = c.note_record.new.fold.tally } in
+    let said = folded (conditions_of version setting) setting.kind c.args.incoming.file c.args.incoming.nth c.args.incoming.bytes.now p in
+    let was : HasCleanDisk mid = omega (arith, c.write_where_full.ensures.crash.clean) in
+    let stays = c.in_ok-note_record.ensures.stays was mode in
+    let holds = (c.in_ok-note_record.ensures.honest was mode format records_of (p.base, stands.last, under)).1 in
+    let same_id : c.note_record.new.fold.progress.database.0 ≡ id = ap (λ d. d.0) c.note_record.ensures.place.0 in
+    let refusal = c.in_err-write_where_full.field-0.0 in
+    let failed = settled_fails format setting.profile.now id records_of mid pending holds.0 refusal holds.2 c.in_err-write_where_full.ensures.fails
+    (λ damaged ahead storable will. c.write_where_full.ensures.honest clean stays.mode holds.2.0 (c.in_err-write_where_full.was ∙ ap Err damaged) ahead storable
+    (subst (λ (d : ℤ). WillHold format mid.now.trees d pending ahead) (sym same_id) will)) in
+    let result : c.from_residual-in_err-write_where_full.result ≡ Err refusal = search rules in
+    passed_on {A = Progress} {X = Unit {0}} (λ q _. WillBeFolded format setting.profile.now id records_of (standing old c.args.pending.now) (standing new c.write_where_full.new.pending) after q)
+    said c.from_residual-in_err-write_where_full.result refusal result failed
+
+pub returns-in_err-write_where_full-clause-honest : goal.returns-in_err-write_where_full-clause-honest
+returns-in_err-write_where_full-clause-honest g c clean mode records_of some =
+    let format = g.L.Layout.format in
+    let id = c.args.fold.now.progress.database.0 in
+    let mid = state g.S.Store c.note_record.new.tx.conn.now in
+    let pending = c.note_record.new.pending in
+    let was : HasCleanDisk mid = omega (arith, c.write_where_full.ensures.crash.clean) in
+    let stays = c.in_ok-note_record.ensures.stays was mode in
+    let holds = (c.in_ok-note_record.ensures.honest was mode format records_of some).1 in
+    let same_id : c.note_record.new.fold.progress.database.0 ≡ id = ap (λ d. d.0) c.note_record.ensures.place.0 in
+    let refusal = c.in_err-write_where_full.field-0.0 in
+    let sound : refusal ≢ Damaged = λ damaged. no_damage format c.args.setting.now.profile.now id records_of mid pending holds.0
+    (λ ahead storable will. c.write_where_full.ensures.honest clean stays.mode holds.2.0 (c.in_err-write_where_full.was ∙ ap Err damaged) ahead storable
+    (subst (λ (d : ℤ). WillHold format mid.now.trees d pending ahead) (sym same_id) will)) holds.2 in
+    let result : c.from_residual-in_err-write_where_full.result ≡ Err refusal = search rules in
+    rw result (λ is. sound cc, tt)
+
+-- a record is noted, and what is noted is written where it is much
+pub returns-clause-folded : goal.returns-clause-folded
+returns-clause-folded g c clean mode version records_of p stands under =
+    let format = g.L.Layout.format in
+    let setting = c.args.setting.now in
+    let id = c.args.fold.now.progress.database.0 in
+    let old = state g.S.Store c.args.tx.now.conn.now in
+    let mid = state g.S.Store c.note_record.new.tx.conn.now in
+    let new = state g.S.Store c.write_where_full.new.tx.conn.now in
+    let between = c.note_record.new.fold in
+    let pending = c.note_record.new.pending in
+    let after : Fold = record { progress = c.write_where_full.new.progress; tally = between.tally } in
+    let said = folded (conditions_of version setting) setting.kind c.args.incoming.file c.args.incoming.nth c.args.incoming.bytes.now p in
+    let was : HasCleanDisk mid = omega (arith, c.write_where_full.ensures.crash.clean) in
+    let stays = c.in_ok-note_record.ensures.stays was mode in
+    let holds = (c.in_ok-note_record.ensures.honest was mode format records_of (p.base, stands.last, under)).1 in
+    let same_id : between.progress.database.0 ≡ id = ap (λ d. d.0) c.note_record.ensures.place.0 in
+    let settled = subst (λ (d : ℤ). IsSettled format g.L.Layout.row_work d mid new pending c.write_where_full.new.pending between.progress.work after.progress.work) same_id
+    (c.in_ok-write_where_full.ensures.written clean stays.mode holds.2.0) in
+    settled_fold format setting.profile.now id records_of mid new pending c.write_where_full.new.pending g.L.Layout.row_work between.progress.work after.progress.work settled old c.args.pending.now between after said
+    refl c.write_where_full.ensures.place.1 (c.in_ok-note_record.ensures.folded was mode version format records_of p stands under)
 
 pub returns-clause-honest : goal.returns-clause-honest
 returns-clause-honest g c clean mode records_of some =
-    let incoming = c.args.incoming in
-    let conditions = conditions_of [] c.args.setting.now in
-    let old = state g.S.Store c.args.tx.now.conn.now in
-    let new = state g.S.Store c.change_record.new.tx.conn.now in
-    let said = changed_record conditions c.args.setting.now.kind incoming.file incoming.nth incoming.bytes.now some.0 in (
+    let format = g.L.Layout.format in
+    let id = c.args.fold.now.progress.database.0 in
+    let mid = state g.S.Store c.note_record.new.tx.conn.now in
+    let new = state g.S.Store c.write_where_full.new.tx.conn.now in
+    let between = c.note_record.new.fold in
+    let pending = c.note_record.new.pending in
+    let was : HasCleanDisk mid = omega (arith, c.write_where_full.ensures.crash.clean) in
+    let stays = c.in_ok-note_record.ensures.stays was mode in
+    let holds = (c.in_ok-note_record.ensures.honest was mode format records_of some).1 in
+    let same_id : between.progress.database.0 ≡ id = ap (λ d. d.0) c.note_record.ensures.place.0 in
+    let settled = subst (λ (d : ℤ). IsSettled format g.L.Layout.row_work d mid new pending c.write_where_full.new.pending between.progress.work c.write_where_full.new.progress.work) same_id
+    (c.in_ok-write_where_full.ensures.written clean stays.mode holds.2.0) in (
       λ is. cc,
-      taken_holds g.L.Layout.format c.args.setting.now.profile.now c.args.fold.now.progress.database.0 records_of old new c.change_record.new.progress.last said c.in_ok-fate.fate
-          (c.in_ok-fate.ensures.taken clean mode [] records_of some.0 some.1 some.2),
+      (
+        holds.0,
+        c.write_where_full.ensures.place.1 ∙ holds.1,
+        settled_way format c.args.setting.now.profile.now id records_of mid new pending c.write_where_full.new.pending g.L.Layout.row_work between.progress.work c.write_where_full.new.progress.work settled holds.0 holds.2,
+      ),
+    )
+
+pub returns-clause-work : goal.returns-clause-work
+returns-clause-work g c clean mode records_of p stands under =
+    let format = g.L.Layout.format in
+    let id = c.args.fold.now.progress.database.0 in
+    let mid = state g.S.Store c.note_record.new.tx.conn.now in
+    let new = state g.S.Store c.write_where_full.new.tx.conn.now in
+    let between = c.note_record.new.fold in
+    let pending = c.note_record.new.pending in
+    let now = c.write_where_full.new.progress.work in
+    let was : HasCleanDisk mid = omega (arith, c.write_where_full.ensures.crash.clean) in
+    let stays = c.in_ok-note_record.ensures.stays was mode in
+    let holds = (c.in_ok-note_record.ensures.honest was mode format records_of (p.base, stands.last, under)).1 in
+    let same_id : between.progress.database.0 ≡ id = ap (λ d. d.0) c.note_record.ensures.place.0 in
+    let settled = subst (λ (d : ℤ). IsSettled format g.L.Layout.row_work d mid new pending c.write_where_full.new.pending between.progress.work now) same_id
+    (c.in_ok-write_where_full.ensures.written clean stays.mode holds.2.0) in
+    let noted = c.in_ok-note_record.ensures.cost was mode format records_of p.base under in
+    let due = settled_due format c.args.setting.now.profile.now id records_of mid new pending c.write_where_full.new.pending g.L.Layout.row_work between.progress.work now settled holds.0 holds.2 in (
+      noted.0,
+      noted.1,
+      due_more g.L.Layout.row_work noted.0 c.args.fold.now.progress.work now c.args.pending.now pending c.write_where_full.new.pending noted.2
+          (subst (λ (w : Work). IsDueFor g.L.Layout.row_work 0 w now pending c.write_where_full.new.pending) c.note_record.ensures.place.1 due),
     )

@@ -18,11 +18,10 @@ use Rattle.zeb_change.specs.Folding.{Changed, changed_record, updated, deleted}
 use Rattle.zeb_change.specs.Base.{kept_as}
 use Rattle.zeb_change.specs.Outcomes.{register_refusal}
 use Rattle.zeb_change.specs.PrivateRecords.{IsNewer, IsElderAs}
-use Rattle.zeb_change.specs.UnderWay.{IsTaken, conditions_of}
-use Rattle.sqlite.specs.Effect.{Database}
-use Rattle.zeb_register.specs.Formats.{holds_in}
+use Rattle.zeb_change.specs.PrivateStanding.{WillBeTaken, standing}
+use Rattle.zeb_change.specs.UnderWay.{conditions_of}
 use Rattle.zeb_change.specs.Costs.{newer_of}
-use Rattle.zeb_change.proofs.CostLemmas.{cost_in, no_work, none_cost, ok_so}
+use Rattle.zeb_change.proofs.CostLemmas.{cost_in, none_cost, ok_so}
 use Rattle.zeb_change.proofs.BaseLemmas.{one_ident}
 use Rattle.zeb_change.proofs.FoldLemmas.{named_record}
 use Rattle.zeb_change.proofs.Idle.{elder_alike, idle_after}
@@ -34,7 +33,7 @@ use Rattle.zeb_change.proofs.records.change_record.Goals as goal
 
 -- the numbers of kept records are no damage
 pub returns-in_err-elder-clause-taken : goal.returns-in_err-elder-clause-taken
-returns-in_err-elder-clause-taken g c clean mode version records_of base last under =
+returns-in_err-elder-clause-taken g c clean mode version format records_of base last under =
     let old = state g.S.Store c.args.tx.now.conn.now in
     let mid = state g.S.Store c.record_of_ident.new.tx.conn.now in
     let setting = c.args.setting.now in
@@ -42,12 +41,12 @@ returns-in_err-elder-clause-taken g c clean mode version records_of base last un
     let told : c.from_residual-in_err-elder.result ≡ Err (register_refusal failed) = search rules in
     let sound : failed ≢ fault.Damaged = λ damaged.
     c.in_err-elder.ensures.honest clean mode under.0 (ap Err damaged) (are_numbered c.args.progress.now.database.0 records_of old.now.trees base under.1.kept c.as_str.result.now) in
-    passed_on {A = Changed} (IsTaken g.L.Layout.format setting.profile.now c.args.progress.now.database.0 records_of old mid c.args.progress.now.last)
+    passed_on {A = Changed} (WillBeTaken format setting.profile.now c.args.progress.now.database.0 records_of (standing old c.args.pending.now) (standing mid c.args.pending.now) c.args.progress.now.last)
     (changed_record (conditions_of version setting) setting.kind c.args.incoming.file c.args.incoming.nth c.args.incoming.bytes.now base)
     c.from_residual-in_err-elder.result (register_refusal failed) told (fault_fails failed sound)
 
 pub returns-in-Update-default-clause-taken : goal.returns-in-Update-default-clause-taken
-returns-in-Update-default-clause-taken g c clean mode version records_of base last under =
+returns-in-Update-default-clause-taken g c clean mode version format records_of base last under =
     let old = state g.S.Store c.args.tx.now.conn.now in
     let mid = state g.S.Store c.record_of_ident.new.tx.conn.now in
     let new = state g.S.Store c.keep.new.tx.conn.now in
@@ -73,14 +72,14 @@ returns-in-Update-default-clause-taken g c clean mode version records_of base la
             c.in_ok-occurrences-in-Update-default.ensures.members;
       };
     } in
-    let met = c.keep.ensures.taken clean reads.mode version is records_of base last (same_way g.L.Layout.format profile id records_of old mid base reads.now_is under) there in
+    let met = c.keep.ensures.taken clean reads.mode version is format records_of base last (same_way format profile id records_of old mid c.args.pending.now base reads.now_is under) there in
     let said = ap (λ (k : Kind). changed_record (conditions_of version setting) k c.args.incoming.file c.args.incoming.nth bytes base) c.in-Update-default.is-0
     ∙ named_record (conditions_of version setting) Update c.args.incoming.file c.args.incoming.nth bytes base ident c.in_ok-record.ensures.whole.sound named in
-    turned_so g.L.Layout.format profile id records_of old mid new c.keep.new.progress.last (updated (conditions_of version setting) ident bytes base (kept_as ident base))
+    turned_so format profile id records_of old mid c.args.pending.now (standing new c.keep.new.pending) c.keep.new.progress.last (updated (conditions_of version setting) ident bytes base (kept_as ident base))
     (changed_record (conditions_of version setting) setting.kind c.args.incoming.file c.args.incoming.nth bytes base) c.keep.result reads.now_is said met
 
 pub returns-in-Delete-Some-clause-taken : goal.returns-in-Delete-Some-clause-taken
-returns-in-Delete-Some-clause-taken g c clean mode version records_of base last under =
+returns-in-Delete-Some-clause-taken g c clean mode version format records_of base last under =
     let old = state g.S.Store c.args.tx.now.conn.now in
     let mid = state g.S.Store c.record_of_ident.new.tx.conn.now in
     let new = state g.S.Store c.withdraw.new.tx.conn.now in
@@ -95,14 +94,14 @@ returns-in-Delete-Some-clause-taken g c clean mode version records_of base last 
     let found = elder_is id records_of old.now.trees base under.1.kept ident (one_ident profile base under.2) c.in_ok-elder.elder (c.in_ok-elder.ensures.value clean_mid mode under.0) in
     let there = subst (λ (e : Option Elder). IsElderAs ident base e) c.in-Delete-Some.is-1 found in
     let named = c.in_ok-record.ensures.named ∙ ap Ok (sym c.as_str.ensures.value) in
-    let met = c.withdraw.ensures.taken clean reads.mode ident absent records_of base last (same_way g.L.Layout.format profile id records_of old mid base reads.now_is under) there in
+    let met = c.withdraw.ensures.taken clean reads.mode ident absent format records_of base last (same_way format profile id records_of old mid c.args.pending.now base reads.now_is under) there in
     let said = ap (λ (k : Kind). changed_record (conditions_of version setting) k c.args.incoming.file c.args.incoming.nth bytes base) c.in-Delete-Some.is-0
     ∙ named_record (conditions_of version setting) Delete c.args.incoming.file c.args.incoming.nth bytes base ident c.in_ok-record.ensures.whole.sound named in
-    turned_so g.L.Layout.format profile id records_of old mid new c.withdraw.new.progress.last (deleted absent ident base (kept_as ident base))
+    turned_so format profile id records_of old mid c.args.pending.now (standing new c.withdraw.new.pending) c.args.progress.now.last (deleted absent ident base (kept_as ident base))
     (changed_record (conditions_of version setting) setting.kind c.args.incoming.file c.args.incoming.nth bytes base) c.withdraw.result reads.now_is said met
 
 pub returns-in-Adelete-Some-clause-taken : goal.returns-in-Adelete-Some-clause-taken
-returns-in-Adelete-Some-clause-taken g c clean mode version records_of base last under =
+returns-in-Adelete-Some-clause-taken g c clean mode version format records_of base last under =
     let old = state g.S.Store c.args.tx.now.conn.now in
     let mid = state g.S.Store c.record_of_ident.new.tx.conn.now in
     let new = state g.S.Store c.withdraw-in-Adelete-Some.new.tx.conn.now in
@@ -117,14 +116,14 @@ returns-in-Adelete-Some-clause-taken g c clean mode version records_of base last
     let found = elder_is id records_of old.now.trees base under.1.kept ident (one_ident profile base under.2) c.in_ok-elder.elder (c.in_ok-elder.ensures.value clean_mid mode under.0) in
     let there = subst (λ (e : Option Elder). IsElderAs ident base e) c.in-Adelete-Some.is-1 found in
     let named = c.in_ok-record.ensures.named ∙ ap Ok (sym c.as_str.ensures.value) in
-    let met = c.withdraw-in-Adelete-Some.ensures.taken clean reads.mode ident absent records_of base last (same_way g.L.Layout.format profile id records_of old mid base reads.now_is under) there in
+    let met = c.withdraw-in-Adelete-Some.ensures.taken clean reads.mode ident absent format records_of base last (same_way format profile id records_of old mid c.args.pending.now base reads.now_is under) there in
     let said = ap (λ (k : Kind). changed_record (conditions_of version setting) k c.args.incoming.file c.args.incoming.nth bytes base) c.in-Adelete-Some.is-0
     ∙ named_record (conditions_of version setting) Adelete c.args.incoming.file c.args.incoming.nth bytes base ident c.in_ok-record.ensures.whole.sound named in
-    turned_so g.L.Layout.format profile id records_of old mid new c.withdraw-in-Adelete-Some.new.progress.last (deleted absent ident base (kept_as ident base))
+    turned_so format profile id records_of old mid c.args.pending.now (standing new c.withdraw-in-Adelete-Some.new.pending) c.args.progress.now.last (deleted absent ident base (kept_as ident base))
     (changed_record (conditions_of version setting) setting.kind c.args.incoming.file c.args.incoming.nth bytes base) c.withdraw-in-Adelete-Some.result reads.now_is said met
 
 pub returns-in-Delete-None-clause-taken : goal.returns-in-Delete-None-clause-taken
-returns-in-Delete-None-clause-taken g c clean mode version records_of base last under =
+returns-in-Delete-None-clause-taken g c clean mode version format records_of base last under =
     let old = state g.S.Store c.args.tx.now.conn.now in
     let setting = c.args.setting.now in
     let profile = c.args.setting.now.profile.now in
@@ -139,7 +138,7 @@ returns-in-Delete-None-clause-taken g c clean mode version records_of base last 
     ∙ ap (deleted absent ident base) none)
 
 pub returns-clause-taken : goal.returns-clause-taken
-returns-clause-taken g c clean mode version records_of base last under =
+returns-clause-taken g c clean mode version format records_of base last under =
     let old = state g.S.Store c.args.tx.now.conn.now in
     let mid = state g.S.Store c.record_of_ident.new.tx.conn.now in
     let setting = c.args.setting.now in
@@ -155,11 +154,11 @@ returns-clause-taken g c clean mode version records_of base last under =
     let said = ap (λ (k : Kind). changed_record (conditions_of version setting) k c.args.incoming.file c.args.incoming.nth bytes base) c.in-Adelete-None.is-0
     ∙ named_record (conditions_of version setting) Adelete c.args.incoming.file c.args.incoming.nth bytes base ident c.in_ok-record.ensures.whole.sound named
     ∙ ap (deleted absent ident base) none in
-    subst (λ (x : Result Changed Why). Meets (IsTaken g.L.Layout.format profile id records_of old mid c.args.progress.now.last) x (Ok PassedOver)) (sym said)
-    (passed_over g.L.Layout.format profile id records_of old mid c.args.progress.now.last base PassedOver reads.now_is last under)
+    subst (λ (x : Result Changed Why). Meets (WillBeTaken format profile id records_of (standing old c.args.pending.now) (standing mid c.args.pending.now) c.args.progress.now.last) x (Ok PassedOver)) (sym said)
+    (passed_over format profile id records_of old mid c.args.pending.now c.args.progress.now.last base PassedOver reads.now_is last under)
 
 pub returns-in-Update-default-clause-idle : goal.returns-in-Update-default-clause-idle
-returns-in-Update-default-clause-idle g c clean mode update records_of base under kept contained alike =
+returns-in-Update-default-clause-idle g c clean mode update format records_of base under kept contained alike =
     let old = state g.S.Store c.args.tx.now.conn.now in
     let mid = state g.S.Store c.record_of_ident.new.tx.conn.now in
     let new = state g.S.Store c.keep.new.tx.conn.now in
@@ -186,10 +185,10 @@ returns-in-Update-default-clause-idle g c clean mode update records_of base unde
     } in
     let elder = elder_alike profile base under.2 ident bytes named kept contained alike c.in_ok-elder.elder there in
     let idle = c.keep.ensures.idle clean reads.mode (store_same old mid reads.now_is under.0) is elder.0 elder.1 elder.2 in
-    idle_after old mid new (c.keep.new.progress ≡ c.args.progress.now) c.keep.result reads.now_is idle
+    idle_after old mid new (c.keep.new.progress ≡ c.args.progress.now) (c.keep.new.pending ≡ c.args.pending.now) c.keep.result reads.now_is idle
 
-pub returns-in-Update-default-clause-work : goal.returns-in-Update-default-clause-work
-returns-in-Update-default-clause-work g c = λ clean mode records_of base under.
+pub returns-in-Update-default-clause-cost : goal.returns-in-Update-default-clause-cost
+returns-in-Update-default-clause-cost g c clean mode format records_of base under =
     let old = state g.S.Store c.args.tx.now.conn.now in
     let mid = state g.S.Store c.record_of_ident.new.tx.conn.now in
     let profile = c.args.setting.now.profile.now in
@@ -213,15 +212,12 @@ returns-in-Update-default-clause-work g c = λ clean mode records_of base under.
             c.in_ok-occurrences-in-Update-default.ensures.members;
       };
     } in
-    let held = subst (λ (db : Database). holds_in g.L.Layout.format db.trees under.1.content) (sym reads.now_is) under.1.held in
     let kind = ap (λ (k : Kind). newer_of k bytes) c.in-Update-default.is-0 in
-    ok_so c.keep.result _ _ (λ works.
-    let worked = works under.1.content held under.1.posted.rising in
-    (worked.0, cost_in profile c.args.setting.now.kind bytes ident base c.in_ok-elder.elder (Some bytes) worked.0 named there kind worked.1, worked.2))
-    (c.keep.ensures.work clean reads.mode (store_same old mid reads.now_is under.0) is)
+    ok_so c.keep.result _ _ (λ noted. (noted.0, cost_in profile c.args.setting.now.kind bytes ident base c.in_ok-elder.elder (Some bytes) noted.0 named there kind noted.1, noted.2))
+    (c.keep.ensures.cost is)
 
-pub returns-in-Delete-Some-clause-work : goal.returns-in-Delete-Some-clause-work
-returns-in-Delete-Some-clause-work g c = λ clean mode records_of base under.
+pub returns-in-Delete-Some-clause-cost : goal.returns-in-Delete-Some-clause-cost
+returns-in-Delete-Some-clause-cost g c clean mode format records_of base under =
     let old = state g.S.Store c.args.tx.now.conn.now in
     let mid = state g.S.Store c.record_of_ident.new.tx.conn.now in
     let profile = c.args.setting.now.profile.now in
@@ -233,15 +229,12 @@ returns-in-Delete-Some-clause-work g c = λ clean mode records_of base under.
     let found = elder_is id records_of old.now.trees base under.1.kept ident (one_ident profile base under.2) c.in_ok-elder.elder (c.in_ok-elder.ensures.value clean_mid mode under.0) in
     let there = subst (λ (e : Option Elder). IsElderAs ident base e) c.in-Delete-Some.is-1 found in
     let named = c.in_ok-record.ensures.named ∙ ap Ok (sym c.as_str.ensures.value) in
-    let held = subst (λ (db : Database). holds_in g.L.Layout.format db.trees under.1.content) (sym reads.now_is) under.1.held in
     let kind = ap (λ (k : Kind). newer_of k bytes) c.in-Delete-Some.is-0 in
-    ok_so c.withdraw.result _ _ (λ works.
-    let worked = works under.1.content held under.1.posted.rising in
-    (worked.0, cost_in profile c.args.setting.now.kind bytes ident base (Some c.in-Delete-Some.elder) None worked.0 named there kind worked.1, worked.2))
-    (c.withdraw.ensures.work clean reads.mode (store_same old mid reads.now_is under.0))
+    ok_so c.withdraw.result _ _ (λ noted. (noted.0, cost_in profile c.args.setting.now.kind bytes ident base (Some c.in-Delete-Some.elder) None noted.0 named there kind noted.1, noted.2))
+    c.withdraw.ensures.cost
 
-pub returns-in-Adelete-Some-clause-work : goal.returns-in-Adelete-Some-clause-work
-returns-in-Adelete-Some-clause-work g c = λ clean mode records_of base under.
+pub returns-in-Adelete-Some-clause-cost : goal.returns-in-Adelete-Some-clause-cost
+returns-in-Adelete-Some-clause-cost g c clean mode format records_of base under =
     let old = state g.S.Store c.args.tx.now.conn.now in
     let mid = state g.S.Store c.record_of_ident.new.tx.conn.now in
     let profile = c.args.setting.now.profile.now in
@@ -253,16 +246,13 @@ returns-in-Adelete-Some-clause-work g c = λ clean mode records_of base under.
     let found = elder_is id records_of old.now.trees base under.1.kept ident (one_ident profile base under.2) c.in_ok-elder.elder (c.in_ok-elder.ensures.value clean_mid mode under.0) in
     let there = subst (λ (e : Option Elder). IsElderAs ident base e) c.in-Adelete-Some.is-1 found in
     let named = c.in_ok-record.ensures.named ∙ ap Ok (sym c.as_str.ensures.value) in
-    let held = subst (λ (db : Database). holds_in g.L.Layout.format db.trees under.1.content) (sym reads.now_is) under.1.held in
     let kind = ap (λ (k : Kind). newer_of k bytes) c.in-Adelete-Some.is-0 in
-    ok_so c.withdraw-in-Adelete-Some.result _ _ (λ works.
-    let worked = works under.1.content held under.1.posted.rising in
-    (worked.0, cost_in profile c.args.setting.now.kind bytes ident base (Some c.in-Adelete-Some.elder) None worked.0 named there kind worked.1, worked.2))
-    (c.withdraw-in-Adelete-Some.ensures.work clean reads.mode (store_same old mid reads.now_is under.0))
+    ok_so c.withdraw-in-Adelete-Some.result _ _ (λ noted. (noted.0, cost_in profile c.args.setting.now.kind bytes ident base (Some c.in-Adelete-Some.elder) None noted.0 named there kind noted.1, noted.2))
+    c.withdraw-in-Adelete-Some.ensures.cost
 
 -- a record that is passed over changes no key
-pub returns-clause-work : goal.returns-clause-work
-returns-clause-work g c = λ clean mode records_of base under.
+pub returns-clause-cost : goal.returns-clause-cost
+returns-clause-cost g c clean mode format records_of base under =
     let old = state g.S.Store c.args.tx.now.conn.now in
     let profile = c.args.setting.now.profile.now in
     let bytes = c.args.incoming.bytes.now in
@@ -271,4 +261,4 @@ returns-clause-work g c = λ clean mode records_of base under.
     let none = subst (λ (e : Option Elder). IsElderAs ident base e) c.in-Adelete-None.is-1 found in
     let named = c.in_ok-record.ensures.named ∙ ap Ok (sym c.as_str.ensures.value) in
     let kind = ap (λ (k : Kind). newer_of k bytes) c.in-Adelete-None.is-0 in
-    (0, cost_in profile c.args.setting.now.kind bytes ident base None None 0 named none kind (none_cost profile), no_work g.L.Layout.row_work c.args.progress.now.work)
+    (0, cost_in profile c.args.setting.now.kind bytes ident base None None 0 named none kind (none_cost profile), omega arith)

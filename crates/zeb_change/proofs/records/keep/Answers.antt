@@ -1,15 +1,22 @@
 use Rattle.std.proofs.Common.{Option, Some, OnOk, sym, subst}
-use Rattle.sqlite.specs.Held.{state}
 use Rattle.zeb_register.specs.declared.kept.Elder.{Elder}
-use Rattle.zeb_change.specs.PrivateRecords.{WorksAs, elder_bytes}
+use Rattle.zeb_change.specs.PrivateRecords.{IsElderAs, NotesAs, elder_bytes}
 use Rattle.zeb_change.proofs.records.keep.Goals as goal
 
-pub returns-in-Some-clause-work : goal.returns-in-Some-clause-work
-returns-in-Some-clause-work g c clean mode store is =
-    subst (λ (found : Option Elder). OnOk c.replace.result (WorksAs g.L.Layout.format g.L.Layout.row_work c.args.setting.now.profile.now (elder_bytes found) (Some c.args.newer.now.bytes.now)
-    (state g.S.Store c.args.tx.now.conn.now) c.args.progress.now.work c.replace.new.progress.work)) (sym c.in-Some.is) (c.replace.ensures.work clean mode store is)
+pub returns-in-Some-clause-taken : goal.returns-in-Some-clause-taken
+returns-in-Some-clause-taken g c clean mode version is format records_of base last under there =
+    c.replace.ensures.taken clean mode version is format records_of base last under (subst (λ (found : Option Elder). IsElderAs c.args.newer.now.ident.now base found) c.in-Some.is there)
 
-pub returns-in-None-clause-work : goal.returns-in-None-clause-work
-returns-in-None-clause-work g c clean mode store is =
-    subst (λ (found : Option Elder). OnOk c.insert.result (WorksAs g.L.Layout.format g.L.Layout.row_work c.args.setting.now.profile.now (elder_bytes found) (Some c.args.newer.now.bytes.now)
-    (state g.S.Store c.args.tx.now.conn.now) c.args.progress.now.work c.insert.new.progress.work)) (sym c.in-None.is) (c.insert.ensures.work clean mode store is)
+pub returns-in-None-clause-taken : goal.returns-in-None-clause-taken
+returns-in-None-clause-taken g c clean mode version is format records_of base last under there =
+    c.insert.ensures.taken clean mode version is format records_of base last under (subst (λ (found : Option Elder). IsElderAs c.args.newer.now.ident.now base found) c.in-None.is there)
+
+pub returns-in-Some-clause-cost : goal.returns-in-Some-clause-cost
+returns-in-Some-clause-cost g c is =
+    subst (λ (found : Option Elder). OnOk c.replace.result (NotesAs c.args.setting.now.profile.now (elder_bytes found) (Some c.args.newer.now.bytes.now)
+    c.args.pending.now c.replace.new.pending)) (sym c.in-Some.is) (c.replace.ensures.cost is)
+
+pub returns-in-None-clause-cost : goal.returns-in-None-clause-cost
+returns-in-None-clause-cost g c is =
+    subst (λ (found : Option Elder). OnOk c.insert.result (NotesAs c.args.setting.now.profile.now (elder_bytes found) (Some c.args.newer.now.bytes.now)
+    c.args.pending.now c.insert.new.pending)) (sym c.in-None.is) (c.insert.ensures.cost is)

@@ -1,0 +1,63 @@
+use Rattle.std.proofs.Common.{rules, arith, ◌≡◌, true, false, inl, inr, sym, nat_le, [], Err, subst}
+use Rattle.std.proofs.lemmas.Bool.Decides.{nat_tests}
+use Rattle.sqlite.specs.Held.{state}
+use Rattle.zeb_change.specs.Folding.{Progress, changed_record, folded}
+use Rattle.zeb_change.specs.declared.files.Fold.{Fold}
+use Rattle.zeb_change.specs.declared.tally.Fate.{Fate}
+use Rattle.zeb_change.specs.PrivateStanding.{WillBeFolded, WillBeTaken, standing}
+use Rattle.zeb_change.specs.UnderWay.{conditions_of}
+use Rattle.zeb_change.specs.Refused.{Meets}
+use Rattle.zeb_change.proofs.FoldSteps.{too_many, folded_err, one_folded}
+use Rattle.zeb_change.proofs.NoDamage.{record_tells, refused_honest, taken_holds}
+use Rattle.zeb_change.proofs.files.note_record.Goals as goal
+
+pub returns-then-fold-setting-clause-folded : goal.returns-then-fold-setting-clause-folded
+returns-then-fold-setting-clause-folded g c = λ clean mode version format records_of p stands under_way.
+    let full : nat_le c.args.setting.now.limits.records p.taken ≡ true = grind (arith, nat_tests, c.if-fold-setting.true, stands.taken) in
+    inr (too_many (conditions_of version c.args.setting.now) c.args.setting.now.kind c.args.incoming.file c.args.incoming.nth c.args.incoming.bytes.now p full)
+
+pub returns-in_err-fate-clause-folded : goal.returns-in_err-fate-clause-folded
+returns-in_err-fate-clause-folded g c = λ clean mode version format records_of p stands under_way.
+    let room : nat_le c.args.setting.now.limits.records p.taken ≡ false = grind (arith, nat_tests, c.if-fold-setting.false, stands.taken) in
+    let told : c.from_residual.result ≡ Err c.in_err-fate.field-0.0 = search rules in
+    let new : Fold = record { progress = c.change_record.new.progress; tally = c.args.fold.now.tally } in
+    let said = folded (conditions_of version c.args.setting.now) c.args.setting.now.kind c.args.incoming.file c.args.incoming.nth c.args.incoming.bytes.now p in
+    subst (λ r. Meets {A = Progress} {X = Unit {0}} (λ after _. WillBeFolded format c.args.setting.now.profile.now c.args.fold.now.progress.database.0 records_of (standing (state g.S.Store c.args.tx.now.conn.now) c.args.pending.now) (standing (state g.S.Store c.change_record.new.tx.conn.now) c.change_record.new.pending) new after) said r)
+    (sym told)
+    (elim (c.in_err-fate.ensures.taken clean mode version format records_of p.base stands.last under_way) [
+      | inl failed ↦ inl failed
+      | inr why ↦ inr (folded_err (conditions_of version c.args.setting.now) c.args.setting.now.kind c.args.incoming.file c.args.incoming.nth c.args.incoming.bytes.now p room _ why)
+    ])
+
+pub returns-clause-folded : goal.returns-clause-folded
+returns-clause-folded g c = λ clean mode version format records_of p stands under_way.
+    let room : nat_le c.args.setting.now.limits.records p.taken ≡ false = grind (arith, nat_tests, c.if-fold-setting.false, stands.taken) in
+    let after : Fold = record { progress = c.change_record.new.progress; tally = c.count.new.self } in
+    one_folded format (conditions_of version c.args.setting.now) c.args.fold.now.progress.database.0 records_of (standing (state g.S.Store c.args.tx.now.conn.now) c.args.pending.now) (standing (state g.S.Store c.change_record.new.tx.conn.now) c.change_record.new.pending)
+    c.args.setting.now.kind c.args.incoming.file c.args.incoming.nth c.args.incoming.bytes.now p c.args.fold.now after c.in_ok-fate.fate
+    room stands c.count.ensures (c.in_ok-fate.ensures.taken clean mode version format records_of p.base stands.last under_way) tt
+
+pub returns-in_err-fate-clause-honest : goal.returns-in_err-fate-clause-honest
+returns-in_err-fate-clause-honest g c clean mode format records_of some =
+    let told : c.from_residual.result ≡ Err c.in_err-fate.field-0.0 = search rules in
+    let incoming = c.args.incoming in
+    let conditions = conditions_of [] c.args.setting.now in
+    let old = standing (state g.S.Store c.args.tx.now.conn.now) c.args.pending.now in
+    let new = standing (state g.S.Store c.change_record.new.tx.conn.now) c.change_record.new.pending in
+    let taken = WillBeTaken format c.args.setting.now.profile.now c.args.fold.now.progress.database.0 records_of old new c.change_record.new.progress.last in
+    let said = changed_record conditions c.args.setting.now.kind incoming.file incoming.nth incoming.bytes.now some.0 in
+    let sound = refused_honest {X = Fate} taken said c.in_err-fate.field-0.0 (record_tells conditions incoming.file incoming.nth incoming.bytes.now some.0 c.args.setting.now.kind)
+    (c.in_err-fate.ensures.taken clean mode [] format records_of some.0 some.1 some.2) in
+    rw told (λ is. sound cc, tt)
+
+pub returns-clause-honest : goal.returns-clause-honest
+returns-clause-honest g c clean mode format records_of some =
+    let incoming = c.args.incoming in
+    let conditions = conditions_of [] c.args.setting.now in
+    let old = standing (state g.S.Store c.args.tx.now.conn.now) c.args.pending.now in
+    let new = standing (state g.S.Store c.change_record.new.tx.conn.now) c.change_record.new.pending in
+    let said = changed_record conditions c.args.setting.now.kind incoming.file incoming.nth incoming.bytes.now some.0 in (
+      λ is. cc,
+      taken_holds format c.args.setting.now.profile.now c.args.fold.now.progress.database.0 records_of old new c.change_record.new.progress.last said c.in_ok-fate.fate
+          (c.in_ok-fate.ensures.taken clean mode [] format records_of some.0 some.1 some.2),
+    )
