@@ -6,8 +6,8 @@ use Rattle.zeb_profile.specs.declared.directives.Directive.{Directive}
 use Rattle.zeb_register.specs.Calls.{ChangesNothing}
 use Rattle.zeb_engine.specs.declared.commands.Command.TheVariants.{Analyse, Find, Scan}
 use Rattle.zeb_change.specs.declared.settings.Limits.{Limits}
-use Rattle.zeb_engine.specs.declared.names.DbName.{DbName}
-use Rattle.zeb_engine.specs.NameOf.{name_bytes}
+use Rattle.zeb_image.specs.declared.names.DbName.{DbName}
+use Rattle.zeb_image.specs.NameOf.{name_bytes}
 use Rattle.zeb_engine.specs.declared.replies.Reply.{Reply}
 use Rattle.zeb_change.specs.declared.refusals.Refusal.{Refusal}
 use Rattle.zeb_change.specs.declared.refusals.Refusal.TheVariants as refusal
@@ -16,9 +16,9 @@ use Rattle.zeb_engine.specs.Answers.{Answer, answer_of, refused, IsFailure}
 use Rattle.zeb_change.specs.Refused.{Why, why_of, Meets}
 use Rattle.zeb_change.specs.Conditions.{Conditions}
 use Rattle.zeb_engine.specs.Alone.{Alone, AnswersAlone, FindSays, ScanSays}
-use Rattle.zeb_engine.specs.Holdings.{Holdings}
+use Rattle.zeb_image.specs.Holdings.{Holdings}
 use Rattle.zeb_change.specs.Base.{Base}
-use Rattle.zeb_engine.specs.Image.{Keeps}
+use Rattle.zeb_image.specs.Image.{Keeps}
 use Rattle.zeb_engine.specs.Steps.{Turn, Outcome, Ends, OnlyAnswers, FoundFrom, ScannedFrom, ready, turned, waited, waits}
 use Rattle.zeb_engine.specs.Works.{Always, Asks, Finds, ScansFrom, Serves, ServesBy, ServesCommand}
 use Rattle.zeb_engine.proofs.Serving.{early_serves}

@@ -31,9 +31,9 @@ use Rattle.zeb_engine.specs.declared.replies.Reply.{Reply}
 use Rattle.zeb_change.specs.Refused.{Why, why_of}
 use Rattle.zeb_engine.specs.Answers.{answer_of, refused, IsFailure}
 use Rattle.zeb_change.specs.Conditions.{Conditions}
-use Rattle.zeb_engine.specs.Holdings.{Holdings, base_named}
+use Rattle.zeb_image.specs.Holdings.{Holdings, base_named}
 use Rattle.zeb_change.specs.Base.{Base, Kept}
-use Rattle.zeb_engine.specs.Image.{Keeps}
+use Rattle.zeb_image.specs.Image.{Keeps}
 use Rattle.zeb_engine.specs.PrivateDumping.{KeepsBase}
 use Rattle.zeb_engine.specs.Steps.{dumped_by, dumped_from, dumped_in, existing, found_or, no_database, ready}
 use Rattle.zeb_engine.specs.Works.{Always, Serves}

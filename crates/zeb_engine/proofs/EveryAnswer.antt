@@ -35,8 +35,8 @@ use Rattle.zeb_engine.specs.Counting.{IsCounted, IsExtent, Paired, Target, name_
 use Rattle.zeb_engine.specs.Finding.{AreShown, IsAnswered, IsFound, IsNamed, IsPlanned, IsShown, has_name}
 use Rattle.zeb_change.specs.Occurs.{OccursIn, occurs}
 use Rattle.zeb_change.specs.Base.{Base, Kept}
-use Rattle.zeb_engine.specs.Holdings.{Holdings, base_named}
-use Rattle.zeb_engine.specs.NameOf.{name_bytes}
+use Rattle.zeb_image.specs.Holdings.{Holdings, base_named}
+use Rattle.zeb_image.specs.NameOf.{name_bytes}
 use Rattle.zeb_engine.specs.Scanning.{IsScanned, IsScanPlanned, around}
 use Rattle.zeb_engine.specs.Steps.{AskedAmong, AskedFrom, AskedIn, CountedFrom, FindAnswers, ScanAnswers, StatAnswers, Step, changed_by_files, created, dropped, dumped_by, initialised, no_database, ready, turned, waited}
 use Rattle.zeb_change.specs.Folding.{splits_of}

@@ -1,9 +1,7 @@
-pub mod Bases
 pub mod Ready
 pub mod ReadyTexts
 pub mod ListedDatabases
 pub mod ReadyImages
-pub mod Ids
 pub mod Creating
 pub mod Dropping
 pub mod Turns
@@ -38,7 +36,6 @@ pub mod WorkedQuery
 pub mod WorkedRun
 pub mod FaultAnswers
 pub mod OwnAnswers
-pub mod OneText
 pub mod OneHolding
 pub mod FoldCounts
 pub mod FoldRecords

@@ -24,8 +24,8 @@ use Rattle.zeb_search.specs.Lists.{AreNumbers}
 use Rattle.zeb_engine.specs.Finding.{IsAnswered, IsFound, IsNamed, IsPlanned, IsShown, asked_of, has_name}
 use Rattle.zeb_change.specs.Occurs.{occurs}
 use Rattle.zeb_change.specs.Base.{Base, Kept}
-use Rattle.zeb_engine.specs.Holdings.{Holdings, base_named}
-use Rattle.zeb_engine.specs.NameOf.{name_bytes}
+use Rattle.zeb_image.specs.Holdings.{Holdings, base_named}
+use Rattle.zeb_image.specs.NameOf.{name_bytes}
 use Rattle.zeb_engine.specs.Scanning.{IsScanned, IsScanPlanned, around}
 use Rattle.zeb_engine.specs.Steps.{AskedAmong, AskedFrom, AskedIn, FindAnswers, Outcome, ScanAnswers, ready, Step}
 use Rattle.zeb_engine.proofs.StepLemmas.{Answers, IsTold, step_told}

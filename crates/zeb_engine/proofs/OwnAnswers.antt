@@ -24,7 +24,7 @@ use Rattle.zeb_engine.specs.declared.commands.Command.TheVariants.{Init, Check, 
 use Rattle.zeb_change.specs.declared.settings.Kind.{Kind}
 use Rattle.zeb_change.specs.declared.settings.Kind.TheVariants.{Update, Delete, Adelete}
 use Rattle.zeb_change.specs.declared.tally.Fate.TheVariants.{Inserted, PassedOver}
-use Rattle.zeb_engine.specs.NameOf.{name_bytes}
+use Rattle.zeb_image.specs.NameOf.{name_bytes}
 use Rattle.zeb_engine.specs.Answers.{Answer, refused}
 use Rattle.zeb_change.specs.Refused.{Why, old_format, profile_changed, diagnostic, unknown, database_full, too_many_records, damaged, read_fault, store_failed, out_of_memory, why_of}
 use Rattle.zeb_change.specs.Conditions.{Conditions}
@@ -33,7 +33,7 @@ use Rattle.zeb_change.specs.Occurs.{occurs}
 use Rattle.zeb_engine.specs.Scanning.{IsScanPlanned}
 use Rattle.zeb_change.specs.Folding.{Changed, Progress, at_end, at_first, changed_by, changed_record, counted, deleted, file_folded, files_folded, folded, ident_in, slices_folded, updated, with_ident, with_record, ◌then◌, splits_of}
 use Rattle.zeb_change.specs.Base.{Base, Kept, kept_as, with_new}
-use Rattle.zeb_engine.specs.Holdings.{Holdings, nothing_yet, under, base_named}
+use Rattle.zeb_image.specs.Holdings.{Holdings, nothing_yet, under, base_named}
 use Rattle.zeb_engine.specs.Analysed.{IsAnalysed, analysis_answer}
 use Rattle.zeb_change.specs.Outcomes.{analysis_refusal, marc_refusal}
 use Rattle.zeb_engine.specs.Steps.{AskedAmong, AskedFrom, AskedIn, CountedFrom, CountedIn, FindAnswers, ScanAnswers, Turn, change_ends, change_from, changed_by_files, created, created_in, dropped, dropped_in, dumped_from, dumped_in, ends, initialised, ready, start_of, turned, turned_from, waits}

@@ -10,8 +10,8 @@ use Rattle.zeb_change.specs.Conditions.{Conditions}
 use Rattle.zeb_engine.specs.Crashes.{Accepts, IsRefused}
 use Rattle.zeb_change.specs.Folding.{Progress, at_first, files_folded, splits_of}
 use Rattle.zeb_change.specs.Base.{Base}
-use Rattle.zeb_engine.specs.Holdings.{Holdings, base_named}
-use Rattle.zeb_engine.specs.NameOf.{name_bytes}
+use Rattle.zeb_image.specs.Holdings.{Holdings, base_named}
+use Rattle.zeb_image.specs.NameOf.{name_bytes}
 use Rattle.zeb_engine.specs.Steps.{Turn, change_ends, change_from, changed_by_files, created, created_in, dropped, dropped_in, ends, initialised, ready, start_of, turned, turned_from}
 use Rattle.zeb_engine.proofs.StepLemmas.{Answers, after}
 

@@ -11,8 +11,8 @@ use Rattle.zeb_engine.specs.declared.replies.Reply.{Reply}
 use Rattle.zeb_change.specs.declared.refusals.Refusal.{Refusal}
 use Rattle.zeb_engine.specs.Answers.{refused, IsFailure}
 use Rattle.zeb_change.specs.Refused.{why_of}
-use Rattle.zeb_engine.specs.Holdings.{Holdings}
-use Rattle.zeb_engine.specs.Image.{IsImage, Keeps}
+use Rattle.zeb_image.specs.Holdings.{Holdings}
+use Rattle.zeb_image.specs.Image.{IsImage, Keeps}
 use Rattle.zeb_engine.specs.Steps.{Outcome, holding}
 use Rattle.zeb_engine.specs.Works.{Works, Serves}
 use Rattle.zeb_engine.specs.declared.writes.Write.{Write}

@@ -2,11 +2,11 @@
 use Rattle.std.proofs.Common.{◌≡◌, ◌↔◌, ◌∙◌, map, Option, Some, None, string_bytes, ap, sym}
 use Rattle.zeb_engine.specs.declared.commands.Command.{Command}
 use Rattle.zeb_engine.specs.declared.commands.Command.TheVariants.{Init, Check, Create, Drop, Stat, Dump, Change, Find, Scan, Analyse}
-use Rattle.zeb_engine.specs.NameOf.{name_bytes}
+use Rattle.zeb_image.specs.NameOf.{name_bytes}
 use Rattle.zeb_engine.specs.Analysed.{IsAnalysed}
 use Rattle.zeb_engine.specs.Answers.{Answer}
 use Rattle.zeb_change.specs.Conditions.{Conditions}
-use Rattle.zeb_engine.specs.Holdings.{Holdings}
+use Rattle.zeb_image.specs.Holdings.{Holdings}
 use Rattle.zeb_engine.specs.Steps.{Outcome, Ends, Step, CountedFrom, FoundFrom, ScannedFrom, changed_by_files, created, dropped, dumped_by, initialised, ready, turned, waited}
 use Rattle.zeb_change.specs.Folding.{splits_of}
 

@@ -10,7 +10,7 @@ use Rattle.zeb_change.specs.declared.refusals.Refusal.{Refusal}
 use Rattle.zeb_engine.specs.Adopting.{StaysOpen}
 use Rattle.zeb_engine.specs.Answers.{Answer}
 use Rattle.zeb_change.specs.Conditions.{Conditions}
-use Rattle.zeb_engine.specs.Holdings.{Holdings}
+use Rattle.zeb_image.specs.Holdings.{Holdings}
 use Rattle.zeb_engine.specs.Steps.{Step}
 use Rattle.zeb_engine.specs.Transactions.{AsksStore, Commanded, CommandedBy, EnduresRefusal, LeavesNoMore}
 

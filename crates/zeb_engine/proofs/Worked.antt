@@ -39,7 +39,7 @@ use Rattle.zeb_search.proofs.PlainWords.{plain_word}
 use Rattle.zeb_engine.specs.Finding.{AreShown, IsFound, IsNamed, has_name}
 use Rattle.zeb_change.specs.Occurs.{OccursIn, occurs}
 use Rattle.zeb_change.specs.Folding.{Progress, at_first, counted, folded, ident_in, splits_of}
-use Rattle.zeb_engine.specs.Holdings.{Holdings, new_base, with_base}
+use Rattle.zeb_image.specs.Holdings.{Holdings, new_base, with_base}
 use Rattle.zeb_change.specs.Base.{Base, Kept, with_new, with_bytes}
 use Rattle.zeb_engine.specs.Steps.{initialised, turned, changed_by_files}
 use Rattle.zeb_engine.proofs.StepLemmas.{outcome}

@@ -18,11 +18,11 @@ use Rattle.zeb_extract.specs.Sample.{title_profile}
 use Rattle.zeb_engine.specs.declared.commands.Command.{Command}
 use Rattle.zeb_engine.specs.declared.commands.Command.TheVariants.{Init, Check, Create, Drop, Stat, Dump, Change, Find, Scan, Analyse}
 use Rattle.zeb_change.specs.declared.settings.Limits.{Limits}
-use Rattle.zeb_engine.specs.NameOf.{name_bytes}
+use Rattle.zeb_image.specs.NameOf.{name_bytes}
 use Rattle.zeb_engine.specs.Answers.{Answer}
 use Rattle.zeb_change.specs.Conditions.{Conditions}
 use Rattle.zeb_engine.specs.Finding.{IsPlanned}
-use Rattle.zeb_engine.specs.Holdings.{Holdings}
+use Rattle.zeb_image.specs.Holdings.{Holdings}
 use Rattle.zeb_engine.specs.Steps.{AskedAmong, FindAnswers, FoundFrom, ready, Step}
 use Rattle.zeb_engine.specs.Worked.{book_base, book_conditions, one_book, title_plan, IsFindBy}
 use Rattle.zeb_engine.proofs.OneAnswer.{answered_once, name_once}

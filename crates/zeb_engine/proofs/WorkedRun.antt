@@ -7,7 +7,7 @@ use Rattle.zeb_change.specs.declared.settings.Kind.TheVariants.{Update, Delete, 
 use Rattle.zeb_change.specs.declared.settings.Limits.{Limits}
 use Rattle.zeb_engine.specs.Answers.{Answer, done, changed}
 use Rattle.zeb_change.specs.Conditions.{Conditions}
-use Rattle.zeb_engine.specs.Holdings.{Holdings, nothing_yet}
+use Rattle.zeb_image.specs.Holdings.{Holdings, nothing_yet}
 use Rattle.zeb_engine.specs.Steps.{Outcome, Run, Step}
 use Rattle.zeb_engine.proofs.StepLemmas.{outcome, step_is}
 use Rattle.zeb_engine.specs.Worked.{book_conditions, no_books, one_book, IsFindBy, IsUpdateBy}

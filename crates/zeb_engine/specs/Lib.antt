@@ -1,9 +1,6 @@
-pub mod Names
-pub mod NameOf
 pub mod Replies
 pub mod Refusals
 pub mod Transactions
-pub mod Holdings
 pub mod Answers
 pub mod Counts
 pub mod Finding
@@ -12,7 +9,6 @@ pub mod Counting
 pub mod Analysed
 pub mod Steps
 pub mod Alone
-pub mod Image
 pub mod Works
 pub mod Costs
 pub mod Readiness

@@ -16,10 +16,10 @@ use Rattle.zeb_engine.specs.declared.replies.Reply.{Reply}
 use Rattle.zeb_engine.specs.Answers.{IsFailure, refused}
 use Rattle.zeb_change.specs.Refused.{why_of}
 use Rattle.zeb_change.specs.Conditions.{Conditions}
-use Rattle.zeb_engine.specs.Holdings.{Holdings, base_named}
+use Rattle.zeb_image.specs.Holdings.{Holdings, base_named}
 use Rattle.zeb_change.specs.Base.{Base}
-use Rattle.zeb_engine.specs.Image.{HasTexts, IsImage}
-use Rattle.zeb_engine.specs.NameOf.{name_bytes}
+use Rattle.zeb_image.specs.Image.{HasTexts, IsImage}
+use Rattle.zeb_image.specs.NameOf.{name_bytes}
 use Rattle.zeb_engine.specs.Steps.{Outcome, holding, ready, initialised, turned, created, dropped}
 
 -- these conditions are those of a layout's version and of a profile, whose identifier rule has this pattern

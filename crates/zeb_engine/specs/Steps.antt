@@ -11,10 +11,10 @@ use Rattle.zeb_engine.specs.declared.commands.Command.{Command}
 use Rattle.zeb_engine.specs.declared.commands.Command.TheVariants.{Init, Check, Create, Drop, Stat, Dump, Change, Find, Scan, Analyse}
 use Rattle.zeb_change.specs.declared.settings.Kind.{Kind}
 use Rattle.zeb_change.specs.declared.settings.Kind.TheVariants.{Update, Delete, Adelete}
-use Rattle.zeb_engine.specs.NameOf.{name_bytes}
+use Rattle.zeb_image.specs.NameOf.{name_bytes}
 use Rattle.zeb_engine.specs.Answers.{Answer, done, changed, dumped, refused, IsFailure}
 use Rattle.zeb_change.specs.Refused.{Why, not_initialised, old_format, profile_changed, diagnostic, exists, unsupported}
-use Rattle.zeb_engine.specs.Holdings.{Holdings, nothing_yet, under, new_base, base_named, with_base, without_base}
+use Rattle.zeb_image.specs.Holdings.{Holdings, nothing_yet, under, new_base, base_named, with_base, without_base}
 use Rattle.zeb_change.specs.Base.{Base}
 use Rattle.zeb_change.specs.Conditions.{Conditions}
 use Rattle.zeb_change.specs.Folding.{Progress, at_first, files_folded, splits_of}

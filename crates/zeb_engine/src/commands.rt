@@ -1,6 +1,6 @@
 //! What the engine is told.
 
-use crate::names::DbName;
+use zeb_image::DbName;
 use zeb_change::Kind;
 
 /// One command. Records are files of ISO 2709 slices, given as their bytes.

@@ -10,7 +10,6 @@ mod dump;
 mod find;
 mod holding_laws;
 mod laws;
-mod names;
 mod readiness;
 mod refusals;
 mod replies;
@@ -28,7 +27,7 @@ pub use definition_laws::{
 };
 pub use holding_laws::{a_database_is_in_its_place, the_last_record_stays};
 pub use laws::worked_examples;
-pub use names::DbName;
+pub use zeb_image::DbName;
 pub use refusals::{refusal_line, status};
 pub use replies::{Hit, Holding, Reply, render};
 pub use session::Session;

@@ -11,7 +11,7 @@ ghost use Rattle.zeb_engine.specs.Analysed.{AnswersAnalysis};
 ghost use Rattle.zeb_engine.specs.Answers.{IsFailure, answer_of, refused};
 ghost use Rattle.zeb_change.specs.Refused.{why_of};
 ghost use Rattle.zeb_change.specs.Conditions.{conditions};
-ghost use Rattle.zeb_engine.specs.NameOf.{name_bytes};
+ghost use Rattle.zeb_image.specs.NameOf.{name_bytes};
 ghost use Rattle.zeb_engine.specs.Readiness.{GoesByTexts, LooksFirst};
 ghost use Rattle.zeb_change.specs.Reading.{HasFailedAt, NamesFailed, NoneFailed, NoReadFault};
 ghost use Rattle.zeb_engine.specs.Steps.{Step, TakesFiles, created, dropped, holding, OnlyAsks, turned};
@@ -25,7 +25,7 @@ use crate::changes::change_database;
 use crate::commands::Command;
 use crate::dump::dump;
 use crate::find::Question;
-use crate::names::DbName;
+use zeb_image::DbName;
 use crate::readiness::check_ready;
 use crate::replies::Reply;
 use crate::scan::Around;
@@ -71,8 +71,8 @@ impl<S: Alter, L: Layout> Session<S, L> {
     ghost use Rattle.zeb_engine.specs.Crashes.{Bears, Commits, CommitsBy, CommitsCommand, CommitsAdopted, CommitsOne, Endures, EnduresRun, KeepsDisk, Stands};
     ghost use Rattle.zeb_engine.specs.Headline.{Headline};
     ghost use Rattle.zeb_engine.specs.Adopting.{StaysOpen};
-    ghost use Rattle.zeb_engine.specs.Holdings.{Holdings};
-    ghost use Rattle.zeb_engine.specs.Image.{IsImage, Keeps};
+    ghost use Rattle.zeb_image.specs.Holdings.{Holdings};
+    ghost use Rattle.zeb_image.specs.Image.{IsImage, Keeps};
     ghost use Rattle.zeb_register.specs.Sql.{KeepsTables};
     ghost use Rattle.zeb_register.specs.Tables.{store_schema};
 

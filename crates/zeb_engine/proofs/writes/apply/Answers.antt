@@ -2,7 +2,7 @@ use Rattle.std.proofs.Common.{[], IsTrue}
 use Rattle.sqlite.specs.Held.{state}
 use Rattle.zeb_register.specs.Store.{IsStore}
 use Rattle.zeb_change.specs.Conditions.{Conditions}
-use Rattle.zeb_engine.specs.Image.{IsImage}
+use Rattle.zeb_image.specs.Image.{IsImage}
 use Rattle.zeb_engine.specs.Steps.{holding}
 use Rattle.zeb_engine.specs.PrivateWriting.{AreOf}
 use Rattle.zeb_engine.proofs.WriteSteps.{init_works, begun_so, nothing_so}
