@@ -4,6 +4,7 @@
 mod checking;
 mod names;
 mod rebuilding;
+mod rebuilding_records;
 
 pub use checking::is_image;
 pub use names::DbName;

@@ -1,0 +1,130 @@
+-- Registers made anew: the postings of one record more, of one database more, and of all.
+use Rattle.std.proofs.Common.{◌≡◌, ◌≢◌, ◌⊎◌, ◌↔◌, ◌∙◌, ℕ, ℤ, pos, ◌+◌, ◌<◌, ◌≤◌, List, [], ◌∷◌, ◌++◌, Some, None, inl, inr, refl, sym, ap, subst, subst₂, arith, nat_cmp}
+use Rattle.std.specs.List.{Contains}
+use Rattle.std.specs.Cmp.{nat_cmp_total}
+use Rattle.sqlite.specs.declared.types.Value.TheVariants.{Int}
+use Rattle.sqlite.specs.Tree.{Trees}
+use Rattle.sqlite_rules.specs.Lists.{Has}
+use Rattle.sqlite_rules.proofs.ListLemmas.{has_left, has_right, has_either}
+use Rattle.zeb_profile.specs.declared.directives.Directive.{Directive}
+use Rattle.zeb_extract.specs.declared.keys.Occurrence.{Occurrence}
+use Rattle.zeb_register.specs.declared.kept.Record.{Record}
+use Rattle.zeb_register.specs.Content.{Content, posted}
+use Rattle.zeb_register.specs.Kept.{IsFirstFrom}
+use Rattle.zeb_register.specs.Store.{HasDatabase, HasRecord, KeepsLists, record_row}
+use Rattle.zeb_register.proofs.ContentChanges.{numbers_apart}
+use Rattle.zeb_register.proofs.RisingLists.{told_by}
+use Rattle.zeb_change.specs.Occurs.{OccursIn}
+use Rattle.zeb_image.specs.PrivateRebuilding.{IsPosted, IsPostedBelow, IsRecordPosted, LacksDatabase, LacksRecord, RowOccurs, as_kept}
+use Rattle.zeb_image.proofs.Ids.{ids_told}
+
+-- ---- lists that are as they were
+
+pub record_still : (old new : Trees) → KeepsLists old new → (id sysno : ℤ) (ident bytes : List ℕ) → HasRecord old id sysno ident bytes ↔ HasRecord new id sysno ident bytes
+record_still old new keeps id sysno ident bytes = (
+  λ there. (there.0, subst (λ rows. Has rows (Int there.0 ∷ record_row id sysno ident bytes)) (sym keeps.2) there.1),
+  λ there. (there.0, subst (λ rows. Has rows (Int there.0 ∷ record_row id sysno ident bytes)) keeps.2 there.1),
+)
+
+pub database_still : (old new : Trees) → KeepsLists old new → (id : ℤ) (name : List ℕ) (last : ℤ) → HasDatabase old id name last ↔ HasDatabase new id name last
+database_still old new keeps id name last = (
+  λ there. subst (λ rows. Has rows _) (sym keeps.1) there,
+  λ there. subst (λ rows. Has rows _) keeps.1 there,
+)
+
+told_number : (a b : ℕ) → (a ≡ b) ⊎ (a ≢ b)
+told_number a b = told_by nat_cmp_total numbers_apart a b
+
+module _ (profile : List Directive) (lists : Trees) where
+  -- ---- the records of one database
+
+  module _ (id : ℤ) where
+    pub none_posted : (content : Content) → LacksDatabase id content → IsPostedBelow profile lists id 0 content content
+    none_posted content lacks = record {
+      part = λ n o. (λ h. absurd (lacks n o h), λ h. absurd (omega (arith, h.0)));
+      others = λ d n o differs. (λ h. h, λ h. h);
+    }
+
+    module _ (next : ℕ) (before mid : Content) (below : IsPostedBelow profile lists id next before mid) where
+      pub all_posted : IsFirstFrom lists id next None → IsPosted profile lists id before mid
+      all_posted none = record {
+        part = λ n o. (λ h. ((below.part n o).0 h).1, λ h. (below.part n o).1 (none n (h.0, h.1, h.2), h));
+        others = below.others;
+      }
+
+      module _ (found : Record) (first : IsFirstFrom lists id next (Some found)) where
+        pub first_lacks : LacksRecord id found.sysno mid
+        first_lacks o there = let it = (below.part found.sysno o).0 there in omega (arith, it.0, first.1)
+
+        module _ (one : (i j a b : List ℕ) → HasRecord lists id (pos found.sysno) i a → HasRecord lists id (pos found.sysno) j b → (i ≡ j) × (a ≡ b))
+            (after : Content) (is : IsRecordPosted id found.sysno (OccursIn profile (as_kept found)) mid after) where
+          of_found : (n : ℕ) (o : Occurrence) → n ≡ found.sysno → posted after id n o ↔ ((n < found.sysno + 1) × RowOccurs profile lists id n o)
+          of_found n o same = (
+            λ h.
+                let occurs = (is.part o).0 (subst (λ m. posted after id m o) same h) in
+                (omega (arith, same), subst (λ m. RowOccurs profile lists id m o) (sym same) ((as_kept found).ident, (as_kept found).bytes, first.0, occurs)),
+            λ h.
+                let row = subst (λ m. RowOccurs profile lists id m o) same h.1 in
+                let bytes = (one row.0 (as_kept found).ident row.1 (as_kept found).bytes row.2 first.0).1 in
+                let occurs : OccursIn profile (as_kept found) o =
+                subst (λ b. OccursIn profile (record { sysno = found.sysno; ident = (as_kept found).ident; bytes = b }) o) bytes row.3 in
+                subst (λ m. posted after id m o) (sym same) ((is.part o).1 occurs),
+          )
+
+          of_other : (n : ℕ) (o : Occurrence) → n ≢ found.sysno → posted after id n o ↔ ((n < found.sysno + 1) × RowOccurs profile lists id n o)
+          of_other n o differs =
+              let still = is.others id n o (λ h. differs h.1) in (
+                λ h. let it = (below.part n o).0 (still.0 h) in (omega (arith, it.0, first.1), it.1),
+                λ h. still.1 ((below.part n o).1 (lower n (h.1.0, h.1.1, h.1.2) differs h.0, h.1)),
+              )
+            where
+              lower : (n : ℕ) → ((ident : List ℕ) × (bytes : List ℕ) × HasRecord lists id (pos n) ident bytes) → n ≢ found.sysno → n < found.sysno + 1 → n < next
+              lower n row differs small = elim (at_least n next) [
+                | inl less ↦ less
+                | inr not_less ↦ (let more = first.2 n row not_less in absurd (differs (omega (arith, more, small))))
+              ]
+
+              at_least : (m n : ℕ) → (m < n) ⊎ (n ≤ m)
+              at_least m n = omega arith
+
+          pub next_posted : IsPostedBelow profile lists id (found.sysno + 1) before after
+          next_posted = record {
+            part = λ n o. elim (told_number n found.sysno) [ inl same ↦ of_found n o same | inr differs ↦ of_other n o differs ];
+            others = λ d n o differs.
+                let now = is.others d n o (λ h. differs h.0) in
+                let was = below.others d n o differs in
+                (λ h. was.0 (now.0 h), λ h. now.1 (was.1 h));
+          }
+
+  -- ---- databases
+
+  -- just the records of these databases have their postings
+  pub record ArePostedIn (ids : List ℤ) (content : Content) : Type 0 where
+    pub each : (id : ℤ) (n : ℕ) (o : Occurrence) → posted content id n o ↔ (Has ids id × RowOccurs profile lists id n o)
+
+  pub nothing_posted : ArePostedIn [] (λ _ _. [])
+  nothing_posted = record { each = λ id n o. (λ h. absurd h, λ h. absurd h.0) }
+
+  module _ (ids : List ℤ) (before : Content) (are : ArePostedIn ids before) (id : ℤ) (new : ¬ Has ids id) where
+    pub new_lacks : LacksDatabase id before
+    new_lacks n o there = new ((are.each id n o).0 there).0
+
+    pub more_posted : (after : Content) → IsPosted profile lists id before after → ArePostedIn (ids ++ id ∷ []) after
+    more_posted after is = record { each = λ d n o. elim (ids_told d id) [ inl same ↦ here d n o same | inr differs ↦ there d n o differs ] }
+      where
+        here : (d : ℤ) (n : ℕ) (o : Occurrence) → d ≡ id → posted after d n o ↔ (Has (ids ++ id ∷ []) d × RowOccurs profile lists d n o)
+        here d n o same = (
+          λ h. (has_right ids (id ∷ []) d (inl same), subst (λ x. RowOccurs profile lists x n o) (sym same) ((is.part n o).0 (subst (λ x. posted after x n o) same h))),
+          λ h. subst (λ x. posted after x n o) (sym same) ((is.part n o).1 (subst (λ x. RowOccurs profile lists x n o) same h.1)),
+        )
+
+        there : (d : ℤ) (n : ℕ) (o : Occurrence) → d ≢ id → posted after d n o ↔ (Has (ids ++ id ∷ []) d × RowOccurs profile lists d n o)
+        there d n o differs =
+            let still = is.others d n o differs in
+            let was = are.each d n o in (
+              λ h. let it = was.0 (still.0 h) in (has_left ids (id ∷ []) d it.0, it.1),
+              λ h. elim (has_either ids (id ∷ []) d h.0) [
+                | inl before ↦ still.1 (was.1 (before, h.1))
+                | inr last ↦ elim last [ inl same ↦ absurd (differs same) | inr none ↦ absurd none ]
+              ],
+            )
