@@ -2,7 +2,7 @@
 use Rattle.std.proofs.Common.{◌≡◌, ◌⊎◌, ◌||◌, ◌==◌, ℕ, ◌<◌, ◌≤◌, true, List, length, get_or, IsTrue, IsUtf8, inl, inr, subst, sym, arith}
 use Rattle.std.specs.Char.{is_ascii_alphanumeric}
 use Rattle.std.specs.Int.{is_in_range}
-use Rattle.std.proofs.lemmas.Bool.{and_parts, eqb-true, leb-true, or_cases}
+use Rattle.std.proofs.lemmas.Bool.{and_parts, cases_lt, eqb-true, leb-true, or_cases}
 use Rattle.std.proofs.lemmas.List.{get_or_past}
 use Rattle.std.proofs.lemmas.Str.{IsUtf8-from_ascii}
 use Rattle.zeb_image.specs.Names.{IsDatabaseName, is_name_byte}
@@ -33,12 +33,9 @@ name_byte_low b h =
       | inr dot ↦ omega (arith, eqb-true b 46 dot)
     ]
 
-at_least : (m n : ℕ) → (m < n) ⊎ (n ≤ m)
-at_least m n = omega arith
-
 -- a name is UTF-8
 pub name_text : (name : List ℕ) → IsDatabaseName name → IsUtf8 name
-name_text name is = IsUtf8-from_ascii name (λ i. elim (at_least i (length name)) [
+name_text name is = IsUtf8-from_ascii name (λ i. elim (cases_lt i (length name)) [
   | inl within ↦ name_byte_low (get_or name i 0) (is.bytes i 0 within)
   | inr past ↦ (let e = get_or_past name i 0 past in omega (arith, e))
 ])

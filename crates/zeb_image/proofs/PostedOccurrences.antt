@@ -1,5 +1,5 @@
 -- The postings of one record's occurrences, put in key by key.
-use Rattle.std.proofs.Common.{◌≡◌, ◌↔◌, ℕ, ℤ, List, [], Result, Ok, Err, OnOk}
+use Rattle.std.proofs.Common.{◌≡◌, ◌↔◌, ℕ, ℤ, List, []}
 use Rattle.std.specs.List.{Contains}
 use Rattle.std.specs.List.Sorted.{IsStrictlySortedBy}
 use Rattle.sqlite.specs.Tree.{Trees}
@@ -50,11 +50,6 @@ module _ (id : ℤ) (sysno : ℕ) where
         storable = moved_storable id sysno found changed before up can (λ c there. are.new c (contains_had changed c there)) storable;
         is = reposted_so found before (moved id sysno changed before) (moved_is id sysno [] found changed before up are (none_of before lacks));
       }
-
--- what follows from what holds at an Ok, holds there
-pub on_ok : {A E : Type 0} (r : Result A E) (P Q : Type 0) → (P → Q) → OnOk r P → OnOk r Q
-on_ok (Ok a) P Q so held = so held
-on_ok (Err e) P Q so held = tt
 
 -- the occurrences of the record are those of its bytes
 pub record_posted : (format : Format) (trees : Trees) (profile : List Directive) (id : ℤ) (found : Record) (occurrences : List Occurrence) (before : Content)

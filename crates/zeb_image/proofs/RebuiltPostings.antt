@@ -1,8 +1,9 @@
 -- Registers made anew: the postings of one record more, of one database more, and of all.
-use Rattle.std.proofs.Common.{◌≡◌, ◌≢◌, ◌⊎◌, ◌↔◌, ◌∙◌, ℕ, ℤ, pos, ◌+◌, ◌<◌, ◌≤◌, List, [], ◌∷◌, ◌++◌, Some, None, inl, inr, refl, sym, ap, subst, subst₂, arith, nat_cmp}
-use Rattle.std.specs.List.{Contains}
+use Rattle.std.proofs.Common.{◌≡◌, ◌≢◌, ◌⊎◌, ◌↔◌, ◌∙◌, ℕ, ℤ, pos, ◌+◌, ◌<◌, ◌≤◌, List, [], ◌∷◌, ◌++◌, Some, None, inl, inr, refl, sym, ap, subst, arith, Option, string_bytes}
 use Rattle.std.specs.Cmp.{nat_cmp_total}
-use Rattle.sqlite.specs.declared.types.Value.TheVariants.{Int}
+use Rattle.std.proofs.lemmas.Bool.{cases_lt}
+use Rattle.sqlite.specs.declared.types.Value.TheVariants.{Int, Null, Text}
+use Rattle.sqlite.specs.Order.{Row}
 use Rattle.sqlite.specs.Tree.{Trees}
 use Rattle.sqlite_rules.specs.Lists.{Has}
 use Rattle.sqlite_rules.proofs.ListLemmas.{has_left, has_right, has_either}
@@ -10,12 +11,13 @@ use Rattle.zeb_profile.specs.declared.directives.Directive.{Directive}
 use Rattle.zeb_extract.specs.declared.keys.Occurrence.{Occurrence}
 use Rattle.zeb_register.specs.declared.kept.Record.{Record}
 use Rattle.zeb_register.specs.Content.{Content, posted}
-use Rattle.zeb_register.specs.Kept.{IsFirstFrom}
+use Rattle.zeb_register.specs.Kept.{AreReadable, IsFirstFrom}
 use Rattle.zeb_register.specs.Store.{HasDatabase, HasRecord, KeepsLists, record_row}
 use Rattle.zeb_register.proofs.ContentChanges.{numbers_apart}
 use Rattle.zeb_register.proofs.RisingLists.{told_by}
 use Rattle.zeb_change.specs.Occurs.{OccursIn}
 use Rattle.zeb_image.specs.PrivateRebuilding.{IsPosted, IsPostedBelow, IsRecordPosted, LacksDatabase, LacksRecord, RowOccurs, as_kept}
+use Rattle.zeb_image.specs.Rebuilding.{AreSoundIn, IsSound}
 use Rattle.zeb_image.proofs.Ids.{ids_told}
 
 -- ---- lists that are as they were
@@ -28,9 +30,20 @@ record_still old new keeps id sysno ident bytes = (
 
 pub database_still : (old new : Trees) → KeepsLists old new → (id : ℤ) (name : List ℕ) (last : ℤ) → HasDatabase old id name last ↔ HasDatabase new id name last
 database_still old new keeps id name last = (
-  λ there. subst (λ rows. Has rows _) (sym keeps.1) there,
-  λ there. subst (λ rows. Has rows _) keeps.1 there,
+  λ there. subst (λ (rows : List Row). Has rows (Int id ∷ Null ∷ Text name ∷ Int last ∷ [])) (sym keeps.1) there,
+  λ there. subst (λ (rows : List Row). Has rows (Int id ∷ Null ∷ Text name ∷ Int last ∷ [])) keeps.1 there,
 )
+
+pub first_still : (old new : Trees) → KeepsLists old new → (id : ℤ) (start : ℕ) (found : Option Record) → IsFirstFrom new id start found → IsFirstFrom old id start found
+first_still old new keeps id start None none = λ n there. none n (there.0, there.1, (record_still old new keeps id (pos n) there.0 there.1).0 there.2)
+first_still old new keeps id start (Some found) first = (
+  (record_still old new keeps id (pos found.sysno) (string_bytes found.ident) found.bytes.items).1 first.0,
+  first.1,
+  λ n there. first.2 n (there.0, there.1, (record_still old new keeps id (pos n) there.0 there.1).0 there.2),
+)
+
+pub readable_still : (old new : Trees) → KeepsLists old new → (id : ℤ) → AreReadable old id → AreReadable new id
+readable_still old new keeps id are sysno ident bytes there = are sysno ident bytes ((record_still old new keeps id sysno ident bytes).1 there)
 
 told_number : (a b : ℕ) → (a ≡ b) ⊎ (a ≢ b)
 told_number a b = told_by nat_cmp_total numbers_apart a b
@@ -79,13 +92,10 @@ module _ (profile : List Directive) (lists : Trees) where
               )
             where
               lower : (n : ℕ) → ((ident : List ℕ) × (bytes : List ℕ) × HasRecord lists id (pos n) ident bytes) → n ≢ found.sysno → n < found.sysno + 1 → n < next
-              lower n row differs small = elim (at_least n next) [
+              lower n row differs small = elim (cases_lt n next) [
                 | inl less ↦ less
                 | inr not_less ↦ (let more = first.2 n row not_less in absurd (differs (omega (arith, more, small))))
               ]
-
-              at_least : (m n : ℕ) → (m < n) ⊎ (n ≤ m)
-              at_least m n = omega arith
 
           pub next_posted : IsPostedBelow profile lists id (found.sysno + 1) before after
           next_posted = record {
@@ -95,6 +105,29 @@ module _ (profile : List Directive) (lists : Trees) where
                 let was = below.others d n o differs in
                 (λ h. was.0 (now.0 h), λ h. now.1 (was.1 h));
           }
+
+    -- ---- records that were looked at
+
+    abbrev pub AreSoundBelow : ℕ → Type 0
+    AreSoundBelow next = (n : ℕ) (ident bytes : List ℕ) → n < next → HasRecord lists id (pos n) ident bytes → IsSound profile (record { sysno = n; ident = ident; bytes = bytes })
+
+    pub all_sound : (next : ℕ) → AreSoundBelow next → IsFirstFrom lists id next None → AreSoundIn profile lists id
+    all_sound next sound none n ident bytes there = sound n ident bytes (none n (ident, bytes, there)) there
+
+    pub next_sound : (next : ℕ) → AreSoundBelow next → (found : Record) → IsFirstFrom lists id next (Some found)
+        → ((i j a b : List ℕ) → HasRecord lists id (pos found.sysno) i a → HasRecord lists id (pos found.sysno) j b → (i ≡ j) × (a ≡ b))
+        → IsSound profile (as_kept found) → AreSoundBelow (found.sysno + 1)
+    next_sound next sound found first one is n ident bytes small there = elim (told_number n found.sysno) [
+      | inl same ↦
+          let row = subst (λ m. HasRecord lists id (pos m) ident bytes) same there in
+          let alike = one (as_kept found).ident ident (as_kept found).bytes bytes first.0 row in
+          let kept_is : as_kept found ≡ record { sysno = n; ident = ident; bytes = bytes } = λ i. record { sysno = sym same i; ident = alike.0 i; bytes = alike.1 i } in
+          subst (IsSound profile) kept_is is
+      | inr differs ↦ elim (cases_lt n next) [
+        | inl less ↦ sound n ident bytes less there
+        | inr not_less ↦ (let more = first.2 n (ident, bytes, there) not_less in absurd (differs (omega (arith, more, small))))
+      ]
+    ]
 
   -- ---- databases
 

@@ -20,8 +20,8 @@ invariant-loop-turn g l =
       small : l.next ≤ 1000000000;
       kept : HasCleanDisk now → IsTrue old.in_transaction → IsStore old → IsStore now × KeepsLists old.now.trees now.now.trees;
       checked : HasCleanDisk now → IsTrue old.in_transaction → IsStore old
-          → (n : ℕ) (ident bytes : List ℕ) → n < l.next → HasRecord old.now.trees l.db.0 (pos n) ident bytes → IsSound l.profile.now (record { sysno = n; ident = ident; bytes = bytes });
+          → (n : ℕ) (ident bytes : List ℕ) → n < l.next → HasRecord old.now.trees l.db.0 (pos n) ident bytes → IsSound l.profile (record { sysno = n; ident = ident; bytes = bytes });
       posted : HasCleanDisk now → IsTrue old.in_transaction → IsStore old
           → (before : Content) → holds_in g.L.Layout.format old.now.trees before → IsStorable before → LacksDatabase l.db.0 before
-          → HoldsSuch g.L.Layout.format now.now.trees (IsPostedBelow l.profile.now old.now.trees l.db.0 l.next before);
+          → HoldsSuch g.L.Layout.format now.now.trees (IsPostedBelow l.profile old.now.trees l.db.0 l.next before);
     }

@@ -22,7 +22,7 @@ invariant-loop-database g l =
       goes_on : HasCleanDisk now → IsTrue old.in_transaction → GoesOn old now;
       kept : HasCleanDisk now → IsTrue old.in_transaction → IsStore old → IsStore now × KeepsLists old.now.trees now.now.trees;
       checked : HasCleanDisk now → IsTrue old.in_transaction → IsStore old
-          → (d : ListedDatabase) → Has (take l.database-index l.database-items) d → AreSoundIn l.profile.now old.now.trees d.id.0;
+          → (d : ListedDatabase) → Has (take l.database-index l.database-items) d → AreSoundIn l.profile old.now.trees d.id.0;
       posted : HasCleanDisk now → IsTrue old.in_transaction → IsStore old
-          → HoldsSuch g.L.Layout.format now.now.trees (ArePostedIn l.profile.now old.now.trees (map id_in (take l.database-index l.database-items)));
+          → HoldsSuch g.L.Layout.format now.now.trees (ArePostedIn l.profile old.now.trees (map id_in (take l.database-index l.database-items)));
     }
