@@ -26,9 +26,21 @@ use Rattle.zeb_image.specs.PrivateRebuilding.{RowOccurs}
 use Rattle.zeb_image.specs.Rebuilding.{AreReadableLists, AreSound, IsSound}
 use Rattle.zeb_image.proofs.Bases.{less_differs}
 use Rattle.zeb_image.proofs.Ids.{ids_told}
+use Rattle.zeb_image.proofs.NameTexts.{name_text}
 use Rattle.zeb_image.proofs.RebuiltPostings.{ArePostedIn, database_still, record_still}
 
--- ---- the ids of listed databases
+-- ---- the list of databases
+
+pub same_databases : (old new : Trees) → KeepsLists old new → (list : List ListedDatabase) → AreDatabases new list → AreDatabases old list
+same_databases old new keeps list are = record {
+  each = λ id name last.
+      let still = database_still old new keeps id name last in
+      (λ there. (are.each id name last).0 (still.0 there), λ listed. still.1 ((are.each id name last).1 listed));
+  rising = are.rising;
+}
+
+pub readable_databases : (old new : Trees) → KeepsLists old new → AreReadableDatabases old → AreReadableDatabases new
+readable_databases old new keeps are id name last there = are id name last ((database_still old new keeps id name last).1 there)
 
 abbrev pub id_in : ListedDatabase → ℤ
 id_in database = database.id.0
@@ -50,7 +62,7 @@ mapped_has [] id there = absurd there
 mapped_has (first ∷ rest) id (inl same) = (first, inl refl, same)
 mapped_has (first ∷ rest) id (inr later) = let it = mapped_has rest id later in (it.0, inr it.1, it.2)
 
-in_middle : {X : Type 0} (done : List X) (d : X) (rest : List X) → Has (done ++ d ∷ rest) d
+pub in_middle : {X : Type 0} (done : List X) (d : X) (rest : List X) → Has (done ++ d ∷ rest) d
 in_middle [] d rest = inl refl
 in_middle (first ∷ done) d rest = inr (in_middle done d rest)
 
@@ -70,7 +82,7 @@ name_before (first ∷ done) rest d e up (inl same) = λ names.
 name_before (first ∷ done) rest d e up (inr later) = name_before done rest d e up.1 later
 
 module _ (s : State) (store : IsStore s) (list : List ListedDatabase) (are : AreDatabases s.now.trees list) where
-  listed_there : (d : ListedDatabase) → Has list d → HasDatabase s.now.trees d.id.0 (name_in d) (pos d.last)
+  pub listed_there : (d : ListedDatabase) → Has list d → HasDatabase s.now.trees d.id.0 (name_in d) (pos d.last)
   listed_there d there = (are.each d.id.0 (name_in d) (pos d.last)).1 (d, there, refl, refl, refl)
 
   -- no id comes twice
@@ -156,11 +168,11 @@ module _ (format : Format) (told profile : List Directive) (lists : Trees) (base
         number = (is.from_one it.0 it.1, omega (arith, is.to_last it.0 it.1, is.few));
       })
 
-  pub image_readable : AreBases profile bases → ((base : Base) → Contains bases base → IsUtf8 base.name) → AreReadableLists lists
-  image_readable are texts = record {
+  pub image_readable : AreBases profile bases → AreReadableLists lists
+  image_readable are = record {
     databases = λ id name last listed.
         let base = (image.listed id name last).0 listed in
-        ((base.0.last, base.4), subst IsUtf8 (sym base.3) (texts base.0 base.1));
+        ((base.0.last, base.4), subst IsUtf8 (sym base.3) (name_text base.0.name (are.named base.0 base.1)));
     records = λ id name last listed sysno ident bytes there.
         let base = (image.listed id name last).0 listed in
         let it = row_kept base.0 base.1 id base.2 sysno ident bytes there in

@@ -45,6 +45,22 @@ first_still old new keeps id start (Some found) first = (
 pub readable_still : (old new : Trees) → KeepsLists old new → (id : ℤ) → AreReadable old id → AreReadable new id
 readable_still old new keeps id are sysno ident bytes there = are sysno ident bytes ((record_still old new keeps id sysno ident bytes).1 there)
 
+module _ (old new : Trees) (keeps : KeepsLists old new) (profile : List Directive) (id : ℤ) where
+  pub sound_still : AreSoundIn profile new id → AreSoundIn profile old id
+  sound_still sound n ident bytes there = sound n ident bytes ((record_still old new keeps id (pos n) ident bytes).0 there)
+
+  pub sound_then : AreSoundIn profile old id → AreSoundIn profile new id
+  sound_then sound n ident bytes there = sound n ident bytes ((record_still old new keeps id (pos n) ident bytes).1 there)
+
+  pub posted_still : (before after : Content) → IsPosted profile new id before after → IsPosted profile old id before after
+  posted_still before after is = record {
+    part = λ n o. (
+      λ h. let row = (is.part n o).0 h in (row.0, row.1, (record_still old new keeps id (pos n) row.0 row.1).1 row.2, row.3),
+      λ row. (is.part n o).1 (row.0, row.1, (record_still old new keeps id (pos n) row.0 row.1).0 row.2, row.3),
+    );
+    others = is.others;
+  }
+
 told_number : (a b : ℕ) → (a ≡ b) ⊎ (a ≢ b)
 told_number a b = told_by nat_cmp_total numbers_apart a b
 

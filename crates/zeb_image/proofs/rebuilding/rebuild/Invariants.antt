@@ -4,6 +4,7 @@ use Rattle.sqlite.specs.State.{HasCleanDisk, Survives}
 use Rattle.std.specs.List.{Contains}
 use Rattle.sqlite_rules.specs.Lists.{Has}
 use Rattle.zeb_register.specs.Calls.{GoesOn}
+use Rattle.zeb_register.specs.Catalog.{AreDatabases}
 use Rattle.zeb_register.specs.Store.{IsStore, KeepsLists}
 use Rattle.zeb_register.specs.declared.catalog.ListedDatabase.{ListedDatabase}
 use Rattle.zeb_image.specs.PrivateRebuilding.{HoldsSuch}
@@ -21,6 +22,7 @@ invariant-loop-database g l =
       crash : Survives old now (λ _. ⊥);
       goes_on : HasCleanDisk now → IsTrue old.in_transaction → GoesOn old now;
       kept : HasCleanDisk now → IsTrue old.in_transaction → IsStore old → IsStore now × KeepsLists old.now.trees now.now.trees;
+      listed : HasCleanDisk now → IsTrue old.in_transaction → IsStore old → AreDatabases old.now.trees l.database-items;
       checked : HasCleanDisk now → IsTrue old.in_transaction → IsStore old
           → (d : ListedDatabase) → Has (take l.database-index l.database-items) d → AreSoundIn l.profile old.now.trees d.id.0;
       posted : HasCleanDisk now → IsTrue old.in_transaction → IsStore old
