@@ -23,8 +23,8 @@ use zeb_register::{
     DatabaseId, Layout, RegFault, databases_inside, record_from_inside, registers_wipe,
 };
 
-/// Takes every row of the registers out, in whichever format, and puts in this layout's rows of what the kept records have under the profile.
-/// Texts, databases and records stay. One record is held at a time.
+/// Takes every row of the registers out, in whichever format, and puts in this layout's rows of what the kept records have under the
+/// profile. Texts, databases and records stay. One record is held at a time.
 ///
 /// `Damaged` where a record isn't one of ISO 2709 with the identifier that it is kept under, where its number isn't 1 to 999,999,999, and
 /// where a row of the lists can't be read.
@@ -39,17 +39,19 @@ pub fn rebuild<S: Alter, L: Layout>(
         → IsStore (state S.Store tx.old.conn.now)
         → OnOk result (IsStore (state S.Store tx.new.conn.now)
         × KeepsLists (state S.Store tx.old.conn.now).now.trees (state S.Store tx.new.conn.now).now.trees
-        × ((format : Format) (told : List Directive) (bases : List Base) → IsImageOf format told (state S.Store tx.old.conn.now).now.trees bases
-        → AreBases profile.now bases → IsImageOf L.format profile.now (state S.Store tx.new.conn.now).now.trees bases)) }
+        × ((format : Format) (told : List Directive) (bases : List Base)
+        → IsImageOf format told (state S.Store tx.old.conn.now).now.trees bases → AreBases profile.now bases
+        → IsImageOf L.format profile.now (state S.Store tx.new.conn.now).now.trees bases)) }
     ensures honest { HasCleanDisk (state S.Store tx.new.conn.now) → IsTrue (state S.Store tx.old.conn.now).in_transaction
         → IsStore (state S.Store tx.old.conn.now) → result ≡ Err RegFault.Damaged
-        → (format : Format) (told : List Directive) (bases : List Base) → IsImageOf format told (state S.Store tx.old.conn.now).now.trees bases
-        → ¬ AreBases profile.now bases }
+        → (format : Format) (told : List Directive) (bases : List Base)
+        → IsImageOf format told (state S.Store tx.old.conn.now).now.trees bases → ¬ AreBases profile.now bases }
     ensures checked { HasCleanDisk (state S.Store tx.new.conn.now) → IsTrue (state S.Store tx.old.conn.now).in_transaction
         → IsStore (state S.Store tx.old.conn.now) → OnOk result (AreSound profile.now (state S.Store tx.old.conn.now).now.trees) }
     ensures damaged { HasCleanDisk (state S.Store tx.new.conn.now) → IsTrue (state S.Store tx.old.conn.now).in_transaction
         → IsStore (state S.Store tx.old.conn.now) → result ≡ Err RegFault.Damaged
-        → AreReadableLists (state S.Store tx.old.conn.now).now.trees → ¬ AreSound profile.now (state S.Store tx.old.conn.now).now.trees }
+        → AreReadableLists (state S.Store tx.old.conn.now).now.trees
+        → ¬ AreSound profile.now (state S.Store tx.old.conn.now).now.trees }
 {
     registers_wipe(tx)?;
     let databases = databases_inside(alloc, tx)?;
@@ -75,7 +77,8 @@ fn database_post<S: Alter, L: Layout>(
         → OnOk result (IsStore (state S.Store tx.new.conn.now)
         × KeepsLists (state S.Store tx.old.conn.now).now.trees (state S.Store tx.new.conn.now).now.trees) }
     ensures checked { HasCleanDisk (state S.Store tx.new.conn.now) → IsTrue (state S.Store tx.old.conn.now).in_transaction
-        → IsStore (state S.Store tx.old.conn.now) → OnOk result (AreSoundIn profile.now (state S.Store tx.old.conn.now).now.trees db.0) }
+        → IsStore (state S.Store tx.old.conn.now)
+        → OnOk result (AreSoundIn profile.now (state S.Store tx.old.conn.now).now.trees db.0) }
     ensures posted { HasCleanDisk (state S.Store tx.new.conn.now) → IsTrue (state S.Store tx.old.conn.now).in_transaction
         → IsStore (state S.Store tx.old.conn.now)
         → OnOk result ((before : Content) → holds_in L.format (state S.Store tx.old.conn.now).now.trees before → IsStorable before

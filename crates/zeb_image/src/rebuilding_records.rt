@@ -18,14 +18,12 @@ ghost use Rattle.zeb_image.specs.PrivateRebuilding.{HoldsSuch, IsRecordPosted, L
 
 use sqlite::{Alter, Transaction};
 use std::alloc::Global;
+use zeb_change::Limits;
 use zeb_change::changed_keys::changed_keys;
 use zeb_extract::{IdentFault, Occurrence, identifier, occurrences};
 use zeb_marc::Marc;
 use zeb_profile::Profile;
 use zeb_register::{DatabaseId, Layout, Record, RegFault, Work};
-
-/// The greatest system number that a register can give.
-const GREATEST_NUMBER: u64 = 999_999_999;
 
 /// The occurrences of a kept record under the profile.
 ///
@@ -75,15 +73,15 @@ pub(crate) fn record_post<S: Alter, L: Layout>(
         × KeepsLists (state S.Store tx.old.conn.now).now.trees (state S.Store tx.new.conn.now).now.trees) }
     ensures posted { HasCleanDisk (state S.Store tx.new.conn.now) → IsTrue (state S.Store tx.old.conn.now).in_transaction
         → IsStore (state S.Store tx.old.conn.now)
-        → OnOk result ((before : Content) → holds_in L.format (state S.Store tx.old.conn.now).now.trees before → IsStorable before
-        → LacksRecord db.0 kept.now.sysno before → HoldsSuch L.format (state S.Store tx.new.conn.now).now.trees
+        → OnOk result ((before : Content) → holds_in L.format (state S.Store tx.old.conn.now).now.trees before
+        → IsStorable before → LacksRecord db.0 kept.now.sysno before → HoldsSuch L.format (state S.Store tx.new.conn.now).now.trees
         (IsRecordPosted db.0 kept.now.sysno (OccursIn profile.now (as_kept kept.now)) before)) }
     ensures damaged { HasCleanDisk (state S.Store tx.new.conn.now) → IsTrue (state S.Store tx.old.conn.now).in_transaction
         → IsStore (state S.Store tx.old.conn.now) → result ≡ Err RegFault.Damaged
         → (before : Content) → holds_in L.format (state S.Store tx.old.conn.now).now.trees before → IsStorable before
         → LacksRecord db.0 kept.now.sysno before → ¬ IsSound profile.now (as_kept kept.now) }
 {
-    if kept.sysno < 1 || kept.sysno > GREATEST_NUMBER {
+    if kept.sysno < 1 || kept.sysno > Limits::GREATEST.numbers {
         return Err(RegFault::Damaged);
     }
     let found = kept_occurrences(alloc, profile, kept)?;
@@ -108,13 +106,13 @@ fn occurrences_post<S: Alter, L: Layout>(
         × KeepsLists (state S.Store tx.old.conn.now).now.trees (state S.Store tx.new.conn.now).now.trees) }
     ensures posted { HasCleanDisk (state S.Store tx.new.conn.now) → IsTrue (state S.Store tx.old.conn.now).in_transaction
         → IsStore (state S.Store tx.old.conn.now) → AreRising found.now → CanBeStored sysno found.now
-        → OnOk result ((before : Content) → holds_in L.format (state S.Store tx.old.conn.now).now.trees before → IsStorable before
-        → LacksRecord db.0 sysno before → HoldsSuch L.format (state S.Store tx.new.conn.now).now.trees
+        → OnOk result ((before : Content) → holds_in L.format (state S.Store tx.old.conn.now).now.trees before
+        → IsStorable before → LacksRecord db.0 sysno before → HoldsSuch L.format (state S.Store tx.new.conn.now).now.trees
         (IsRecordPosted db.0 sysno (Contains found.now) before)) }
     ensures damaged { HasCleanDisk (state S.Store tx.new.conn.now) → IsTrue (state S.Store tx.old.conn.now).in_transaction
-        → IsStore (state S.Store tx.old.conn.now) → AreRising found.now → CanBeStored sysno found.now → result ≡ Err RegFault.Damaged
-        → (before : Content) → holds_in L.format (state S.Store tx.old.conn.now).now.trees before → IsStorable before
-        → ¬ LacksRecord db.0 sysno before }
+        → IsStore (state S.Store tx.old.conn.now) → AreRising found.now → CanBeStored sysno found.now
+        → result ≡ Err RegFault.Damaged → (before : Content) → holds_in L.format (state S.Store tx.old.conn.now).now.trees before
+        → IsStorable before → ¬ LacksRecord db.0 sysno before }
 {
     let mut work = Work::default();
     let changed_keys = changed_keys(alloc, &[], found)?;

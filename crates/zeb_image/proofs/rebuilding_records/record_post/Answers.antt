@@ -14,7 +14,7 @@ returns-clause-posted g c = λ clean mode store.
     let new = (state g.S.Store c.occurrences_post.new.tx.conn.now).now.trees in
     let found = c.deref.result.now in
     let are : AreOccurrencesOf profile kept.bytes.items found = subst (AreOccurrencesOf profile kept.bytes.items) (sym c.deref.ensures.value) c.in_ok-found.ensures.found in
-    let number : (1 ≤ kept.sysno) × (kept.sysno ≤ 999999999) = (omega (arith, c.if-kept-lt1.false), omega (arith, c.if-kept-gt-GREATEST_NUMBER.false)) in
+    let number : (1 ≤ kept.sysno) × (kept.sysno ≤ 999999999) = (omega (arith, c.if-kept-lt1.false), omega (arith, c.if-kept.false)) in
     ok_so c.occurrences_post.result _ _
     (λ posted before had storable lacks. record_posted g.L.Layout.format new profile c.args.db.0 kept found before are (posted before had storable lacks))
     (c.occurrences_post.ensures.posted clean mode store are.rising (newer_storable profile kept.bytes.items found are kept.sysno number))
