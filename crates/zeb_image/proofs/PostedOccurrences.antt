@@ -20,11 +20,6 @@ use Rattle.zeb_change.specs.PrivateRecords.{AreOccurrencesOf}
 use Rattle.zeb_change.proofs.ChangeKeysContent.{moved, moved_is, moved_storable}
 use Rattle.zeb_image.specs.PrivateRebuilding.{HoldsSuch, IsRecordPosted, LacksRecord, as_kept}
 
--- no occurrence comes before another
-pub none_rise : IsStrictlySortedBy occurrence_order []
-unfolding IsStrictlySortedBy
-none_rise = tt
-
 module _ (id : ℤ) (sysno : ℕ) where
   -- a record without a posting has none of no occurrence
   pub none_of : (content : Content) → LacksRecord id sysno content → ArePostingsOf sysno [] (content id)

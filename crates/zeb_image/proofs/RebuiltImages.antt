@@ -7,7 +7,8 @@ use Rattle.std.specs.Cmp.Lexicographic.{slice_cmp}
 use Rattle.sqlite.specs.State.{State}
 use Rattle.sqlite.specs.Tree.{Trees}
 use Rattle.sqlite_rules.specs.Lists.{Has}
-use Rattle.sqlite_rules.proofs.ListLemmas.{all_has}
+use Rattle.sqlite_rules.proofs.ListLemmas.{all_has, has_left, has_right}
+use Rattle.sqlite_rules.proofs.ProbeLemmas.{has_mapped, mapped_has}
 use Rattle.zeb_profile.specs.declared.directives.Directive.{Directive}
 use Rattle.zeb_extract.specs.declared.keys.Occurrence.{Occurrence}
 use Rattle.zeb_register.specs.declared.catalog.ListedDatabase.{ListedDatabase}
@@ -52,20 +53,6 @@ told_in (first ∷ ids) id = elim (ids_told id first) [
   | inr other ↦ elim (told_in ids id) [ inl there ↦ inl (inr there) | inr none ↦ inr (λ h. elim h [ inl same ↦ other same | inr later ↦ none later ]) ]
 ]
 
-has_mapped : (list : List ListedDatabase) (d : ListedDatabase) → Has list d → Has (map id_in list) (id_in d)
-has_mapped [] d there = absurd there
-has_mapped (first ∷ rest) d (inl same) = inl (ap id_in same)
-has_mapped (first ∷ rest) d (inr later) = inr (has_mapped rest d later)
-
-mapped_has : (list : List ListedDatabase) (id : ℤ) → Has (map id_in list) id → (d : ListedDatabase) × Has list d × (id ≡ id_in d)
-mapped_has [] id there = absurd there
-mapped_has (first ∷ rest) id (inl same) = (first, inl refl, same)
-mapped_has (first ∷ rest) id (inr later) = let it = mapped_has rest id later in (it.0, inr it.1, it.2)
-
-pub in_middle : {X : Type 0} (done : List X) (d : X) (rest : List X) → Has (done ++ d ∷ rest) d
-in_middle [] d rest = inl refl
-in_middle (first ∷ done) d rest = inr (in_middle done d rest)
-
 abbrev name_in : ListedDatabase → List ℕ
 name_in database = string_bytes database.name
 
@@ -77,7 +64,7 @@ name_before : (done rest : List ListedDatabase) (d e : ListedDatabase) → AreRi
 unfolding IsStrictlySortedBy
 name_before [] rest d e up there = absurd there
 name_before (first ∷ done) rest d e up (inl same) = λ names.
-    less_differs (name_in first) (name_in d) (all_has (λ z. slice_cmp nat_cmp (name_in first) (name_in z) ≡ Less) (done ++ d ∷ rest) d up.0 (in_middle done d rest))
+    less_differs (name_in first) (name_in d) (all_has (λ z. slice_cmp nat_cmp (name_in first) (name_in z) ≡ Less) (done ++ d ∷ rest) d up.0 (has_right done (d ∷ rest) d (inl refl)))
     (ap name_in (sym same) ∙ names)
 name_before (first ∷ done) rest d e up (inr later) = name_before done rest d e up.1 later
 
@@ -88,21 +75,16 @@ module _ (s : State) (store : IsStore s) (list : List ListedDatabase) (are : Are
   -- no id comes twice
   pub new_id : (done rest : List ListedDatabase) (d : ListedDatabase) → list ≡ done ++ d ∷ rest → ¬ Has (map id_in done) d.id.0
   new_id done rest d split there =
-      let it = mapped_has done d.id.0 there in
+      let it = has_mapped id_in done d.id.0 there in
       let in_list : (x : ListedDatabase) → Has (done ++ d ∷ rest) x → Has list x = λ x h. subst (λ l. Has l x) (sym split) h in
-      let left : Has (done ++ d ∷ rest) it.0 = has_first done it.0 (d ∷ rest) it.1 in
-      let here = listed_there d (in_list d (in_middle done d rest)) in
+      let left : Has (done ++ d ∷ rest) it.0 = has_left done (d ∷ rest) it.0 it.1 in
+      let here = listed_there d (in_list d (has_right done (d ∷ rest) d (inl refl))) in
       let other = subst (λ x. HasDatabase s.now.trees x (name_in it.0) (pos it.0.last)) (sym it.2) (listed_there it.0 (in_list it.0 left)) in
       name_before done rest d it.0 (subst AreRisingNames split are.rising) it.1 (one_last s store d.id.0 _ _ _ _ other here).0
-    where
-      has_first : (xs : List ListedDatabase) (x : ListedDatabase) (ys : List ListedDatabase) → Has xs x → Has (xs ++ ys) x
-      has_first [] x ys h = absurd h
-      has_first (y ∷ xs) x ys (inl same) = inl same
-      has_first (y ∷ xs) x ys (inr later) = inr (has_first xs x ys later)
 
   -- each database has its id there
   pub listed_id : (id : ℤ) (name : List ℕ) (last : ℤ) → HasDatabase s.now.trees id name last → Has (map id_in list) id
-  listed_id id name last there = let it = (are.each id name last).0 there in subst (Has (map id_in list)) (sym it.2) (has_mapped list it.0 it.1)
+  listed_id id name last there = let it = (are.each id name last).0 there in subst (Has (map id_in list)) (sym it.2) (mapped_has id_in list it.0 it.1)
 
 -- ---- an image's lists
 

@@ -5,7 +5,7 @@ use Rattle.sqlite.specs.Effect.{Database}
 use Rattle.sqlite.specs.Held.{state}
 use Rattle.sqlite.specs.State.{HasCleanDisk, State}
 use Rattle.sqlite_rules.specs.Lists.{Has}
-use Rattle.sqlite_rules.proofs.ListLemmas.{has_either}
+use Rattle.sqlite_rules.proofs.ListLemmas.{has_either, has_right}
 use Rattle.zeb_register.specs.declared.catalog.ListedDatabase.{ListedDatabase}
 use Rattle.zeb_register.specs.declared.faults.RegFault.TheVariants.{Damaged}
 use Rattle.zeb_register.specs.Calls.{GoesOn, OnlyReads}
@@ -18,7 +18,7 @@ use Rattle.zeb_change.specs.Inside.{Continues}
 use Rattle.zeb_change.proofs.ChangeKeysContent.{keeps_then}
 use Rattle.zeb_change.proofs.TransactionLemmas.{goes_on, kept_then}
 use Rattle.zeb_image.specs.Rebuilding.{AreSoundIn}
-use Rattle.zeb_image.proofs.RebuiltImages.{id_in, image_readable, image_sound, in_middle, listed_id, listed_there, new_id, readable_databases, rebuilt, same_databases}
+use Rattle.zeb_image.proofs.RebuiltImages.{id_in, image_readable, image_sound, listed_id, listed_there, new_id, readable_databases, rebuilt, same_databases}
 use Rattle.zeb_image.proofs.RebuiltPostings.{ArePostedIn, more_posted, new_lacks, nothing_posted, posted_still, readable_still, sound_still, sound_then}
 use Rattle.zeb_image.proofs.rebuilding.rebuild.Goals as goal
 
@@ -172,7 +172,7 @@ returns-in_err-database_post-clause-damaged g c = λ clean mode store told reada
     let are = c.loop-database.invariant.listed clean_now mode store in
     let such = c.loop-database.invariant.posted clean_now mode store in
     let split : items ≡ done ++ item ∷ drop (suc index) items = split_at items index item c.loop-database-test.true ∙ ap (λ x. done ++ x ∷ drop (suc index) items) (sym c.database-item.is) in
-    let here : Has items item = subst (λ l. Has l item) (sym split) (in_middle done item (drop (suc index) items)) in
+    let here : Has items item = subst (λ l. Has l item) (sym split) (has_right done (item ∷ drop (suc index) items) item (inl refl)) in
     let there = listed_there old store items are item here in
     let lacks = new_lacks profile old.now.trees (map id_in done) such.content such.is item.id.0 (new_id old store items are done (drop (suc index) items) item split) in
     let fault : c.database_post.result ≡ Err Damaged = search rules in

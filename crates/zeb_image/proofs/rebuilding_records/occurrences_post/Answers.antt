@@ -13,7 +13,8 @@ use Rattle.zeb_register.proofs.FormatLemmas.{registers_rise}
 use Rattle.zeb_change.specs.PrivateChangedKeys.{AreChangedKeys, key_in}
 use Rattle.zeb_change.proofs.ChangeKeysContent.{moved, moved_none, moved_more, moved_rises, moved_storable, still_old, keeps_then}
 use Rattle.zeb_change.proofs.KeptLemmas.{has_taken}
-use Rattle.zeb_image.proofs.PostedOccurrences.{all_moved, none_of, none_rise}
+use Rattle.zeb_change.proofs.TurnLemmas.{none_rise}
+use Rattle.zeb_image.proofs.PostedOccurrences.{all_moved, none_of}
 use Rattle.zeb_image.proofs.rebuilding_records.occurrences_post.Goals as goal
 
 pub loop-changed-init : goal.loop-changed-init
