@@ -1,16 +1,12 @@
 -- The postings of one record's occurrences, put in key by key.
-use Rattle.std.proofs.Common.{◌≡◌, ◌↔◌, ℕ, ℤ, List, []}
+use Rattle.std.proofs.Common.{ℕ, ℤ, List, []}
 use Rattle.std.specs.List.{Contains}
-use Rattle.std.specs.List.Sorted.{IsStrictlySortedBy}
 use Rattle.sqlite.specs.Tree.{Trees}
 use Rattle.sqlite_rules.proofs.ListLemmas.{contains_had, has_contained}
 use Rattle.zeb_profile.specs.declared.directives.Directive.{Directive}
-use Rattle.zeb_extract.specs.declared.keys.Key.{Key}
 use Rattle.zeb_extract.specs.declared.keys.Occurrence.{Occurrence}
-use Rattle.zeb_extract.specs.Order.{occurrence_order}
 use Rattle.zeb_register.specs.declared.kept.Record.{Record}
-use Rattle.zeb_register.specs.declared.registers.Place.{Place}
-use Rattle.zeb_register.specs.Content.{Content, IsRising, IsStorable}
+use Rattle.zeb_register.specs.Content.{Content, IsStorable}
 use Rattle.zeb_register.specs.Formats.{Format, holds_in}
 use Rattle.zeb_register.proofs.FormatLemmas.{registers_rise}
 use Rattle.zeb_change.specs.declared.changed_keys.ChangedKey.{ChangedKey}

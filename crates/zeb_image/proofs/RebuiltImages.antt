@@ -1,5 +1,5 @@
 -- Registers made anew from the lists of an image: they make an image again, and lists that none of it has are no image's.
-use Rattle.std.proofs.Common.{◌≡◌, ◌≢◌, ◌⊎◌, ◌↔◌, ◌∙◌, ℕ, ℤ, pos, List, [], ◌∷◌, ◌++◌, map, inl, inr, refl, sym, ap, subst, string_bytes, IsUtf8, Less, ◌≤◌, arith}
+use Rattle.std.proofs.Common.{◌≡◌, ◌≢◌, ◌⊎◌, ◌↔◌, ◌∙◌, ℕ, ℤ, pos, List, [], ◌∷◌, ◌++◌, map, inl, inr, refl, sym, ap, subst, string_bytes, IsUtf8, Less, arith}
 use Rattle.std.specs.List.{Contains}
 use Rattle.std.specs.List.Sorted.{IsStrictlySortedBy}
 use Rattle.std.specs.Ordering.{nat_cmp}
@@ -12,18 +12,15 @@ use Rattle.sqlite_rules.proofs.ProbeLemmas.{has_mapped, mapped_has}
 use Rattle.zeb_profile.specs.declared.directives.Directive.{Directive}
 use Rattle.zeb_extract.specs.declared.keys.Occurrence.{Occurrence}
 use Rattle.zeb_register.specs.declared.catalog.ListedDatabase.{ListedDatabase}
-use Rattle.zeb_register.specs.Catalog.{AreDatabases, AreReadableDatabases, IsListed}
+use Rattle.zeb_register.specs.Catalog.{AreDatabases, AreReadableDatabases}
 use Rattle.zeb_register.specs.Content.{Content, posted}
 use Rattle.zeb_register.specs.Formats.{Format, holds_in}
-use Rattle.zeb_register.specs.Kept.{AreReadable}
 use Rattle.zeb_register.specs.Store.{HasDatabase, HasRecord, IsStore, KeepsLists}
 use Rattle.zeb_register.proofs.FormatLemmas.{registers_rise}
 use Rattle.zeb_register.proofs.RowsAreLists.{one_last}
 use Rattle.zeb_change.specs.Base.{Base, Kept}
 use Rattle.zeb_change.specs.Occurs.{OccursIn, occurs}
-use Rattle.zeb_change.specs.Stored.{AreKept, ArePosted, IsKept}
 use Rattle.zeb_image.specs.Image.{AreBases, IsImageOf}
-use Rattle.zeb_image.specs.PrivateRebuilding.{RowOccurs}
 use Rattle.zeb_image.specs.Rebuilding.{AreReadableLists, AreSound, IsSound}
 use Rattle.zeb_image.proofs.Bases.{less_differs}
 use Rattle.zeb_image.proofs.Ids.{ids_told}

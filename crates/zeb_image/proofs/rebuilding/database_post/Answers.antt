@@ -1,4 +1,4 @@
-use Rattle.std.proofs.Common.{◌≡◌, ◌≤◌, ◌<◌, ◌^◌, ◌+◌, ℕ, pos, List, Some, None, Err, refl, sym, subst, arith, rules, string_bytes}
+use Rattle.std.proofs.Common.{◌≡◌, pos, Some, None, Err, refl, sym, subst, arith, rules, string_bytes}
 use Rattle.sqlite.specs.Effect.{Database}
 use Rattle.sqlite.specs.Held.{state}
 use Rattle.sqlite.specs.State.{HasCleanDisk, State}
@@ -6,7 +6,7 @@ use Rattle.sqlite.specs.Tree.{Trees}
 use Rattle.zeb_register.specs.Calls.{OnlyReads}
 use Rattle.zeb_register.specs.Formats.{holds_in}
 use Rattle.zeb_register.specs.Kept.{IsFirstFrom}
-use Rattle.zeb_register.specs.Store.{IsStore, KeepsLists}
+use Rattle.zeb_register.specs.Store.{KeepsLists}
 use Rattle.zeb_register.specs.declared.faults.RegFault.TheVariants.{Damaged}
 use Rattle.zeb_register.proofs.Calls.{store_same}
 use Rattle.zeb_register.proofs.RowsAreLists.{one_number}

@@ -1,4 +1,4 @@
-use Rattle.std.proofs.Common.{◌≡◌, ◌∙◌, ◌+◌, ◌++◌, ◌∷◌, [], ℤ, pos, List, Err, map, take, drop, suc, inl, inr, refl, sym, ap, subst, arith, rules, string_bytes}
+use Rattle.std.proofs.Common.{◌≡◌, ◌∙◌, ◌+◌, ◌++◌, ◌∷◌, [], pos, Err, map, take, drop, suc, inl, inr, refl, sym, ap, subst, arith, rules, string_bytes}
 use Rattle.std.proofs.lemmas.List.{map-append, take_more, take_all}
 use Rattle.std.proofs.Math.Seq.{split_at}
 use Rattle.sqlite.specs.Effect.{Database}
