@@ -1,3 +1,9 @@
 pub mod Bases
+pub mod CheckedLists
+pub mod CheckedRecords
+pub mod CheckedTables
+pub mod ExpectedTables
 pub mod Ids
+pub mod ImageTables
 pub mod OneText
+pub mod OrderedPostings
