@@ -1,6 +1,8 @@
 -- The records of a database, taken one after the other: whether they can be kept, and their postings.
-use Rattle.std.proofs.Common.{◌≡◌, ◌↔◌, ◌∙◌, ◌+◌, ◌<◌, ℕ, List, [], ◌∷◌, ◌++◌, length, map, take, get_or, refl, sym, ap, subst, inl, inr}
+use Rattle.std.proofs.Common.{◌≡◌, ◌↔◌, ◌∙◌, ℕ, ℤ, pos, List, [], ◌∷◌, ◌++◌, map, refl, sym, ap, subst, inl, inr, string_bytes}
 use Rattle.std.specs.List.{Contains}
+use Rattle.sqlite.specs.declared.types.Value.TheVariants.{Int}
+use Rattle.sqlite.specs.Tree.{Trees}
 use Rattle.sqlite_rules.specs.Lists.{Has}
 use Rattle.sqlite_rules.proofs.ListLemmas.{contains_had, has_contained, has_either, has_left, has_right}
 use Rattle.sqlite_rules.proofs.ProbeLemmas.{has_mapped, mapped_has}
@@ -8,9 +10,12 @@ use Rattle.zeb_profile.specs.declared.directives.Directive.{Directive}
 use Rattle.zeb_extract.specs.declared.keys.Occurrence.{Occurrence}
 use Rattle.zeb_register.specs.declared.expected.KeyPosting.{KeyPosting}
 use Rattle.zeb_register.specs.declared.kept.Record.{Record}
+use Rattle.zeb_register.specs.Kept.{AreReadable, record_shown}
+use Rattle.zeb_register.specs.Sql.{IsListOf}
+use Rattle.zeb_register.specs.Store.{IsRest, records_tree}
 use Rattle.zeb_change.specs.Base.{Kept}
 use Rattle.zeb_change.specs.Occurs.{OccursIn}
-use Rattle.zeb_image.specs.PrivateChecking.{ArePostingsOf, CanKeep, CanKeepAll, kept_of, occurrence_of, posting_of}
+use Rattle.zeb_image.specs.PrivateChecking.{AreRecordsPostings, CanBeHeld, CanKeep, CanKeepAll, kept_of, occurrence_of, posting_of}
 
 -- a record that is added is the only new one
 pub one_more : {X : Type 0} (xs : List X) (x z : X) → Has (xs ++ x ∷ []) z → (P : X → Type 0) → (Has xs z → P z) → P x → P z
@@ -26,15 +31,15 @@ module _ (profile : List Directive) where
   pub one_kept : (last : ℕ) (before : List Record) (r : Record) → CanKeepAll profile last before → CanKeep profile last (kept_of r) → CanKeepAll profile last (before ++ r ∷ [])
   one_kept last before r all this z h = one_more before r z h (λ (x : Record). CanKeep profile last (kept_of x)) (all z) this
 
-  pub none_posted : ArePostingsOf profile [] []
+  pub none_posted : AreRecordsPostings profile [] []
   none_posted it = (λ there. absurd there, λ is. absurd (has_contained [] is.0 is.1))
 
-  module _ (before : List Record) (r : Record) (postings after : List KeyPosting) (found : List Occurrence) (are : ArePostingsOf profile before postings)
+  module _ (before : List Record) (r : Record) (postings after : List KeyPosting) (found : List Occurrence) (are : AreRecordsPostings profile before postings)
       (each : (o : Occurrence) → Contains found o ↔ OccursIn profile (kept_of r) o) (grown : after ≡ postings ++ map (posting_of r.sysno) found) where
     same_posting : (it : KeyPosting) → r.sysno ≡ it.posting.sysno → posting_of r.sysno (occurrence_of it) ≡ it
     same_posting it same = λ i. record { key = it.key; posting = record { sysno = same i; seq = it.posting.seq; pos = it.posting.pos } }
 
-    pub one_posted : ArePostingsOf profile (before ++ r ∷ []) after
+    pub one_posted : AreRecordsPostings profile (before ++ r ∷ []) after
     one_posted it = (
       λ there. elim (has_either postings (map (posting_of r.sysno) found) it (subst (λ (l : List KeyPosting). Has l it) grown there)) [
         | inl was ↦
@@ -63,3 +68,17 @@ module _ (profile : List Directive) where
             ]
           ]),
     )
+
+-- ---- a database that can be held
+
+number_inside : (m n : ℕ) → pos m ≡ pos n → m ≡ n
+number_inside m n same = cc
+
+module _ (profile : List Directive) (trees : Trees) (id : ℤ) (name : List ℕ) (last : ℕ) (sound : CanBeHeld profile trees id name last) where
+  pub sound_readable : AreReadable trees id
+  sound_readable sysno ident bytes row = let it = sound.records sysno ident bytes row in ((it.0, it.1), it.2.is.text)
+
+  pub sound_kept : (records : List Record) → IsListOf (IsRest records_tree (Int id ∷ []) trees) (map record_shown records) → CanKeepAll profile last records
+  sound_kept records are r there =
+      let it = sound.records (pos r.sysno) (string_bytes r.ident) r.bytes.items ((are.each (record_shown r)).0 (mapped_has record_shown records r there)) in
+      subst (λ (n : ℕ). CanKeep profile last (record { sysno = n; ident = string_bytes r.ident; bytes = r.bytes.items })) (sym (number_inside r.sysno it.0 it.1)) it.2

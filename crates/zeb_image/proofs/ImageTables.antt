@@ -1,10 +1,7 @@
 -- Tables that are an image can be read and held, and hold just what is expected.
-use Rattle.std.proofs.Common.{◌≡◌, ◌≢◌, ◌⊎◌, ◌∙◌, ◌+◌, ◌≤◌, ◌<◌, ℕ, zero, suc, ℤ, pos, List, [], ◌∷◌, map, Option, Some, IsTrue, refl, sym, ap, subst, subst₂, inl, inr, string_bytes, IsUtf8, arith, lit<, get_or}
-use Rattle.std.specs.List.{AllByRecursion, Contains}
+use Rattle.std.proofs.Common.{◌≡◌, ◌≢◌, ◌⊎◌, ◌∙◌, ◌≤◌, ℕ, ℤ, pos, List, [], ◌∷◌, map, Option, Some, refl, sym, ap, subst, subst₂, inl, inr, string_bytes, IsUtf8}
+use Rattle.std.specs.List.{Contains}
 use Rattle.std.specs.Option.{option_map}
-use Rattle.std.proofs.lemmas.Bool.Decides.{nat_tests}
-use Rattle.std.proofs.lemmas.List.Elements.{recursion_from_All}
-use Rattle.std.proofs.lemmas.Str.{IsUtf8-from_ascii}
 use Rattle.sqlite.specs.State.{State}
 use Rattle.sqlite.specs.Tree.{Trees}
 use Rattle.sqlite_rules.specs.Lists.{Has}
@@ -26,22 +23,10 @@ use Rattle.zeb_change.specs.Occurs.{OccursIn}
 use Rattle.zeb_change.specs.Stored.{IsKept}
 use Rattle.zeb_change.proofs.StoredLemmas.{told_id}
 use Rattle.zeb_image.specs.Image.{AreBases, HasTexts, IsImageOf}
-use Rattle.zeb_image.specs.Names.{IsDatabaseName, is_name_byte}
-use Rattle.zeb_image.specs.PrivateChecking.{AreSound, IsExpectation, IsMadeOf, kept_of}
+use Rattle.zeb_image.specs.Names.{IsDatabaseName}
+use Rattle.zeb_image.specs.PrivateChecking.{CanAllBeHeld, IsExpectation, IsMadeOf, kept_of}
+use Rattle.zeb_image.proofs.NameTexts.{name_text}
 use Rattle.zeb_image.proofs.CheckedTables.{listed_there, made_there, record_there, row_there, same_kept}
-
--- ---- names are UTF-8
-
-name_byte : (byte : ℕ) → IsTrue (is_name_byte byte) → byte < 128
-name_byte byte is = grind (arith, nat_tests)
-
-ascii : (bytes : List ℕ) → AllByRecursion (λ byte. IsTrue (is_name_byte byte)) bytes → (i : ℕ) → get_or bytes i 0 < 128
-ascii [] all i = lit< tt
-ascii (byte ∷ bytes) all zero = name_byte byte all.0
-ascii (byte ∷ bytes) all (suc i) = ascii bytes all.1 i
-
-name_text : (name : List ℕ) → IsDatabaseName name → IsUtf8 name
-name_text name is = IsUtf8-from_ascii name (ascii name (recursion_from_All (λ byte. IsTrue (is_name_byte byte)) name is.bytes))
 
 number_inside : (m n : ℕ) → pos m ≡ pos n → m ≡ n
 number_inside m n same = cc
@@ -63,7 +48,7 @@ based id_of (first ∷ rest) id = elim (told_id id (id_of first.name)) [
 module _ (format : Format) (profile : List Directive) (s : State) (bases : List Base) (are : AreBases profile bases) (image : IsImageOf format profile s.now.trees bases) where
   -- ---- what is there can be read and held
 
-  pub image_sound : AreSound profile s.now.trees
+  pub image_sound : CanAllBeHeld profile s.now.trees
   image_sound = record {
     readable = λ id name last row. (let it = (image.listed id name last).0 row in ((it.0.last, it.4), subst IsUtf8 (sym it.3) (name_text it.0.name (are.named it.0 it.1))));
     each = λ id name last row.

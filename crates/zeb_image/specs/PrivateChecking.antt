@@ -55,8 +55,8 @@ abbrev pub occurrence_of : KeyPosting → Occurrence
 occurrence_of it = record { key = it.key; seq = it.posting.seq; pos = it.posting.pos }
 
 -- the postings are just those of the records' occurrences
-abbrev pub ArePostingsOf : List Directive → List Record → List KeyPosting → Type 0
-ArePostingsOf profile records postings =
+abbrev pub AreRecordsPostings : List Directive → List Record → List KeyPosting → Type 0
+AreRecordsPostings profile records postings =
     (it : KeyPosting) → Has postings it ↔ occurs profile (map kept_of records) it.posting.sysno (occurrence_of it)
 
 abbrev pub CanKeepAll : List Directive → ℕ → List Record → Type 0
@@ -66,12 +66,12 @@ CanKeepAll profile last records = (r : Record) → Has records r → CanKeep pro
 abbrev pub ArePostingsOrNone : List Directive → ℕ → List Record → Option (Vec KeyPosting Global) → Type 0
 ArePostingsOrNone profile last records None = ¬ CanKeepAll profile last records
 ArePostingsOrNone profile last records (Some postings) =
-    CanKeepAll profile last records × IsStrictlySortedBy key_posting_order postings.items × ArePostingsOf profile records postings.items
+    CanKeepAll profile last records × IsStrictlySortedBy key_posting_order postings.items × AreRecordsPostings profile records postings.items
 
 -- ---- one database
 
 -- a database that is there can be held, with the records that it keeps
-pub record IsSound (profile : List Directive) (trees : Trees) (id : ℤ) (name : List ℕ) (last : ℕ) : Type 0 where
+pub record CanBeHeld (profile : List Directive) (trees : Trees) (id : ℤ) (name : List ℕ) (last : ℕ) : Type 0 where
   pub named : IsDatabaseName name
   pub few : last ≤ 999999999
   pub records : (sysno : ℤ) (ident bytes : List ℕ) → HasRecord trees id sysno ident bytes
@@ -86,18 +86,18 @@ pub record IsMadeOf (profile : List Directive) (trees : Trees) (listed : ListedD
   pub records : IsListOf (IsRest records_tree (Int listed.id.0 ∷ []) trees) (map record_shown made.records.items)
   pub sound : CanKeepAll profile made.last made.records.items
   pub rising : IsStrictlySortedBy key_posting_order made.postings.items
-  pub postings : ArePostingsOf profile made.records.items made.postings.items
+  pub postings : AreRecordsPostings profile made.records.items made.postings.items
 
 abbrev pub IsMadeOrNone : List Directive → Trees → ListedDatabase → Option ExpectedDatabase → Type 0
-IsMadeOrNone profile trees listed None = ¬ IsSound profile trees listed.id.0 (string_bytes listed.name) listed.last
+IsMadeOrNone profile trees listed None = ¬ CanBeHeld profile trees listed.id.0 (string_bytes listed.name) listed.last
 IsMadeOrNone profile trees listed (Some made) = IsMadeOf profile trees listed made
 
 -- ---- all databases
 
 -- all that are there can be read and held
-pub record AreSound (profile : List Directive) (trees : Trees) : Type 0 where
+pub record CanAllBeHeld (profile : List Directive) (trees : Trees) : Type 0 where
   pub readable : AreReadableDatabases trees
-  pub each : (id : ℤ) (name : List ℕ) (last : ℕ) → HasDatabase trees id name (pos last) → IsSound profile trees id name last
+  pub each : (id : ℤ) (name : List ℕ) (last : ℕ) → HasDatabase trees id name (pos last) → CanBeHeld profile trees id name last
 
 -- what is expected of all databases that are there, in the order of their list
 pub record AreMade (profile : List Directive) (trees : Trees) (made : List ExpectedDatabase) : Type 0 where
@@ -106,7 +106,7 @@ pub record AreMade (profile : List Directive) (trees : Trees) (made : List Expec
   pub each : AllZip (IsMadeOf profile trees) listed made
 
 abbrev pub AreMadeOrNone : List Directive → Trees → Option (Vec ExpectedDatabase Global) → Type 0
-AreMadeOrNone profile trees None = ¬ AreSound profile trees
+AreMadeOrNone profile trees None = ¬ CanAllBeHeld profile trees
 AreMadeOrNone profile trees (Some made) = AreMade profile trees made.items
 
 -- ---- whole tables
@@ -119,5 +119,5 @@ pub record IsExpectation (format : Format) (profile : List Directive) (trees : T
   pub databases : AreMade profile trees expected.databases.items
 
 abbrev pub IsExpectationOrNone : Format → List Directive → Trees → Option Expected → Type 0
-IsExpectationOrNone format profile trees None = ¬ AreSound profile trees
+IsExpectationOrNone format profile trees None = ¬ CanAllBeHeld profile trees
 IsExpectationOrNone format profile trees (Some expected) = IsExpectation format profile trees expected
