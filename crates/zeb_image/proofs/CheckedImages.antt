@@ -1,5 +1,5 @@
 -- Some image of a format under a profile: tables are one just where they hold what is expected of what they hold.
-use Rattle.std.proofs.Common.{◌≡◌, List, refl, sym, subst}
+use Rattle.std.proofs.Common.{List, refl, sym, subst}
 use Rattle.sqlite.specs.State.{State}
 use Rattle.zeb_profile.specs.declared.directives.Directive.{Directive}
 use Rattle.zeb_profile.specs.Canonical.{canonical_text}

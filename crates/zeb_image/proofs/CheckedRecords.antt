@@ -71,7 +71,7 @@ module _ (profile : List Directive) where
 
 -- ---- a database that can be held
 
-number_inside : (m n : ℕ) → pos m ≡ pos n → m ≡ n
+pub number_inside : (m n : ℕ) → pos m ≡ pos n → m ≡ n
 number_inside m n same = cc
 
 module _ (profile : List Directive) (trees : Trees) (id : ℤ) (name : List ℕ) (last : ℕ) (sound : CanBeHeld profile trees id name last) where

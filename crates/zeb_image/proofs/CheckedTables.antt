@@ -1,20 +1,15 @@
 -- Whole tables beside what is expected of them: they are the image of what they hold just where they hold what is expected.
-use Rattle.std.proofs.Common.{◌≡◌, ◌≢◌, ◌↔◌, ◌⊎◌, ◌∙◌, ◌≤◌, ◌<◌, ℕ, ℤ, pos, List, [], ◌∷◌, map, Some, Ordering, Less, Equal, refl, sym, ap, ap₂, subst, inl, inr, string_bytes, arith, IsUtf8}
+use Rattle.std.proofs.Common.{◌≡◌, ◌≢◌, ◌∙◌, ◌≤◌, ℕ, ℤ, pos, List, [], ◌∷◌, map, Ordering, Less, refl, sym, ap, ap₂, subst, string_bytes, arith}
 use Rattle.std.specs.Cmp.Lexicographic.{slice_cmp}
-use Rattle.std.specs.List.{Contains}
 use Rattle.std.specs.List.Sorted.{IsStrictlySortedBy}
 use Rattle.std.specs.Ordering.{nat_cmp, ordering_then}
-use Rattle.std.proofs.lemmas.Str.{IsUtf8-string_bytes}
 use Rattle.sqlite.specs.declared.types.Value.TheVariants.{Int, Text, Blob}
 use Rattle.sqlite.specs.Order.{Row, column, row_cmp}
 use Rattle.sqlite.specs.State.{State}
-use Rattle.sqlite.specs.Tree.{Trees}
 use Rattle.sqlite_rules.specs.Lists.{Has}
-use Rattle.sqlite_rules.proofs.ListLemmas.{contains_had, has_contained}
+use Rattle.sqlite_rules.proofs.ListLemmas.{has_contained}
 use Rattle.sqlite_rules.proofs.ProbeLemmas.{has_mapped, mapped_has}
 use Rattle.zeb_profile.specs.declared.directives.Directive.{Directive}
-use Rattle.zeb_extract.specs.declared.keys.Key.{Key}
-use Rattle.zeb_extract.specs.declared.keys.Occurrence.{Occurrence}
 use Rattle.zeb_register.specs.declared.catalog.ListedDatabase.{ListedDatabase}
 use Rattle.zeb_register.specs.declared.expected.ExpectedDatabase.{ExpectedDatabase}
 use Rattle.zeb_register.specs.declared.kept.Record.{Record}
@@ -32,6 +27,7 @@ use Rattle.zeb_change.specs.Base.{Base, Kept}
 use Rattle.zeb_change.specs.Stored.{IsBase, IsKept}
 use Rattle.zeb_image.specs.PrivateChecking.{AreMade, IsMadeOf, kept_of}
 use Rattle.zeb_image.proofs.CheckedLists.{rises_before, zip_left, zip_right, zip_rises}
+use Rattle.zeb_image.proofs.CheckedRecords.{number_inside}
 
 -- ---- one database
 
@@ -43,9 +39,6 @@ text_inside a b same = cc
 
 blob_inside : (a b : List ℕ) → Blob a ≡ Blob b → a ≡ b
 blob_inside a b same = cc
-
-number_inside : (m n : ℕ) → pos m ≡ pos n → m ≡ n
-number_inside m n same = cc
 
 pub same_kept : (one other : Kept) → one.sysno ≡ other.sysno → one.ident ≡ other.ident → one.bytes ≡ other.bytes → one ≡ other
 same_kept one other number name text = λ i. record { sysno = number i; ident = name i; bytes = text i }

@@ -1,7 +1,6 @@
 -- Tables that hold just what is expected, with the databases that are there, are the image of these.
-use Rattle.std.proofs.Common.{◌≡◌, ◌≢◌, ◌⊎◌, ◌∙◌, ℕ, ℤ, pos, List, [], ◌∷◌, map, Some, Less, refl, sym, ap, subst, subst₂, inl, inr, string_bytes, IsUtf8}
+use Rattle.std.proofs.Common.{◌≡◌, ◌∙◌, ℕ, ℤ, pos, List, [], ◌∷◌, map, Less, refl, sym, ap, subst, subst₂, inl, inr, string_bytes}
 use Rattle.std.specs.Cmp.Lexicographic.{slice_cmp}
-use Rattle.std.specs.List.{Contains}
 use Rattle.std.specs.List.Sorted.{IsStrictlySortedBy}
 use Rattle.std.specs.Ordering.{nat_cmp}
 use Rattle.std.proofs.lemmas.Str.{IsUtf8-string_bytes}
@@ -14,7 +13,6 @@ use Rattle.zeb_profile.specs.Canonical.{canonical_text}
 use Rattle.zeb_profile.specs.Laws.{IsProfile}
 use Rattle.zeb_register.specs.declared.expected.Expected.{Expected}
 use Rattle.zeb_register.specs.declared.expected.ExpectedDatabase.{ExpectedDatabase}
-use Rattle.zeb_register.specs.Content.{Posting}
 use Rattle.zeb_register.specs.Expected.{AreExpected, name_order}
 use Rattle.zeb_register.specs.Formats.{Format, version_of}
 use Rattle.zeb_register.specs.Store.{IsStore}

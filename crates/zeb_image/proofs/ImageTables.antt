@@ -3,7 +3,6 @@ use Rattle.std.proofs.Common.{◌≡◌, ◌≢◌, ◌⊎◌, ◌∙◌, ◌≤
 use Rattle.std.specs.List.{Contains}
 use Rattle.std.specs.Option.{option_map}
 use Rattle.sqlite.specs.State.{State}
-use Rattle.sqlite.specs.Tree.{Trees}
 use Rattle.sqlite_rules.specs.Lists.{Has}
 use Rattle.sqlite_rules.proofs.ListLemmas.{contains_had, has_contained}
 use Rattle.sqlite_rules.proofs.ProbeLemmas.{has_mapped, mapped_has}
@@ -25,11 +24,9 @@ use Rattle.zeb_change.proofs.StoredLemmas.{told_id}
 use Rattle.zeb_image.specs.Image.{AreBases, HasTexts, IsImageOf}
 use Rattle.zeb_image.specs.Names.{IsDatabaseName}
 use Rattle.zeb_image.specs.PrivateChecking.{CanAllBeHeld, IsExpectation, IsMadeOf, kept_of}
+use Rattle.zeb_image.proofs.CheckedRecords.{number_inside}
 use Rattle.zeb_image.proofs.NameTexts.{name_text}
 use Rattle.zeb_image.proofs.CheckedTables.{listed_there, made_there, record_there, row_there, same_kept}
-
-number_inside : (m n : ℕ) → pos m ≡ pos n → m ≡ n
-number_inside m n same = cc
 
 some_inside : (a b : List ℕ) → ◌≡◌ {A = Option (List ℕ)} (Some a) (Some b) → a ≡ b
 some_inside a b same = cc

@@ -1,5 +1,5 @@
 -- Postings under their keys, put in order: by key, system number, unit and place.
-use Rattle.std.proofs.Common.{◌≡◌, ◌↔◌, ◌∙◌, ◌&&◌, ℕ, Bool, true, false, List, [], refl, sym, ap, subst, Ordering, Less, Equal, Greater, nat_eq}
+use Rattle.std.proofs.Common.{◌≡◌, ◌↔◌, ◌∙◌, ◌&&◌, Bool, true, false, List, [], refl, sym, ap, subst, Ordering, Less, Equal, Greater, nat_eq}
 use Rattle.std.specs.Bool.{Decides}
 use Rattle.std.specs.Cmp.{IsTotalOrder, Equal-is, on_total, then_total}
 use Rattle.std.specs.List.Retain.{IsFiltered, DiffersFromLast}

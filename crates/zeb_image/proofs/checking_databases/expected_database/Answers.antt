@@ -1,7 +1,6 @@
-use Rattle.std.proofs.Common.{rules, ◌≡◌, List, Err, subst, string_bytes}
+use Rattle.std.proofs.Common.{rules, ◌≡◌, Err, subst, string_bytes}
 use Rattle.sqlite.specs.Held.{state}
 use Rattle.zeb_register.specs.declared.RegFault.TheVariants.{Damaged}
-use Rattle.zeb_register.specs.declared.kept.Record.{Record}
 use Rattle.zeb_image.specs.PrivateChecking.{ArePostingsOrNone, CanKeepAll}
 use Rattle.zeb_image.proofs.CheckedRecords.{sound_kept, sound_readable}
 use Rattle.zeb_image.proofs.checking_databases.expected_database.Goals as goal

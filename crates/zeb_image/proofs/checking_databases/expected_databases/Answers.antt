@@ -1,4 +1,4 @@
-use Rattle.std.proofs.Common.{rules, ◌≡◌, ◌∙◌, ◌++◌, pos, List, [], ◌∷◌, append_assoc, inl, refl, sym, ap, subst, arith, string_bytes}
+use Rattle.std.proofs.Common.{rules, ◌≡◌, ◌∙◌, ◌++◌, pos, [], ◌∷◌, append_assoc, inl, refl, sym, ap, subst, arith, string_bytes}
 use Rattle.std.specs.List.{AllZip}
 use Rattle.std.specs.Option.{is_some}
 use Rattle.std.specs.Vec.Iter.{into_iter_items}
