@@ -2,6 +2,8 @@
 #![tactic(auto)]
 
 mod checking;
+mod checking_databases;
+mod checking_records;
 mod names;
 mod rebuilding;
 mod rebuilding_records;
