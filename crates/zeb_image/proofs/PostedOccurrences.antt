@@ -14,7 +14,8 @@ use Rattle.zeb_change.specs.PrivateChangedKeys.{AreChangedKeys, ArePostingsOf, C
 use Rattle.zeb_change.specs.Occurs.{OccursIn}
 use Rattle.zeb_change.specs.PrivateRecords.{AreOccurrencesOf}
 use Rattle.zeb_change.proofs.ChangeKeysContent.{moved, moved_is, moved_storable}
-use Rattle.zeb_image.specs.PrivateRebuilding.{HoldsSuch, IsRecordPosted, LacksRecord, as_kept}
+use Rattle.zeb_image.specs.PrivateChecking.{kept_of}
+use Rattle.zeb_image.specs.PrivateRebuilding.{HoldsSuch, IsRecordPosted, LacksRecord}
 
 module _ (id : ℤ) (sysno : ℕ) where
   -- a record without a posting has none of no occurrence
@@ -45,7 +46,7 @@ module _ (id : ℤ) (sysno : ℕ) where
 -- the occurrences of the record are those of its bytes
 pub record_posted : (format : Format) (trees : Trees) (profile : List Directive) (id : ℤ) (found : Record) (occurrences : List Occurrence) (before : Content)
     → AreOccurrencesOf profile found.bytes.items occurrences → HoldsSuch format trees (IsRecordPosted id found.sysno (Contains occurrences) before)
-    → HoldsSuch format trees (IsRecordPosted id found.sysno (OccursIn profile (as_kept found)) before)
+    → HoldsSuch format trees (IsRecordPosted id found.sysno (OccursIn profile (kept_of found)) before)
 record_posted format trees profile id found occurrences before are such = record {
   content = such.content;
   held = such.held;

@@ -16,7 +16,8 @@ use Rattle.zeb_register.specs.Store.{HasDatabase, HasRecord, KeepsLists, record_
 use Rattle.zeb_register.proofs.ContentChanges.{numbers_apart}
 use Rattle.zeb_register.proofs.RisingLists.{told_by}
 use Rattle.zeb_change.specs.Occurs.{OccursIn}
-use Rattle.zeb_image.specs.PrivateRebuilding.{IsPosted, IsPostedBelow, IsRecordPosted, LacksDatabase, LacksRecord, RowOccurs, as_kept}
+use Rattle.zeb_image.specs.PrivateChecking.{kept_of}
+use Rattle.zeb_image.specs.PrivateRebuilding.{IsPosted, IsPostedBelow, IsRecordPosted, LacksDatabase, LacksRecord, RowOccurs}
 use Rattle.zeb_image.specs.Rebuilding.{AreSoundIn, IsSound}
 use Rattle.zeb_image.proofs.Ids.{ids_told}
 
@@ -86,17 +87,17 @@ module _ (profile : List Directive) (lists : Trees) where
         first_lacks o there = let it = (below.part found.sysno o).0 there in omega (arith, it.0, first.1)
 
         module _ (one : (i j a b : List ℕ) → HasRecord lists id (pos found.sysno) i a → HasRecord lists id (pos found.sysno) j b → (i ≡ j) × (a ≡ b))
-            (after : Content) (is : IsRecordPosted id found.sysno (OccursIn profile (as_kept found)) mid after) where
+            (after : Content) (is : IsRecordPosted id found.sysno (OccursIn profile (kept_of found)) mid after) where
           of_found : (n : ℕ) (o : Occurrence) → n ≡ found.sysno → posted after id n o ↔ ((n < found.sysno + 1) × RowOccurs profile lists id n o)
           of_found n o same = (
             λ h.
                 let occurs = (is.part o).0 (subst (λ m. posted after id m o) same h) in
-                (omega (arith, same), subst (λ m. RowOccurs profile lists id m o) (sym same) ((as_kept found).ident, (as_kept found).bytes, first.0, occurs)),
+                (omega (arith, same), subst (λ m. RowOccurs profile lists id m o) (sym same) ((kept_of found).ident, (kept_of found).bytes, first.0, occurs)),
             λ h.
                 let row = subst (λ m. RowOccurs profile lists id m o) same h.1 in
-                let bytes = (one row.0 (as_kept found).ident row.1 (as_kept found).bytes row.2 first.0).1 in
-                let occurs : OccursIn profile (as_kept found) o =
-                subst (λ b. OccursIn profile (record { sysno = found.sysno; ident = (as_kept found).ident; bytes = b }) o) bytes row.3 in
+                let bytes = (one row.0 (kept_of found).ident row.1 (kept_of found).bytes row.2 first.0).1 in
+                let occurs : OccursIn profile (kept_of found) o =
+                subst (λ b. OccursIn profile (record { sysno = found.sysno; ident = (kept_of found).ident; bytes = b }) o) bytes row.3 in
                 subst (λ m. posted after id m o) (sym same) ((is.part o).1 occurs),
           )
 
@@ -132,12 +133,12 @@ module _ (profile : List Directive) (lists : Trees) where
 
     pub next_sound : (next : ℕ) → AreSoundBelow next → (found : Record) → IsFirstFrom lists id next (Some found)
         → ((i j a b : List ℕ) → HasRecord lists id (pos found.sysno) i a → HasRecord lists id (pos found.sysno) j b → (i ≡ j) × (a ≡ b))
-        → IsSound profile (as_kept found) → AreSoundBelow (found.sysno + 1)
+        → IsSound profile (kept_of found) → AreSoundBelow (found.sysno + 1)
     next_sound next sound found first one is n ident bytes small there = elim (told_number n found.sysno) [
       | inl same ↦
           let row = subst (λ m. HasRecord lists id (pos m) ident bytes) same there in
-          let alike = one (as_kept found).ident ident (as_kept found).bytes bytes first.0 row in
-          let kept_is : as_kept found ≡ record { sysno = n; ident = ident; bytes = bytes } = λ i. record { sysno = sym same i; ident = alike.0 i; bytes = alike.1 i } in
+          let alike = one (kept_of found).ident ident (kept_of found).bytes bytes first.0 row in
+          let kept_is : kept_of found ≡ record { sysno = n; ident = ident; bytes = bytes } = λ i. record { sysno = sym same i; ident = alike.0 i; bytes = alike.1 i } in
           subst (IsSound profile) kept_is is
       | inr differs ↦ elim (cases_lt n next) [
         | inl less ↦ sound n ident bytes less there

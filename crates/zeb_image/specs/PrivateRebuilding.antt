@@ -1,19 +1,13 @@
 -- What only the contracts of private functions speak of; no public clause reaches it.
 -- Registers on their way: which of the kept records have their postings in them.
-use Rattle.std.specs.Prelude.{◌≡◌, ◌≢◌, ◌↔◌, ◌<◌, ℕ, ℤ, pos, List, string_bytes}
+use Rattle.std.specs.Prelude.{◌≡◌, ◌≢◌, ◌↔◌, ◌<◌, ℕ, ℤ, pos, List}
 use Rattle.sqlite.specs.Tree.{Trees}
 use Rattle.zeb_profile.specs.declared.directives.Directive.{Directive}
 use Rattle.zeb_extract.specs.declared.keys.Occurrence.{Occurrence}
-use Rattle.zeb_register.specs.declared.kept.Record.{Record}
 use Rattle.zeb_register.specs.Content.{Content, IsStorable, posted}
 use Rattle.zeb_register.specs.Formats.{Format, holds_in}
 use Rattle.zeb_register.specs.Store.{HasRecord}
-use Rattle.zeb_change.specs.Base.{Kept}
 use Rattle.zeb_change.specs.Occurs.{OccursIn}
-
--- a record that was read
-abbrev pub as_kept : Record → Kept
-as_kept found = record { sysno = found.sysno; ident = string_bytes found.ident; bytes = found.bytes.items }
 
 -- the database keeps a record of this number that has the occurrence
 abbrev pub RowOccurs : List Directive → Trees → ℤ → ℕ → Occurrence → Type 0

@@ -14,7 +14,8 @@ ghost use Rattle.zeb_change.specs.PrivateChangedKeys.{CanBeStored};
 ghost use Rattle.zeb_change.specs.PrivateRecords.{AreOccurrencesOf};
 ghost use Rattle.zeb_change.specs.Stored.{IsKept};
 ghost use Rattle.zeb_image.specs.Rebuilding.{IsSound};
-ghost use Rattle.zeb_image.specs.PrivateRebuilding.{HoldsSuch, IsRecordPosted, LacksRecord, as_kept};
+ghost use Rattle.zeb_image.specs.PrivateChecking.{kept_of};
+ghost use Rattle.zeb_image.specs.PrivateRebuilding.{HoldsSuch, IsRecordPosted, LacksRecord};
 
 use sqlite::{Alter, Transaction};
 use std::alloc::Global;
@@ -33,9 +34,9 @@ fn kept_occurrences(
     profile: &Profile,
     kept: &Record,
 ) -> Result<Vec<Occurrence>, RegFault>
-    ensures sound { IfOk result (λ found. IsKept profile.now (as_kept kept.now)) }
+    ensures sound { IfOk result (λ found. IsKept profile.now (kept_of kept.now)) }
     ensures found { IfOk result (λ found. AreOccurrencesOf profile.now kept.now.bytes.items found.items) }
-    ensures damaged { result ≡ Err RegFault.Damaged → ¬ IsKept profile.now (as_kept kept.now) }
+    ensures damaged { result ≡ Err RegFault.Damaged → ¬ IsKept profile.now (kept_of kept.now) }
 {
     let Ok(marc) = Marc::read(&kept.bytes) else {
         return Err(RegFault::Damaged);
@@ -65,7 +66,7 @@ pub(crate) fn record_post<S: Alter, L: Layout>(
     ensures stays { HasCleanDisk (state S.Store tx.new.conn.now) → IsTrue (state S.Store tx.old.conn.now).in_transaction
         → Stays (state S.Store tx.old.conn.now) (state S.Store tx.new.conn.now) result }
     ensures crash { Survives (state S.Store tx.old.conn.now) (state S.Store tx.new.conn.now) (λ _. ⊥) }
-    ensures sound { OnOk result (IsSound profile.now (as_kept kept.now)) }
+    ensures sound { OnOk result (IsSound profile.now (kept_of kept.now)) }
     ensures number { OnOk result (kept.now.sysno ≤ 999999999) }
     ensures kept { HasCleanDisk (state S.Store tx.new.conn.now) → IsTrue (state S.Store tx.old.conn.now).in_transaction
         → IsStore (state S.Store tx.old.conn.now)
@@ -75,11 +76,11 @@ pub(crate) fn record_post<S: Alter, L: Layout>(
         → IsStore (state S.Store tx.old.conn.now)
         → OnOk result ((before : Content) → holds_in L.format (state S.Store tx.old.conn.now).now.trees before
         → IsStorable before → LacksRecord db.0 kept.now.sysno before → HoldsSuch L.format (state S.Store tx.new.conn.now).now.trees
-        (IsRecordPosted db.0 kept.now.sysno (OccursIn profile.now (as_kept kept.now)) before)) }
+        (IsRecordPosted db.0 kept.now.sysno (OccursIn profile.now (kept_of kept.now)) before)) }
     ensures damaged { HasCleanDisk (state S.Store tx.new.conn.now) → IsTrue (state S.Store tx.old.conn.now).in_transaction
         → IsStore (state S.Store tx.old.conn.now) → result ≡ Err RegFault.Damaged
         → (before : Content) → holds_in L.format (state S.Store tx.old.conn.now).now.trees before → IsStorable before
-        → LacksRecord db.0 kept.now.sysno before → ¬ IsSound profile.now (as_kept kept.now) }
+        → LacksRecord db.0 kept.now.sysno before → ¬ IsSound profile.now (kept_of kept.now) }
 {
     if kept.sysno < 1 || kept.sysno > Limits::GREATEST.numbers {
         return Err(RegFault::Damaged);
