@@ -17,7 +17,7 @@ use Rattle.zeb_register.proofs.ContentChanges.{numbers_apart}
 use Rattle.zeb_register.proofs.RisingLists.{told_by}
 use Rattle.zeb_change.specs.Occurs.{OccursIn}
 use Rattle.zeb_image.specs.PrivateChecking.{kept_of}
-use Rattle.zeb_image.specs.PrivateRebuilding.{IsPosted, IsPostedBelow, IsRecordPosted, LacksDatabase, LacksRecord, RowOccurs}
+use Rattle.zeb_image.specs.PrivateRebuilding.{IsPosted, IsRecordPosted, LacksDatabase, LacksRecord, RowOccurs}
 use Rattle.zeb_image.specs.Rebuilding.{AreSoundIn, IsSound}
 use Rattle.zeb_image.proofs.Ids.{ids_told}
 
@@ -64,6 +64,11 @@ module _ (old new : Trees) (keeps : KeepsLists old new) (profile : List Directiv
 
 told_number : (a b : ℕ) → (a ≡ b) ⊎ (a ≢ b)
 told_number a b = told_by nat_cmp_total numbers_apart a b
+
+-- a database's records below a number have their postings; those of each other database are as they were
+pub record IsPostedBelow (profile : List Directive) (lists : Trees) (id : ℤ) (next : ℕ) (before after : Content) : Type 0 where
+  pub part : (n : ℕ) (o : Occurrence) → posted after id n o ↔ ((n < next) × RowOccurs profile lists id n o)
+  pub others : (d : ℤ) (n : ℕ) (o : Occurrence) → d ≢ id → posted after d n o ↔ posted before d n o
 
 module _ (profile : List Directive) (lists : Trees) where
   -- ---- the records of one database

@@ -1,6 +1,6 @@
 -- What only the contracts of private functions speak of; no public clause reaches it.
 -- Registers on their way: which of the kept records have their postings in them.
-use Rattle.std.specs.Prelude.{◌≡◌, ◌≢◌, ◌↔◌, ◌<◌, ℕ, ℤ, pos, List}
+use Rattle.std.specs.Prelude.{◌≡◌, ◌≢◌, ◌↔◌, ℕ, ℤ, pos, List}
 use Rattle.sqlite.specs.Tree.{Trees}
 use Rattle.zeb_profile.specs.declared.directives.Directive.{Directive}
 use Rattle.zeb_extract.specs.declared.keys.Occurrence.{Occurrence}
@@ -35,12 +35,7 @@ LacksRecord id sysno content = (o : Occurrence) → ¬ posted content id sysno o
 abbrev pub LacksDatabase : ℤ → Content → Type 0
 LacksDatabase id content = (n : ℕ) → LacksRecord id n content
 
--- a database's records below a number have their postings; those of each other database are as they were
-pub record IsPostedBelow (profile : List Directive) (lists : Trees) (id : ℤ) (next : ℕ) (before after : Content) : Type 0 where
-  pub part : (n : ℕ) (o : Occurrence) → posted after id n o ↔ ((n < next) × RowOccurs profile lists id n o)
-  pub others : (d : ℤ) (n : ℕ) (o : Occurrence) → d ≢ id → posted after d n o ↔ posted before d n o
-
--- all of its records have them
+-- all records of a database have their postings; those of each other database are as they were
 pub record IsPosted (profile : List Directive) (lists : Trees) (id : ℤ) (before after : Content) : Type 0 where
   pub part : (n : ℕ) (o : Occurrence) → posted after id n o ↔ RowOccurs profile lists id n o
   pub others : (d : ℤ) (n : ℕ) (o : Occurrence) → d ≢ id → posted after d n o ↔ posted before d n o

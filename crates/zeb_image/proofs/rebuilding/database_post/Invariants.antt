@@ -5,8 +5,9 @@ use Rattle.zeb_register.specs.Content.{Content, IsStorable}
 use Rattle.zeb_register.specs.Formats.{holds_in}
 use Rattle.zeb_register.specs.Store.{HasRecord, IsStore, KeepsLists}
 use Rattle.zeb_change.specs.Inside.{Continues}
-use Rattle.zeb_image.specs.PrivateRebuilding.{HoldsSuch, IsPostedBelow, LacksDatabase}
+use Rattle.zeb_image.specs.PrivateRebuilding.{HoldsSuch, LacksDatabase}
 use Rattle.zeb_image.specs.Rebuilding.{IsSound}
+use Rattle.zeb_image.proofs.RebuiltPostings.{IsPostedBelow}
 use Rattle.zeb_image.proofs.rebuilding.database_post.Given as goal
 
 abbrev pub invariant-loop-turn : goal.invariant-loop-turn
