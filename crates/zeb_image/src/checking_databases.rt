@@ -12,11 +12,9 @@ use crate::checking_records::postings_of;
 use crate::names::DbName;
 use sqlite::{Alter, Connection};
 use std::alloc::Global;
+use zeb_change::Limits;
 use zeb_profile::Profile;
 use zeb_register::{ExpectedDatabase, ListedDatabase, RegFault, databases, records};
-
-/// The greatest system number that a database gives.
-const GREATEST_NUMBER: u64 = 999_999_999;
 
 /// What is expected of all databases that the tables list, or `None` where a row can't be read or is of nothing that can be held.
 pub(crate) fn expected_databases<S: Alter>(
@@ -58,7 +56,7 @@ fn expected_database<S: Alter>(
     ensures honest { result ≢ Err RegFault.Damaged }
 {
     let ListedDatabase { id, name, last } = listed;
-    if last > GREATEST_NUMBER || DbName::read(name.as_str()).is_none() {
+    if last > Limits::GREATEST.numbers || DbName::read(name.as_str()).is_none() {
         return Ok(None);
     }
     let records = match records(alloc, connection, id) {
