@@ -1,5 +1,5 @@
 -- The names of databases are texts.
-use Rattle.std.proofs.Common.{◌≡◌, ◌⊎◌, ◌||◌, ◌==◌, ℕ, ◌<◌, ◌≤◌, true, List, length, get_or, IsTrue, IsUtf8, inl, inr, subst, sym, arith}
+use Rattle.std.proofs.Common.{◌≡◌, ◌||◌, ◌==◌, ℕ, ◌<◌, true, List, length, get_or, IsTrue, IsUtf8, inl, inr, arith}
 use Rattle.std.specs.Char.{is_ascii_alphanumeric}
 use Rattle.std.specs.Int.{is_in_range}
 use Rattle.std.proofs.lemmas.Bool.{and_parts, cases_lt, eqb-true, leb-true, or_cases}
