@@ -10,9 +10,9 @@ use std::cmp::Ordering;
 use zeb_extract::{Key, Occurrence, order_is_by_parts};
 use zeb_register::Place;
 
-/// A key with its places in the elder record and in the newer one.
+/// A key with its places in the elder record and in the newer one. Either list rises.
 #[derive(Drop)]
-pub(crate) struct ChangedKey<'a> {
+pub struct ChangedKey<'a> {
     pub key: &'a Key,
     pub old: Vec<Place>,
     pub new: Vec<Place>,
@@ -79,8 +79,10 @@ fn note<'a>(
     Ok(())
 }
 
-/// The keys, in their order, whose places differ between two rising lists of occurrences.
-pub(crate) fn changed_keys<'a>(
+/// The keys, in their order, whose places differ between two rising lists of occurrences, each once, with its places in either.
+///
+/// Where there is no elder record, these are the newer one's keys with all their places. An error is want of memory.
+pub fn changed_keys<'a>(
     alloc: Global,
     elder: &'a [Occurrence],
     newer: &'a [Occurrence],

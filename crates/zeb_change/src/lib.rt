@@ -1,7 +1,7 @@
 //! One database changed inside a transaction: the records of files are folded into it, one by one.
 #![tactic(auto)]
 
-mod changed_keys;
+pub mod changed_keys;
 mod counts;
 mod faults;
 mod files;

@@ -1,3 +1,14 @@
 pub mod Bases
+pub mod CheckedImages
+pub mod CheckedLists
+pub mod CheckedRecords
+pub mod CheckedTables
+pub mod ExpectedTables
 pub mod Ids
+pub mod ImageTables
+pub mod NameTexts
 pub mod OneText
+pub mod OrderedPostings
+pub mod PostedOccurrences
+pub mod RebuiltImages
+pub mod RebuiltPostings

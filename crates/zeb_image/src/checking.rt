@@ -1,8 +1,8 @@
 //! Whether whole tables are the image of something that can be held.
 
-ghost use Rattle.std.specs.Prelude.{◌≡◌, ◌≢◌, ◌↔◌, IsTrue, IfOk, List};
+ghost use Rattle.std.specs.Prelude.{◌≡◌, ◌≢◌, ◌↔◌, IsSome, IsTrue, IfOk, List};
 ghost use Rattle.sqlite.specs.Held.{state};
-ghost use Rattle.sqlite.specs.State.{HasCleanDisk, IsUnchanged};
+ghost use Rattle.sqlite.specs.State.{HasCleanDisk};
 ghost use Rattle.zeb_profile.specs.Canonical.{canonical_text};
 ghost use Rattle.zeb_register.specs.Calls.{Reading};
 ghost use Rattle.zeb_register.specs.Formats.{version_of};
@@ -10,27 +10,58 @@ ghost use Rattle.zeb_register.specs.Store.{IsStore};
 ghost use Rattle.zeb_change.specs.Base.{Base};
 ghost use Rattle.zeb_image.specs.Holdings.{under};
 ghost use Rattle.zeb_image.specs.Image.{IsImage};
+ghost use Rattle.zeb_image.specs.Looking.{Looks};
+ghost use Rattle.zeb_image.specs.PrivateChecking.{IsExpectationOrNone};
 
+use crate::checking_databases::expected_databases;
 use sqlite::{Alter, Connection};
 use std::alloc::Global;
 use zeb_profile::Profile;
-use zeb_register::{Layout, RegFault};
+use zeb_register::{Expected, Layout, RegFault};
 
 /// Whether the tables are the image of a register of this layout under this profile: its texts, its databases with their last numbers
 /// and their records, and the registers that follow from these, and no other row.
 ///
-/// Every row of every table is read, and changes nothing. All records and their postings are held at once: for `n` bytes of records some
-/// multiple of `n` bytes of memory. `Store` and `Memory` where it can't be told; never `Damaged`.
+/// It reads every row of every table, or ends at the first that is part of no image, and changes nothing. All records and their postings
+/// are held at once: for `n` bytes of records some multiple of `n` bytes of memory. `Store` and `Memory` where it can't be told; never
+/// `Damaged`.
 pub fn is_image<S: Alter, L: Layout>(
     alloc: Global,
     connection: &mut Connection<S>,
     profile: &Profile,
 ) -> Result<bool, RegFault>
-    ensures call { Reading (state S.Store connection.old) (state S.Store connection.new) result (λ _. IsUnchanged) }
+    ensures call { Reading (state S.Store connection.old) (state S.Store connection.new) result (λ it. Looks (IsTrue it)) }
     ensures value { HasCleanDisk (state S.Store connection.new) → IsStore (state S.Store connection.old)
         → IfOk result (λ it. IsTrue it ↔ ((bases : List Base) × IsImage (state S.Store connection.old).now.trees
         (under (version_of L.format) (canonical_text profile.now) bases))) }
     ensures honest { result ≢ Err RegFault.Damaged }
 {
-    Err(RegFault::Memory)
+    // Its profile is some text's.
+    profile.is_of_some_text();
+    match expectation::<S, L>(alloc, connection, profile)? {
+        Some(expected) => L::agrees(alloc, connection, &expected),
+        None => Ok(false),
+    }
+}
+
+/// What the tables have to hold beside the databases and records that they hold, or `None` where these are none that can be held.
+fn expectation<S: Alter, L: Layout>(
+    alloc: Global,
+    connection: &mut Connection<S>,
+    profile: &Profile,
+) -> Result<Option<Expected>, RegFault>
+    ensures call { Reading (state S.Store connection.old) (state S.Store connection.new) result (λ found. Looks (IsSome found)) }
+    ensures value { HasCleanDisk (state S.Store connection.new) → IsStore (state S.Store connection.old)
+        → IfOk result (IsExpectationOrNone L.format profile.now (state S.Store connection.old).now.trees) }
+    ensures honest { result ≢ Err RegFault.Damaged }
+{
+    let Some(databases) = expected_databases(alloc, connection, profile)? else {
+        return Ok(None);
+    };
+    Ok(Some(Expected {
+        version: String::from_str(alloc, L::version())?,
+        profile: String::from_str(alloc, profile.text())?,
+        identifier: profile.identifier_rule().to_string(alloc)?,
+        databases,
+    }))
 }

@@ -2,8 +2,11 @@
 #![tactic(auto)]
 
 mod checking;
+mod checking_databases;
+mod checking_records;
 mod names;
 mod rebuilding;
+mod rebuilding_records;
 
 pub use checking::is_image;
 pub use names::DbName;

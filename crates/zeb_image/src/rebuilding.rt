@@ -1,24 +1,33 @@
 //! The registers made anew from the kept records.
 
-ghost use Rattle.std.specs.Prelude.{◌≡◌, IsTrue, OnOk, List};
+ghost use Rattle.std.specs.Prelude.{◌≡◌, ◌≢◌, ℕ, IsTrue, OnOk, List};
 ghost use Rattle.sqlite.specs.Held.{state};
-ghost use Rattle.sqlite.specs.State.{HasCleanDisk};
+ghost use Rattle.sqlite.specs.State.{HasCleanDisk, Survives};
 ghost use Rattle.zeb_profile.specs.declared.directives.Directive.{Directive};
 ghost use Rattle.zeb_register.specs.Calls.{GoesOn, Inside};
-ghost use Rattle.zeb_register.specs.Formats.{Format};
+ghost use Rattle.zeb_register.specs.Content.{Content, IsStorable};
+ghost use Rattle.zeb_register.specs.Formats.{Format, holds_in};
+ghost use Rattle.zeb_register.specs.Kept.{AreReadable};
 ghost use Rattle.zeb_register.specs.Store.{IsStore, KeepsLists};
 ghost use Rattle.zeb_change.specs.Base.{Base};
+ghost use Rattle.zeb_change.specs.Inside.{Stays};
 ghost use Rattle.zeb_image.specs.Image.{AreBases, IsImageOf};
+ghost use Rattle.zeb_image.specs.Rebuilding.{AreReadableLists, AreSound, AreSoundIn};
+ghost use Rattle.zeb_image.specs.PrivateRebuilding.{HoldsSuch, IsPosted, LacksDatabase};
 
+use crate::rebuilding_records::record_post;
 use sqlite::{Alter, Transaction};
 use std::alloc::Global;
 use zeb_profile::Profile;
-use zeb_register::{Layout, RegFault};
+use zeb_register::{
+    DatabaseId, Layout, RegFault, databases_inside, record_from_inside, registers_wipe,
+};
 
-/// Takes every row of the registers out, in whichever format, and puts in this layout's rows of what the kept records have under the profile.
-/// Texts, databases and records stay.
+/// Takes every row of the registers out, in whichever format, and puts in this layout's rows of what the kept records have under the
+/// profile. Texts, databases and records stay. One record is held at a time.
 ///
-/// `Damaged` where a record isn't one of ISO 2709 with the identifier that it is kept under.
+/// `Damaged` where a record isn't one of ISO 2709 with the identifier that it is kept under, where its number isn't 1 to 999,999,999, and
+/// where a row of the lists can't be read.
 pub fn rebuild<S: Alter, L: Layout>(
     alloc: Global,
     tx: &mut Transaction<'_, S>,
@@ -30,12 +39,65 @@ pub fn rebuild<S: Alter, L: Layout>(
         → IsStore (state S.Store tx.old.conn.now)
         → OnOk result (IsStore (state S.Store tx.new.conn.now)
         × KeepsLists (state S.Store tx.old.conn.now).now.trees (state S.Store tx.new.conn.now).now.trees
-        × ((format : Format) (told : List Directive) (bases : List Base) → IsImageOf format told (state S.Store tx.old.conn.now).now.trees bases
-        → AreBases profile.now bases → IsImageOf L.format profile.now (state S.Store tx.new.conn.now).now.trees bases)) }
+        × ((format : Format) (told : List Directive) (bases : List Base)
+        → IsImageOf format told (state S.Store tx.old.conn.now).now.trees bases → AreBases profile.now bases
+        → IsImageOf L.format profile.now (state S.Store tx.new.conn.now).now.trees bases)) }
     ensures honest { HasCleanDisk (state S.Store tx.new.conn.now) → IsTrue (state S.Store tx.old.conn.now).in_transaction
         → IsStore (state S.Store tx.old.conn.now) → result ≡ Err RegFault.Damaged
-        → (format : Format) (told : List Directive) (bases : List Base) → IsImageOf format told (state S.Store tx.old.conn.now).now.trees bases
-        → ¬ AreBases profile.now bases }
+        → (format : Format) (told : List Directive) (bases : List Base)
+        → IsImageOf format told (state S.Store tx.old.conn.now).now.trees bases → ¬ AreBases profile.now bases }
+    ensures checked { HasCleanDisk (state S.Store tx.new.conn.now) → IsTrue (state S.Store tx.old.conn.now).in_transaction
+        → IsStore (state S.Store tx.old.conn.now) → OnOk result (AreSound profile.now (state S.Store tx.old.conn.now).now.trees) }
+    ensures damaged { HasCleanDisk (state S.Store tx.new.conn.now) → IsTrue (state S.Store tx.old.conn.now).in_transaction
+        → IsStore (state S.Store tx.old.conn.now) → result ≡ Err RegFault.Damaged
+        → AreReadableLists (state S.Store tx.old.conn.now).now.trees
+        → ¬ AreSound profile.now (state S.Store tx.old.conn.now).now.trees }
 {
-    Err(RegFault::Memory)
+    registers_wipe(tx)?;
+    let databases = databases_inside(alloc, tx)?;
+    for database in &databases {
+        database_post::<S, L>(alloc, tx, profile, database.id)?;
+    }
+    Ok(())
+}
+
+/// Puts the postings of a database's records in, which has none. Its records are read one after the other.
+fn database_post<S: Alter, L: Layout>(
+    alloc: Global,
+    tx: &mut Transaction<'_, S>,
+    profile: &Profile,
+    db: DatabaseId,
+) -> Result<(), RegFault>
+    ensures same { tx.new.conn.ghost_name ≡ tx.old.conn.ghost_name }
+    ensures stays { HasCleanDisk (state S.Store tx.new.conn.now) → IsTrue (state S.Store tx.old.conn.now).in_transaction
+        → Stays (state S.Store tx.old.conn.now) (state S.Store tx.new.conn.now) result }
+    ensures crash { Survives (state S.Store tx.old.conn.now) (state S.Store tx.new.conn.now) (λ _. ⊥) }
+    ensures kept { HasCleanDisk (state S.Store tx.new.conn.now) → IsTrue (state S.Store tx.old.conn.now).in_transaction
+        → IsStore (state S.Store tx.old.conn.now)
+        → OnOk result (IsStore (state S.Store tx.new.conn.now)
+        × KeepsLists (state S.Store tx.old.conn.now).now.trees (state S.Store tx.new.conn.now).now.trees) }
+    ensures checked { HasCleanDisk (state S.Store tx.new.conn.now) → IsTrue (state S.Store tx.old.conn.now).in_transaction
+        → IsStore (state S.Store tx.old.conn.now)
+        → OnOk result (AreSoundIn profile.now (state S.Store tx.old.conn.now).now.trees db.0) }
+    ensures posted { HasCleanDisk (state S.Store tx.new.conn.now) → IsTrue (state S.Store tx.old.conn.now).in_transaction
+        → IsStore (state S.Store tx.old.conn.now)
+        → OnOk result ((before : Content) → holds_in L.format (state S.Store tx.old.conn.now).now.trees before → IsStorable before
+        → LacksDatabase db.0 before → HoldsSuch L.format (state S.Store tx.new.conn.now).now.trees
+        (IsPosted profile.now (state S.Store tx.old.conn.now).now.trees db.0 before)) }
+    ensures damaged { HasCleanDisk (state S.Store tx.new.conn.now) → IsTrue (state S.Store tx.old.conn.now).in_transaction
+        → IsStore (state S.Store tx.old.conn.now) → result ≡ Err RegFault.Damaged
+        → (before : Content) → holds_in L.format (state S.Store tx.old.conn.now).now.trees before → IsStorable before
+        → LacksDatabase db.0 before → AreReadable (state S.Store tx.old.conn.now).now.trees db.0
+        → ¬ AreSoundIn profile.now (state S.Store tx.old.conn.now).now.trees db.0 }
+{
+    let mut next: u64 = 0;
+    for _turn in 0..u64::MAX {
+        let Some(record) = record_from_inside(tx, db, next)? else {
+            return Ok(());
+        };
+        record_post::<S, L>(alloc, tx, profile, db, &record)?;
+        next = record.sysno + 1;
+    }
+    // Numbers that rise come to an end before this, so the store gave others.
+    Err(RegFault::Store)
 }

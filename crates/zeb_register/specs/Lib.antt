@@ -16,3 +16,4 @@ pub mod RowPlaces
 pub mod PackedRows
 pub mod PackedChanges
 pub mod Formats
+pub mod Expected

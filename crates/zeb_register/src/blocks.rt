@@ -15,7 +15,7 @@ use crate::packed::{postings_packed, terms_packed, terms_packed_before, terms_pa
 use crate::packed_runs::{key_change_packed, key_changes_packed};
 use crate::packed_totals::totals_packed;
 use crate::registers::{Layout, Place, RecordChange, TermCount, Totals, Work};
-use crate::{DatabaseId, RegFault};
+use crate::{DatabaseId, Expected, RegFault};
 use sqlite::{Alter, Connection, Transaction};
 use std::alloc::Global;
 use zeb_blocks::Posting;
@@ -142,5 +142,13 @@ impl Layout for Blocks {
         register: Register,
     ) -> Result<Totals, RegFault> {
         totals_packed(alloc, conn, work, db, index, register)
+    }
+
+    fn agrees<S: Alter>(
+        alloc: Global,
+        conn: &mut Connection<S>,
+        expected: &Expected,
+    ) -> Result<bool, RegFault> {
+        Err(RegFault::Memory)
     }
 }

@@ -6,7 +6,8 @@ ghost use Rattle.sqlite.specs.Held.{state};
 ghost use Rattle.sqlite.specs.State.{HasCleanDisk, IsUnchanged};
 ghost use Rattle.zeb_register.specs.Store.{IsStore, Changes, databases_tree, TakesDatabase};
 ghost use Rattle.zeb_register.specs.Catalog.{IsDatabaseOf, AreCountedDatabases, PutsDatabase};
-ghost use Rattle.zeb_register.specs.Calls.{GoesOn, Alters, Inside, Reading, MayRefuse};
+ghost use Rattle.zeb_register.specs.Catalog.{AreDatabases, AreReadableDatabases};
+ghost use Rattle.zeb_register.specs.Calls.{GoesOn, OnlyReads, Alters, Inside, Reading, MayRefuse};
 
 use crate::RegFault;
 use crate::statements::databases::{
@@ -14,6 +15,7 @@ use crate::statements::databases::{
 };
 use crate::values::{read, read_integer, stored};
 use sqlite::{Alter, Connection, Transaction};
+use std::alloc::Global;
 
 /// What the tables know a database by. It stays the same as long as the database is there.
 #[derive(Clone, Copy, Debug, PartialEq, Eq)]
@@ -23,6 +25,14 @@ pub struct DatabaseId(i64);
 #[derive(Clone, Copy, Debug, PartialEq, Eq)]
 pub struct Database {
     pub id: DatabaseId,
+    pub last: u64,
+}
+
+/// A database of the list of all: what the tables know it by, its name, and the greatest system number that it has given.
+#[derive(Debug, PartialEq, Eq, Drop)]
+pub struct ListedDatabase {
+    pub id: DatabaseId,
+    pub name: String,
     pub last: u64,
 }
 
@@ -60,6 +70,44 @@ pub fn database_of<S: Alter>(
         })),
         None => Ok(None),
     }
+}
+
+/// All databases, rising by the bytes of their names.
+///
+/// `Damaged` where a last number is below 0 or a name is no UTF-8. It changes nothing.
+pub fn databases<S: Alter>(
+    alloc: Global,
+    conn: &mut Connection<S>,
+) -> Result<Vec<ListedDatabase>, RegFault>
+    ensures call { Reading (state S.Store conn.old) (state S.Store conn.new) result (λ _. IsUnchanged) }
+    ensures value { HasCleanDisk (state S.Store conn.new) → IsStore (state S.Store conn.old)
+        → IfOk result (λ list. AreDatabases (state S.Store conn.old).now.trees list.items) }
+    ensures honest { HasCleanDisk (state S.Store conn.new) → IsStore (state S.Store conn.old) → result ≡ Err RegFault.Damaged
+        → ¬ AreReadableDatabases (state S.Store conn.old).now.trees }
+    ensures opened { HasCleanDisk (state S.Store conn.new) → result ≡ Err RegFault.Damaged → IsTrue (state S.Store conn.old).is_open }
+    ensures refused { HasCleanDisk (state S.Store conn.new) → IsStore (state S.Store conn.old) → result ≡ Err RegFault.Store
+        → MayRefuse (state S.Store conn.old) (state S.Store conn.new) }
+{
+    Err(RegFault::Memory)
+}
+
+/// The same inside a transaction.
+pub fn databases_inside<S: Alter>(
+    alloc: Global,
+    tx: &mut Transaction<'_, S>,
+) -> Result<Vec<ListedDatabase>, RegFault>
+    ensures same { tx.new.conn.ghost_name ≡ tx.old.conn.ghost_name }
+    ensures call { Inside (state S.Store tx.old.conn.now) (state S.Store tx.new.conn.now) result (λ _. OnlyReads) }
+    ensures value { HasCleanDisk (state S.Store tx.new.conn.now) → IsTrue (state S.Store tx.old.conn.now).in_transaction
+        → IsStore (state S.Store tx.old.conn.now)
+        → IfOk result (λ list. AreDatabases (state S.Store tx.old.conn.now).now.trees list.items) }
+    ensures honest { HasCleanDisk (state S.Store tx.new.conn.now) → IsTrue (state S.Store tx.old.conn.now).in_transaction
+        → IsStore (state S.Store tx.old.conn.now) → result ≡ Err RegFault.Damaged
+        → ¬ AreReadableDatabases (state S.Store tx.old.conn.now).now.trees }
+    ensures opened { HasCleanDisk (state S.Store tx.new.conn.now) → IsTrue (state S.Store tx.old.conn.now).in_transaction
+        → result ≡ Err RegFault.Damaged → IsTrue (state S.Store tx.old.conn.now).is_open }
+{
+    Err(RegFault::Memory)
 }
 
 /// Sets the last number of the database of this name, which is made where it is absent, and answers what the tables know it by.

@@ -187,6 +187,27 @@ pub fn record_from<S: Alter>(
     }
 }
 
+/// The same inside a transaction.
+pub fn record_from_inside<S: Alter>(
+    tx: &mut Transaction<'_, S>,
+    db: DatabaseId,
+    start: u64,
+) -> Result<Option<Record>, RegFault>
+    ensures same { tx.new.conn.ghost_name ≡ tx.old.conn.ghost_name }
+    ensures call { Inside (state S.Store tx.old.conn.now) (state S.Store tx.new.conn.now) result (λ _. OnlyReads) }
+    ensures value { HasCleanDisk (state S.Store tx.new.conn.now) → IsTrue (state S.Store tx.old.conn.now).in_transaction
+        → IsStore (state S.Store tx.old.conn.now) → start < 2 ^ 63
+        → IfOk result (IsFirstFrom (state S.Store tx.old.conn.now).now.trees db.0 start) }
+    ensures large { 2 ^ 63 ≤ start → IfOk result (λ found. found ≡ None) }
+    ensures honest { HasCleanDisk (state S.Store tx.new.conn.now) → IsTrue (state S.Store tx.old.conn.now).in_transaction
+        → IsStore (state S.Store tx.old.conn.now) → result ≡ Err RegFault.Damaged
+        → ¬ AreReadable (state S.Store tx.old.conn.now).now.trees db.0 }
+    ensures opened { HasCleanDisk (state S.Store tx.new.conn.now) → IsTrue (state S.Store tx.old.conn.now).in_transaction
+        → result ≡ Err RegFault.Damaged → IsTrue (state S.Store tx.old.conn.now).is_open }
+{
+    Err(RegFault::Memory)
+}
+
 /// The records of a database, in rising order of their system numbers.
 ///
 /// `Damaged` where a number is below 0 or an identifier is no UTF-8. It changes nothing.

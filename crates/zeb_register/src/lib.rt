@@ -9,6 +9,7 @@
 mod blocks;
 mod catalog;
 mod dropping;
+mod expected;
 mod faults;
 mod kept;
 mod lists;
@@ -29,11 +30,14 @@ mod values;
 mod wiping;
 
 pub use blocks::Blocks;
-pub use catalog::{Database, DatabaseId, database_of, database_put};
+pub use catalog::{
+    Database, DatabaseId, ListedDatabase, database_of, database_put, databases, databases_inside,
+};
+pub use expected::{Expected, ExpectedDatabase, KeyPosting};
 pub use faults::RegFault;
 pub use kept::{
-    Elder, Record, ident_of, record_count, record_from, record_of_ident, record_put, record_take,
-    records,
+    Elder, Record, ident_of, record_count, record_from, record_from_inside, record_of_ident,
+    record_put, record_take, records,
 };
 pub use lists::rows_are_lists;
 pub use meta::{meta_of, meta_put};
@@ -44,5 +48,5 @@ pub use registers::{
     registers_hold_one_content,
 };
 pub use tables::make_tables;
-pub use wiping::wipe;
+pub use wiping::{registers_wipe, wipe};
 pub use zeb_blocks::Posting;

@@ -10,7 +10,7 @@ ghost use Rattle.zeb_register.specs.Content.{Content, IsRising, IsChangedAt, IsW
 ghost use Rattle.zeb_register.specs.Formats.{Format, holds_in, version_of};
 ghost use Rattle.zeb_register.specs.Store.{KeepsRegisters, LacksRegisters};
 
-use crate::{DatabaseId, RegFault};
+use crate::{DatabaseId, Expected, RegFault};
 use sqlite::{Alter, Connection, Transaction};
 use std::alloc::Global;
 use zeb_blocks::Posting;
@@ -69,6 +69,7 @@ pub trait Layout {
     ghost use Rattle.zeb_register.specs.Store.{IsStore, KeepsLists};
     ghost use Rattle.zeb_register.specs.Content.{AreChangedAt, Content, IsChangedAt, ArePlacesOf, IsStorable, place_cmp, posted, IsWithout, TakesWhole};
     ghost use Rattle.zeb_register.specs.Occurring.{AreTermsOf, AreTermsFrom, AreTermsBefore, AreTotals};
+    ghost use Rattle.zeb_register.specs.Expected.{IsOrdered, AreExpected};
     ghost use Rattle.zeb_register.specs.Tallies.{Works, ReadsTerms};
     ghost use Rattle.zeb_blocks.specs.declared.postings.Posting.{Posting};
 
@@ -268,6 +269,17 @@ pub trait Layout {
         ensures honest { HasCleanDisk (state S.Store conn.new) → IsStore (state S.Store conn.old) → result ≡ Err RegFault.Damaged
             → (content : Content) → IsStorable content → ¬ holds_in format (state S.Store conn.old).now.trees content }
         ensures no_work { row_work ≡ 0 → work.new ≡ work.old };
+
+    /// Whether the tables hold just what is expected, in this layout. Unreadable rows are not expected. It changes nothing.
+    fn agrees<S: Alter>(
+        alloc: Global,
+        conn: &mut Connection<S>,
+        expected: &Expected,
+    ) -> Result<bool, RegFault>
+        ensures call { Reading (state S.Store conn.old) (state S.Store conn.new) result (λ _. IsUnchanged) }
+        ensures value { HasCleanDisk (state S.Store conn.new) → IsStore (state S.Store conn.old) → IsOrdered expected.now
+            → IfOk result (λ agrees. IsTrue agrees ↔ AreExpected format (state S.Store conn.old).now.trees expected.now) }
+        ensures honest { result ≢ Err RegFault.Damaged };
 }
 
 /// A content is told by its postings. It can be changed at one key of one record, and a database can be taken from it, each in one way.

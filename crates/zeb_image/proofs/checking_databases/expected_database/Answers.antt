@@ -1,0 +1,23 @@
+use Rattle.std.proofs.Common.{rules, ◌≡◌, Err, subst, string_bytes}
+use Rattle.sqlite.specs.Held.{state}
+use Rattle.zeb_register.specs.declared.RegFault.TheVariants.{Damaged}
+use Rattle.zeb_image.specs.PrivateChecking.{ArePostingsOrNone, CanKeepAll}
+use Rattle.zeb_image.proofs.CheckedRecords.{sound_kept, sound_readable}
+use Rattle.zeb_image.proofs.checking_databases.expected_database.Goals as goal
+
+pub returns-in-Err-Damaged-clause-value : goal.returns-in-Err-Damaged-clause-value
+returns-in-Err-Damaged-clause-value g c clean store sound =
+    let trees = (state g.S.Store c.args.connection.now).now.trees in
+    let damaged : c.records.result ≡ Err Damaged = search rules in
+    c.records.ensures.honest clean store damaged (sound_readable c.args.profile.now trees c.args.listed.id.0 (string_bytes c.args.listed.name) c.args.listed.last sound)
+
+pub returns-in_default-clause-value : goal.returns-in_default-clause-value
+returns-in_default-clause-value g c clean store sound =
+    let profile = c.args.profile.now in
+    let trees = (state g.S.Store c.args.connection.now).now.trees in
+    let last = c.args.listed.last in
+    let records = c.in-Ok.records.items in
+    let none = subst (ArePostingsOrNone profile last c.deref.result.now) c.in_default.is c.in_ok-postings.ensures.value in
+    let kept = sound_kept profile trees c.args.listed.id.0 (string_bytes c.args.listed.name) last sound records (c.in-Ok.ensures.value clean store) in
+    let same : records ≡ c.deref.result.now = search rules in
+    none (subst (CanKeepAll profile last) same kept)

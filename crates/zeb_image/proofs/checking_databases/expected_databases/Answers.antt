@@ -1,0 +1,57 @@
+use Rattle.std.proofs.Common.{rules, ◌≡◌, ◌∙◌, ◌++◌, pos, [], ◌∷◌, append_assoc, inl, refl, sym, ap, subst, arith, string_bytes}
+use Rattle.std.specs.List.{AllZip}
+use Rattle.std.specs.Option.{is_some}
+use Rattle.std.specs.Vec.Iter.{into_iter_items}
+use Rattle.sqlite.specs.Effect.{Database}
+use Rattle.sqlite.specs.Held.{state}
+use Rattle.sqlite.specs.State.{HasCleanDisk}
+use Rattle.sqlite.proofs.Callers.{unchanged_then}
+use Rattle.sqlite_rules.specs.Lists.{Has}
+use Rattle.sqlite_rules.proofs.ListLemmas.{has_right}
+use Rattle.zeb_register.proofs.Calls.{nothing_then, store_same}
+use Rattle.zeb_register.proofs.CallsInTurn.{quiet_then}
+use Rattle.zeb_image.specs.PrivateChecking.{CanBeHeld, IsMadeOf, IsMadeOrNone}
+use Rattle.zeb_image.proofs.CheckedLists.{zip_push}
+use Rattle.zeb_image.proofs.checking_databases.expected_databases.Goals as goal
+
+pub loop-listed-preserved : goal.loop-listed-preserved
+loop-listed-preserved g c =
+    let inv = c.loop-listed.invariant in
+    let s0 = state g.S.Store c.args.connection.now in
+    let s1 = state g.S.Store c.loop-listed.connection in
+    let s2 = state g.S.Store c.expected_database.new.connection in
+    let listed = c.in-Some.listed in
+    let made = c.in-Some-2.made in
+    let profile = c.args.profile.now in
+    let clean_a = λ (clean : HasCleanDisk (state g.S.Store c.expected_database.new.connection)). (let e : HasCleanDisk (state g.S.Store c.loop-listed.connection) = omega (arith, c.expected_database.ensures.call.crash.clean) in e) in
+    record {
+      idle = λ i. c.expected_database.ensures.call.idle (inv.idle i);
+      ok = λ clean. unchanged_then s0 s1 s2 (inv.ok (clean_a clean)) (c.in_ok-made.ensures.call.ok clean (ap is_some c.in-Some-2.is));
+      same = λ clean i. nothing_then s0 s1 s2 (inv.same (clean_a clean) i) (c.expected_database.ensures.call.same clean (inv.idle i));
+      crash = quiet_then s0 s1 s2 inv.crash c.expected_database.ensures.call.crash;
+      clean = λ clean. inv.clean (clean_a clean);
+      items = inv.items ∙ ap (λ rest. c.loop-listed.yielded ++ rest) c.in-Some.ensures.steps.0 ∙ sym (append_assoc c.loop-listed.yielded (listed ∷ []) _);
+      made = λ clean store.
+          let at = (inv.ok (clean_a clean)).0.now_is in
+          let value = subst (IsMadeOrNone profile s1.now.trees listed) c.in-Some-2.is (c.in_ok-made.ensures.value clean (store_same s0 s1 at store)) in
+          let here = subst (λ (d : Database). IsMadeOf profile d.trees listed made) at value in
+          subst (λ l. AllZip (IsMadeOf profile s0.now.trees) (c.loop-listed.yielded ++ listed ∷ []) l) (sym c.in_ok-push.ensures.items)
+          (zip_push (IsMadeOf profile s0.now.trees) c.loop-listed.yielded c.loop-listed.expected.items listed made (inv.made (clean_a clean) store) here);
+    }
+
+pub returns-in_default-clause-value : goal.returns-in_default-clause-value
+returns-in_default-clause-value g c clean store sound =
+    let inv = c.loop-listed.invariant in
+    let s0 = state g.S.Store c.args.connection.now in
+    let s1 = state g.S.Store c.loop-listed.connection in
+    let listed = c.in-Some.listed in
+    let list = c.in-Ok.list.items in
+    let profile = c.args.profile.now in
+    let first : HasCleanDisk s1 = omega (arith, c.expected_database.ensures.call.crash.clean) in
+    let at = (inv.ok first).0.now_is in
+    let none = subst (IsMadeOrNone profile s1.now.trees listed) c.in_default.is (c.in_ok-made.ensures.value clean (store_same s0 s1 at store)) in
+    let begun : into_iter_items c.into_iter-listed-iterator.result ≡ list = search rules in
+    let all = sym begun ∙ inv.items ∙ ap (λ rest. c.loop-listed.yielded ++ rest) c.in-Some.ensures.steps.0 in
+    let there = subst (λ l. Has l listed) (sym all) (has_right c.loop-listed.yielded (listed ∷ into_iter_items c.next.new.self) listed (inl refl)) in
+    let row = ((c.in-Ok.ensures.value (inv.clean first) store).each listed.id.0 (string_bytes listed.name) (pos listed.last)).1 (listed, there, refl, refl, refl) in
+    subst (λ (d : Database). CanBeHeld profile d.trees listed.id.0 (string_bytes listed.name) listed.last → ⊥) at none (sound.each listed.id.0 (string_bytes listed.name) listed.last row)

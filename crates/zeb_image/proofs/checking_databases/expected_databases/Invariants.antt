@@ -1,0 +1,23 @@
+use Rattle.std.proofs.Common.{◌≡◌, ◌++◌, false}
+use Rattle.std.specs.List.{AllZip}
+use Rattle.std.specs.Vec.Iter.{into_iter_items}
+use Rattle.sqlite.specs.Held.{state}
+use Rattle.sqlite.specs.State.{HasCleanDisk, IsUnchanged, Survives}
+use Rattle.zeb_register.specs.Calls.{ChangesNothing}
+use Rattle.zeb_register.specs.Store.{IsStore}
+use Rattle.zeb_image.specs.PrivateChecking.{IsMadeOf}
+use Rattle.zeb_image.proofs.checking_databases.expected_databases.Given as goal
+
+abbrev pub invariant-loop-listed : goal.invariant-loop-listed
+invariant-loop-listed g l =
+    let old = state g.S.Store l.fn.connection in
+    let now = state g.S.Store l.connection in
+    record {
+      idle : l.fn.connection.in_transaction ≡ false → l.connection.in_transaction ≡ false;
+      ok : HasCleanDisk now → IsUnchanged old now;
+      same : HasCleanDisk now → l.fn.connection.in_transaction ≡ false → ChangesNothing old now;
+      crash : Survives old now (λ _. ⊥);
+      clean : HasCleanDisk now → HasCleanDisk (state g.S.Store l.initial.connection);
+      items : into_iter_items l.initial.listed-iterator ≡ l.yielded ++ into_iter_items l.listed-iterator;
+      made : HasCleanDisk now → IsStore old → AllZip (IsMadeOf l.profile old.now.trees) l.yielded l.expected.items;
+    }

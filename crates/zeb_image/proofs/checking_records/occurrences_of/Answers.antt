@@ -1,0 +1,29 @@
+use Rattle.std.proofs.Common.{rules, ◌≡◌, ◌∙◌, ◌↔◌, List, IsTrue, Ok, sym, ap, subst, arith}
+use Rattle.std.proofs.lemmas.Str.{IsUtf8-string_bytes}
+use Rattle.std.specs.List.{Contains}
+use Rattle.zeb_marc.specs.Directory.{FieldText}
+use Rattle.zeb_marc.specs.Records.{fields_of, first_fault}
+use Rattle.zeb_marc.specs.Contents.{units_of}
+use Rattle.zeb_profile.specs.Indexes.{unit_targets}
+use Rattle.zeb_extract.specs.Identifier.{identifier_of}
+use Rattle.zeb_extract.specs.Occurrences.{IsOccurrence}
+use Rattle.zeb_extract.specs.declared.keys.Occurrence.{Occurrence}
+use Rattle.zeb_image.proofs.checking_records.occurrences_of.Goals as goal
+
+pub returns-clause-value : goal.returns-clause-value
+returns-clause-value c =
+    let profile = c.args.profile.now in
+    let bytes = c.args.kept.now.bytes.items in
+    let fields : c.in-Ok.marc ≡ fields_of bytes = c.in-Ok.ensures.fields_are ∙ ap fields_of c.deref.ensures.value in
+    let is_named : IsTrue c.in_ok-is_named.field-0 = search rules in (
+      record {
+        from_one = omega (arith, c.if-kept-eq0.false);
+        to_last = omega (arith, c.if-kept-last.false);
+        is = record {
+          whole = sym (ap first_fault c.deref.ensures.value) ∙ c.in-Ok.ensures.sound;
+          named = ap (λ (f : List FieldText). identifier_of profile (units_of f)) (sym fields) ∙ c.in_ok-is_named.ensures.0 is_named ∙ ap Ok c.as_str.ensures.value;
+          text = IsUtf8-string_bytes c.args.kept.now.ident;
+        };
+      },
+      subst (λ (f : List FieldText). (o : Occurrence) → Contains c.in_ok-occurrences.field-0.items o ↔ IsOccurrence (unit_targets profile) (units_of f) o) fields c.in_ok-occurrences.ensures.members,
+    )

@@ -1,0 +1,201 @@
+use Rattle.std.proofs.Common.{◌≡◌, ◌∙◌, ◌+◌, ◌++◌, ◌∷◌, [], pos, Err, map, take, drop, suc, inl, inr, refl, sym, ap, subst, arith, rules, string_bytes}
+use Rattle.std.proofs.lemmas.List.{map-append, take_more, take_all}
+use Rattle.std.proofs.Math.Seq.{split_at}
+use Rattle.sqlite.specs.Effect.{Database}
+use Rattle.sqlite.specs.Held.{state}
+use Rattle.sqlite.specs.State.{HasCleanDisk, State}
+use Rattle.sqlite_rules.specs.Lists.{Has}
+use Rattle.sqlite_rules.proofs.ListLemmas.{has_either, has_right}
+use Rattle.zeb_register.specs.declared.catalog.ListedDatabase.{ListedDatabase}
+use Rattle.zeb_register.specs.declared.faults.RegFault.TheVariants.{Damaged}
+use Rattle.zeb_register.specs.Calls.{GoesOn, OnlyReads}
+use Rattle.zeb_register.specs.Catalog.{AreDatabases}
+use Rattle.zeb_register.specs.Formats.{holds_in}
+use Rattle.zeb_register.specs.Store.{KeepsLists}
+use Rattle.zeb_register.proofs.Calls.{store_same}
+use Rattle.zeb_register.proofs.FormatLemmas.{registers_empty}
+use Rattle.zeb_change.specs.Inside.{Continues}
+use Rattle.zeb_change.proofs.ChangeKeysContent.{keeps_then}
+use Rattle.zeb_change.proofs.TransactionLemmas.{goes_on, kept_then}
+use Rattle.zeb_image.specs.Rebuilding.{AreSoundIn}
+use Rattle.zeb_image.proofs.RebuiltImages.{id_in, image_readable, image_sound, listed_id, listed_there, new_id, readable_databases, rebuilt, same_databases}
+use Rattle.zeb_image.proofs.RebuiltPostings.{ArePostedIn, more_posted, new_lacks, nothing_posted, posted_still, readable_still, sound_still, sound_then}
+use Rattle.zeb_image.proofs.rebuilding.rebuild.Goals as goal
+
+read_then : (old mid new : State) → GoesOn old mid → OnlyReads mid new → GoesOn old new
+read_then old mid new one two = record { was_open = one.was_open; is_open = two.is_open; now_is = refl; committed_is = two.committed_is ∙ one.committed_is; mode = two.mode }
+
+goes_further : (old mid new : State) → GoesOn old mid → Continues mid new → GoesOn old new
+goes_further old mid new one two =
+    let is_open = two.stays_open one.is_open in
+    record { was_open = one.was_open; is_open = is_open; now_is = refl; committed_is = two.kept.committed is_open ∙ one.committed_is; mode = two.mode }
+
+pub loop-database-init : goal.loop-database-init
+loop-database-init g c =
+    let old = state g.S.Store c.args.tx.now.conn.now in
+    let wiped = state g.S.Store c.registers_wipe.new.tx.conn.now in
+    let new = state g.S.Store c.databases_inside.new.tx.conn.now in
+    let clean_wiped = λ (clean : HasCleanDisk new). (let e : HasCleanDisk wiped = omega (arith, c.databases_inside.ensures.call.crash.clean) in e) in
+    record {
+      same = search rules;
+      crash = search rules;
+      goes_on = λ clean mode.
+          let on = (c.in_ok-registers_wipe.ensures.call.ok (clean_wiped clean) mode).0 in
+          read_then old wiped new on (c.in_ok-databases.ensures.call.ok clean on.mode);
+      kept = λ clean mode store.
+          let done = c.in_ok-registers_wipe.ensures.call.ok (clean_wiped clean) mode in
+          let read = c.in_ok-databases.ensures.call.ok clean done.0.mode in
+          (store_same wiped new read.now_is (done.1 store).0, subst (λ (db : Database). KeepsLists old.now.trees db.trees) (sym read.now_is) (done.1 store).2);
+      listed = λ clean mode store.
+          let done = c.in_ok-registers_wipe.ensures.call.ok (clean_wiped clean) mode in
+          same_databases old.now.trees wiped.now.trees (done.1 store).2 _ (subst (AreDatabases wiped.now.trees) (sym c.deref-database-items.ensures.value) (c.in_ok-databases.ensures.value clean done.0.mode (done.1 store).0));
+      checked = λ clean mode store d there. absurd there;
+      posted = λ clean mode store.
+          let done = c.in_ok-registers_wipe.ensures.call.ok (clean_wiped clean) mode in
+          let read = c.in_ok-databases.ensures.call.ok clean done.0.mode in
+          record {
+            content = λ _ _. [];
+            held = subst (λ (db : Database). holds_in g.L.Layout.format db.trees (λ _ _. [])) (sym read.now_is) (registers_empty g.L.Layout.format wiped.now.trees (done.1 store).1);
+            storable = λ db key p there. absurd there;
+            is = nothing_posted c.args.profile.now old.now.trees;
+          };
+    }
+
+pub loop-database-preserved : goal.loop-database-preserved
+loop-database-preserved g c =
+    let old = state g.S.Store c.args.tx.now.conn.now in
+    let now = state g.S.Store c.loop-database.tx.conn.now in
+    let new = state g.S.Store c.database_post.new.tx.conn.now in
+    let profile = c.args.profile.now in
+    let items = c.deref-database-items.result.now in
+    let index = c.loop-database.database-index in
+    let item = c.database-item.result in
+    let done = take index items in
+    let clean_now = λ (clean : HasCleanDisk new). (let e : HasCleanDisk now = omega (arith, c.database_post.ensures.crash.clean) in e) in
+    let more : take (index + 1) items ≡ done ++ item ∷ [] = take_more items index item c.loop-database-test.true ∙ ap (λ x. done ++ x ∷ []) (sym c.database-item.is) in
+    record {
+      same = search rules;
+      crash = search rules;
+      goes_on = λ clean mode.
+          let on = c.loop-database.invariant.goes_on (clean_now clean) mode in
+          goes_further old now new on (c.in_ok-database_post.ensures.stays clean on.mode);
+      kept = λ clean mode store.
+          let on = c.loop-database.invariant.goes_on (clean_now clean) mode in
+          let kept = c.loop-database.invariant.kept (clean_now clean) mode store in
+          let then_kept = c.in_ok-database_post.ensures.kept clean on.mode kept.0 in
+          (then_kept.0, keeps_then old.now.trees now.now.trees new.now.trees kept.1 then_kept.1);
+      listed = λ clean mode store. c.loop-database.invariant.listed (clean_now clean) mode store;
+      checked = λ clean mode store d there.
+          let on = c.loop-database.invariant.goes_on (clean_now clean) mode in
+          let kept = c.loop-database.invariant.kept (clean_now clean) mode store in
+          let here = sound_still old.now.trees now.now.trees kept.1 profile item.id.0 (c.in_ok-database_post.ensures.checked clean on.mode kept.0) in
+          elim (has_either done (item ∷ []) d (subst (λ l. Has l d) more there)) [
+            | inl before ↦ c.loop-database.invariant.checked (clean_now clean) mode store d before
+            | inr last ↦ elim last [ inl same ↦ subst (λ (x : ListedDatabase). AreSoundIn profile old.now.trees x.id.0) (sym same) here | inr none ↦ absurd none ]
+          ];
+      posted = λ clean mode store.
+          let on = c.loop-database.invariant.goes_on (clean_now clean) mode in
+          let kept = c.loop-database.invariant.kept (clean_now clean) mode store in
+          let are = c.loop-database.invariant.listed (clean_now clean) mode store in
+          let such = c.loop-database.invariant.posted (clean_now clean) mode store in
+          let split : items ≡ done ++ item ∷ drop (suc index) items = split_at items index item c.loop-database-test.true ∙ ap (λ x. done ++ x ∷ drop (suc index) items) (sym c.database-item.is) in
+          let fresh = new_id old store items are done (drop (suc index) items) item split in
+          let lacks = new_lacks profile old.now.trees (map id_in done) such.content such.is item.id.0 fresh in
+          let then_such = c.in_ok-database_post.ensures.posted clean on.mode kept.0 such.content such.held such.storable lacks in
+          let ids : map id_in (take (index + 1) items) ≡ map id_in done ++ item.id.0 ∷ [] = ap (map id_in) more ∙ map-append id_in done (item ∷ []) in
+          record {
+            content = then_such.content;
+            held = then_such.held;
+            storable = then_such.storable;
+            is = subst (λ l. ArePostedIn profile old.now.trees l then_such.content) (sym ids)
+                (more_posted profile old.now.trees (map id_in done) such.content such.is item.id.0 fresh then_such.content
+                (posted_still old.now.trees now.now.trees kept.1 profile item.id.0 such.content then_such.content then_such.is));
+          };
+    }
+
+pub returns-clause-built : goal.returns-clause-built
+returns-clause-built g c = λ clean mode store.
+    let old = state g.S.Store c.args.tx.now.conn.now in
+    let new = state g.S.Store c.loop-database.tx.conn.now in
+    let profile = c.args.profile.now in
+    let items = c.deref-database-items.result.now in
+    let index = c.loop-database.database-index in
+    let all : take index items ≡ items = take_all index items (omega (arith, c.loop-database-test.false, c.loop-database.auto.database-index-end)) in
+    let kept = c.loop-database.invariant.kept clean mode store in
+    let are = c.loop-database.invariant.listed clean mode store in
+    let such = c.loop-database.invariant.posted clean mode store in
+    let posted = subst (λ l. ArePostedIn profile old.now.trees (map id_in l) such.content) all such.is in (
+      kept.0,
+      kept.1,
+      λ format told bases image sound.
+          rebuilt format told profile old.now.trees bases image g.L.Layout.format new.now.trees kept.1 (map id_in items) (listed_id old store items are) such.content such.held posted,
+    )
+
+pub returns-clause-checked : goal.returns-clause-checked
+returns-clause-checked g c = λ clean mode store id name last there.
+    let old = state g.S.Store c.args.tx.now.conn.now in
+    let profile = c.args.profile.now in
+    let items = c.deref-database-items.result.now in
+    let index = c.loop-database.database-index in
+    let all : take index items ≡ items = take_all index items (omega (arith, c.loop-database-test.false, c.loop-database.auto.database-index-end)) in
+    let it = ((c.loop-database.invariant.listed clean mode store).each id name last).0 there in
+    subst (AreSoundIn profile old.now.trees) (sym it.2) (c.loop-database.invariant.checked clean mode store it.0 (subst (λ l. Has l it.0) (sym all) it.1))
+
+-- what can be read is read
+pub returns-in_err-databases-clause-damaged : goal.returns-in_err-databases-clause-damaged
+returns-in_err-databases-clause-damaged g c = λ clean mode store told readable sound.
+    let old = state g.S.Store c.args.tx.now.conn.now in
+    let wiped = state g.S.Store c.registers_wipe.new.tx.conn.now in
+    let clean_wiped : HasCleanDisk wiped = omega (arith, c.databases_inside.ensures.call.crash.clean) in
+    let done = c.in_ok-registers_wipe.ensures.call.ok clean_wiped mode in
+    let fault : c.databases_inside.result ≡ Err Damaged = search rules in
+    c.databases_inside.ensures.honest clean done.0.mode (done.1 store).0 fault (readable_databases old.now.trees wiped.now.trees (done.1 store).2 readable.databases)
+
+pub returns-in_err-databases-clause-honest : goal.returns-in_err-databases-clause-honest
+returns-in_err-databases-clause-honest g c = λ clean mode store told format under bases image are.
+    let lists = (state g.S.Store c.args.tx.now.conn.now).now.trees in
+    returns-in_err-databases-clause-damaged g c clean mode store told (image_readable format under c.args.profile.now lists bases image are) (image_sound format under c.args.profile.now lists bases image are)
+
+-- the database has no posting yet, and so one of its records isn't sound
+pub returns-in_err-database_post-clause-damaged : goal.returns-in_err-database_post-clause-damaged
+returns-in_err-database_post-clause-damaged g c = λ clean mode store told readable sound.
+    let old = state g.S.Store c.args.tx.now.conn.now in
+    let now = state g.S.Store c.loop-database.tx.conn.now in
+    let profile = c.args.profile.now in
+    let items = c.deref-database-items.result.now in
+    let index = c.loop-database.database-index in
+    let item = c.database-item.result in
+    let done = take index items in
+    let clean_now : HasCleanDisk now = omega (arith, c.database_post.ensures.crash.clean) in
+    let on = c.loop-database.invariant.goes_on clean_now mode in
+    let kept = c.loop-database.invariant.kept clean_now mode store in
+    let are = c.loop-database.invariant.listed clean_now mode store in
+    let such = c.loop-database.invariant.posted clean_now mode store in
+    let split : items ≡ done ++ item ∷ drop (suc index) items = split_at items index item c.loop-database-test.true ∙ ap (λ x. done ++ x ∷ drop (suc index) items) (sym c.database-item.is) in
+    let here : Has items item = subst (λ l. Has l item) (sym split) (has_right done (item ∷ drop (suc index) items) item (inl refl)) in
+    let there = listed_there old store items are item here in
+    let lacks = new_lacks profile old.now.trees (map id_in done) such.content such.is item.id.0 (new_id old store items are done (drop (suc index) items) item split) in
+    let fault : c.database_post.result ≡ Err Damaged = search rules in
+    c.database_post.ensures.damaged clean on.mode kept.0 fault such.content such.held such.storable lacks
+    (readable_still old.now.trees now.now.trees kept.1 item.id.0 (readable.records item.id.0 (string_bytes item.name) (pos item.last) there))
+    (sound_then old.now.trees now.now.trees kept.1 profile item.id.0 (sound item.id.0 (string_bytes item.name) (pos item.last) there))
+
+pub returns-in_err-database_post-clause-honest : goal.returns-in_err-database_post-clause-honest
+returns-in_err-database_post-clause-honest g c = λ clean mode store told format under bases image are.
+    let lists = (state g.S.Store c.args.tx.now.conn.now).now.trees in
+    returns-in_err-database_post-clause-damaged g c clean mode store told (image_readable format under c.args.profile.now lists bases image are) (image_sound format under c.args.profile.now lists bases image are)
+
+pub returns-in_err-database_post-clause-call : goal.returns-in_err-database_post-clause-call
+returns-in_err-database_post-clause-call g c =
+    let old = state g.S.Store c.args.tx.now.conn.now in
+    let now = state g.S.Store c.loop-database.tx.conn.now in
+    let new = state g.S.Store c.database_post.new.tx.conn.now in
+    let told : c.from_residual-in_err-database_post.result ≡ Err c.in_err-database_post.field-0.0 = search rules in
+    record {
+      ok = λ clean mode. rw told tt;
+      err = λ clean mode.
+          let clean_now : HasCleanDisk now = omega (arith, c.database_post.ensures.crash.clean) in
+          let on = c.loop-database.invariant.goes_on clean_now mode in
+          rw told (kept_then old now new (goes_on old now on) (c.in_err-database_post.ensures.stays clean on.mode));
+      crash = search rules;
+    }
