@@ -23,7 +23,7 @@ use Rattle.zeb_register.specs.Sql.{IsKeyed, KeepsOthers, IsListOf}
 use Rattle.zeb_register.specs.Store.{IsStore, Changes}
 use Rattle.zeb_register.specs.Calls.{GoesOn, OnlyReads, ChangesNothing, Alters, Inside}
 use Rattle.zeb_register.specs.RowStatements.{Lists, ListsInside}
-use Rattle.zeb_register.specs.RowTerms.{Reads}
+use Rattle.zeb_register.specs.RowTerms.{Reads, ReadsInside}
 
 -- any number of writes inside a transaction, none too
 pub record Stays (old new : State) : Type 0 where
@@ -122,12 +122,21 @@ nothing rows sql params old new (Err e) auto silent is settled shown failed idle
 
 -- ---- queries inside a transaction
 
+pub alone_inside : (sql : List ℕ) (params : Row) (old new : State) (rows : List Row) → IsSilent sql → Shown sql params old new rows → IsTrue old.in_transaction → OnlyReads old new
+alone_inside sql params old new rows silent shown inside =
+    let same = shown_alone sql params old new rows silent shown in
+    record { was_open = same.0.was_open; is_open = same.0.is_open; now_is = same.0.now_is; committed_is = same.0.committed_is; mode = same.0.mode ∙ inside }
+
 pub lists_inside : {A : Type 0} (rows : A → List Row) (P : Trees → Row → Type 0) (sql : List ℕ) (params : Row) (old new : State) (r : Result A Error) → IsSilent sql → IfOk r (λ x. Shown sql params old new (rows x))
     → ((all : List Row) → IsStore old → Shown sql params old new all → IsListOf (P old.now.trees) all) → IsTrue old.in_transaction → IfOk r (λ x. ListsInside P old new (rows x))
-lists_inside rows P sql params old new (Ok x) silent shown means inside =
-    let same = shown_alone sql params old new (rows x) silent shown in
-    (record { was_open = same.0.was_open; is_open = same.0.is_open; now_is = same.0.now_is; committed_is = same.0.committed_is; mode = same.0.mode ∙ inside }, λ store. means (rows x) store shown)
+lists_inside rows P sql params old new (Ok x) silent shown means inside = (alone_inside sql params old new (rows x) silent shown inside, λ store. means (rows x) store shown)
 lists_inside rows P sql params old new (Err e) silent shown means inside = tt
+
+-- the same for what is said of all rows at once
+pub read_inside : {A : Type 0} (rows : A → List Row) (P : Trees → List Row → Type 0) (sql : List ℕ) (params : Row) (old new : State) (r : Result A Error) → IsSilent sql → IfOk r (λ x. Shown sql params old new (rows x))
+    → ((all : List Row) → IsStore old → Shown sql params old new all → P old.now.trees all) → IsTrue old.in_transaction → IfOk r (λ x. ReadsInside P old new (rows x))
+read_inside rows P sql params old new (Ok x) silent shown means inside = (alone_inside sql params old new (rows x) silent shown inside, λ store. means (rows x) store shown)
+read_inside rows P sql params old new (Err e) silent shown means inside = tt
 
 unchanged_keeps : (old new : State) → IsUnchanged old new → KeepsCommit old new
 unchanged_keeps old new same = record { was_open = λ _. same.0.was_open; committed = λ _. same.0.committed_is }

@@ -16,6 +16,7 @@ pub mod Calls
 pub mod CreateKeepsTables
 pub mod TextStatements
 pub mod DatabaseStatements
+pub mod DatabaseLists
 pub mod RecordStatements
 pub mod RowsAreLists
 pub mod PostingStatements
