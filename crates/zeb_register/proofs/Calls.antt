@@ -1,5 +1,5 @@
 -- What each call on the tables does to a connection, whatever its text is.
-use Rattle.std.proofs.Common.{◌≡◌, ◌⊎◌, ◌+◌, ℕ, List, true, false, not, Bool, IsTrue, None, IsSome, Result, Ok, Err, OnOk, OnErr, IfOk, IfErr, inl, inr, refl, sym, ap, subst, ◌∙◌}
+use Rattle.std.proofs.Common.{◌≡◌, ◌⊎◌, ◌+◌, ℕ, List, true, false, not, Bool, IsTrue, None, IsSome, Result, Ok, Err, OnOk, OnErr, IfOk, IfErr, inl, inr, refl, sym, ap, subst, ◌∙◌, arith}
 use Rattle.sqlite.specs.Order.{Row}
 use Rattle.sqlite.specs.Tree.{Trees}
 use Rattle.sqlite.specs.Schema.{Schema}
@@ -15,13 +15,14 @@ use Rattle.sqlite_resolve.specs.declared.compiled.Compiled.{Compiled}
 use Rattle.sqlite_resolve.specs.declared.error.CompileError.{CompileError}
 use Rattle.std.proofs.lemmas.Bool.{cases_Bool}
 use Rattle.zeb_register.proofs.WrittenRows.{same_value}
-use Rattle.zeb_register.proofs.CallsInTurn.{inside_keeps}
+use Rattle.zeb_register.proofs.CallsInTurn.{inside_keeps, quiet_then}
+use Rattle.sqlite.proofs.Callers.{unchanged_then}
 use Rattle.std.specs.List.{AllByRecursion}
 use Rattle.sqlite.specs.Effect.{Database, IsDatabase}
 use Rattle.zeb_register.specs.Tables.{store_schema}
 use Rattle.zeb_register.specs.Sql.{IsKeyed, KeepsOthers, IsListOf}
 use Rattle.zeb_register.specs.Store.{IsStore, Changes}
-use Rattle.zeb_register.specs.Calls.{GoesOn, OnlyReads, ChangesNothing, Alters, Inside}
+use Rattle.zeb_register.specs.Calls.{GoesOn, OnlyReads, ChangesNothing, Alters, Inside, Reading}
 use Rattle.zeb_register.specs.RowStatements.{Lists, ListsInside}
 use Rattle.zeb_register.specs.RowTerms.{Reads, ReadsInside}
 
@@ -234,3 +235,19 @@ on_err_so (Err e) P Q so h = so h
 pub on_ok_so : {A E : Type 0} (r : Result A E) (P Q : Type 0) → (P → Q) → OnOk r P → OnOk r Q
 on_ok_so (Ok a) P Q so h = so h
 on_ok_so (Err e) P Q so h = tt
+
+-- ---- one reading call after the other
+
+pub reading_then : {A B E : Type 0} (a b c : State) (x : A) (r : Result B E) → Reading {E = E} a b (Ok x) (λ _. IsUnchanged) → Reading b c r (λ _. IsUnchanged) → Reading a c r (λ _. IsUnchanged)
+reading_then a b c x (Ok y) first second = record {
+  idle = λ i. second.idle (first.idle i);
+  ok = λ clean. unchanged_then a b c (first.ok (omega (arith, second.crash.clean))) (second.ok clean);
+  same = λ clean i. nothing_then a b c (first.same (omega (arith, second.crash.clean)) i) (second.same clean (first.idle i));
+  crash = quiet_then a b c first.crash second.crash;
+}
+reading_then a b c x (Err e) first second = record {
+  idle = λ i. second.idle (first.idle i);
+  ok = λ clean. tt;
+  same = λ clean i. nothing_then a b c (first.same (omega (arith, second.crash.clean)) i) (second.same clean (first.idle i));
+  crash = quiet_then a b c first.crash second.crash;
+}

@@ -46,3 +46,10 @@ pub mod PackedChanges
 pub mod RecordLemmas
 pub mod RecordReadings
 pub mod Refusals
+pub mod Alike
+pub mod Told
+pub mod ExpectedStatements
+pub mod ExpectedLists
+pub mod ExpectedDatabases
+pub mod Expecting
+pub mod ExpectingRows

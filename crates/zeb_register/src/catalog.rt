@@ -117,7 +117,7 @@ pub fn databases_inside<S: Alter>(
 }
 
 /// The databases that rows show.
-fn databases_in(alloc: Global, rows: &[Row]) -> Result<Vec<ListedDatabase>, RegFault>
+pub(crate) fn databases_in(alloc: Global, rows: &[Row]) -> Result<Vec<ListedDatabase>, RegFault>
     ensures ok { IfOk result (λ list. map listed_row list.items ≡ map first_three rows.now) }
     ensures honest { result ≡ Err RegFault.Damaged → ¬ ((row : _) → Has rows.now row → IsDatabaseShown row) }
     ensures unstored { result ≢ Err RegFault.Store }

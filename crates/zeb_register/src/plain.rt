@@ -16,6 +16,7 @@ ghost use Rattle.zeb_register.specs.Store.{IsStore, postings_tree};
 ghost use Rattle.zeb_register.specs.Calls.{GoesOn, OnlyReads, Alters, Inside, Reading};
 ghost use Rattle.zeb_register.specs.Occurring.{key_in};
 
+use crate::agreeing::{lists_beside, rows_agree};
 use crate::dropping::database_drop_whole;
 use crate::registers::{Layout, Place, TermCount, Totals, Work};
 use crate::statements::postings::{
@@ -165,7 +166,10 @@ impl Layout for Rows {
         conn: &mut Connection<S>,
         expected: &Expected,
     ) -> Result<bool, RegFault> {
-        Err(RegFault::Memory)
+        let Some(listed) = lists_beside(alloc, conn, expected)? else {
+            return Ok(false);
+        };
+        rows_agree(conn, &listed, &expected.databases)
     }
 }
 
