@@ -1,5 +1,5 @@
 -- The databases that are there beside the expected ones, by names and last numbers.
-use Rattle.std.proofs.Common.{◌≡◌, ◌≢◌, ◌↔◌, ◌∙◌, ◌⊎◌, ℕ, ℤ, pos, Bool, true, false, List, [], ◌∷◌, map, slice_get, Some, string_bytes, refl, sym, ap, ap₂, subst, inl, inr, Ordering, Less, Equal, Greater, nat_cmp, arith}
+use Rattle.std.proofs.Common.{◌≡◌, ◌↔◌, ◌∙◌, ℕ, ℤ, pos, List, map, Some, string_bytes, refl, sym, ap, ap₂, subst, Ordering, nat_cmp}
 use Rattle.std.specs.Prelude.{IsUtf8}
 use Rattle.std.proofs.lemmas.Str.{IsUtf8-string_bytes}
 use Rattle.std.specs.Cmp.{IsTotalOrder, on_total}

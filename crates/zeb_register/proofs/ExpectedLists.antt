@@ -1,5 +1,5 @@
 -- Rows of whole tables beside what is expected of them.
-use Rattle.std.proofs.Common.{◌≡◌, ◌≢◌, ◌↔◌, ◌∙◌, ◌⊎◌, ℕ, ℤ, pos, List, [], ◌∷◌, ◌++◌, map, drop, codes, string_bytes, refl, sym, ap, ap₂, subst, inl, inr, Ordering, Less, Equal, Greater, nat_cmp, arith}
+use Rattle.std.proofs.Common.{◌≡◌, ◌∙◌, ℕ, ℤ, pos, List, [], ◌∷◌, map, drop, codes, string_bytes, refl, sym, ap, ap₂, subst, inl, inr, Ordering, Less, Equal, Greater, nat_cmp}
 use Rattle.std.specs.Cmp.Lexicographic.{slice_cmp}
 use Rattle.std.specs.List.Sorted.{IsStrictlySortedBy}
 use Rattle.std.specs.Ordering.{ordering_then}
@@ -18,8 +18,8 @@ use Rattle.zeb_register.specs.declared.expected.KeyPosting.{KeyPosting}
 use Rattle.zeb_register.specs.declared.kept.Record.{Record}
 use Rattle.zeb_register.specs.Expected.{IsTextOf, key_posting_order, number_order}
 use Rattle.zeb_register.specs.Kept.{record_shown}
-use Rattle.zeb_register.specs.PlainRows.{code_of_register, posting_row}
-use Rattle.zeb_register.specs.RowExpected.{BelongsTo, HasTexts, HoldsUnder, IsOwnedBy, ShowsOwners, key_shown, posting_shown, text_rows}
+use Rattle.zeb_register.specs.PlainRows.{code_of_register}
+use Rattle.zeb_register.specs.RowExpected.{BelongsTo, HasTexts, HoldsUnder, IsOwnedBy, ShowsOwners, posting_shown, text_rows}
 use Rattle.zeb_register.specs.Sql.{HasRow, IsListOf}
 use Rattle.zeb_register.specs.Store.{IsRest, IsStore, entry, meta_tree}
 use Rattle.zeb_register.specs.Tables.{store_schema, meta_table}

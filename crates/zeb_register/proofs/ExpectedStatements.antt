@@ -1,6 +1,5 @@
 -- The statements that list whole tables, or all rows of a database, each with what it is compiled to.
-use Rattle.std.proofs.Common.{◌≡◌, ◌↔◌, ◌∙◌, ℕ, ℤ, zero, suc, true, false, List, [], ◌∷◌, map, codes, refl, sym, ap, ap₂, subst, Ordering, Less, Equal, arith}
-use Rattle.std.specs.List.{list_any}
+use Rattle.std.proofs.Common.{◌≡◌, ◌∙◌, ℕ, ℤ, false, List, [], ◌∷◌, map, codes, refl, sym, ap, ap₂, subst, Ordering, Less, Equal}
 use Rattle.std.specs.Ordering.{ordering_then}
 use Rattle.sqlite.specs.declared.types.Value.TheVariants.{Int}
 use Rattle.sqlite.specs.Command.TheVariants.{Select}
@@ -8,11 +7,10 @@ use Rattle.sqlite.specs.Listing.{understood, reads_listing}
 use Rattle.sqlite.specs.Order.{Row, column}
 use Rattle.sqlite.specs.State.{State, Shown}
 use Rattle.sqlite.specs.Table.{Table}
-use Rattle.sqlite.specs.Tree.{Trees}
 use Rattle.sqlite.proofs.Callers.{IsPlain, command_of, reads_as}
 use Rattle.sqlite_rules.specs.Lists.{Has}
 use Rattle.sqlite_tied.specs.Compute.{everything}
-use Rattle.zeb_register.specs.RowExpected.{IsOwnerRow, ShowsOwners}
+use Rattle.zeb_register.specs.RowExpected.{ShowsOwners}
 use Rattle.zeb_register.specs.Sql.{HasRow, IsListOf}
 use Rattle.zeb_register.specs.Store.{IsStore, IsRest, blocks_tree, dict_tree, meta_tree, postings_tree, records_tree}
 use Rattle.zeb_register.specs.Tables.{store_schema, meta_table}
@@ -22,7 +20,7 @@ use Rattle.zeb_register.proofs.PostingStatements.{blocks, blocks_static, dict, d
 use Rattle.zeb_register.proofs.Prefix.{IsAfter, lists_after}
 use Rattle.zeb_register.proofs.RecordStatements.{records, records_static}
 use Rattle.zeb_register.proofs.RowLemmas.{int_of}
-use Rattle.zeb_register.proofs.Scans.{all_shown, reads, shows_each}
+use Rattle.zeb_register.proofs.Scans.{reads, shows_each}
 use Rattle.zeb_register.proofs.Selects.{list_so}
 use Rattle.zeb_register.proofs.StatementForms.{alone, keyed_from, no_limit, reading, rising, shows}
 use Rattle.zeb_register.proofs.TextStatements.{meta_keys, meta_static}

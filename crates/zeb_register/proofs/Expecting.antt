@@ -1,9 +1,7 @@
 -- What is expected of whole tables, put together of what is said table by table, in either format.
-use Rattle.std.proofs.Common.{◌≡◌, ◌≢◌, ◌↔◌, ◌∙◌, ◌⊎◌, ℕ, ℤ, pos, Bool, true, false, cond, List, [], ◌∷◌, map, filter, string_bytes, refl, sym, ap, ap₂, subst, inl, inr, Ordering, Less, Equal, Greater, nat_cmp, arith}
+use Rattle.std.proofs.Common.{◌≡◌, ◌↔◌, ◌∙◌, ℕ, ℤ, pos, Bool, true, false, cond, List, [], ◌∷◌, map, filter, string_bytes, refl, sym, ap, ap₂, subst, inl, inr, Ordering, Less, Equal, nat_cmp}
 use Rattle.std.proofs.lemmas.Bool.Decides.{Decides-int_eq}
-use Rattle.std.proofs.lemmas.Bool.{cases_Bool}
 use Rattle.std.proofs.lemmas.Cmp.{tied_itself}
-use Rattle.std.proofs.lemmas.Slice.Eq.{bytes_eq-Decides}
 use Rattle.std.specs.Cmp.{IsTotalOrder, on_total, then_total}
 use Rattle.std.specs.Cmp.Lexicographic.{slice_cmp, nat_list_cmp_total}
 use Rattle.std.specs.List.Sorted.{IsStrictlySortedBy}
@@ -23,20 +21,18 @@ use Rattle.zeb_register.specs.declared.catalog.ListedDatabase.{ListedDatabase}
 use Rattle.zeb_register.specs.declared.expected.Expected.{Expected}
 use Rattle.zeb_register.specs.declared.expected.ExpectedDatabase.{ExpectedDatabase}
 use Rattle.zeb_register.specs.declared.expected.KeyPosting.{KeyPosting}
-use Rattle.zeb_register.specs.declared.kept.Record.{Record}
-use Rattle.zeb_register.specs.declared.agreeing.Table.TheVariants.{Records}
 use Rattle.zeb_register.specs.Catalog.{AreDatabases}
 use Rattle.zeb_register.specs.Content.{Content, IsRising, posting_cmp}
-use Rattle.zeb_register.specs.Expected.{AreExpected, IsExpectedAs, IsOrdered, IsPostingExpected, key_posting_order, name_order}
+use Rattle.zeb_register.specs.Expected.{AreExpected, IsExpectedAs, IsOrdered, IsPostingExpected, key_posting_order}
 use Rattle.zeb_register.specs.Formats.{Format, holds_in}
 use Rattle.zeb_register.specs.Kept.{record_shown}
 use Rattle.zeb_register.specs.RowExpected.{IsThere, ListsAgree, list_under}
 use Rattle.zeb_register.specs.Sql.{HasRow}
-use Rattle.zeb_register.specs.Store.{HasDatabase, HasRecord, IsStore, records_tree}
+use Rattle.zeb_register.specs.Store.{HasDatabase, IsStore, records_tree}
 use Rattle.zeb_register.proofs.ContentChanges.{posting_total}
 use Rattle.zeb_register.proofs.DatabaseStatements.{one_name}
 use Rattle.zeb_register.proofs.RecordStatements.{record_rest}
-use Rattle.zeb_register.proofs.RisingLists.{kept_rises, never_itself, same_list}
+use Rattle.zeb_register.proofs.RisingLists.{kept_rises, same_list}
 use Rattle.zeb_register.proofs.RowLemmas.{same_bytes}
 use Rattle.zeb_register.proofs.RowsAreLists.{one_last}
 use Rattle.zeb_register.proofs.Scans.{strictly_mapped, tied}

@@ -1,5 +1,5 @@
 -- What is expected of whole tables, with a row for each posting.
-use Rattle.std.proofs.Common.{◌≡◌, ◌↔◌, ◌∙◌, ℕ, ℤ, List, [], ◌∷◌, ◌++◌, map, drop, refl, sym, ap, ap₂, subst, inl, inr}
+use Rattle.std.proofs.Common.{◌≡◌, ◌∙◌, ℕ, ℤ, List, [], ◌∷◌, ◌++◌, map, drop, refl, sym, ap, subst, inl}
 use Rattle.sqlite.specs.declared.types.Value.TheVariants.{Int}
 use Rattle.sqlite.specs.Order.{Row, column}
 use Rattle.sqlite.specs.State.{State}
@@ -7,13 +7,11 @@ use Rattle.sqlite.specs.Table.{Table}
 use Rattle.sqlite.specs.Tree.{Trees}
 use Rattle.sqlite_rules.specs.Lists.{Has}
 use Rattle.sqlite_rules.proofs.ProbeLemmas.{has_mapped, mapped_has}
-use Rattle.zeb_blocks.specs.declared.postings.Posting.{Posting}
 use Rattle.zeb_extract.specs.declared.keys.Key.{Key}
 use Rattle.zeb_register.specs.declared.agreeing.Table.TheVariants.{Postings}
 use Rattle.zeb_register.specs.declared.catalog.ListedDatabase.{ListedDatabase}
 use Rattle.zeb_register.specs.declared.expected.Expected.{Expected}
 use Rattle.zeb_register.specs.declared.expected.ExpectedDatabase.{ExpectedDatabase}
-use Rattle.zeb_register.specs.declared.expected.KeyPosting.{KeyPosting}
 use Rattle.zeb_register.specs.Catalog.{AreDatabases}
 use Rattle.zeb_register.specs.Expected.{AreExpected, IsOrdered}
 use Rattle.zeb_register.specs.Formats.{plain_rows}
@@ -23,7 +21,7 @@ use Rattle.zeb_register.specs.Sql.{HasRow}
 use Rattle.zeb_register.specs.Store.{IsStore, blocks_tree, dict_tree, postings_tree}
 use Rattle.zeb_register.specs.Tables.{store_schema}
 use Rattle.zeb_register.proofs.ExpectedStatements.{owner_row}
-use Rattle.zeb_register.proofs.Expecting.{as_expected, content, content_up, id_is, one_of, posted_as, put_together, lists_agree, there_is, there_of, with_key}
+use Rattle.zeb_register.proofs.Expecting.{as_expected, content, content_up, id_is, one_of, posted_as, put_together, there_is, there_of, with_key}
 use Rattle.zeb_register.proofs.PostingStatements.{blocks, blocks_static, dict, dict_static, postings, postings_static}
 use Rattle.zeb_register.proofs.ValueKinds.{IsPlainTable, codes_of}
 

@@ -1,6 +1,5 @@
 -- Answers of yes and no.
-use Rattle.std.proofs.Common.{◌≡◌, ◌↔◌, Bool, true, false, IsTrue, refl, subst}
-use Rattle.sqlite.specs.Tree.{Trees}
+use Rattle.std.proofs.Common.{◌≡◌, ◌↔◌, Bool, true, false, IsTrue, refl}
 
 pub told : (P : Type 0) (answer : Bool) → (answer ≡ true → P) → (answer ≡ false → ¬ P) → IsTrue answer ↔ P
 told P true yes' no' = (λ _. yes' refl, λ _. refl)

@@ -1,4 +1,4 @@
-use Rattle.std.proofs.Common.{◌≢◌, rules, arith}
+use Rattle.std.proofs.Common.{◌≢◌, arith}
 use Rattle.sqlite.specs.declared.types.Value.TheVariants.{Int}
 use Rattle.sqlite.specs.Order.{column}
 use Rattle.zeb_register.specs.declared.catalog.ListedDatabase.{ListedDatabase}

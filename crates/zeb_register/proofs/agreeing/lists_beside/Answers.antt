@@ -1,4 +1,4 @@
-use Rattle.std.proofs.Common.{◌≡◌, ◌↔◌, List, Ok, true, false, Option, Some, None, IsTrue, IfOk, sym, subst, arith}
+use Rattle.std.proofs.Common.{List, Option, Some, None, IfOk, subst, arith}
 use Rattle.std.specs.Prelude.{MatchOption}
 use Rattle.std.specs.List.Sorted.{IsStrictlySortedBy}
 use Rattle.std.proofs.lemmas.Result.{IfOk-weaker}
@@ -9,7 +9,7 @@ use Rattle.zeb_register.specs.declared.agreeing.Table.TheVariants.{Records}
 use Rattle.zeb_register.specs.declared.expected.ExpectedDatabase.{ExpectedDatabase}
 use Rattle.zeb_register.specs.Expected.{name_order}
 use Rattle.zeb_register.specs.RowExpected.{AreBeside, AreInOrder, HasNames, HasTexts, HoldsThere, ListsAgree}
-use Rattle.zeb_register.proofs.Calls.{reading_then, store_same}
+use Rattle.zeb_register.proofs.Calls.{store_same}
 use Rattle.zeb_register.proofs.ExpectedDatabases.{names_there}
 use Rattle.zeb_register.proofs.agreeing.lists_beside.Goals as goal
 

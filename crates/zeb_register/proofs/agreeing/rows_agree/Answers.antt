@@ -1,4 +1,4 @@
-use Rattle.std.proofs.Common.{◌≡◌, ◌↔◌, true, false, IsTrue, IfOk, sym, subst, arith}
+use Rattle.std.proofs.Common.{◌≡◌, ◌↔◌, true, false, IsTrue, subst, arith}
 use Rattle.std.proofs.lemmas.Result.{IfOk-weaker}
 use Rattle.sqlite.specs.Effect.{Database}
 use Rattle.sqlite.specs.Held.{state}

@@ -3,7 +3,7 @@ use Rattle.std.proofs.lemmas.Result.{IfOk-weaker}
 use Rattle.sqlite.specs.Effect.{Database}
 use Rattle.sqlite.specs.Held.{state}
 use Rattle.sqlite.specs.State.{HasCleanDisk}
-use Rattle.std.proofs.Common.{◌≡◌, ◌↔◌, true, false, IsTrue, IfOk, sym, subst}
+use Rattle.std.proofs.Common.{◌≡◌, ◌↔◌, true, false, IsTrue, subst}
 use Rattle.zeb_register.specs.RowExpected.{BelongsTo, EachAsExpected, tree_of}
 use Rattle.zeb_register.proofs.Calls.{reading_then, store_same}
 use Rattle.zeb_register.proofs.Told.{both_told, first_told}

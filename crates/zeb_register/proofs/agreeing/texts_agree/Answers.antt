@@ -1,4 +1,4 @@
-use Rattle.std.proofs.Common.{◌≡◌, ◌↔◌, ◌∙◌, true, false, sym, subst}
+use Rattle.std.proofs.Common.{◌∙◌, sym}
 use Rattle.sqlite.specs.Held.{state}
 use Rattle.zeb_register.specs.RowExpected.{HasTexts}
 use Rattle.zeb_register.proofs.ExpectedLists.{texts_rows, texts_there}

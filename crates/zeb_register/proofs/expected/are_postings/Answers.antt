@@ -1,7 +1,7 @@
-use Rattle.std.proofs.Common.{◌<◌, ◌≡◌, ◌∙◌, sym, ap, map, length, arith}
+use Rattle.std.proofs.Common.{◌<◌, ◌∙◌, sym, ap, map, length, arith}
 use Rattle.sqlite.specs.Order.{Row}
 use Rattle.zeb_register.specs.RowExpected.{posting_shown}
-use Rattle.zeb_register.proofs.Alike.{alike_at, alike_long, alike_more, as_they_are, take_all}
+use Rattle.zeb_register.proofs.Alike.{alike_at, alike_more, as_they_are, take_all}
 use Rattle.zeb_register.proofs.expected.are_postings.Goals as goal
 
 pub loop-at-preserved : goal.loop-at-preserved

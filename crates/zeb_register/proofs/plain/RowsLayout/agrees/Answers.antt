@@ -8,7 +8,7 @@ use Rattle.zeb_register.specs.declared.catalog.ListedDatabase.{ListedDatabase}
 use Rattle.zeb_register.specs.declared.expected.ExpectedDatabase.{ExpectedDatabase}
 use Rattle.zeb_register.specs.Formats.{plain_rows}
 use Rattle.zeb_register.specs.RowExpected.{AreBeside, AreInOrder, HoldsExpected, LacksPacked, ListsAgree}
-use Rattle.zeb_register.proofs.Calls.{reading_then, store_same}
+use Rattle.zeb_register.proofs.Calls.{store_same}
 use Rattle.zeb_register.proofs.ExpectedDatabases.{expected_there}
 use Rattle.zeb_register.proofs.Expecting.{lists_agree}
 use Rattle.zeb_register.proofs.ExpectingRows.{rows_agree, rows_expected}
