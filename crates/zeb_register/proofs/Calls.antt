@@ -1,5 +1,5 @@
 -- What each call on the tables does to a connection, whatever its text is.
-use Rattle.std.proofs.Common.{◌≡◌, ◌≢◌, ◌⊎◌, ◌+◌, ℕ, List, [], ◌∷◌, true, false, not, Bool, IsTrue, None, IsSome, Result, Ok, Err, OnOk, OnErr, IfOk, IfErr, inl, inr, refl, sym, ap, subst, ◌∙◌}
+use Rattle.std.proofs.Common.{◌≡◌, ◌≢◌, ◌⊎◌, ◌+◌, ℕ, List, [], ◌∷◌, true, false, not, Bool, IsTrue, None, IsSome, Result, Ok, Err, OnOk, OnErr, IfOk, IfErr, inl, inr, refl, sym, ap, subst, ◌∙◌, arith}
 use Rattle.sqlite.specs.Order.{Row}
 use Rattle.sqlite.specs.Tree.{Trees}
 use Rattle.sqlite.specs.Schema.{Schema}
@@ -16,15 +16,16 @@ use Rattle.sqlite_resolve.specs.declared.compiled.Compiled.{Compiled}
 use Rattle.sqlite_resolve.specs.declared.error.CompileError.{CompileError}
 use Rattle.std.proofs.lemmas.Bool.{cases_Bool}
 use Rattle.zeb_register.proofs.WrittenRows.{same_value}
-use Rattle.zeb_register.proofs.CallsInTurn.{inside_keeps}
+use Rattle.zeb_register.proofs.CallsInTurn.{inside_keeps, quiet_then}
+use Rattle.sqlite.proofs.Callers.{unchanged_then}
 use Rattle.std.specs.List.{AllByRecursion}
 use Rattle.sqlite.specs.Effect.{Database, IsDatabase}
 use Rattle.zeb_register.specs.Tables.{store_schema}
 use Rattle.zeb_register.specs.Sql.{IsKeyed, KeepsOthers, IsListOf}
 use Rattle.zeb_register.specs.Store.{IsStore, Changes}
-use Rattle.zeb_register.specs.Calls.{GoesOn, OnlyReads, ChangesNothing, Alters, Inside}
+use Rattle.zeb_register.specs.Calls.{GoesOn, OnlyReads, ChangesNothing, Alters, Inside, Reading}
 use Rattle.zeb_register.specs.RowStatements.{Lists, ListsInside}
-use Rattle.zeb_register.specs.RowTerms.{Reads}
+use Rattle.zeb_register.specs.RowTerms.{Reads, ReadsInside}
 
 -- any number of writes inside a transaction, none too
 pub record Stays (old new : State) : Type 0 where
@@ -123,20 +124,21 @@ nothing rows sql params old new (Err e) auto silent is settled shown failed idle
 
 -- ---- queries inside a transaction
 
+pub alone_inside : (sql : List ℕ) (params : Row) (old new : State) (rows : List Row) → IsSilent sql → Shown sql params old new rows → IsTrue old.in_transaction → OnlyReads old new
+alone_inside sql params old new rows silent shown inside =
+    let same = shown_alone sql params old new rows silent shown in
+    record { was_open = same.0.was_open; is_open = same.0.is_open; now_is = same.0.now_is; committed_is = same.0.committed_is; mode = same.0.mode ∙ inside }
+
 pub lists_inside : {A : Type 0} (rows : A → List Row) (P : Trees → Row → Type 0) (sql : List ℕ) (params : Row) (old new : State) (r : Result A Error) → IsSilent sql → IfOk r (λ x. Shown sql params old new (rows x))
     → ((all : List Row) → IsStore old → Shown sql params old new all → IsListOf (P old.now.trees) all) → IsTrue old.in_transaction → IfOk r (λ x. ListsInside P old new (rows x))
-lists_inside rows P sql params old new (Ok x) silent shown means inside =
-    let same = shown_alone sql params old new (rows x) silent shown in
-    (record { was_open = same.0.was_open; is_open = same.0.is_open; now_is = same.0.now_is; committed_is = same.0.committed_is; mode = same.0.mode ∙ inside }, λ store. means (rows x) store shown)
+lists_inside rows P sql params old new (Ok x) silent shown means inside = (alone_inside sql params old new (rows x) silent shown inside, λ store. means (rows x) store shown)
 lists_inside rows P sql params old new (Err e) silent shown means inside = tt
 
--- the same of a query of which no row is looked at
-pub reads_inside : {A : Type 0} (rows : A → List Row) (sql : List ℕ) (params : Row) (old new : State) (r : Result A Error) → IsSilent sql → IfOk r (λ x. Shown sql params old new (rows x)) → IsTrue old.in_transaction
-    → IfOk r (λ _. OnlyReads old new)
-reads_inside rows sql params old new (Ok x) silent shown inside =
-    let same = shown_alone sql params old new (rows x) silent shown in
-    record { was_open = same.0.was_open; is_open = same.0.is_open; now_is = same.0.now_is; committed_is = same.0.committed_is; mode = same.0.mode ∙ inside }
-reads_inside rows sql params old new (Err e) silent shown inside = tt
+-- the same for what is said of all rows at once
+pub read_inside : {A : Type 0} (rows : A → List Row) (P : Trees → List Row → Type 0) (sql : List ℕ) (params : Row) (old new : State) (r : Result A Error) → IsSilent sql → IfOk r (λ x. Shown sql params old new (rows x))
+    → ((all : List Row) → IsStore old → Shown sql params old new all → P old.now.trees all) → IsTrue old.in_transaction → IfOk r (λ x. ReadsInside P old new (rows x))
+read_inside rows P sql params old new (Ok x) silent shown means inside = (alone_inside sql params old new (rows x) silent shown inside, λ store. means (rows x) store shown)
+read_inside rows P sql params old new (Err e) silent shown means inside = tt
 
 unchanged_keeps : (old new : State) → IsUnchanged old new → KeepsCommit old new
 unchanged_keeps old new same = record { was_open = λ _. same.0.was_open; committed = λ _. same.0.committed_is }
@@ -263,3 +265,19 @@ on_ok_both (Err e) P Q R so p q = tt
 pub on_ok_so : {A E : Type 0} (r : Result A E) (P Q : Type 0) → (P → Q) → OnOk r P → OnOk r Q
 on_ok_so (Ok a) P Q so h = so h
 on_ok_so (Err e) P Q so h = tt
+
+-- ---- one reading call after the other
+
+pub reading_then : {A B E : Type 0} (a b c : State) (x : A) (r : Result B E) → Reading {E = E} a b (Ok x) (λ _. IsUnchanged) → Reading b c r (λ _. IsUnchanged) → Reading a c r (λ _. IsUnchanged)
+reading_then a b c x (Ok y) first second = record {
+  idle = λ i. second.idle (first.idle i);
+  ok = λ clean. unchanged_then a b c (first.ok (omega (arith, second.crash.clean))) (second.ok clean);
+  same = λ clean i. nothing_then a b c (first.same (omega (arith, second.crash.clean)) i) (second.same clean (first.idle i));
+  crash = quiet_then a b c first.crash second.crash;
+}
+reading_then a b c x (Err e) first second = record {
+  idle = λ i. second.idle (first.idle i);
+  ok = λ clean. tt;
+  same = λ clean i. nothing_then a b c (first.same (omega (arith, second.crash.clean)) i) (second.same clean (first.idle i));
+  crash = quiet_then a b c first.crash second.crash;
+}

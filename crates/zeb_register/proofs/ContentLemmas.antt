@@ -21,7 +21,7 @@ use Rattle.zeb_register.specs.Content.{Content, posting_cmp}
 use Rattle.zeb_register.specs.PlainRows.{code_of_register, key_row, posting_row, HoldsRows}
 use Rattle.zeb_register.specs.RowPlaces.{first_three, IsThreeNumbers}
 
-lower_then : (x y z : Ordering) → ordering_then x (ordering_then y z) ≡ Less → ordering_then x (ordering_then y (ordering_then z Equal)) ≡ Less
+pub lower_then : (x y z : Ordering) → ordering_then x (ordering_then y z) ≡ Less → ordering_then x (ordering_then y (ordering_then z Equal)) ≡ Less
 lower_then Less y z h = refl
 lower_then Greater y z h = absurd (cc)
 lower_then Equal Less z h = refl

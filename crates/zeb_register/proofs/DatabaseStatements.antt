@@ -60,7 +60,7 @@ unfolding understood everything
 last_plain = (refl, refl)
 
 -- a row of the table, whose columns are known
-database_row : (r : Row) → map code r ≡ codes_of databases → (id : ℤ) × (name : List ℕ) × (last : ℤ) × (r ≡ Int id ∷ Null ∷ Text name ∷ Int last ∷ [])
+pub database_row : (r : Row) → map code r ≡ codes_of databases → (id : ℤ) × (name : List ℕ) × (last : ℤ) × (r ≡ Int id ∷ Null ∷ Text name ∷ Int last ∷ [])
 database_row r typed =
     let id = int_of (column r 0) (code_at r (codes_of databases) 0 typed) in
     let none = null_of (column r 1) (code_at r (codes_of databases) 1 typed) in
@@ -145,7 +145,7 @@ cuts id old new count store ran =
 
 -- ---- SELECT by name
 
-databases_keys : HasKeys store_schema databases ((2 ∷ []) ∷ [])
+pub databases_keys : HasKeys store_schema databases ((2 ∷ []) ∷ [])
 databases_keys = record { are = λ r new. refl; comparable = refl }
 
 abbrev pub named_text : List ℕ

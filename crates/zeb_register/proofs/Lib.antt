@@ -16,6 +16,7 @@ pub mod Calls
 pub mod CreateKeepsTables
 pub mod TextStatements
 pub mod DatabaseStatements
+pub mod DatabaseLists
 pub mod RecordStatements
 pub mod RowsAreLists
 pub mod PostingStatements
@@ -46,3 +47,10 @@ pub mod PackedChanges
 pub mod RecordLemmas
 pub mod RecordReadings
 pub mod Refusals
+pub mod Alike
+pub mod Told
+pub mod ExpectedStatements
+pub mod ExpectedLists
+pub mod ExpectedDatabases
+pub mod Expecting
+pub mod ExpectingRows

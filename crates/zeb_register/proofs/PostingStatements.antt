@@ -116,7 +116,7 @@ puts db idx reg term sysno seq place old new count store ran =
 
 -- ---- SELECT
 
-postings_keys : HasKeys store_schema postings ((1 ∷ 2 ∷ 3 ∷ 4 ∷ 5 ∷ 6 ∷ 7 ∷ []) ∷ [])
+pub postings_keys : HasKeys store_schema postings ((1 ∷ 2 ∷ 3 ∷ 4 ∷ 5 ∷ 6 ∷ 7 ∷ []) ∷ [])
 postings_keys = record { are = λ r new. refl; comparable = refl }
 
 abbrev pub key_text : List ℕ

@@ -1,9 +1,11 @@
 -- The databases that the tables stand for.
-use Rattle.std.specs.Prelude.{◌≡◌, ◌≢◌, ◌↔◌, ◌⊎◌, ℕ, ℤ, pos, List, Option, Some, None, string_bytes, IsUtf8}
+use Rattle.std.specs.Prelude.{◌≡◌, ◌≢◌, ◌↔◌, ◌⊎◌, ℕ, ℤ, pos, List, [], ◌∷◌, Option, Some, None, string_bytes, IsUtf8}
 use Rattle.std.specs.declared.cmp.Ordering.{Ordering}
 use Rattle.std.specs.Ordering.{nat_cmp}
 use Rattle.std.specs.Cmp.Lexicographic.{slice_cmp}
 use Rattle.std.specs.List.Sorted.{IsStrictlySortedBy}
+use Rattle.sqlite.specs.declared.types.Value.TheVariants.{Int, Text}
+use Rattle.sqlite.specs.Order.{Row}
 use Rattle.sqlite.specs.Tree.{Trees}
 use Rattle.sqlite_rules.specs.Lists.{Has}
 use Rattle.zeb_register.specs.declared.catalog.Database.{Database}
@@ -31,6 +33,10 @@ pub record PutsDatabase (id : ℤ) (name : List ℕ) (last : ℤ) (tree : ℕ) (
 abbrev pub IsListed : List ListedDatabase → ℤ → List ℕ → ℤ → Type 0
 IsListed list id name last =
     (database : ListedDatabase) × Has list database × (id ≡ database.id.0) × (name ≡ string_bytes database.name) × (last ≡ pos database.last)
+
+-- the columns of a database beside its NULL
+abbrev pub listed_row : ListedDatabase → Row
+listed_row database = Text (string_bytes database.name) ∷ Int database.id.0 ∷ Int (pos database.last) ∷ []
 
 abbrev pub listed_order : ListedDatabase → ListedDatabase → Ordering
 listed_order a b = slice_cmp nat_cmp (string_bytes a.name) (string_bytes b.name)

@@ -17,3 +17,4 @@ pub mod PackedRows
 pub mod PackedChanges
 pub mod Formats
 pub mod Expected
+pub mod RowExpected

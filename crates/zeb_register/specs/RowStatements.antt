@@ -59,6 +59,14 @@ SetsLast id last tree old new =
 abbrev pub IsDatabaseRow : Trees → List ℕ → Row → Type 0
 IsDatabaseRow trees name row = (id : ℤ) × (last : ℤ) × (row ≡ Int id ∷ Int last ∷ []) × HasDatabase trees id name last
 
+-- a row that shows the name, the id and the last number of a database
+abbrev pub IsListedRow : Trees → Row → Type 0
+IsListedRow trees row = (name : List ℕ) × (id : ℤ) × (last : ℤ) × (row ≡ Text name ∷ Int id ∷ Int last ∷ []) × HasDatabase trees id name last
+
+-- such a row whose last number is 0 or more, and whose name is UTF-8
+abbrev pub IsDatabaseShown : Row → Type 0
+IsDatabaseShown row = (name : List ℕ) × (id : ℤ) × (n : ℕ) × (row ≡ Text name ∷ Int id ∷ Int (pos n) ∷ []) × IsUtf8 name
+
 -- no row is left
 abbrev pub Empties : ℕ → Trees → Trees → Type 0
 Empties tree old new = new tree ≡ []

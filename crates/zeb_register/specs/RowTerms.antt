@@ -10,6 +10,7 @@ use Rattle.sqlite.specs.State.{State, IsUnchanged}
 use Rattle.sqlite_rules.specs.Lists.{Has}
 use Rattle.zeb_blocks.specs.declared.postings.Posting.{Posting}
 use Rattle.zeb_register.specs.declared.registers.TermCount.{TermCount}
+use Rattle.zeb_register.specs.Calls.{OnlyReads}
 use Rattle.zeb_register.specs.Sql.{HasRow}
 use Rattle.zeb_register.specs.Store.{IsStore, postings_tree, key_of}
 
@@ -34,6 +35,10 @@ ShowsGreatest P (row ∷ rows) = (rows ≡ []) × ((term : List ℕ) × (row ≡
 -- rows are read, and nothing is changed
 abbrev pub Reads : (Trees → List Row → Type 0) → State → State → List Row → Type 0
 Reads P old new rows = IsUnchanged old new × (IsStore old → P old.now.trees rows)
+
+-- the same inside a transaction
+abbrev pub ReadsInside : (Trees → List Row → Type 0) → State → State → List Row → Type 0
+ReadsInside P old new rows = OnlyReads old new × (IsStore old → P old.now.trees rows)
 
 -- ---- terms as rows show them
 

@@ -1,20 +1,24 @@
 //! The databases of the store.
 
-ghost use Rattle.std.specs.Prelude.{◌≡◌, ◌≢◌, pos, IsTrue, IfOk, FitsSigned};
+ghost use Rattle.std.specs.Prelude.{◌≡◌, ◌≢◌, pos, map, IsTrue, IfOk, FitsSigned};
 ghost use Rattle.std.specs.Int.{w64};
 ghost use Rattle.sqlite.specs.Held.{state};
 ghost use Rattle.sqlite.specs.State.{HasCleanDisk, IsUnchanged};
 ghost use Rattle.zeb_register.specs.Store.{IsStore, Changes, databases_tree, TakesDatabase};
 ghost use Rattle.zeb_register.specs.Catalog.{IsDatabaseOf, AreCountedDatabases, PutsDatabase};
-ghost use Rattle.zeb_register.specs.Catalog.{AreDatabases, AreReadableDatabases};
+ghost use Rattle.zeb_register.specs.Catalog.{AreDatabases, AreReadableDatabases, listed_row};
+ghost use Rattle.zeb_register.specs.RowPlaces.{first_three};
+ghost use Rattle.zeb_register.specs.RowStatements.{IsDatabaseShown};
+ghost use Rattle.sqlite_rules.specs.Lists.{Has};
 ghost use Rattle.zeb_register.specs.Calls.{GoesOn, OnlyReads, Alters, Inside, Reading, MayRefuse};
 
 use crate::RegFault;
 use crate::statements::databases::{
-    database_add, database_cut, database_rows, database_rows_inside, last_set,
+    database_add, database_cut, database_rows, database_rows_inside, last_set, listed_rows,
+    listed_rows_inside,
 };
 use crate::values::{read, read_integer, stored};
-use sqlite::{Alter, Connection, Transaction};
+use sqlite::{Alter, Connection, Row, Transaction};
 use std::alloc::Global;
 
 /// What the tables know a database by. It stays the same as long as the database is there.
@@ -88,7 +92,8 @@ pub fn databases<S: Alter>(
     ensures refused { HasCleanDisk (state S.Store conn.new) → IsStore (state S.Store conn.old) → result ≡ Err RegFault.Store
         → MayRefuse (state S.Store conn.old) (state S.Store conn.new) }
 {
-    Err(RegFault::Memory)
+    let rows = listed_rows(conn)?;
+    databases_in(alloc, &rows)
 }
 
 /// The same inside a transaction.
@@ -107,7 +112,34 @@ pub fn databases_inside<S: Alter>(
     ensures opened { HasCleanDisk (state S.Store tx.new.conn.now) → IsTrue (state S.Store tx.old.conn.now).in_transaction
         → result ≡ Err RegFault.Damaged → IsTrue (state S.Store tx.old.conn.now).is_open }
 {
-    Err(RegFault::Memory)
+    let rows = listed_rows_inside(tx)?;
+    databases_in(alloc, &rows)
+}
+
+/// The databases that rows show.
+pub(crate) fn databases_in(alloc: Global, rows: &[Row]) -> Result<Vec<ListedDatabase>, RegFault>
+    ensures ok { IfOk result (λ list. map listed_row list.items ≡ map first_three rows.now) }
+    ensures honest { result ≡ Err RegFault.Damaged → ¬ ((row : _) → Has rows.now row → IsDatabaseShown row) }
+    ensures unstored { result ≢ Err RegFault.Store }
+{
+    let mut databases = Vec::new(alloc);
+    for row in rows {
+        databases.push(database_in(row)?)?;
+    }
+    Ok(databases)
+}
+
+/// The database that a row shows.
+fn database_in(row: &Row) -> Result<ListedDatabase, RegFault>
+    ensures ok { IfOk result (λ database. listed_row database ≡ first_three row.now) }
+    ensures honest { result ≡ Err RegFault.Damaged → ¬ IsDatabaseShown row.now }
+    ensures unstored { result ≢ Err RegFault.Store }
+{
+    Ok(ListedDatabase {
+        name: read(row, 0)?,
+        id: DatabaseId(read_integer(row, 1)?),
+        last: read(row, 2)?,
+    })
 }
 
 /// Sets the last number of the database of this name, which is made where it is absent, and answers what the tables know it by.

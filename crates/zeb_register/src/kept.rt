@@ -13,10 +13,10 @@ ghost use Rattle.zeb_register.specs.Kept.{IsFirstFrom, IsRecordCount};
 ghost use Rattle.zeb_register.specs.RowStatements.{IsRecordShown};
 ghost use Rattle.zeb_register.specs.Calls.{OnlyReads, Alters, Inside, Reading, MayRefuse};
 
-use crate::statements::postings::nothing_of;
+use crate::statements::postings::{nothing_inside, nothing_of};
 use crate::statements::records::{
     count_rows, elder_rows, ident_rows, record_keep, record_remove, record_rows, records_clear,
-    rows_from,
+    rows_from, rows_from_inside,
 };
 use crate::values::{read, stored};
 use crate::{DatabaseId, RegFault};
@@ -205,7 +205,16 @@ pub fn record_from_inside<S: Alter>(
     ensures opened { HasCleanDisk (state S.Store tx.new.conn.now) → IsTrue (state S.Store tx.old.conn.now).in_transaction
         → result ≡ Err RegFault.Damaged → IsTrue (state S.Store tx.old.conn.now).is_open }
 {
-    Err(RegFault::Memory)
+    let Ok(start) = stored(start) else {
+        // A closed connection is refused for such a number too.
+        nothing_inside(tx)?;
+        return Ok(None);
+    };
+    let rows = rows_from_inside(tx, db.column(), start)?;
+    match rows.first() {
+        Some(row) => Ok(Some(record_of(row)?)),
+        None => Ok(None),
+    }
 }
 
 /// The records of a database, in rising order of their system numbers.

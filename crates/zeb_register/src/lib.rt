@@ -6,6 +6,7 @@
 //! before it began.
 #![tactic(auto)]
 
+mod agreeing;
 mod blocks;
 mod catalog;
 mod dropping;

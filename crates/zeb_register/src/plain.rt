@@ -12,6 +12,7 @@ ghost use Rattle.zeb_register.specs.PlainRows.{HoldsRows, code_of_register, post
 ghost use Rattle.zeb_register.specs.RowPlaces.{first_three, IsThreeNumbers};
 ghost use Rattle.zeb_register.specs.Store.{IsStore};
 
+use crate::agreeing::{lists_beside, rows_agree};
 use crate::dropping::database_drop_whole;
 use crate::plain_changes::{key_change_plain, key_changes_plain};
 use crate::registers::{Layout, Place, RecordChange, TermCount, Totals, Work};
@@ -166,7 +167,10 @@ impl Layout for Rows {
         conn: &mut Connection<S>,
         expected: &Expected,
     ) -> Result<bool, RegFault> {
-        Err(RegFault::Memory)
+        let Some(listed) = lists_beside(alloc, conn, expected)? else {
+            return Ok(false);
+        };
+        rows_agree(conn, &listed, &expected.databases)
     }
 }
 

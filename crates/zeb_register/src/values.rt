@@ -1,13 +1,13 @@
 //! Numbers on their way into a row, and values on their way out.
 
-ghost use Rattle.std.specs.Prelude.{◌≡◌, ◌≢◌, ◌<◌, ◌≤◌, ◌^◌, pos, length, IfOk, IfErr, FitsSigned};
+ghost use Rattle.std.specs.Prelude.{◌≡◌, ◌≢◌, ◌<◌, ◌≤◌, ◌^◌, true, false, pos, length, IfOk, IfErr, FitsSigned};
 ghost use Rattle.std.specs.Int.{w64};
-ghost use Rattle.sqlite.specs.declared.types.Value.TheVariants.{Int};
+ghost use Rattle.sqlite.specs.declared.types.Value.TheVariants.{Blob, Int, Text};
 ghost use Rattle.sqlite.specs.Values.{IsInt};
 ghost use Rattle.sqlite.specs.Order.{column};
 
 use crate::RegFault;
-use sqlite::types::FromSql;
+use sqlite::types::{FromSql, ValueRef};
 use sqlite::{Error, ErrorCode, Row};
 
 /// The number as a column stores it. `Store` above `2^63 - 1`, which no column stores.
@@ -38,4 +38,37 @@ pub(crate) fn read_integer(row: &Row, at: usize) -> Result<i64, RegFault>
     ensures unstored { result ≢ Err RegFault.Store }
 {
     read(row, at)
+}
+
+/// Whether the value at this place of a row is this number.
+pub(crate) fn is_number(row: &Row, at: usize, number: u64) -> bool
+    ensures same { result ≡ true → column row.now at ≡ Int (pos number) }
+    ensures other { result ≡ false → column row.now at ≢ Int (pos number) }
+{
+    match row.get_ref(at) {
+        Ok(ValueRef::Int(value)) => value >= 0 && value as u64 == number,
+        _ => false,
+    }
+}
+
+/// Whether the value at this place of a row is this text.
+pub(crate) fn is_text(row: &Row, at: usize, text: &str) -> bool
+    ensures same { result ≡ true → column row.now at ≡ Text text.now }
+    ensures other { result ≡ false → column row.now at ≢ Text text.now }
+{
+    match row.get_ref(at) {
+        Ok(ValueRef::Text(value)) => value == text.as_bytes(),
+        _ => false,
+    }
+}
+
+/// Whether the value at this place of a row is these bytes.
+pub(crate) fn is_blob(row: &Row, at: usize, bytes: &[u8]) -> bool
+    ensures same { result ≡ true → column row.now at ≡ Blob bytes.now }
+    ensures other { result ≡ false → column row.now at ≢ Blob bytes.now }
+{
+    match row.get_ref(at) {
+        Ok(ValueRef::Blob(value)) => value == bytes,
+        _ => false,
+    }
 }

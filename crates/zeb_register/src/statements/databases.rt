@@ -4,7 +4,7 @@ ghost use Rattle.std.specs.Prelude.{◌≡◌, IfErr};
 ghost use Rattle.sqlite.specs.Held.{state};
 ghost use Rattle.sqlite.specs.State.{HasCleanDisk};
 ghost use Rattle.zeb_register.specs.Store.{IsStore, databases_tree, TakesDatabase};
-ghost use Rattle.zeb_register.specs.RowStatements.{AddsDatabase, SetsLast, IsDatabaseRow, Lists, ListsInside};
+ghost use Rattle.zeb_register.specs.RowStatements.{AddsDatabase, SetsLast, IsDatabaseRow, IsListedRow, Lists, ListsInside};
 ghost use Rattle.zeb_register.specs.Faults.{fault_of};
 ghost use Rattle.zeb_register.specs.Calls.{Alters, Inside, Reading, MayRefuse};
 
@@ -40,6 +40,25 @@ pub(crate) fn database_rows_inside<S: Alter>(
         "SELECT id, last FROM databases WHERE name = ?1",
         params![name],
     )
+}
+
+/// All databases, rising by the bytes of their names: the name, the id and the last number of each.
+pub(crate) fn listed_rows<S: Alter>(conn: &mut Connection<S>) -> Result<Vec<Row>, Error>
+    ensures call { Reading (state S.Store conn.old) (state S.Store conn.new) result (λ rows a b. Lists IsListedRow a b rows.items) }
+    ensures err { HasCleanDisk (state S.Store conn.new) → IsStore (state S.Store conn.old)
+        → IfErr result (λ e. fault_of e ≡ RegFault.Store → MayRefuse (state S.Store conn.old) (state S.Store conn.new)) }
+{
+    // What is seen outside a transaction is what was committed.
+    let _idle = conn.is_autocommit();
+    conn.query_all("SELECT name, id, last FROM databases ORDER BY name", &[])
+}
+
+pub(crate) fn listed_rows_inside<S: Alter>(tx: &mut Transaction<'_, S>) -> Result<Vec<Row>, Error>
+    ensures same { tx.new.conn.ghost_name ≡ tx.old.conn.ghost_name }
+    ensures call { Inside (state S.Store tx.old.conn.now) (state S.Store tx.new.conn.now) result
+        (λ rows a b. ListsInside IsListedRow a b rows.items) }
+{
+    tx.query_all("SELECT name, id, last FROM databases ORDER BY name", &[])
 }
 
 pub(crate) fn database_add<S: Alter>(

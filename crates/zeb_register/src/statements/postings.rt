@@ -28,12 +28,29 @@ pub(crate) fn nothing_of<S: Alter>(conn: &mut Connection<S>) -> Result<(), Error
     Ok(())
 }
 
-/// Reads nothing inside a transaction. It is refused where the connection is closed.
-pub(crate) fn nothing_inside<S: Alter>(tx: &mut Transaction<'_, S>) -> Result<Vec<Row>, Error>
+/// The same inside a transaction.
+pub(crate) fn nothing_inside<S: Alter>(tx: &mut Transaction<'_, S>) -> Result<(), Error>
     ensures same { tx.new.conn.ghost_name ≡ tx.old.conn.ghost_name }
     ensures call { Inside (state S.Store tx.old.conn.now) (state S.Store tx.new.conn.now) result (λ _. OnlyReads) }
 {
-    tx.query_all("SELECT term FROM postings LIMIT 0", &[])
+    tx.query_all("SELECT term FROM postings LIMIT 0", &[])?;
+    Ok(())
+}
+
+/// All postings of a database, with their keys, by key, system number, unit and place.
+pub(crate) fn database_postings<S: Alter>(
+    conn: &mut Connection<S>,
+    db: i64,
+) -> Result<Vec<Row>, Error>
+    ensures call { Reading (state S.Store conn.old) (state S.Store conn.new) result
+        (λ rows a b. Lists (IsRest postings_tree (Int db ∷ [])) a b rows.items) }
+{
+    // What is seen outside a transaction is what was committed.
+    let _idle = conn.is_autocommit();
+    conn.query_all(
+        "SELECT idx, reg, term, sysno, seq, pos FROM postings WHERE db = ?1 ORDER BY idx, reg, term, sysno, seq, pos",
+        params![db],
+    )
 }
 
 pub(crate) fn posting_rows<S: Alter>(

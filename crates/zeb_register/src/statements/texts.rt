@@ -3,7 +3,7 @@
 ghost use Rattle.std.specs.Prelude.{◌≡◌, IfErr};
 ghost use Rattle.sqlite.specs.Held.{state};
 ghost use Rattle.sqlite.specs.State.{HasCleanDisk};
-ghost use Rattle.zeb_register.specs.Sql.{Replaces};
+ghost use Rattle.zeb_register.specs.Sql.{HasRow, Replaces};
 ghost use Rattle.zeb_register.specs.Store.{IsStore, meta_tree, entry, IsEntryOf};
 ghost use Rattle.zeb_register.specs.RowStatements.{IsValueRow, Lists};
 ghost use Rattle.zeb_register.specs.Faults.{fault_of};
@@ -36,4 +36,14 @@ pub(crate) fn text_rows<S: Alter>(conn: &mut Connection<S>, name: &str) -> Resul
     // What is seen outside a transaction is what was committed.
     let _idle = conn.is_autocommit();
     conn.query_all("SELECT value FROM meta WHERE name = ?1", params![name])
+}
+
+/// All texts, by their names: the name and the text of each.
+pub(crate) fn all_texts<S: Alter>(conn: &mut Connection<S>) -> Result<Vec<Row>, Error>
+    ensures call { Reading (state S.Store conn.old) (state S.Store conn.new) result
+        (λ rows a b. Lists (λ trees. HasRow trees meta_tree) a b rows.items) }
+{
+    // What is seen outside a transaction is what was committed.
+    let _idle = conn.is_autocommit();
+    conn.query_all("SELECT name, value FROM meta ORDER BY name", &[])
 }

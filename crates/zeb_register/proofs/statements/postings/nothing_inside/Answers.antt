@@ -1,11 +1,18 @@
-use Rattle.std.proofs.Common.{rules}
-use Rattle.zeb_register.proofs.Calls.{query_keeps, reads_inside}
+use Rattle.std.proofs.Common.{rules, ℕ, Err}
+use Rattle.zeb_register.proofs.Calls.{alone_inside, on_err, query_keeps}
 use Rattle.zeb_register.proofs.TermStatements.{nothing_silent}
 use Rattle.zeb_register.proofs.statements.postings.nothing_inside.Goals as goal
 
 pub returns-clause-call : goal.returns-clause-call
 returns-clause-call g c = record {
-  ok = λ clean inside. reads_inside (λ rows. rows.items) _ _ _ _ c.query_all.result nothing_silent (c.query_all.ensures.ok clean) inside;
-  err = λ clean inside. query_keeps _ _ _ _ c.query_all.result nothing_silent (c.query_all.ensures.err clean);
+  ok = λ clean inside. alone_inside _ _ _ _ _ nothing_silent (c.in_ok-query_all.ensures.ok clean) inside;
+  err = search rules;
+  crash = search rules;
+}
+
+pub returns-in_err-query_all-clause-call : goal.returns-in_err-query_all-clause-call
+returns-in_err-query_all-clause-call g c = record {
+  ok = search rules;
+  err = λ clean inside. on_err _ _ (query_keeps {A = ℕ} _ _ _ _ (Err _) nothing_silent (c.in_err-query_all.ensures.err clean));
   crash = search rules;
 }

@@ -1,0 +1,190 @@
+-- The statements that list whole tables, or all rows of a database, each with what it is compiled to.
+use Rattle.std.proofs.Common.{◌≡◌, ◌∙◌, ℕ, ℤ, false, List, [], ◌∷◌, map, codes, refl, sym, ap, ap₂, subst, Ordering, Less, Equal}
+use Rattle.std.specs.Ordering.{ordering_then}
+use Rattle.sqlite.specs.declared.types.Value.TheVariants.{Int}
+use Rattle.sqlite.specs.Command.TheVariants.{Select}
+use Rattle.sqlite.specs.Listing.{understood, reads_listing}
+use Rattle.sqlite.specs.Order.{Row, column}
+use Rattle.sqlite.specs.State.{State, Shown}
+use Rattle.sqlite.specs.Table.{Table}
+use Rattle.sqlite.proofs.Callers.{IsPlain, command_of, reads_as}
+use Rattle.sqlite_rules.specs.Lists.{Has}
+use Rattle.sqlite_tied.specs.Compute.{everything}
+use Rattle.zeb_register.specs.RowExpected.{ShowsOwners}
+use Rattle.zeb_register.specs.Sql.{HasRow, IsListOf}
+use Rattle.zeb_register.specs.Store.{IsStore, IsRest, blocks_tree, dict_tree, meta_tree, postings_tree, records_tree}
+use Rattle.zeb_register.specs.Tables.{store_schema, meta_table}
+use Rattle.zeb_register.proofs.Calls.{IsSilent}
+use Rattle.zeb_register.proofs.Falling.{alone_first}
+use Rattle.zeb_register.proofs.PostingStatements.{blocks, blocks_static, dict, dict_static, postings, postings_keys, postings_static}
+use Rattle.zeb_register.proofs.Prefix.{IsAfter, lists_after}
+use Rattle.zeb_register.proofs.RecordStatements.{records, records_static}
+use Rattle.zeb_register.proofs.RowLemmas.{int_of}
+use Rattle.zeb_register.proofs.Scans.{reads, shows_each}
+use Rattle.zeb_register.proofs.Selects.{list_so}
+use Rattle.zeb_register.proofs.StatementForms.{alone, keyed_from, no_limit, reading, rising, shows}
+use Rattle.zeb_register.proofs.TextStatements.{meta_keys, meta_static}
+use Rattle.zeb_register.proofs.ValueKinds.{IsPlainTable, code, codes_of}
+use Rattle.zeb_register.proofs.Writes.{codes_there}
+
+first_lower : (o p : Ordering) → ordering_then o Equal ≡ Less → ordering_then o p ≡ Less
+first_lower o p lower = ap (λ q. ordering_then q p) (alone_first o lower)
+
+-- ---- all texts
+
+abbrev pub texts_text : List ℕ
+texts_text = codes "SELECT name, value FROM meta ORDER BY name"
+
+abbrev texts_names : List (List ℕ)
+texts_names = codes "name" ∷ codes "value" ∷ []
+
+texts_is : command_of (understood store_schema texts_text) ≡ Select (alone (reading 0 [] (shows (1 ∷ 2 ∷ [])) (1 ∷ []) no_limit)) texts_names
+unfolding understood everything
+texts_is = refl
+
+texts_plain : IsPlain (understood store_schema texts_text) × (reads_listing store_schema texts_text ≡ false)
+unfolding understood everything
+texts_plain = ((refl, refl), refl)
+
+pub texts_silent : IsSilent texts_text
+unfolding everything
+texts_silent = λ schema base. refl
+
+pub lists_texts : (old new : State) (rows : List Row) → IsStore old → Shown texts_text [] old new rows → IsListOf (HasRow old.now.trees meta_tree) rows
+lists_texts old new rows store shown =
+    let P = IsAfter (old.now.trees 0) [] [] [] in
+    let got = lists_after store_schema 0 meta_table meta_static _ meta_keys texts_text [] [] [] 2 (1 ∷ []) no_limit texts_names texts_is texts_plain.0 texts_plain.1 refl refl refl refl (λ r s lower. first_lower _ _ lower) old new rows store shown in
+    list_so P (HasRow old.now.trees meta_tree) rows (λ x. (λ h. (h.0, h.1), λ h. (h.0, h.1, tt))) (subst (IsListOf P) (sym got.2) got.1)
+
+-- ---- all postings of a database
+
+abbrev pub postings_text : List ℕ
+postings_text = codes "SELECT idx, reg, term, sysno, seq, pos FROM postings WHERE db = ?1 ORDER BY idx, reg, term, sysno, seq, pos"
+
+abbrev posting_columns : List ℕ
+posting_columns = 2 ∷ 3 ∷ 4 ∷ 5 ∷ 6 ∷ 7 ∷ []
+
+abbrev posting_names : List (List ℕ)
+posting_names = codes "idx" ∷ codes "reg" ∷ codes "term" ∷ codes "sysno" ∷ codes "seq" ∷ codes "pos" ∷ []
+
+postings_is : command_of (understood store_schema postings_text) ≡ Select (alone (reading 7 (keyed_from 1 0 1) (shows posting_columns) posting_columns no_limit)) posting_names
+unfolding understood everything
+postings_is = refl
+
+postings_plain : IsPlain (understood store_schema postings_text) × (reads_listing store_schema postings_text ≡ false)
+unfolding understood everything
+postings_plain = ((refl, refl), refl)
+
+pub postings_silent : IsSilent postings_text
+unfolding everything
+postings_silent = λ schema base. refl
+
+pub lists_postings : (db : ℤ) (old new : State) (rows : List Row) → IsStore old → Shown postings_text (Int db ∷ []) old new rows → IsListOf (IsRest postings_tree (Int db ∷ []) old.now.trees) rows
+lists_postings db old new rows store shown =
+    let key = Int db ∷ [] in
+    let P = IsAfter (old.now.trees 7) key [] [] in
+    let got = lists_after store_schema 3 postings postings_static _ postings_keys postings_text key [] [] 6 posting_columns no_limit posting_names postings_is postings_plain.0 postings_plain.1 refl refl refl refl (λ r s lower. lower) old new rows store shown in
+    list_so P (IsRest 7 key old.now.trees) rows (λ x. (λ h. (h.0, h.1), λ h. (h.0, h.1, tt))) (subst (IsListOf P) (sym got.2) got.1)
+
+-- ---- whose each row is
+
+-- a row that begins with two integers
+pub two_first : (r : Row) (codes : List ℕ) → map code r ≡ 1 ∷ 1 ∷ codes → (i : ℤ) × (id : ℤ) × (rest : Row) × (r ≡ Int i ∷ Int id ∷ rest)
+two_first [] codes typed = absurd (cc)
+two_first (v ∷ []) codes typed = absurd (let e : [] ≡ 1 ∷ codes = cc in cc)
+two_first (v ∷ w ∷ rest) codes typed =
+    let one = int_of v (let e : code v ≡ 1 = cc in e) in
+    let two = int_of w (let e : code w ≡ 1 = cc in e) in
+    (one.0, two.0, rest, ap₂ (λ a b. a ∷ b ∷ rest) one.1 two.1)
+
+module _ (at : ℕ) (table : Table) (static : IsPlainTable store_schema at table) (more : List ℕ) (codes_are : codes_of table ≡ 1 ∷ 1 ∷ more) where
+  -- a row of the table begins with the id of a database
+  pub owner_row : (s : State) (r : Row) → IsStore s → Has (s.now.trees table.tree) r → (i : ℤ) × (id : ℤ) × (rest : Row) × (r ≡ Int i ∷ Int id ∷ rest)
+  owner_row s r store here = two_first r more (codes_there store_schema at table static s r store here ∙ codes_are)
+
+  pub shows_owners : (sql : List ℕ) (names : List (List ℕ)) → command_of (understood store_schema sql) ≡ Select (alone (reading table.tree [] (shows (1 ∷ [])) [] no_limit)) names
+      → IsPlain (understood store_schema sql) → reads_listing store_schema sql ≡ false → (old new : State) (rows : List Row) → IsStore old → Shown sql [] old new rows → ShowsOwners table.tree old.now.trees rows
+  shows_owners sql names is bare unlisted old new rows store shown =
+      let db = old.now.trees table.tree in
+      let read = reads_as sql [] old new store_schema store.is (Select (alone (reading table.tree [] (shows (1 ∷ [])) [] no_limit)) names) is bare unlisted rows shown in
+      let answer = reads old.now table.tree [] (shows (1 ∷ [])) (rising []) no_limit [] rows read in
+      let each = shows_each db [] (shows (1 ∷ [])) (rising []) no_limit [] rows answer in
+      subst (ShowsOwners table.tree old.now.trees) (sym answer.shown) (λ x. (
+        λ h.
+            let r = (each x).0 h in
+            let it = owner_row old r.0 store r.1 in
+            (it.1, r.3 ∙ ap (λ (y : Row). column y 1 ∷ []) it.3, (it.2, (it.0, subst (Has db) it.3 r.1))),
+        λ h. (each x).1 (Int h.2.1.0 ∷ Int h.0 ∷ h.2.0, h.2.1.1, refl, h.1),
+      ))
+
+abbrev pub records_owners_text : List ℕ
+records_owners_text = codes "SELECT db FROM records"
+
+records_owners_is : command_of (understood store_schema records_owners_text) ≡ Select (alone (reading 4 [] (shows (1 ∷ [])) [] no_limit)) (codes "db" ∷ [])
+unfolding understood everything
+records_owners_is = refl
+
+records_owners_plain : IsPlain (understood store_schema records_owners_text) × (reads_listing store_schema records_owners_text ≡ false)
+unfolding understood everything
+records_owners_plain = ((refl, refl), refl)
+
+pub records_owners_silent : IsSilent records_owners_text
+unfolding everything
+records_owners_silent = λ schema base. refl
+
+pub records_owned : (old new : State) (rows : List Row) → IsStore old → Shown records_owners_text [] old new rows → ShowsOwners records_tree old.now.trees rows
+records_owned = shows_owners 2 records records_static _ refl records_owners_text (codes "db" ∷ []) records_owners_is records_owners_plain.0 records_owners_plain.1
+
+abbrev pub postings_owners_text : List ℕ
+postings_owners_text = codes "SELECT db FROM postings"
+
+postings_owners_is : command_of (understood store_schema postings_owners_text) ≡ Select (alone (reading 7 [] (shows (1 ∷ [])) [] no_limit)) (codes "db" ∷ [])
+unfolding understood everything
+postings_owners_is = refl
+
+postings_owners_plain : IsPlain (understood store_schema postings_owners_text) × (reads_listing store_schema postings_owners_text ≡ false)
+unfolding understood everything
+postings_owners_plain = ((refl, refl), refl)
+
+pub postings_owners_silent : IsSilent postings_owners_text
+unfolding everything
+postings_owners_silent = λ schema base. refl
+
+pub postings_owned : (old new : State) (rows : List Row) → IsStore old → Shown postings_owners_text [] old new rows → ShowsOwners postings_tree old.now.trees rows
+postings_owned = shows_owners 3 postings postings_static _ refl postings_owners_text (codes "db" ∷ []) postings_owners_is postings_owners_plain.0 postings_owners_plain.1
+
+abbrev pub blocks_owners_text : List ℕ
+blocks_owners_text = codes "SELECT db FROM blocks"
+
+blocks_owners_is : command_of (understood store_schema blocks_owners_text) ≡ Select (alone (reading 9 [] (shows (1 ∷ [])) [] no_limit)) (codes "db" ∷ [])
+unfolding understood everything
+blocks_owners_is = refl
+
+blocks_owners_plain : IsPlain (understood store_schema blocks_owners_text) × (reads_listing store_schema blocks_owners_text ≡ false)
+unfolding understood everything
+blocks_owners_plain = ((refl, refl), refl)
+
+pub blocks_owners_silent : IsSilent blocks_owners_text
+unfolding everything
+blocks_owners_silent = λ schema base. refl
+
+pub blocks_owned : (old new : State) (rows : List Row) → IsStore old → Shown blocks_owners_text [] old new rows → ShowsOwners blocks_tree old.now.trees rows
+blocks_owned = shows_owners 4 blocks blocks_static _ refl blocks_owners_text (codes "db" ∷ []) blocks_owners_is blocks_owners_plain.0 blocks_owners_plain.1
+
+abbrev pub dict_owners_text : List ℕ
+dict_owners_text = codes "SELECT db FROM dict"
+
+dict_owners_is : command_of (understood store_schema dict_owners_text) ≡ Select (alone (reading 11 [] (shows (1 ∷ [])) [] no_limit)) (codes "db" ∷ [])
+unfolding understood everything
+dict_owners_is = refl
+
+dict_owners_plain : IsPlain (understood store_schema dict_owners_text) × (reads_listing store_schema dict_owners_text ≡ false)
+unfolding understood everything
+dict_owners_plain = ((refl, refl), refl)
+
+pub dict_owners_silent : IsSilent dict_owners_text
+unfolding everything
+dict_owners_silent = λ schema base. refl
+
+pub dict_owned : (old new : State) (rows : List Row) → IsStore old → Shown dict_owners_text [] old new rows → ShowsOwners dict_tree old.now.trees rows
+dict_owned = shows_owners 5 dict dict_static _ refl dict_owners_text (codes "db" ∷ []) dict_owners_is dict_owners_plain.0 dict_owners_plain.1

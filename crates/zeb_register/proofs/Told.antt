@@ -1,0 +1,16 @@
+-- Answers of yes and no.
+use Rattle.std.proofs.Common.{◌≡◌, ◌↔◌, Bool, true, false, IsTrue, refl}
+
+pub told : (P : Type 0) (answer : Bool) → (answer ≡ true → P) → (answer ≡ false → ¬ P) → IsTrue answer ↔ P
+told P true yes' no' = (λ _. yes' refl, λ _. refl)
+told P false yes' no' = (λ h. absurd (let e : false ≡ true = h in cc), λ p. absurd (no' refl p))
+
+-- a second question is asked where the first is answered yes
+pub both_told : (P Q : Type 0) (answer : Bool) → (IsTrue true ↔ P) → IsTrue answer ↔ Q → IsTrue answer ↔ (P × Q)
+both_told P Q answer first second = (λ h. (first.0 refl, second.0 h), λ both. second.1 both.1)
+
+pub first_told : (P Q : Type 0) → (IsTrue false ↔ P) → IsTrue false ↔ (P × Q)
+first_told P Q first = (λ h. absurd (let e : false ≡ true = h in cc), λ both. first.1 both.0)
+
+pub told_so : (P Q : Type 0) (answer : Bool) → P ↔ Q → IsTrue answer ↔ P → IsTrue answer ↔ Q
+told_so P Q answer so is = (λ h. so.0 (is.0 h), λ q. is.1 (so.1 q))

@@ -1,0 +1,69 @@
+use Rattle.std.proofs.Common.{◌≡◌, ◌∙◌, true, false, inl, inr, slice_get, get_or, sym, ap, subst, refl, arith}
+use Rattle.sqlite.specs.Effect.{Database}
+use Rattle.sqlite.specs.Held.{state}
+use Rattle.sqlite.specs.State.{HasCleanDisk}
+use Rattle.sqlite.proofs.Callers.{unchanged_then}
+use Rattle.zeb_register.specs.declared.catalog.ListedDatabase.{ListedDatabase}
+use Rattle.zeb_register.specs.RowExpected.{AsExpected}
+use Rattle.zeb_register.proofs.Alike.{at_or_below, got_in, got_is, got_same}
+use Rattle.zeb_register.proofs.Calls.{nothing_then, store_same}
+use Rattle.zeb_register.proofs.CallsInTurn.{quiet_then}
+use Rattle.zeb_register.proofs.ContentLemmas.{has_at}
+use Rattle.zeb_register.proofs.agreeing.each_agrees.Goals as goal
+
+pub loop-at-init : goal.loop-at-init
+loop-at-init g c = record {
+  idle = c.nothing_of.ensures.call.idle;
+  ok = c.in_ok-nothing_of.ensures.call.ok;
+  same = c.nothing_of.ensures.call.same;
+  crash = c.nothing_of.ensures.call.crash;
+  done = λ clean store order k one database below. absurd (omega arith);
+}
+
+pub returns-then-not-branch-clause-value : goal.returns-then-not-branch-clause-value
+returns-then-not-branch-clause-value g c clean store order =
+    let inv = c.loop-at.invariant in
+    let s0 = state g.S.Store c.args.conn.now in
+    let s1 = state g.S.Store c.loop-at.conn in
+    let clean1 : HasCleanDisk s1 = omega (arith, c.database_agrees.ensures.call.crash.clean) in
+    let at = (inv.ok clean1).0.now_is in
+    let value = c.in_ok-database_agrees.ensures.value clean (store_same s0 s1 at store) (order c.index-expected-at.result (has_at _ _ _ c.index-expected-at.is c.loop-at-test.true)) in (
+      λ h. absurd (let e : false ≡ true = h in cc),
+      λ each.
+          let here = each c.index-listed-at.result c.index-expected-at.result
+          (c.loop-at.at, got_is c.args.listed.now c.loop-at.at c.index-listed-at.result c.index-listed-at.is (omega (arith, c.requires, c.loop-at-test.true)), got_is c.args.expected.now c.loop-at.at c.index-expected-at.result c.index-expected-at.is c.loop-at-test.true) in
+          let yes' : c.in_ok-database_agrees.field-0 ≡ true = value.1 (subst (λ (d : Database). AsExpected c.args.table (get_or c.args.listed.now c.loop-at.at c.index-listed-at.result).id.0 c.index-expected-at.result d.trees) (sym at) (subst (λ (l : ListedDatabase). AsExpected c.args.table l.id.0 c.index-expected-at.result s0.now.trees) c.index-listed-at.is here)) in
+          let no' : c.in_ok-database_agrees.field-0 ≡ false = c.if-not-branch.true in
+          absurd (cc),
+    )
+
+pub loop-at-preserved : goal.loop-at-preserved
+loop-at-preserved g c =
+    let inv = c.loop-at.invariant in
+    let s0 = state g.S.Store c.args.conn.now in
+    let s1 = state g.S.Store c.loop-at.conn in
+    let s2 = state g.S.Store c.database_agrees.new.conn in
+    let clean_a = λ (clean : HasCleanDisk (state g.S.Store c.database_agrees.new.conn)). (let e : HasCleanDisk (state g.S.Store c.loop-at.conn) = omega (arith, c.database_agrees.ensures.call.crash.clean) in e) in
+    record {
+      idle = λ i. c.database_agrees.ensures.call.idle (inv.idle i);
+      ok = λ clean. unchanged_then s0 s1 s2 (inv.ok (clean_a clean)) (c.in_ok-database_agrees.ensures.call.ok clean);
+      same = λ clean i. nothing_then s0 s1 s2 (inv.same (clean_a clean) i) (c.database_agrees.ensures.call.same clean (inv.idle i));
+      crash = quiet_then s0 s1 s2 inv.crash c.database_agrees.ensures.call.crash;
+      done = λ clean store order k one database below here there.
+          let at = (inv.ok (clean_a clean)).0.now_is in
+          elim (at_or_below k c.loop-at.at below) [
+            | inl before ↦ inv.done (clean_a clean) store order k one database before here there
+            | inr this ↦
+                let value = c.in_ok-database_agrees.ensures.value clean (store_same s0 s1 at store) (order c.index-expected-at.result (has_at _ _ _ c.index-expected-at.is c.loop-at-test.true)) in
+                let left : one ≡ c.index-listed-at.result = got_same c.args.listed.now c.loop-at.at one c.index-listed-at.result (ap (slice_get c.args.listed.now) (sym this) ∙ here) c.index-listed-at.is in
+                let right : database ≡ c.index-expected-at.result = got_same c.args.expected.now c.loop-at.at database c.index-expected-at.result (ap (slice_get c.args.expected.now) (sym this) ∙ there) c.index-expected-at.is in
+                let held = subst (λ (l : ListedDatabase). AsExpected c.args.table l.id.0 c.index-expected-at.result s0.now.trees) (sym c.index-listed-at.is) (subst (λ (d : Database). AsExpected c.args.table (get_or c.args.listed.now c.loop-at.at c.index-listed-at.result).id.0 c.index-expected-at.result d.trees) at (value.0 c.if-not-branch.false)) in
+                subst (λ l. AsExpected c.args.table l.id.0 database s0.now.trees) (sym left) (subst (λ d. AsExpected c.args.table c.index-listed-at.result.id.0 d s0.now.trees) (sym right) held)
+          ];
+    }
+
+pub returns-clause-value : goal.returns-clause-value
+returns-clause-value g c clean store order = (
+  λ h one database pair. c.loop-at.invariant.done clean store order pair.0 one database (let e = got_in c.args.expected.now pair.0 database pair.2 in omega (arith, e, c.loop-at-test.false)) pair.1 pair.2,
+  λ each. refl,
+)

@@ -1,0 +1,22 @@
+use Rattle.std.proofs.Common.{◌≡◌, ◌<◌, ℕ, false, slice_get, Some}
+use Rattle.sqlite.specs.Held.{state}
+use Rattle.sqlite.specs.State.{HasCleanDisk, IsUnchanged, Survives}
+use Rattle.zeb_register.specs.declared.catalog.ListedDatabase.{ListedDatabase}
+use Rattle.zeb_register.specs.declared.expected.ExpectedDatabase.{ExpectedDatabase}
+use Rattle.zeb_register.specs.Calls.{ChangesNothing}
+use Rattle.zeb_register.specs.RowExpected.{AreInOrder, AsExpected}
+use Rattle.zeb_register.specs.Store.{IsStore}
+use Rattle.zeb_register.proofs.agreeing.each_agrees.Given as goal
+
+abbrev pub invariant-loop-at : goal.invariant-loop-at
+invariant-loop-at g l =
+    let old = state g.S.Store l.fn.conn in
+    let now = state g.S.Store l.conn in
+    record {
+      idle : l.fn.conn.in_transaction ≡ false → l.conn.in_transaction ≡ false;
+      ok : HasCleanDisk now → IsUnchanged old now;
+      same : HasCleanDisk now → l.fn.conn.in_transaction ≡ false → ChangesNothing old now;
+      crash : Survives old now (λ _. ⊥);
+      done : HasCleanDisk now → IsStore old → AreInOrder l.expected → (k : ℕ) (one : ListedDatabase) (database : ExpectedDatabase) → k < l.at → slice_get l.listed k ≡ Some one
+          → slice_get l.expected k ≡ Some database → AsExpected l.table one.id.0 database old.now.trees;
+    }

@@ -1,0 +1,30 @@
+use Rattle.std.proofs.Common.{◌≡◌, ◌↔◌, [], true, false, IsTrue, subst, arith}
+use Rattle.std.proofs.lemmas.Result.{IfOk-weaker}
+use Rattle.sqlite.specs.Effect.{Database}
+use Rattle.sqlite.specs.Held.{state}
+use Rattle.sqlite.specs.State.{HasCleanDisk}
+use Rattle.zeb_register.specs.RowExpected.{BelongsTo}
+use Rattle.zeb_register.specs.Store.{blocks_tree, dict_tree}
+use Rattle.zeb_register.proofs.Calls.{reading_then, store_same}
+use Rattle.zeb_register.proofs.Told.{both_told, first_told}
+use Rattle.zeb_register.proofs.agreeing.lacks_packed.Goals as goal
+
+pub returns-then-not-branch-clause-value : goal.returns-then-not-branch-clause-value
+returns-then-not-branch-clause-value g c clean store =
+    let trees = (state g.S.Store c.args.conn.now).now.trees in
+    let no' : c.in_ok-belongs.field-0 ≡ false = c.if-not-branch.true in
+    first_told (BelongsTo blocks_tree [] trees) (BelongsTo dict_tree [] trees) (subst (λ b. IsTrue b ↔ BelongsTo blocks_tree [] trees) no' (c.in_ok-belongs.ensures.value clean store))
+
+pub returns-clause-call : goal.returns-clause-call
+returns-clause-call g c = reading_then _ _ _ _ _ c.in_ok-belongs.ensures.call c.belongs-2.ensures.call
+
+pub returns-clause-value : goal.returns-clause-value
+returns-clause-value g c clean store =
+    let s0 = state g.S.Store c.args.conn.now in
+    let s1 = state g.S.Store c.belongs.new.conn in
+    let clean1 : HasCleanDisk s1 = omega (arith, c.belongs-2.ensures.call.crash.clean) in
+    let at = (c.in_ok-belongs.ensures.call.ok clean1).0.now_is in
+    let yes' : c.in_ok-belongs.field-0 ≡ true = c.if-not-branch.false in
+    let one = BelongsTo blocks_tree [] s0.now.trees in
+    IfOk-weaker c.belongs-2.result _ _ (λ b second. both_told one (BelongsTo dict_tree [] s0.now.trees) b (subst (λ t. IsTrue t ↔ one) yes' (c.in_ok-belongs.ensures.value clean1 store))
+    (subst (λ (d : Database). IsTrue b ↔ BelongsTo dict_tree [] d.trees) at second)) (c.belongs-2.ensures.value clean (store_same s0 s1 at store))

@@ -1,0 +1,33 @@
+use Rattle.std.proofs.Common.{arith}
+use Rattle.std.proofs.lemmas.Result.{IfOk-weaker}
+use Rattle.sqlite.specs.Effect.{Database}
+use Rattle.sqlite.specs.Held.{state}
+use Rattle.sqlite.specs.State.{HasCleanDisk}
+use Rattle.std.proofs.Common.{◌≡◌, ◌↔◌, true, false, IsTrue, subst}
+use Rattle.zeb_register.specs.RowExpected.{BelongsTo, EachAsExpected, tree_of}
+use Rattle.zeb_register.proofs.Calls.{reading_then, store_same}
+use Rattle.zeb_register.proofs.Told.{both_told, first_told}
+use Rattle.zeb_register.proofs.agreeing.table_agrees.Goals as goal
+
+pub returns-then-not-branch-clause-value : goal.returns-then-not-branch-clause-value
+returns-then-not-branch-clause-value g c clean store order =
+    let trees = (state g.S.Store c.args.conn.now).now.trees in
+    let first = c.in_ok-each_agrees.ensures.value clean store order in
+    let no' : c.in_ok-each_agrees.field-0 ≡ false = c.if-not-branch.true in
+    first_told (EachAsExpected c.args.table c.args.listed.now c.args.expected.now trees) (BelongsTo (tree_of c.args.table) c.args.listed.now trees)
+    (subst (λ b. IsTrue b ↔ EachAsExpected c.args.table c.args.listed.now c.args.expected.now trees) no' first)
+
+pub returns-clause-call : goal.returns-clause-call
+returns-clause-call g c = reading_then _ _ _ _ _ c.in_ok-each_agrees.ensures.call c.belongs.ensures.call
+
+pub returns-clause-value : goal.returns-clause-value
+returns-clause-value g c clean store order =
+    let s0 = state g.S.Store c.args.conn.now in
+    let s1 = state g.S.Store c.each_agrees.new.conn in
+    let clean1 : HasCleanDisk s1 = omega (arith, c.belongs.ensures.call.crash.clean) in
+    let at = (c.in_ok-each_agrees.ensures.call.ok clean1).0.now_is in
+    let first = c.in_ok-each_agrees.ensures.value clean1 store order in
+    let yes' : c.in_ok-each_agrees.field-0 ≡ true = c.if-not-branch.false in
+    let each = EachAsExpected c.args.table c.args.listed.now c.args.expected.now s0.now.trees in
+    let owned = λ (d : Database). BelongsTo (tree_of c.args.table) c.args.listed.now d.trees in
+    IfOk-weaker c.belongs.result _ _ (λ b second. both_told each (owned s0.now) b (subst (λ t. IsTrue t ↔ each) yes' first) (subst (λ (d : Database). IsTrue b ↔ BelongsTo (tree_of c.args.table) c.args.listed.now d.trees) at second)) (c.belongs.ensures.value clean (store_same s0 s1 at store))

@@ -1,0 +1,7 @@
+use Rattle.std.proofs.Common.{◌≡◌, map, take}
+use Rattle.zeb_register.specs.Catalog.{listed_row}
+use Rattle.zeb_register.specs.RowPlaces.{first_three}
+use Rattle.zeb_register.proofs.catalog.databases_in.Given as goal
+
+abbrev pub invariant-loop-row : goal.invariant-loop-row
+invariant-loop-row l = map listed_row l.databases.items ≡ map first_three (take l.row-index l.rows)

@@ -1,0 +1,308 @@
+//! Whole tables beside what is expected of them, one table after the other.
+
+ghost use Rattle.std.specs.Prelude.{◌≡◌, ◌≢◌, ◌↔◌, true, false, length, MatchOption, IfSome, IsTrue, IfOk};
+ghost use Rattle.sqlite.specs.Held.{state};
+ghost use Rattle.sqlite.specs.State.{HasCleanDisk, IsUnchanged};
+ghost use Rattle.sqlite.specs.declared.types.Value.TheVariants.{Int};
+ghost use Rattle.sqlite.specs.Order.{column};
+ghost use Rattle.sqlite_rules.specs.Lists.{Has};
+ghost use Rattle.std.specs.List.Sorted.{IsStrictlySortedBy};
+ghost use Rattle.zeb_register.specs.Calls.{Reading};
+ghost use Rattle.zeb_register.specs.Expected.{IsOrdered, name_order};
+ghost use Rattle.zeb_register.specs.RowExpected.{AreBeside, AreInOrder, AsExpected, BelongsTo, EachAsExpected, HasNames, HasTexts};
+ghost use Rattle.zeb_register.specs.RowExpected.{HoldsExpected, HoldsThere, IsInOrder, IsOwnedBy, LacksPacked, ListsAgree, ShowsOwners};
+ghost use Rattle.zeb_register.specs.RowExpected.{tree_of};
+ghost use Rattle.zeb_register.specs.RowTerms.{Reads};
+ghost use Rattle.zeb_register.specs.Store.{IsStore};
+
+use crate::catalog::databases_in;
+use crate::expected::{are_named, are_postings, are_records, are_texts};
+use crate::statements::databases::listed_rows;
+use crate::statements::owners::{blocks_owners, dict_owners, postings_owners, records_owners};
+use crate::statements::postings::{database_postings, nothing_of};
+use crate::statements::records::record_rows;
+use crate::statements::texts::all_texts;
+use crate::{DatabaseId, Expected, ExpectedDatabase, ListedDatabase, RegFault};
+use sqlite::types::ValueRef;
+use sqlite::{Alter, Connection, Row};
+use std::alloc::Global;
+
+/// A table whose rows begin with the id of a database.
+#[derive(Clone, Copy, Debug)]
+pub(crate) enum Table {
+    Records,
+    Postings,
+    Blocks,
+    Dict,
+}
+
+/// The databases that are there, where texts, databases and records are just the expected ones.
+pub(crate) fn lists_beside<S: Alter>(
+    alloc: Global,
+    conn: &mut Connection<S>,
+    expected: &Expected,
+) -> Result<Option<Vec<ListedDatabase>>, RegFault>
+    ensures call { Reading (state S.Store conn.old) (state S.Store conn.new) result (λ _. IsUnchanged) }
+    ensures value { HasCleanDisk (state S.Store conn.new) → IsStore (state S.Store conn.old) → IsOrdered expected.now
+        → IfOk result (λ found. MatchOption found (¬ ListsAgree (state S.Store conn.old).now.trees expected.now)
+        (λ listed. AreBeside listed.items expected.now.databases.items (state S.Store conn.old).now.trees
+        × ListsAgree (state S.Store conn.old).now.trees expected.now)) }
+    ensures long { IfOk result (λ found. IfSome found (λ listed. length listed.items ≡ length expected.now.databases.items)) }
+    ensures honest { result ≢ Err RegFault.Damaged }
+{
+    if !texts_agree(conn, expected)? {
+        return Ok(None);
+    }
+    records_beside(alloc, conn, &expected.databases)
+}
+
+/// The databases that are there, where they and their records are just the expected ones.
+fn records_beside<S: Alter>(
+    alloc: Global,
+    conn: &mut Connection<S>,
+    expected: &[ExpectedDatabase],
+) -> Result<Option<Vec<ListedDatabase>>, RegFault>
+    ensures call { Reading (state S.Store conn.old) (state S.Store conn.new) result (λ _. IsUnchanged) }
+    ensures value { HasCleanDisk (state S.Store conn.new) → IsStore (state S.Store conn.old) → IsStrictlySortedBy name_order expected.now
+        → AreInOrder expected.now → IfOk result (λ found. MatchOption found
+        (¬ (HasNames (state S.Store conn.old).now.trees expected.now × HoldsThere Table.Records expected.now (state S.Store conn.old).now.trees))
+        (λ listed. AreBeside listed.items expected.now (state S.Store conn.old).now.trees
+        × HoldsThere Table.Records expected.now (state S.Store conn.old).now.trees)) }
+    ensures long { IfOk result (λ found. IfSome found (λ listed. length listed.items ≡ length expected.now)) }
+    ensures honest { result ≢ Err RegFault.Damaged }
+{
+    let Some(listed) = databases_beside(alloc, conn, expected)? else {
+        return Ok(None);
+    };
+    let agree = table_agrees(conn, Table::Records, &listed, expected)?;
+    if agree { Ok(Some(listed)) } else { Ok(None) }
+}
+
+/// Whether the tables of the registers have just the expected rows, one for each posting, and the packed tables none.
+pub(crate) fn rows_agree<S: Alter>(
+    conn: &mut Connection<S>,
+    listed: &[ListedDatabase],
+    expected: &[ExpectedDatabase],
+) -> Result<bool, RegFault>
+    requires { length listed.now ≡ length expected.now }
+    ensures call { Reading (state S.Store conn.old) (state S.Store conn.new) result (λ _. IsUnchanged) }
+    ensures value { HasCleanDisk (state S.Store conn.new) → IsStore (state S.Store conn.old) → AreInOrder expected.now
+        → IfOk result (λ agree. IsTrue agree ↔ (HoldsExpected Table.Postings listed.now expected.now (state S.Store conn.old).now.trees
+        × LacksPacked (state S.Store conn.old).now.trees)) }
+    ensures honest { result ≢ Err RegFault.Damaged }
+{
+    if !table_agrees(conn, Table::Postings, listed, expected)? {
+        return Ok(false);
+    }
+    lacks_packed(conn)
+}
+
+/// Whether no packed table has a row.
+fn lacks_packed<S: Alter>(conn: &mut Connection<S>) -> Result<bool, RegFault>
+    ensures call { Reading (state S.Store conn.old) (state S.Store conn.new) result (λ _. IsUnchanged) }
+    ensures value { HasCleanDisk (state S.Store conn.new) → IsStore (state S.Store conn.old)
+        → IfOk result (λ agree. IsTrue agree ↔ LacksPacked (state S.Store conn.old).now.trees) }
+    ensures honest { result ≢ Err RegFault.Damaged }
+{
+    if !belongs(conn, Table::Blocks, &[])? {
+        return Ok(false);
+    }
+    belongs(conn, Table::Dict, &[])
+}
+
+/// Whether `meta` has just the expected texts.
+fn texts_agree<S: Alter>(conn: &mut Connection<S>, expected: &Expected) -> Result<bool, RegFault>
+    ensures call { Reading (state S.Store conn.old) (state S.Store conn.new) result (λ _. IsUnchanged) }
+    ensures value { HasCleanDisk (state S.Store conn.new) → IsStore (state S.Store conn.old)
+        → IfOk result (λ agree. IsTrue agree ↔ HasTexts (state S.Store conn.old).now.trees expected.now) }
+    ensures honest { result ≢ Err RegFault.Damaged }
+{
+    let rows = all_texts(conn)?;
+    Ok(are_texts(&rows, expected))
+}
+
+/// The databases that are there, where they have just the expected names and last numbers.
+fn databases_beside<S: Alter>(
+    alloc: Global,
+    conn: &mut Connection<S>,
+    expected: &[ExpectedDatabase],
+) -> Result<Option<Vec<ListedDatabase>>, RegFault>
+    ensures call { Reading (state S.Store conn.old) (state S.Store conn.new) result (λ _. IsUnchanged) }
+    ensures value { HasCleanDisk (state S.Store conn.new) → IsStore (state S.Store conn.old) → IsStrictlySortedBy name_order expected.now
+        → IfOk result (λ found. MatchOption found (¬ HasNames (state S.Store conn.old).now.trees expected.now)
+        (λ listed. AreBeside listed.items expected.now (state S.Store conn.old).now.trees)) }
+    ensures long { IfOk result (λ found. IfSome found (λ listed. length listed.items ≡ length expected.now)) }
+    ensures honest { result ≢ Err RegFault.Damaged }
+{
+    let rows = listed_rows(conn)?;
+    match databases_in(alloc, &rows) {
+        Ok(listed) => {
+            if are_named(&listed, expected) {
+                Ok(Some(listed))
+            } else {
+                Ok(None)
+            }
+        }
+        // An unreadable row is none that is expected.
+        Err(RegFault::Damaged) => Ok(None),
+        Err(fault) => Err(fault),
+    }
+}
+
+/// Whether a table has just the expected rows of these databases.
+pub(crate) fn table_agrees<S: Alter>(
+    conn: &mut Connection<S>,
+    table: Table,
+    listed: &[ListedDatabase],
+    expected: &[ExpectedDatabase],
+) -> Result<bool, RegFault>
+    requires { length listed.now ≡ length expected.now }
+    ensures call { Reading (state S.Store conn.old) (state S.Store conn.new) result (λ _. IsUnchanged) }
+    ensures value { HasCleanDisk (state S.Store conn.new) → IsStore (state S.Store conn.old) → AreInOrder expected.now
+        → IfOk result (λ agree. IsTrue agree ↔ HoldsExpected table listed.now expected.now (state S.Store conn.old).now.trees) }
+    ensures honest { result ≢ Err RegFault.Damaged }
+{
+    if !each_agrees(conn, table, listed, expected)? {
+        return Ok(false);
+    }
+    belongs(conn, table, listed)
+}
+
+/// Whether a table has just the expected rows under the id of each of these databases.
+fn each_agrees<S: Alter>(
+    conn: &mut Connection<S>,
+    table: Table,
+    listed: &[ListedDatabase],
+    expected: &[ExpectedDatabase],
+) -> Result<bool, RegFault>
+    requires { length listed.now ≡ length expected.now }
+    ensures call { Reading (state S.Store conn.old) (state S.Store conn.new) result (λ _. IsUnchanged) }
+    ensures value { HasCleanDisk (state S.Store conn.new) → IsStore (state S.Store conn.old) → AreInOrder expected.now
+        → IfOk result (λ agree. IsTrue agree ↔ EachAsExpected table listed.now expected.now (state S.Store conn.old).now.trees) }
+    ensures honest { result ≢ Err RegFault.Damaged }
+{
+    // A closed connection is refused also where no database is expected.
+    nothing_of(conn)?;
+    for (at, database) in expected.iter().enumerate() {
+        if !database_agrees(conn, table, listed[at].id, database)? {
+            return Ok(false);
+        }
+    }
+    Ok(true)
+}
+
+/// Whether a table has just the expected rows of a database under this id.
+fn database_agrees<S: Alter>(
+    conn: &mut Connection<S>,
+    table: Table,
+    db: DatabaseId,
+    database: &ExpectedDatabase,
+) -> Result<bool, RegFault>
+    ensures call { Reading (state S.Store conn.old) (state S.Store conn.new) result (λ _. IsUnchanged) }
+    ensures value { HasCleanDisk (state S.Store conn.new) → IsStore (state S.Store conn.old) → IsInOrder database.now
+        → IfOk result (λ agree. IsTrue agree ↔ AsExpected table db.0 database.now (state S.Store conn.old).now.trees) }
+    ensures honest { result ≢ Err RegFault.Damaged }
+{
+    match table {
+        Table::Records => records_agree(conn, db, database),
+        Table::Postings => postings_agree(conn, db, database),
+        Table::Blocks => Err(RegFault::Memory),
+        Table::Dict => Err(RegFault::Memory),
+    }
+}
+
+/// Whether the records of a database are just the expected ones.
+fn records_agree<S: Alter>(
+    conn: &mut Connection<S>,
+    db: DatabaseId,
+    database: &ExpectedDatabase,
+) -> Result<bool, RegFault>
+    ensures call { Reading (state S.Store conn.old) (state S.Store conn.new) result (λ _. IsUnchanged) }
+    ensures value { HasCleanDisk (state S.Store conn.new) → IsStore (state S.Store conn.old) → IsInOrder database.now
+        → IfOk result (λ agree. IsTrue agree ↔ AsExpected Table.Records db.0 database.now (state S.Store conn.old).now.trees) }
+    ensures honest { result ≢ Err RegFault.Damaged }
+{
+    let rows = record_rows(conn, db.column())?;
+    Ok(are_records(&rows, &database.records))
+}
+
+/// Whether the rows of postings of a database are just the expected ones.
+fn postings_agree<S: Alter>(
+    conn: &mut Connection<S>,
+    db: DatabaseId,
+    database: &ExpectedDatabase,
+) -> Result<bool, RegFault>
+    ensures call { Reading (state S.Store conn.old) (state S.Store conn.new) result (λ _. IsUnchanged) }
+    ensures value { HasCleanDisk (state S.Store conn.new) → IsStore (state S.Store conn.old) → IsInOrder database.now
+        → IfOk result (λ agree. IsTrue agree ↔ AsExpected Table.Postings db.0 database.now (state S.Store conn.old).now.trees) }
+    ensures honest { result ≢ Err RegFault.Damaged }
+{
+    let rows = database_postings(conn, db.column())?;
+    Ok(are_postings(&rows, &database.postings))
+}
+
+/// Whether each row of a table belongs to one of these databases.
+pub(crate) fn belongs<S: Alter>(
+    conn: &mut Connection<S>,
+    table: Table,
+    listed: &[ListedDatabase],
+) -> Result<bool, RegFault>
+    ensures call { Reading (state S.Store conn.old) (state S.Store conn.new) result (λ _. IsUnchanged) }
+    ensures value { HasCleanDisk (state S.Store conn.new) → IsStore (state S.Store conn.old)
+        → IfOk result (λ agree. IsTrue agree ↔ BelongsTo (tree_of table) listed.now (state S.Store conn.old).now.trees) }
+    ensures honest { result ≢ Err RegFault.Damaged }
+{
+    let rows = owners(conn, table)?;
+    Ok(are_owned(&rows, listed))
+}
+
+/// The id of its database, for each row of a table.
+fn owners<S: Alter>(conn: &mut Connection<S>, table: Table) -> Result<Vec<Row>, RegFault>
+    ensures call { Reading (state S.Store conn.old) (state S.Store conn.new) result
+        (λ rows a b. Reads (ShowsOwners (tree_of table)) a b rows.items) }
+    ensures honest { result ≢ Err RegFault.Damaged }
+{
+    match table {
+        Table::Records => Ok(records_owners(conn)?),
+        Table::Postings => Ok(postings_owners(conn)?),
+        Table::Blocks => Ok(blocks_owners(conn)?),
+        Table::Dict => Ok(dict_owners(conn)?),
+    }
+}
+
+/// Whether each row shows the id of one of these databases.
+fn are_owned(rows: &[Row], listed: &[ListedDatabase]) -> bool
+    ensures same { result ≡ true → (row : _) → Has rows.now row → IsOwnedBy listed.now row }
+    ensures other { result ≡ false → ¬ ((row : _) → Has rows.now row → IsOwnedBy listed.now row) }
+{
+    for row in rows {
+        if !is_owned(row, listed) {
+            return false;
+        }
+    }
+    true
+}
+
+/// Whether the row shows the id of one of these databases.
+fn is_owned(row: &Row, listed: &[ListedDatabase]) -> bool
+    ensures same { result ≡ true → IsOwnedBy listed.now row.now }
+    ensures other { result ≡ false → ¬ IsOwnedBy listed.now row.now }
+{
+    for database in listed {
+        if is_id(row, database.id) {
+            return true;
+        }
+    }
+    false
+}
+
+/// Whether the row shows this id.
+fn is_id(row: &Row, id: DatabaseId) -> bool
+    ensures same { result ≡ true → column row.now 0 ≡ Int id.0 }
+    ensures other { result ≡ false → column row.now 0 ≢ Int id.0 }
+{
+    match row.get_ref(0) {
+        Ok(ValueRef::Int(value)) => value == id.column(),
+        _ => false,
+    }
+}
