@@ -12,6 +12,7 @@ mod holding_laws;
 mod laws;
 mod readiness;
 mod refusals;
+mod renewals;
 mod replies;
 mod scan;
 mod session;
@@ -27,8 +28,8 @@ pub use definition_laws::{
 };
 pub use holding_laws::{a_database_is_in_its_place, the_last_record_stays};
 pub use laws::worked_examples;
-pub use zeb_image::DbName;
 pub use refusals::{refusal_line, status};
 pub use replies::{Hit, Holding, Reply, render};
 pub use session::Session;
 pub use zeb_change::{Kind, Limits, RecordFault, Refusal};
+pub use zeb_image::DbName;

@@ -20,12 +20,12 @@ ghost use Rattle.zeb_change.specs.Inside.{Stays};
 ghost use Rattle.zeb_engine.specs.Works.{Always, IsReady, Serves, Works};
 ghost use Rattle.zeb_engine.specs.PrivateWriting.{AreOf, Begins, IsFree, IsKnown, FailsAlone, Fits, IsReached, PutsTexts, written};
 
-use zeb_image::DbName;
 use crate::readiness::{IDENTIFIER, PROFILE, VERSION, existing_database};
 use crate::replies::Reply;
 use sqlite::{Alter, Connection, Transaction};
 use std::alloc::Global;
 use zeb_change::Refusal;
+use zeb_image::DbName;
 use zeb_profile::Profile;
 use zeb_register::{DatabaseId, Layout, database_of, database_put, meta_put, wipe};
 
