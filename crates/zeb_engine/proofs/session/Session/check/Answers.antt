@@ -1,10 +1,10 @@
 use Rattle.std.proofs.Common.{◌≡◌, Err, rules, sym, subst}
 use Rattle.sqlite.specs.Held.{state}
 use Rattle.zeb_change.specs.Conditions.{conditions}
-use Rattle.zeb_engine.specs.Steps.{waited}
+use Rattle.zeb_engine.specs.Steps.{checked}
 use Rattle.zeb_engine.specs.Works.{Always, Serves}
-use Rattle.zeb_engine.proofs.Commanding.{unready_waits}
-use Rattle.zeb_engine.proofs.session.Session.wait.Goals as goal
+use Rattle.zeb_engine.proofs.Commanding.{unready_checks}
+use Rattle.zeb_engine.proofs.session.Session.check.Goals as goal
 use Rattle.zeb_register.specs.Formats.{version_of}
 
 pub returns-in_err-check_ready-clause-serves : goal.returns-in_err-check_ready-clause-serves
@@ -15,8 +15,8 @@ returns-in_err-check_ready-clause-serves g c clean =
     let new = state g.S.Store c.check_ready.new.connection in
     let refusal = c.in_err-check_ready.field-0.0 in
     let told : c.from_residual.result ≡ Err refusal = search rules in
-    subst (Serves Always (waited k) old new) (sym told)
-    (unready_waits g.L.Layout.format k old new refusal (c.check_ready.ensures.same clean) (λ before keeps. c.in_err-check_ready.ensures.ready clean limits before keeps))
+    subst (Serves Always (checked k) old new) (sym told)
+    (unready_checks g.L.Layout.format k old new refusal (c.check_ready.ensures.same clean) (λ before keeps. c.in_err-check_ready.ensures.ready clean limits before keeps))
 
 pub returns-in_err-check_ready-clause-ready : goal.returns-in_err-check_ready-clause-ready
 returns-in_err-check_ready-clause-ready g c clean =
