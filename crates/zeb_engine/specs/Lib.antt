@@ -14,6 +14,7 @@ pub mod Works
 pub mod Costs
 pub mod Readiness
 pub mod Checking
+pub mod PrivateLooking
 pub mod PrivateWriting
 pub mod PrivateChanging
 pub mod PrivateDumping

@@ -65,7 +65,7 @@ pub record IsReadyToReindex (version : List ℕ) (profile : List Directive) (tre
   pub has_version : KeepsText trees (codes "version") version
   pub has_rule : KeepsRule profile trees
 
--- over which texts a reindex is refused so; it is refused for nothing else
+-- over which texts a reindex is refused so
 abbrev pub RefusesReindex : List ℕ → List Directive → Trees → Refusal → Type 0
 RefusesReindex version profile trees NotInitialised = (text : List ℕ) → ¬ KeepsText trees (codes "version") text
 RefusesReindex version profile trees OldFormat = ((text : List ℕ) × KeepsText trees (codes "version") text) × ¬ KeepsText trees (codes "version") version
@@ -73,7 +73,8 @@ RefusesReindex version profile trees IdentifierRuleChanged = KeepsText trees (co
 RefusesReindex version profile trees Damaged = Unit {0}
 RefusesReindex version profile trees Store = Unit {0}
 RefusesReindex version profile trees Memory = Unit {0}
-RefusesReindex version profile trees other = ⊥
+RefusesReindex version profile trees (ReadFault file) = Unit {0}
+RefusesReindex version profile trees other = IsReadyToReindex version profile trees
 
 abbrev pub ReindexesByTexts : {T : Type 0} → List ℕ → List Directive → State → Result T Refusal → Type 0
 ReindexesByTexts version profile s result =
@@ -88,7 +89,7 @@ pub record IsReadyToUpgrade (version : List ℕ) (profile : List Directive) (tre
   pub has_version : KeepsUpgradable version trees
   pub has_profile : KeepsText trees (codes "profile") (canonical_text profile)
 
--- over which texts an upgrade is refused so; it is refused for nothing else
+-- over which texts an upgrade is refused so
 abbrev pub RefusesUpgrade : List ℕ → List Directive → Trees → Refusal → Type 0
 RefusesUpgrade version profile trees NotInitialised = (text : List ℕ) → ¬ KeepsText trees (codes "version") text
 RefusesUpgrade version profile trees OldFormat = ((text : List ℕ) × KeepsText trees (codes "version") text) × ¬ KeepsUpgradable version trees
@@ -96,7 +97,8 @@ RefusesUpgrade version profile trees ProfileChanged = KeepsUpgradable version tr
 RefusesUpgrade version profile trees Damaged = Unit {0}
 RefusesUpgrade version profile trees Store = Unit {0}
 RefusesUpgrade version profile trees Memory = Unit {0}
-RefusesUpgrade version profile trees other = ⊥
+RefusesUpgrade version profile trees (ReadFault file) = Unit {0}
+RefusesUpgrade version profile trees other = IsReadyToUpgrade version profile trees
 
 abbrev pub UpgradesByTexts : {T : Type 0} → List ℕ → List Directive → State → Result T Refusal → Type 0
 UpgradesByTexts version profile s result =

@@ -14,12 +14,15 @@ ghost use Rattle.zeb_engine.specs.Steps.{reindexed, upgraded};
 ghost use Rattle.zeb_engine.specs.Transactions.{Commanded};
 ghost use Rattle.zeb_engine.specs.Works.{Always, Serves};
 
+use crate::looks::{Standing, check_layout, check_rule};
 use crate::replies::Reply;
+use crate::writes::{Write, transact};
 use sqlite::{Alter, Connection};
 use std::alloc::Global;
 use zeb_change::Refusal;
+use zeb_image::is_image;
 use zeb_profile::Profile;
-use zeb_register::Layout;
+use zeb_register::{Layout, Rows};
 
 /// Puts the session's profile in the place of the register's, and makes the registers anew by it. `IdentifierRuleChanged` where the profiles
 /// have other rules for identifiers; `Damaged` where a kept record isn't one, or hasn't its identifier.
@@ -40,7 +43,11 @@ pub(crate) fn reindex<S: Alter, L: Layout>(
         → ReindexesByTexts (version_of L.format) profile.now (state S.Store connection.old) result }
     ensures unread { NoReadFault result }
 {
-    Err(Refusal::Memory)
+    // Its profile is some text's, and has a rule for identifiers.
+    profile.is_of_some_text();
+    let _rule = profile.identifier_rule();
+    check_rule::<S, L>(alloc, connection, profile)?;
+    transact::<S, L>(connection, &Write::Reindex { alloc, profile })
 }
 
 /// Makes the registers of the first layout anew in this one. Where the register has this one already, nothing changes. `Damaged` where the
@@ -64,5 +71,19 @@ pub(crate) fn upgrade<S: Alter, L: Layout>(
         → UpgradesTables (version_of L.format) profile.now (state S.Store connection.old) result }
     ensures unread { NoReadFault result }
 {
-    Err(Refusal::Memory)
+    // What is shown is what was committed.
+    let _settled = connection.is_autocommit();
+    // Its profile is some text's.
+    profile.is_of_some_text();
+    let standing = check_layout::<S, L>(connection, profile)?;
+    match standing {
+        Standing::Upgraded => Ok(Reply::Done),
+        Standing::First => {
+            if is_image::<S, Rows>(alloc, connection, profile)? {
+                transact::<S, L>(connection, &Write::Upgrade { alloc, profile })
+            } else {
+                Err(Refusal::Damaged)
+            }
+        }
+    }
 }

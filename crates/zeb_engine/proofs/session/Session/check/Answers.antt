@@ -1,11 +1,18 @@
-use Rattle.std.proofs.Common.{◌≡◌, Err, rules, sym, subst}
+use Rattle.std.proofs.Common.{◌≡◌, ◌∙◌, Bool, true, false, List, Ok, Err, IsTrue, rules, arith, ap, sym, subst}
 use Rattle.sqlite.specs.Held.{state}
-use Rattle.zeb_change.specs.Conditions.{conditions}
-use Rattle.zeb_engine.specs.Steps.{checked}
-use Rattle.zeb_engine.specs.Works.{Always, Serves}
-use Rattle.zeb_engine.proofs.Commanding.{unready_checks}
-use Rattle.zeb_engine.proofs.session.Session.check.Goals as goal
+use Rattle.sqlite.specs.State.{HasCleanDisk}
 use Rattle.zeb_register.specs.Formats.{version_of}
+use Rattle.zeb_register.proofs.Calls.{nothing_then, store_same}
+use Rattle.zeb_change.specs.Base.{Base}
+use Rattle.zeb_change.specs.Conditions.{conditions}
+use Rattle.zeb_change.specs.Outcomes.{register_refusal}
+use Rattle.zeb_engine.specs.Steps.{checked, ready}
+use Rattle.zeb_engine.specs.Works.{Always, Serves}
+use Rattle.zeb_engine.proofs.Checks.{check_serves, damage_serves, tells_failure, tells_none, tells_some, unready_tells}
+use Rattle.zeb_engine.proofs.Commanding.{ready_met, unready_checks}
+use Rattle.zeb_engine.proofs.ListedDatabases.{fault_fails}
+use Rattle.zeb_engine.proofs.Serving.{early_serves}
+use Rattle.zeb_engine.proofs.session.Session.check.Goals as goal
 
 pub returns-in_err-check_ready-clause-serves : goal.returns-in_err-check_ready-clause-serves
 returns-in_err-check_ready-clause-serves g c clean =
@@ -23,5 +30,14 @@ returns-in_err-check_ready-clause-ready g c clean =
     let told : c.from_residual.result ≡ Err c.in_err-check_ready.field-0.0 = search rules in
     rw told (c.in_err-check_ready.ensures.texts clean)
 
-pub returns-clause-ready : goal.returns-clause-ready
-returns-clause-ready g c clean = c.in_ok-check_ready.ensures.texts clean
+pub returns-in_err-check_ready-clause-checked : goal.returns-in_err-check_ready-clause-checked
+returns-in_err-check_ready-clause-checked g c clean store texts =
+    let limits = c.args.self.now.limits in
+    let k = conditions (version_of g.L.Layout.format) c.args.self.now.profile limits in
+    let old = state g.S.Store c.args.self.now.connection in
+    let mid = state g.S.Store c.check_ready.new.connection in
+    let refusal = c.in_err-check_ready.field-0.0 in
+    let idle : IsTrue c.is_autocommit-settled.result = search rules in
+    let told : c.from_residual.result ≡ Err refusal = search rules in
+    rw told (unready_tells k old store texts (λ is_open. sym (c.is_autocommit-settled.ensures.settled idle is_open)) {X = Unit {0}} (λ (bases : List Base) x. IsTrue old.is_open × IsTrue mid.is_open) refusal
+    (λ before keeps. c.in_err-check_ready.ensures.ready clean limits before keeps) c.in_err-check_ready.ensures.few (c.in_err-check_ready.ensures.texts clean store))
