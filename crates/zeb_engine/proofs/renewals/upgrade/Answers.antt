@@ -15,7 +15,7 @@ use Rattle.zeb_engine.proofs.renewals.upgrade.Goals as goal
 
 -- some limits: what whole tables tell goes by none
 any_limits : Limits
-any_limits = record { records = 1; numbers = 1 }
+any_limits = record { records = 1; numbers = 1; some_record = omega arith; most_records = omega arith; some_number = omega arith; most_numbers = omega arith }
 
 pub returns-in_err-standing-clause-serves : goal.returns-in_err-standing-clause-serves
 returns-in_err-standing-clause-serves g c clean limits =
