@@ -5,9 +5,17 @@ pub mod ReadyImages
 pub mod Creating
 pub mod Dropping
 pub mod Turns
+pub mod RuleLines
+pub mod RenewalSteps
 pub mod Beginning
 pub mod WriteSteps
+pub mod Rebuilt
+pub mod Renewing
+pub mod RenewalTexts
+pub mod Looking
 pub mod Serving
+pub mod Checks
+pub mod RenewalAnswers
 pub mod Commanding
 pub mod Asked
 pub mod RunLemmas
@@ -52,3 +60,4 @@ pub mod EveryAnswerLists
 pub mod EveryAnswerTerms
 pub mod EveryAnswerAnalyses
 pub mod EveryAnswer
+pub mod CheckFollows

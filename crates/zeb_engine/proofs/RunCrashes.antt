@@ -77,7 +77,6 @@ is_store refusal.IdentifierRuleChanged = inr (λ is. cc)
 is_store (refusal.ReadFault file) = inr (λ is. cc)
 is_store refusal.Store = inl refl
 is_store refusal.Memory = inr (λ is. cc)
-is_store refusal.Unsupported = inr (λ is. cc)
 
 -- after one command
 pub did_endures : (c : Conditions) (command : Command) (old new : State) (result : Result Reply Refusal) → HasCleanDisk new → IsDurable new → Did command old new result → Survives old new (CommitsCommand c command old)

@@ -25,7 +25,7 @@ use Rattle.zeb_extract.specs.Occurrences.{IsOccurrence}
 use Rattle.zeb_extract.specs.Sample.{moby_dick, moby_dick_analysis, title_profile, term_at}
 use Rattle.zeb_extract.proofs.Analysis.{called, members}
 use Rattle.zeb_engine.specs.declared.commands.Command.{Command}
-use Rattle.zeb_engine.specs.declared.commands.Command.TheVariants.{Init, Check, Create, Drop, Stat, Dump, Change, Find, Scan, Analyse}
+use Rattle.zeb_engine.specs.declared.commands.Command.TheVariants.{Init, Check, Reindex, Upgrade, Create, Drop, Stat, Dump, Change, Find, Scan, Analyse}
 use Rattle.zeb_change.specs.declared.settings.Kind.TheVariants.{Update, Delete, Adelete}
 use Rattle.zeb_change.specs.declared.settings.Limits.{Limits}
 use Rattle.zeb_change.specs.declared.faults.RecordFault.TheVariants as fault
@@ -170,6 +170,8 @@ turn_of c before texts (Change Delete name files) is = absurd is
 turn_of c before texts (Change Adelete name files) is = absurd is
 turn_of c before texts Init is = absurd is
 turn_of c before texts Check is = absurd is
+turn_of c before texts Reindex is = absurd is
+turn_of c before texts Upgrade is = absurd is
 turn_of c before texts (Create name) is = absurd is
 turn_of c before texts (Drop name) is = absurd is
 turn_of c before texts (Stat name) is = absurd is

@@ -7,11 +7,14 @@ pub mod Finding
 pub mod Scanning
 pub mod Counting
 pub mod Analysed
+pub mod Rules
 pub mod Steps
 pub mod Alone
 pub mod Works
 pub mod Costs
 pub mod Readiness
+pub mod Checking
+pub mod PrivateLooking
 pub mod PrivateWriting
 pub mod PrivateChanging
 pub mod PrivateDumping

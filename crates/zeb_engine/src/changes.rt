@@ -23,11 +23,11 @@ ghost use Rattle.zeb_change.specs.Inside.{Stays};
 ghost use Rattle.zeb_change.specs.UnderWay.{conditions_of};
 ghost use Rattle.zeb_engine.specs.Works.{IsReady, Serves, Works};
 
-use zeb_image::DbName;
 use crate::readiness::existing_database;
 use crate::replies::Reply;
 use sqlite::{Alter, Connection, Transaction};
 use zeb_change::{Fold, Kind, Progress, Refusal, Setting, Tally, fold_files};
+use zeb_image::DbName;
 use zeb_marc::{RecordBuf, Source};
 use zeb_register::{Database, Layout, Work, database_of, database_put};
 

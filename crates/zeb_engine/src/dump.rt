@@ -21,12 +21,12 @@ ghost use Rattle.zeb_change.specs.Reading.{NoReadFault};
 ghost use Rattle.zeb_engine.specs.Steps.{dumped_by};
 ghost use Rattle.zeb_engine.specs.Works.{Always, Serves, ShowsStore};
 
-use zeb_image::DbName;
 use crate::readiness::{check_ready, existing_database};
 use crate::replies::Reply;
 use sqlite::{Alter, Connection};
 use std::alloc::Global;
 use zeb_change::Refusal;
+use zeb_image::DbName;
 use zeb_profile::Profile;
 use zeb_register::{DatabaseId, Layout, record_from};
 

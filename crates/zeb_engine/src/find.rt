@@ -23,12 +23,12 @@ ghost use Rattle.zeb_change.specs.Reading.{NoReadFault};
 ghost use Rattle.zeb_engine.specs.Steps.{ready, AskedAmong, FindAnswers};
 ghost use Rattle.zeb_engine.specs.Works.{KeepsEach, ShowsStore};
 
-use zeb_image::DbName;
 use crate::readiness::existing_database;
 use crate::replies::{Hit, Reply};
 use sqlite::{Alter, Connection};
 use std::alloc::Global;
 use zeb_change::Refusal;
+use zeb_image::DbName;
 use zeb_profile::Profile;
 use zeb_query::{plan, read_pqf};
 use zeb_register::{DatabaseId, Layout, Work, ident_of};

@@ -23,12 +23,12 @@ ghost use Rattle.zeb_engine.specs.Alone.{Alone, ScanSays};
 ghost use Rattle.zeb_engine.specs.Scanning.{AreAround};
 ghost use Rattle.zeb_engine.specs.Steps.{ready, AskedAmong, ScanAnswers};
 
-use zeb_image::DbName;
 use crate::readiness::existing_database;
 use crate::replies::Reply;
 use sqlite::{Alter, Connection};
 use std::alloc::{AllocError, Global};
 use zeb_change::Refusal;
+use zeb_image::DbName;
 use zeb_profile::Profile;
 use zeb_query::{ScanPlan, plan_scan, read_pqf};
 use zeb_register::{DatabaseId, Layout, TermCount, Work};

@@ -12,7 +12,8 @@ ghost use Rattle.zeb_engine.specs.Answers.{IsFailure, answer_of, refused};
 ghost use Rattle.zeb_change.specs.Refused.{why_of};
 ghost use Rattle.zeb_change.specs.Conditions.{conditions};
 ghost use Rattle.zeb_image.specs.NameOf.{name_bytes};
-ghost use Rattle.zeb_engine.specs.Readiness.{GoesByTexts, LooksFirst};
+ghost use Rattle.zeb_engine.specs.Checking.{ChecksTables, UpgradesTables};
+ghost use Rattle.zeb_engine.specs.Readiness.{GoesByTexts, LooksFirst, ReindexesByTexts, UpgradesByTexts};
 ghost use Rattle.zeb_change.specs.Reading.{HasFailedAt, NamesFailed, NoneFailed, NoReadFault};
 ghost use Rattle.zeb_engine.specs.Steps.{Step, TakesFiles, created, dropped, holding, OnlyAsks, turned};
 ghost use Rattle.zeb_engine.specs.Transactions.{Commanded, CommandedBy, EnduresRefusal, IsDurable};
@@ -25,8 +26,8 @@ use crate::changes::change_database;
 use crate::commands::Command;
 use crate::dump::dump;
 use crate::find::Question;
-use zeb_image::DbName;
 use crate::readiness::check_ready;
+use crate::renewals::{reindex, upgrade};
 use crate::replies::Reply;
 use crate::scan::Around;
 use crate::stat::stat;
@@ -36,6 +37,7 @@ use sqlite::{Alter, Connection};
 use std::alloc::Global;
 use std::marker::PhantomData;
 use zeb_change::{Kind, Limits, Refusal, Setting, check_readers};
+use zeb_image::DbName;
 use zeb_marc::{Slice, Source};
 use zeb_profile::Profile;
 use zeb_register::{Layout, Work};
@@ -187,6 +189,16 @@ impl<S: Alter, L: Layout> Session<S, L> {
         // Of another command the texts of the store tell whether its register was ready, on any tables.
         ensures ready { HasCleanDisk (state S.Store self.new.connection) → LooksFirst command.now
             → GoesByTexts (version_of L.format) self.old.profile (state S.Store self.old.connection) result }
+        ensures reindexes { HasCleanDisk (state S.Store self.new.connection) → command.now ≡ Command.Reindex
+            → ReindexesByTexts (version_of L.format) self.old.profile (state S.Store self.old.connection) result }
+        ensures upgrades { HasCleanDisk (state S.Store self.new.connection) → command.now ≡ Command.Upgrade
+            → UpgradesByTexts (version_of L.format) self.old.profile (state S.Store self.old.connection) result }
+        // A check tells of all tables whether they are an image, whatever they hold.
+        ensures checked { HasCleanDisk (state S.Store self.new.connection) → command.now ≡ Command.Check
+            → ChecksTables (version_of L.format) self.old.profile (state S.Store self.old.connection) result }
+        // So does an upgrade of those of the first version, before it changes them.
+        ensures upgraded { HasCleanDisk (state S.Store self.new.connection) → command.now ≡ Command.Upgrade
+            → UpgradesTables (version_of L.format) self.old.profile (state S.Store self.old.connection) result }
         // A find, a scan and a stat are answered by the registers, on any tables that hold a content.
         ensures alone { HasCleanDisk (state S.Store self.new.connection)
             → AnswersAlone L.format self.old.profile command.now (state S.Store self.old.connection) result }
@@ -226,6 +238,14 @@ impl<S: Alter, L: Layout> Session<S, L> {
             (holding (conditions (version_of L.format) self.old.profile self.old.limits) [])) }
         ensures ready { HasCleanDisk (state S.Store self.new.connection) → LooksFirst command.now
             → GoesByTexts (version_of L.format) self.old.profile (state S.Store self.old.connection) result }
+        ensures reindexes { HasCleanDisk (state S.Store self.new.connection) → command.now ≡ Command.Reindex
+            → ReindexesByTexts (version_of L.format) self.old.profile (state S.Store self.old.connection) result }
+        ensures upgrades { HasCleanDisk (state S.Store self.new.connection) → command.now ≡ Command.Upgrade
+            → UpgradesByTexts (version_of L.format) self.old.profile (state S.Store self.old.connection) result }
+        ensures checked { HasCleanDisk (state S.Store self.new.connection) → command.now ≡ Command.Check
+            → ChecksTables (version_of L.format) self.old.profile (state S.Store self.old.connection) result }
+        ensures upgraded { HasCleanDisk (state S.Store self.new.connection) → command.now ≡ Command.Upgrade
+            → UpgradesTables (version_of L.format) self.old.profile (state S.Store self.old.connection) result }
         ensures failed { command.now ≡ Command.Init → IfErr result (λ refusal. IsFailure (refused (why_of refusal))) }
         ensures alone { HasCleanDisk (state S.Store self.new.connection)
             → AnswersAlone L.format self.old.profile command.now (state S.Store self.old.connection) result }
@@ -261,7 +281,9 @@ impl<S: Alter, L: Layout> Session<S, L> {
                     count: *count,
                 },
             ),
-            Command::Check => self.wait(),
+            Command::Check => self.check(),
+            Command::Reindex => reindex::<S, L>(self.alloc, &mut self.connection, &self.profile),
+            Command::Upgrade => upgrade::<S, L>(self.alloc, &mut self.connection, &self.profile),
             Command::Stat(name) => stat::<S, L>(
                 self.alloc,
                 &mut self.connection,

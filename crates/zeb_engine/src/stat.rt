@@ -21,12 +21,12 @@ ghost use Rattle.zeb_change.specs.Reading.{NoReadFault};
 ghost use Rattle.zeb_engine.specs.Steps.{CountedFrom, ready};
 ghost use Rattle.zeb_engine.specs.Works.{Asks, ShowsStore};
 
-use zeb_image::DbName;
 use crate::readiness::{check_ready, existing_database};
 use crate::replies::{Holding, Reply};
 use sqlite::{Alter, Connection};
 use std::alloc::{AllocError, Global};
 use zeb_change::Refusal;
+use zeb_image::DbName;
 use zeb_profile::{Profile, Register};
 use zeb_register::{DatabaseId, Layout, Totals, Work, record_count};
 
