@@ -10,12 +10,11 @@ ghost use Rattle.zeb_register.specs.Formats.{holds_in};
 ghost use Rattle.zeb_register.specs.Store.{IsStore, KeepsLists};
 ghost use Rattle.zeb_change.specs.Inside.{Stays};
 ghost use Rattle.zeb_change.specs.Occurs.{OccursIn};
-ghost use Rattle.zeb_change.specs.PrivateChangedKeys.{CanBeStored};
 ghost use Rattle.zeb_change.specs.PrivateRecords.{AreOccurrencesOf};
 ghost use Rattle.zeb_change.specs.Stored.{IsKept};
 ghost use Rattle.zeb_image.specs.Rebuilding.{IsSound};
 ghost use Rattle.zeb_image.specs.PrivateChecking.{kept_of};
-ghost use Rattle.zeb_image.specs.PrivateRebuilding.{HoldsSuch, IsRecordPosted, LacksRecord};
+ghost use Rattle.zeb_image.specs.PrivateRebuilding.{CanBePosted, HoldsSuch, IsRecordPosted, LacksRecord};
 
 use sqlite::{Alter, Transaction};
 use std::alloc::Global;
@@ -106,12 +105,12 @@ fn occurrences_post<S: Alter, L: Layout>(
         → OnOk result (IsStore (state S.Store tx.new.conn.now)
         × KeepsLists (state S.Store tx.old.conn.now).now.trees (state S.Store tx.new.conn.now).now.trees) }
     ensures posted { HasCleanDisk (state S.Store tx.new.conn.now) → IsTrue (state S.Store tx.old.conn.now).in_transaction
-        → IsStore (state S.Store tx.old.conn.now) → AreRising found.now → CanBeStored sysno found.now
+        → IsStore (state S.Store tx.old.conn.now) → AreRising found.now → CanBePosted sysno found.now
         → OnOk result ((before : Content) → holds_in L.format (state S.Store tx.old.conn.now).now.trees before
         → IsStorable before → LacksRecord db.0 sysno before → HoldsSuch L.format (state S.Store tx.new.conn.now).now.trees
         (IsRecordPosted db.0 sysno (Contains found.now) before)) }
     ensures damaged { HasCleanDisk (state S.Store tx.new.conn.now) → IsTrue (state S.Store tx.old.conn.now).in_transaction
-        → IsStore (state S.Store tx.old.conn.now) → AreRising found.now → CanBeStored sysno found.now
+        → IsStore (state S.Store tx.old.conn.now) → AreRising found.now → CanBePosted sysno found.now
         → result ≡ Err RegFault.Damaged → (before : Content) → holds_in L.format (state S.Store tx.old.conn.now).now.trees before
         → IsStorable before → ¬ LacksRecord db.0 sysno before }
 {

@@ -3,18 +3,16 @@ use Rattle.std.proofs.lemmas.List.{take_more, take_all}
 use Rattle.std.proofs.Math.Seq.{split_at}
 use Rattle.sqlite.specs.Held.{state}
 use Rattle.sqlite.specs.State.{HasCleanDisk}
-use Rattle.sqlite_rules.proofs.ListLemmas.{contains_had}
 use Rattle.std.specs.List.Sorted.{IsStrictlySortedBy}
-use Rattle.zeb_register.specs.Content.{IsChangedAt, ArePlacesOf, place_cmp}
+use Rattle.zeb_register.specs.Content.{Content, IsChangedAt, IsStorable, ArePlacesOf, place_cmp}
 use Rattle.zeb_register.specs.Formats.{holds_in}
 use Rattle.zeb_register.specs.declared.faults.RegFault.TheVariants.{Damaged}
 use Rattle.zeb_register.proofs.ContentChanges.{changed_at, change_is}
 use Rattle.zeb_register.proofs.FormatLemmas.{registers_rise}
-use Rattle.zeb_change.specs.PrivateChangedKeys.{AreChangedKeys, key_in}
-use Rattle.zeb_change.proofs.ChangeKeysContent.{moved, moved_none, moved_more, moved_rises, moved_storable, still_old, keeps_then}
-use Rattle.zeb_change.proofs.KeptLemmas.{has_taken}
+use Rattle.zeb_change.specs.PrivateChangedKeys.{AreChangedKeys, key_in, occurrence_at}
+use Rattle.zeb_change.proofs.ChangeKeysContent.{moved, moved_none, moved_more, moved_rises, still_old, keeps_then}
 use Rattle.zeb_change.proofs.TurnLemmas.{none_rise}
-use Rattle.zeb_image.proofs.PostedOccurrences.{all_moved, none_of}
+use Rattle.zeb_image.proofs.PostedOccurrences.{all_moved, changed_storable, none_of}
 use Rattle.zeb_image.proofs.rebuilding_records.occurrences_post.Goals as goal
 
 pub loop-changed-init : goal.loop-changed-init
@@ -24,6 +22,7 @@ loop-changed-init g c = record {
   stays = search rules;
   kept = λ clean mode store. (store, (refl, refl, refl));
   held = λ clean mode store before up had. subst (holds_in g.L.Layout.format _) (sym (moved_none c.args.db.0 c.args.sysno before)) had;
+  storable = λ up can before rises storable. subst IsStorable (sym (moved_none c.args.db.0 c.args.sysno before)) storable;
 }
 
 pub loop-changed-preserved : goal.loop-changed-preserved
@@ -35,6 +34,9 @@ loop-changed-preserved g c =
     let items = c.deref-changed-items.result.now in
     let index = c.loop-changed.changed-index in
     let item = c.changed-item.result in
+    let more = λ (before : Content). (
+    let e : moved db sysno (take (index + 1) items) before ≡ changed_at db (key_in item) sysno item.new.items (moved db sysno (take index items) before) =
+    ap (λ l. moved db sysno l before) (take_more items index item c.loop-changed-test.true ∙ ap (λ x. take index items ++ x ∷ []) (sym c.changed-item.is)) ∙ moved_more db sysno (take index items) item before in e) in
     record {
       same = search rules;
       crash = search rules;
@@ -52,12 +54,17 @@ loop-changed-preserved g c =
           let change = c.in_ok-key_change.ensures.change clean stays.mode kept.0 in
           let content = moved db sysno (take index items) before in
           let held = c.loop-changed.invariant.held was mode store before up had in
-          let more : moved db sysno (take (index + 1) items) before ≡ changed_at db (key_in item) sysno item.new.items content =
-          ap (λ l. moved db sysno l before) (take_more items index item c.loop-changed-test.true ∙ ap (λ x. take index items ++ x ∷ []) (sym c.changed-item.is)) ∙ moved_more db sysno (take index items) item before in
           let is = change_is db (key_in item) sysno item.new.items content (moved_rises db sysno (take index items) before up) in
           let told : IsChangedAt db (key_in item) sysno c.deref-in-loop-changed.result.now content (changed_at db (key_in item) sysno item.new.items content) =
           subst (λ places. IsChangedAt db (key_in item) sysno places content (changed_at db (key_in item) sysno item.new.items content)) (sym c.deref-in-loop-changed.ensures.value) is in
-          subst (holds_in g.L.Layout.format _) (sym more) (change.2 content (changed_at db (key_in item) sysno item.new.items content) held told);
+          subst (holds_in g.L.Layout.format _) (sym (more before)) (change.2 content (changed_at db (key_in item) sysno item.new.items content) held told);
+      storable = λ up can before rises storable.
+          let content = moved db sysno (take index items) before in
+          let are = subst (AreChangedKeys [] c.args.found.now) (sym c.deref-changed-items.ensures.value) (c.in_ok-changed_keys.ensures none_rise up) in
+          let places = are.new item (index, c.loop-changed-test.true, sym c.changed-item.is) in
+          subst IsStorable (sym (more before)) (changed_storable db (key_in item) sysno item.new.items content (changed_at db (key_in item) sysno item.new.items content)
+          (change_is db (key_in item) sysno item.new.items content (moved_rises db sysno (take index items) before rises))
+          (c.loop-changed.invariant.storable up can before rises storable) (λ place put. can (occurrence_at (key_in item) place) ((places.each place).0 put)));
     }
 
 pub returns-clause-posted : goal.returns-clause-posted
@@ -68,11 +75,13 @@ returns-clause-posted g c = λ clean mode store up can before had storable lacks
     let index = c.loop-changed.changed-index in
     let are = c.in_ok-changed_keys.ensures none_rise up in
     let all : take index items ≡ c.in_ok-changed_keys.changed_keys.items = take_all index items (omega (arith, c.loop-changed-test.false, c.loop-changed.auto.changed-index-end)) ∙ c.deref-changed-items.ensures.value in
-    let held = c.loop-changed.invariant.held clean mode store before (registers_rise g.L.Layout.format _ before had) had in
+    let rises = registers_rise g.L.Layout.format _ before had in
+    let held = c.loop-changed.invariant.held clean mode store before rises had in
     let old = (state g.S.Store c.args.tx.now.conn.now).now.trees in
     let new = (state g.S.Store c.loop-changed.tx.conn.now).now.trees in
-    all_moved db sysno g.L.Layout.format old new c.args.found.now c.in_ok-changed_keys.changed_keys.items are can before had storable lacks
+    all_moved db sysno g.L.Layout.format old new c.args.found.now c.in_ok-changed_keys.changed_keys.items are before had lacks
     (subst (λ l. holds_in g.L.Layout.format new (moved db sysno l before)) all held)
+    (subst (λ l. IsStorable (moved db sysno l before)) all (c.loop-changed.invariant.storable up can before rises storable))
 
 pub returns-in_err-key_change-clause-damaged : goal.returns-in_err-key_change-clause-damaged
 returns-in_err-key_change-clause-damaged g c = λ clean mode store up can told before had storable lacks.
@@ -94,5 +103,5 @@ returns-in_err-key_change-clause-damaged g c = λ clean mode store up can told b
     let rising = (are_items.old item (index, c.loop-changed-test.true, sym c.changed-item.is)).rising in
     let fault : c.key_change.result ≡ Err Damaged = search rules in
     c.key_change.ensures.damaged clean stays.mode kept.0 fault (subst (IsStrictlySortedBy place_cmp) (sym c.deref.ensures.value) rising) (moved db sysno (take index items) before)
-    (moved_storable db sysno c.args.found.now (take index items) before rises can (λ d there. are_items.new d (contains_had items d (has_taken index items d there))) storable) held
+    (c.loop-changed.invariant.storable up can before rises storable) held
     (subst (λ ps. ArePlacesOf sysno ps (moved db sysno (take index items) before db (key_in item))) (sym c.deref.ensures.value) places)
