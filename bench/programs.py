@@ -16,6 +16,8 @@ TIME = "/usr/bin/time"
 PACKAGES = {TIME: "time", "zebraidx-2.0": "idzebra-2.0", "yaz-client": "yaz", "yaz-marcdump": "yaz"}
 # Seconds between two looks at the size of what a command writes beside the register.
 LOOKS = 0.02
+# How often a line is asked in one session.
+REPEATS = 200
 # The database of both.
 NAME = "Default"
 
@@ -84,9 +86,9 @@ def ran(words, folder, beside=(), given=""):
         looking.join()
         to.seek(0)
         said = to.read()
+        if status:
+            raise SystemExit(f"{' '.join(map(str, words))}: status {status}\n{said[-2000:]}")
         memory, user, system = usage.read().split()[-3:]
-    if status:
-        raise SystemExit(f"{' '.join(map(str, words))}: status {status}\n{said[-2000:]}")
     return Ran(clock, float(user) + float(system), 1024 * int(memory), most[0], said)
 
 
@@ -125,20 +127,18 @@ class Ours:
 
     def hits(self, queries):
         """For each query its hits, or what was answered in their place."""
-        answers = ran(["sh", "-c", '"$0" batch || true', self.program], self.folder, given="".join(f"{find_here(it)}\n" for it in queries)).said
+        lines = "".join(f"{find_here(it)}\n" for it in queries)
+        answers = ran(["sh", "-c", '"$0" batch || true', self.program], self.folder, given=lines).said
         found = re.findall(r"^(?:hits (\d+)|zebraidx: (.*))$", answers, re.M)
         return [int(number) if number else why for number, why in found]
 
     def opening(self):
-        """Seconds of a session without a line: the least of three."""
-        return min(self.batch([]).clock for _ in range(3))
+        """What a session without a line takes: the least of three."""
+        return min((self.batch([]) for _ in range(3)), key=lambda it: it.processor)
 
     def seconds(self, lines, opening):
-        """The mean seconds of a line, the opening left out. The lines are asked so often that they take about as long as the opening."""
-        some = max(self.batch(lines).clock - opening, 1e-4 * len(lines))
-        times = max(1, min(1_000, round(opening / some)))
-        taken = min(self.batch(lines * times).clock for _ in range(2))
-        return max(taken - opening, 0.0) / (times * len(lines))
+        """The mean processor seconds of a line, the opening left out."""
+        return max(self.batch(lines * REPEATS).processor - opening.processor, 0.0) / (REPEATS * len(lines))
 
 
 SETTINGS = """profilePath: {folder}:/usr/share/idzebra-2.0/tab
@@ -187,7 +187,8 @@ class Zebra:
         self.run("init")
 
     def run(self, *words):
-        return ran(["zebraidx-2.0", "-v", "none", "-f", "0", "-c", "zebra.cfg", *words], self.folder, [self.folder / "keys", self.folder / "shadow"])
+        beside = [self.folder / it for it in ("keys", "shadow")]
+        return ran(["zebraidx-2.0", "-v", "none", "-f", "0", "-c", "zebra.cfg", *words], self.folder, beside)
 
     def change(self, what, file):
         changed = self.run(what, file)
@@ -234,7 +235,7 @@ class Server:
 
     def seconds(self, lines):
         """The mean seconds of a line by yaz-client's clock, in one session."""
-        answers = self.asked(lines * max(1, 100 // len(lines)))
+        answers = self.asked(lines * REPEATS)
         return sum(seconds for _, seconds in answers) / len(answers)
 
     def opening(self):
