@@ -1,4 +1,4 @@
-"""Hits counted by Python's Unicode tables and nothing of zebraidx: what the manual says of rules, words and attributes, tried on each record.
+"""Hits counted by Python's Unicode tables and nothing of zebraidx: what the manual says of rules and attributes, tried on each record.
 
 It knows what bench/queries asks, and no more: no diagnostics, and no structure 107, whose numbers a register gives.
 """
