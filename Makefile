@@ -5,14 +5,15 @@
 # make words      runs the built program by words over a folder of files, and compares what it writes
 # make edits      tries the wrong bodies of edits/ too: CRATE=zeb_marc for one crate, EDIT=crates/zeb_marc/edits/no_units.edit for one
 # make cost       the gate, with the processor minutes of each crate written into docs/TESTING.md
-# make bench      times of the register's calls on files
+# make bench      times of the register's calls on files, and how the work of an update grows: RECORDS=1000 for fewer than 10,000
+# make bench-zebra  this program beside Zebra, in times and in hits; installs Debian's idzebra-2.0: RECORDS=10000 for more than 2,000
 # make man        the manual pages in bin/man, from docs/MANUAL.md; installs Debian's lowdown where it isn't there
 # make install    PREFIX=/usr/local: the program, its manual and pages, examples, completions of bash and zsh; make uninstall takes them away
 # make clean      removes what these made
 PREFIX ?= /usr/local
 SOURCES := crates.txt $(wildcard crates/*/src/*.rt crates/*/src/*/*.rt crates/*/specs/*.antt crates/*/specs/*/*.antt)
 
-.PHONY: all help run quick check words edits cost bench man install uninstall clean
+.PHONY: all help run quick check words edits cost bench bench-zebra man install uninstall clean
 all: bin/zebraidx
 
 help:
@@ -42,8 +43,12 @@ edits:
 cost:
 	@tools/cost --write
 
-bench:
+bench: bin/zebraidx
 	bench/registers
+	bench/growth $(RECORDS)
+
+bench-zebra: bin/zebraidx
+	@bench/zebra $(RECORDS)
 
 man:
 	@tools/man bin/man
