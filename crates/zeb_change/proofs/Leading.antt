@@ -28,7 +28,7 @@ turns_more (first ∷ changes) change old mid new are up stood changed =
     (are.0, are.1, are.2, are.3, turns_more changes change are.0 mid new are.4 up stood changed)
 
 -- as a layout takes them
-pub turns_given : (changes : List KeyChange) (given : List RecordChange) (old new : List Posting) → AreGivenAs changes given → AreTurns changes old new → AreListChanges given old new
+turns_given : (changes : List KeyChange) (given : List RecordChange) (old new : List Posting) → AreGivenAs changes given → AreTurns changes old new → AreListChanges given old new
 turns_given [] [] old new same are = are
 turns_given [] (g ∷ given) old new same are = absurd same
 turns_given (change ∷ changes) [] old new same are = absurd same
@@ -101,7 +101,7 @@ choose (inl here) new old = new
 choose (inr other) new old = old
 
 -- the content with one list of the other's
-pub put_list : ℤ → Key → Content → Content → Content
+put_list : ℤ → Key → Content → Content → Content
 put_list db key ahead behind d k = choose (told_spot d db k key) (ahead d k) (behind d k)
 
 module _ (db : ℤ) (key : Key) (behind ahead : Content) where
@@ -129,13 +129,13 @@ module _ (db : ℤ) (key : Key) (behind ahead : Content) where
       by (inr other) = one d k p (subst (λ (l : List Posting). Has l p) (put_there d k other) there)
 
   module _ (old new : Pending) (changes : List KeyChange) (leads : LeadsTo db old behind ahead) (out : IsTakenOut key changes old new) where
-    pub put_is : ArePutAt db key changes behind (put_list db key ahead behind)
+    put_is : ArePutAt db key changes behind (put_list db key ahead behind)
     put_is = record {
       list = subst₂ (λ (cs : List KeyChange) (l : List Posting). AreTurns cs (behind db key) l) out.here (sym (put_here db key (refl, refl))) (leads.each key);
       others = λ d k other. put_there d k other;
     }
 
-    pub put_leads : LeadsTo db new (put_list db key ahead behind) ahead
+    put_leads : LeadsTo db new (put_list db key ahead behind) ahead
     put_leads = record {
       each = λ k. each k (told_by key_total keys_apart k key);
       others = λ d k other. leads.others d k other ∙ sym (put_there d k (λ h. other h.0));
@@ -173,7 +173,7 @@ nothing_leads db pending content none = record {
   others = λ d key other. refl;
 }
 
-pub led_by_nothing : (db : ℤ) (pending : Pending) (behind ahead : Content) → IsNothingNoted pending → LeadsTo db pending behind ahead → ahead ≡ behind
+led_by_nothing : (db : ℤ) (pending : Pending) (behind ahead : Content) → IsNothingNoted pending → LeadsTo db pending behind ahead → ahead ≡ behind
 led_by_nothing db pending behind ahead none leads = λ i d key. at d key (told_id d db) i
   where
     here : (key : Key) → ahead db key ≡ behind db key

@@ -1,6 +1,6 @@
 //! The changes of keys that a command has noted and not yet written.
 
-ghost use Rattle.std.specs.Prelude.{◌≡◌, ◌+◌, ◌≤◌, ◌↔◌, length, IsTrue, OnOk, IfNone, IfSome};
+ghost use Rattle.std.specs.Prelude.{◌+◌, ◌≤◌, ◌↔◌, length, vec_len, IsTrue, OnOk, IfNone, IfSome};
 ghost use Rattle.zeb_change.specs.PrivatePending.{IsNotNoted, IsNothingNoted, IsNotedAlso, IsTakenOut};
 
 use std::alloc::{AllocError, Global};
@@ -25,7 +25,10 @@ pub(crate) struct KeyChange {
 
 impl KeyChange {
     /// How much memory the change takes, in units of 16 bytes. A key's term is counted with each of its changes.
-    fn weight(&self, key: &Key) -> usize {
+    fn weight(&self, key: &Key) -> usize
+        ensures least { CHANGE_WEIGHT ≤ result }
+        ensures most { result ≤ CHANGE_WEIGHT + vec_len self.now.old + vec_len self.now.new + length key.now.term }
+    {
         let places = self.old.len().saturating_add(self.new.len());
         let term = key.term.as_str().len() / 16;
         CHANGE_WEIGHT.saturating_add(places).saturating_add(term)
