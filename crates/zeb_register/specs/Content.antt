@@ -62,7 +62,8 @@ pub record IsListChanged (sysno : ℕ) (places : List Place) (old new : List Pos
 abbrev pub AreListChanges : List RecordChange → List Posting → List Posting → Type 0
 AreListChanges [] old new = new ≡ old
 AreListChanges (change ∷ changes) old new =
-    (next : List Posting) × ArePlacesOf change.sysno change.old.now old × IsListChanged change.sysno change.new.now old next × AreListChanges changes next new
+    (next : List Posting) × ArePlacesOf change.sysno change.old.now old
+    × IsListChanged change.sysno change.new.now old next × AreListChanges changes next new
 
 -- one list is changed so, and no other
 pub record AreChangedAt (db : ℤ) (key : Key) (changes : List RecordChange) (old new : Content) : Type 0 where

@@ -67,7 +67,8 @@ pub trait Layout {
     ghost use Rattle.sqlite.specs.Tree.{Trees};
     ghost use Rattle.zeb_register.specs.Formats.{Format, version_of, holds_in};
     ghost use Rattle.zeb_register.specs.Store.{IsStore, KeepsLists};
-    ghost use Rattle.zeb_register.specs.Content.{AreChangedAt, Content, IsChangedAt, ArePlacesOf, IsStorable, place_cmp, posted, IsWithout, TakesWhole};
+    ghost use Rattle.zeb_register.specs.Content.{AreChangedAt, Content, IsChangedAt, ArePlacesOf, IsStorable, place_cmp, posted};
+    ghost use Rattle.zeb_register.specs.Content.{IsWithout, TakesWhole};
     ghost use Rattle.zeb_register.specs.Occurring.{AreTermsOf, AreTermsFrom, AreTermsBefore, AreTotals};
     ghost use Rattle.zeb_register.specs.Expected.{IsOrdered, AreExpected};
     ghost use Rattle.zeb_register.specs.Tallies.{Works, ReadsTerms};
