@@ -1,5 +1,5 @@
 -- What a look at whole tables tells of a check and of an upgrade.
-use Rattle.std.proofs.Common.{◌≡◌, ◌≢◌, ◌⊎◌, ◌↔◌, ◌∙◌, ℕ, Bool, true, false, List, Option, Some, Result, Ok, Err, IsTrue, refl, sym, ap, subst, inl, inr}
+use Rattle.std.proofs.Common.{◌≡◌, ◌↔◌, ◌∙◌, ℕ, Bool, true, false, List, Ok, Err, IsTrue, refl, sym, ap, subst, inl, inr}
 use Rattle.sqlite.specs.Effect.{Database}
 use Rattle.sqlite.specs.Tree.{Trees}
 use Rattle.sqlite.specs.State.{State}
@@ -13,12 +13,10 @@ use Rattle.zeb_change.specs.declared.refusals.Refusal.TheVariants as refusal
 use Rattle.zeb_change.specs.Base.{Base}
 use Rattle.zeb_change.specs.Conditions.{Conditions}
 use Rattle.zeb_change.specs.Outcomes.{register_refusal}
-use Rattle.zeb_change.specs.Refused.{Why, why_of, Meets}
+use Rattle.zeb_change.specs.Refused.{Meets}
 use Rattle.zeb_image.specs.Holdings.{Holdings, under}
 use Rattle.zeb_image.specs.Image.{IsImage, Keeps}
-use Rattle.zeb_engine.specs.declared.replies.Reply.{Reply}
 use Rattle.zeb_engine.specs.declared.replies.Reply.TheVariants.{Done}
-use Rattle.zeb_engine.specs.Answers.{IsFailure, refused}
 use Rattle.zeb_engine.specs.Checking.{IsSomeImage, TellsImage}
 use Rattle.zeb_engine.specs.PrivateLooking.{IsUnready}
 use Rattle.zeb_engine.specs.Readiness.{IsReadyFor, IsRefusedOver}

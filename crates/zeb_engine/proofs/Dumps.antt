@@ -1,5 +1,5 @@
 -- How many records a database has, the records that are read of it one after the other, and what a dump answers.
-use Rattle.std.proofs.Common.{◌≡◌, ◌↔◌, ◌⊎◌, ◌∙◌, ◌++◌, ◌+◌, ◌-◌, ◌<◌, ◌≤◌, ℕ, ℤ, pos, Bool, true, false, List, [], ◌∷◌, length, map, Option, Some, None, Result, Ok, Err, string_bytes, refl, sym, ap, ap₂, subst, inl, inr, IsUtf8, arith, append-nil}
+use Rattle.std.proofs.Common.{◌≡◌, ◌⊎◌, ◌∙◌, ◌++◌, ◌+◌, ◌-◌, ◌<◌, ◌≤◌, ℕ, ℤ, pos, Bool, false, List, [], ◌∷◌, length, map, Option, Some, None, Result, Ok, Err, string_bytes, refl, sym, ap, ap₂, subst, inl, inr, IsUtf8, arith, append-nil}
 use Rattle.std.specs.Prelude.{filter, nat_lt}
 use Rattle.std.specs.Cmp.{nat_cmp_total, on_total}
 use Rattle.std.specs.List.{IsDistinct, flat_map}

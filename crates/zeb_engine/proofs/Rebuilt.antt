@@ -2,7 +2,7 @@
 use denote.Struct.Props.{props}
 use base.Stored.{Coded-set}
 use mathlib.Core.Bool.{Bool-set}
-use Rattle.std.proofs.Common.{◌≡◌, ◌≢◌, ◌↔◌, ◌⊎◌, ◌∙◌, ℕ, ℤ, true, List, [], ◌∷◌, codes, get_or, Some, Ok, refl, sym, ap, ap₂, subst, inl, inr, arith, IsUtf8}
+use Rattle.std.proofs.Common.{◌≡◌, ◌≢◌, ◌↔◌, ◌∙◌, ℕ, true, List, [], ◌∷◌, codes, get_or, Some, Ok, refl, sym, ap, ap₂, subst, inl, inr, arith, IsUtf8}
 use Rattle.std.proofs.Math.Logic.{∥∥₁_elim}
 use Rattle.std.specs.Option.{option_and_then, option_map}
 use Rattle.sqlite.specs.declared.types.Value.TheVariants.{Int, Null, Text}
@@ -18,7 +18,7 @@ use Rattle.zeb_profile.specs.Indexes.{identifier_pattern}
 use Rattle.zeb_profile.specs.Laws.{IsProfile}
 use Rattle.zeb_extract.specs.Identifier.{first_fitting, held_in}
 use Rattle.zeb_register.specs.Formats.{Format}
-use Rattle.zeb_register.specs.Sql.{HasRow, Replaces}
+use Rattle.zeb_register.specs.Sql.{Replaces}
 use Rattle.zeb_register.specs.Store.{KeepsRegisters, IsEntryOf, entry, meta_tree, record_row}
 use Rattle.zeb_register.proofs.FormatLemmas.{registers_stay}
 use Rattle.zeb_change.specs.Base.{Base, Kept}

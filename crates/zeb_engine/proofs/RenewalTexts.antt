@@ -1,9 +1,8 @@
 -- What the texts of a store tell of a reindex and of an upgrade, where its tables are an image.
 use mathlib.Core.Bool.{Bool-set}
-use Rattle.std.proofs.Common.{◌≡◌, ◌≢◌, ◌⊎◌, ◌∙◌, ℕ, Bool, true, false, List, [], codes, get_or, Option, Some, None, Result, Ok, Err, refl, sym, ap, subst, inl, inr, arith, IsUtf8}
+use Rattle.std.proofs.Common.{◌≡◌, ◌≢◌, ◌⊎◌, ◌∙◌, ℕ, Bool, true, false, List, [], codes, get_or, Option, Some, None, Ok, Err, refl, sym, ap, subst, inl, inr, arith, IsUtf8}
 use Rattle.std.proofs.Math.Logic.{∥∥₁_elim}
 use Rattle.std.specs.Option.{option_map}
-use Rattle.std.proofs.lemmas.Bool.{cases_Bool}
 use Rattle.sqlite.specs.Tree.{Trees}
 use Rattle.zeb_profile.specs.declared.directives.Directive.{Directive}
 use Rattle.zeb_profile.specs.declared.patterns.UnitPattern.{UnitPattern}
@@ -17,11 +16,11 @@ use Rattle.zeb_change.specs.declared.refusals.Refusal.{Refusal}
 use Rattle.zeb_change.specs.declared.refusals.Refusal.TheVariants as refusal
 use Rattle.zeb_change.specs.Base.{Base}
 use Rattle.zeb_change.specs.Conditions.{Conditions}
-use Rattle.zeb_change.specs.Refused.{Why, IsFailing, why_of}
+use Rattle.zeb_change.specs.Refused.{IsFailing, why_of}
 use Rattle.zeb_image.specs.Holdings.{Holdings, nothing_yet, under}
-use Rattle.zeb_image.specs.Image.{HasTexts, IsImage, IsImageUnder}
+use Rattle.zeb_image.specs.Image.{HasTexts, IsImage}
 use Rattle.zeb_engine.specs.PrivateLooking.{RefusesLayout, RefusesRule}
-use Rattle.zeb_engine.specs.Readiness.{IsReadyFor, IsReadyToReindex, IsReadyToUpgrade, KeepsRule, KeepsText, KeepsUpgradable}
+use Rattle.zeb_engine.specs.Readiness.{IsReadyFor, IsReadyToReindex, KeepsRule, KeepsText, KeepsUpgradable}
 use Rattle.zeb_engine.specs.Rules.{same_rule}
 use Rattle.zeb_engine.specs.Steps.{ruled, upgradable}
 use Rattle.zeb_engine.proofs.Ready.{none_there, profile_is, profile_readable, version_is, version_readable}

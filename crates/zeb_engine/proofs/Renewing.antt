@@ -1,5 +1,5 @@
 -- What work comes to inside a transaction that makes the registers anew.
-use Rattle.std.proofs.Common.{◌≡◌, ◌≢◌, ◌⊎◌, ◌∙◌, ℕ, List, codes, Some, Result, Ok, Err, IsTrue, IsUtf8, refl, sym, ap, subst, inl, inr, arith}
+use Rattle.std.proofs.Common.{◌≡◌, ◌∙◌, ℕ, List, codes, Ok, Err, IsTrue, IsUtf8, refl, sym, ap, subst, inl, arith}
 use Rattle.std.specs.Option.{option_map}
 use Rattle.sqlite.specs.Tree.{Trees}
 use Rattle.sqlite.specs.State.{State, KeepsCommit}
@@ -17,12 +17,11 @@ use Rattle.zeb_register.proofs.Calls.{goes_keeps, goes_then}
 use Rattle.zeb_change.specs.Base.{Base}
 use Rattle.zeb_change.specs.Conditions.{Conditions, AreSessions}
 use Rattle.zeb_change.specs.Outcomes.{register_refusal}
-use Rattle.zeb_change.specs.Refused.{why_of}
 use Rattle.zeb_image.specs.Holdings.{Holdings}
 use Rattle.zeb_image.specs.Image.{AreBases, HasTexts, IsImage, IsImageOf}
 use Rattle.zeb_engine.specs.declared.replies.Reply.TheVariants.{Done}
 use Rattle.zeb_engine.specs.PrivateWriting.{AreUnder, IsRuled, IsUpgradable}
-use Rattle.zeb_engine.specs.Steps.{Outcome, holding, reindexed, upgraded}
+use Rattle.zeb_engine.specs.Steps.{Outcome, reindexed, upgraded}
 use Rattle.zeb_engine.specs.Works.{Works}
 use Rattle.zeb_engine.proofs.Beginning.{texts_still}
 use Rattle.zeb_engine.proofs.ListedDatabases.{fault_fails}

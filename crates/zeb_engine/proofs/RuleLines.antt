@@ -1,6 +1,5 @@
 -- The line of a canonical text that tells the rule for identifiers.
-use mathlib.Core.Bool.{Bool-set}
-use Rattle.std.proofs.Common.{◌≡◌, ◌≢◌, ◌↔◌, ◌∙◌, ℕ, List, [], ◌∷◌, ◌++◌, codes, map, get_or, drop, take, Bool, true, false, Option, Some, None, Ok, refl, sym, ap, subst, arith, append_assoc}
+use Rattle.std.proofs.Common.{◌≡◌, ◌≢◌, ◌↔◌, ◌∙◌, ℕ, List, [], ◌∷◌, ◌++◌, codes, get_or, drop, take, true, false, Some, Ok, refl, sym, ap, subst, arith, append_assoc}
 use Rattle.std.specs.Fmt.{decimal}
 use Rattle.std.specs.List.{find, list_any, slice_split}
 use Rattle.std.specs.Option.{option_map}

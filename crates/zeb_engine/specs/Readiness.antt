@@ -40,7 +40,7 @@ abbrev pub GoesByTexts : {T : Type 0} → List ℕ → List Directive → State 
 GoesByTexts version profile s result =
     IsStore s → MatchResult result (λ _. IsReadyFor version profile s.now.trees) (IsRefusedOver version profile s.now.trees)
 
--- the commands that look first whether the register is ready; a reindex and an upgrade ask less of it
+-- the commands that look first whether the register is ready; a reindex and an upgrade ask less
 abbrev pub LooksFirst : Command → Type 0
 LooksFirst Init = ⊥
 LooksFirst (Create name) = Unit {0}

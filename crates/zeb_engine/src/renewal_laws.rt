@@ -23,7 +23,8 @@ pub fn a_text_tells_the_rule()
 {}
 
 /// An accepted reindex leaves the databases that were held, with their names, numbers, identifiers and bytes, under the session's profile;
-/// an accepted upgrade leaves them under its version. Where the version is the session's, an upgrade leaves all as it was.
+/// an accepted upgrade leaves them under its version. Of a register of the session's version and its profile both are accepted, and leave
+/// all as it was.
 pub fn the_databases_stay()
     ensures reindexed { (c : Conditions) (before later : Holdings) → Step c Command.Reindex before done later
         → (text : List ℕ) × (bases : List Base) × (before ≡ under c.version text bases) × (later ≡ holding c bases) }
@@ -31,6 +32,8 @@ pub fn the_databases_stay()
         → (version : List ℕ) × (bases : List Base) × (before ≡ under version (canonical_text c.profile) bases) × (later ≡ holding c bases) }
     ensures again { (c : Conditions) (bases : List Base) (answer : Answer) (later : Holdings)
         → Step c Command.Upgrade (holding c bases) answer later → (answer ≡ done) × (later ≡ holding c bases) }
+    ensures same { (c : Conditions) (bases : List Base) (answer : Answer) (later : Holdings) → ∥ IsProfile c.profile ∥₁
+        → Step c Command.Reindex (holding c bases) answer later → (answer ≡ done) × (later ≡ holding c bases) }
 {}
 
 /// A check is accepted of what an accepted command that asks the store has left, a reindex and an upgrade among them. So a check that is

@@ -24,8 +24,8 @@ use zeb_image::is_image;
 use zeb_profile::Profile;
 use zeb_register::{Layout, Rows};
 
-/// Puts the session's profile in the place of the register's, and makes the registers anew by it. `IdentifierRuleChanged` where the profiles
-/// have other rules for identifiers; `Damaged` where a kept record isn't one, or hasn't its identifier.
+/// Puts the session's profile in the place of the register's, and makes the registers anew by it. `IdentifierRuleChanged` where the
+/// profiles have other rules for identifiers; `Damaged` where a kept record isn't one, or hasn't its identifier.
 pub(crate) fn reindex<S: Alter, L: Layout>(
     alloc: Global,
     connection: &mut Connection<S>,

@@ -15,7 +15,7 @@ ghost use Rattle.zeb_image.specs.NameOf.{name_bytes};
 ghost use Rattle.zeb_engine.specs.Checking.{ChecksTables, UpgradesTables};
 ghost use Rattle.zeb_engine.specs.Readiness.{GoesByTexts, LooksFirst, ReindexesByTexts, UpgradesByTexts};
 ghost use Rattle.zeb_change.specs.Reading.{HasFailedAt, NamesFailed, NoneFailed, NoReadFault};
-ghost use Rattle.zeb_engine.specs.Steps.{Step, TakesFiles, created, dropped, holding, OnlyAsks, turned};
+ghost use Rattle.zeb_engine.specs.Steps.{Step, TakesFiles, holding, OnlyAsks};
 ghost use Rattle.zeb_engine.specs.Transactions.{Commanded, CommandedBy, EnduresRefusal, IsDurable};
 ghost use Rattle.zeb_register.specs.Calls.{ChangesNothing};
 ghost use Rattle.zeb_register.specs.Formats.{version_of};
@@ -32,7 +32,7 @@ use crate::replies::Reply;
 use crate::scan::Around;
 use crate::stat::stat;
 use crate::tables::make_absent_tables;
-use crate::writes::{create_database, drop_database, init_register};
+use crate::writes::init_register;
 use sqlite::{Alter, Connection};
 use std::alloc::Global;
 use std::marker::PhantomData;
@@ -43,6 +43,7 @@ use zeb_profile::Profile;
 use zeb_register::{Layout, Work};
 
 mod asking;
+mod writing;
 
 /// A register under a profile. No transaction is open between two commands.
 pub struct Session<S: Alter, L: Layout> {
@@ -69,8 +70,8 @@ impl<S: Alter + Drop, L: Layout> Drop for Session<S, L> {
 }
 
 impl<S: Alter, L: Layout> Session<S, L> {
-    ghost use Rattle.zeb_engine.specs.Works.{Always, FindOpen, Serves, ServesBy, ServesCommand};
-    ghost use Rattle.zeb_engine.specs.Crashes.{Bears, Commits, CommitsBy, CommitsCommand, CommitsAdopted, CommitsOne, Endures, EnduresRun, KeepsDisk, Stands};
+    ghost use Rattle.zeb_engine.specs.Works.{FindOpen, ServesBy, ServesCommand};
+    ghost use Rattle.zeb_engine.specs.Crashes.{Bears, CommitsBy, CommitsCommand, CommitsAdopted, CommitsOne, Endures, EnduresRun, KeepsDisk, Stands};
     ghost use Rattle.zeb_engine.specs.Headline.{Headline};
     ghost use Rattle.zeb_engine.specs.Adopting.{StaysOpen};
     ghost use Rattle.zeb_image.specs.Holdings.{Holdings};
@@ -311,42 +312,6 @@ impl<S: Alter, L: Layout> Session<S, L> {
                 analyse_files(self.alloc, &self.profile, self.limits, files)
             }
         }
-    }
-
-    /// An empty database, on a register that is ready.
-    fn create(&mut self, name: &DbName) -> Result<Reply, Refusal>
-        ensures call { Commanded (state S.Store self.old.connection) (state S.Store self.new.connection) result }
-        ensures survives { Survives (state S.Store self.old.connection) (state S.Store self.new.connection)
-            (Commits Always (turned (conditions (version_of L.format) self.old.profile self.old.limits) (created (name_bytes name.now)))
-            (state S.Store self.old.connection)) }
-        ensures under { (self.new.profile ≡ self.old.profile) × (self.new.limits ≡ self.old.limits) }
-        ensures serves { HasCleanDisk (state S.Store self.new.connection)
-            → Serves Always (turned (conditions (version_of L.format) self.old.profile self.old.limits) (created (name_bytes name.now)))
-            (state S.Store self.old.connection) (state S.Store self.new.connection) result }
-        ensures unread { NoReadFault result }
-        ensures ready { HasCleanDisk (state S.Store self.new.connection)
-            → GoesByTexts (version_of L.format) self.old.profile (state S.Store self.old.connection) result }
-    {
-        check_ready::<S, L>(&mut self.connection, &self.profile)?;
-        create_database::<S, L>(&mut self.connection, name)
-    }
-
-    /// No database of this name any more, on a register that is ready.
-    fn take(&mut self, name: &DbName) -> Result<Reply, Refusal>
-        ensures call { Commanded (state S.Store self.old.connection) (state S.Store self.new.connection) result }
-        ensures survives { Survives (state S.Store self.old.connection) (state S.Store self.new.connection)
-            (Commits Always (turned (conditions (version_of L.format) self.old.profile self.old.limits) (dropped (name_bytes name.now)))
-            (state S.Store self.old.connection)) }
-        ensures under { (self.new.profile ≡ self.old.profile) × (self.new.limits ≡ self.old.limits) }
-        ensures serves { HasCleanDisk (state S.Store self.new.connection)
-            → Serves Always (turned (conditions (version_of L.format) self.old.profile self.old.limits) (dropped (name_bytes name.now)))
-            (state S.Store self.old.connection) (state S.Store self.new.connection) result }
-        ensures unread { NoReadFault result }
-        ensures ready { HasCleanDisk (state S.Store self.new.connection)
-            → GoesByTexts (version_of L.format) self.old.profile (state S.Store self.old.connection) result }
-    {
-        check_ready::<S, L>(&mut self.connection, &self.profile)?;
-        drop_database::<S, L>(self.alloc, &mut self.connection, name)
     }
 
     /// Changes a database by files that are given as their bytes.

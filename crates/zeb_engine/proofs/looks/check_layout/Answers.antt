@@ -1,12 +1,11 @@
-use Rattle.std.proofs.Common.{◌≡◌, ◌∙◌, codes, string_bytes, Bool, false, Err, None, List, ℕ, rules, arith, subst, subst₂}
+use Rattle.std.proofs.Common.{◌≡◌, codes, string_bytes, Bool, false, Err, None, List, ℕ, rules, arith, subst, subst₂}
 use Rattle.sqlite.specs.Held.{state}
 use Rattle.sqlite.specs.State.{HasCleanDisk}
-use Rattle.zeb_profile.specs.Canonical.{canonical_text}
 use Rattle.zeb_register.specs.Formats.{version_of}
 use Rattle.zeb_change.specs.declared.refusals.Refusal.TheVariants.{OldFormat, ProfileChanged}
 use Rattle.zeb_engine.specs.PrivateLooking.{FindsStanding, RefusesLayout, RefusesText, RefusesVersion, TellsStanding, TellsText}
 use Rattle.zeb_engine.specs.declared.looks.Standing.{Standing}
-use Rattle.std.specs.Prelude.{Option, Some}
+use Rattle.std.specs.Prelude.{Some}
 use Rattle.zeb_engine.specs.Readiness.{KeepsText}
 use Rattle.zeb_engine.proofs.Looking.{look_settles, profile_as_layout, standing_changed, standing_none, then_ends, then_settles}
 use Rattle.std.proofs.Common.{refl}

@@ -1,16 +1,13 @@
-use Rattle.std.proofs.Common.{◌≡◌, ◌∙◌, codes, string_bytes, not, Err, Ok, Some, rules, ap, arith, subst, sym}
-use Rattle.std.specs.Option.{option_map}
+use Rattle.std.proofs.Common.{◌≡◌, codes, string_bytes, not, Err, rules, arith}
 use Rattle.std.specs.Str.{bytes_eq}
 use Rattle.sqlite.specs.Held.{state}
 use Rattle.sqlite.specs.State.{HasCleanDisk}
-use Rattle.zeb_profile.specs.Canonical.{pattern_text}
-use Rattle.zeb_profile.specs.Indexes.{identifier_pattern}
 use Rattle.zeb_register.specs.Formats.{version_of}
 use Rattle.zeb_change.specs.declared.refusals.Refusal.TheVariants.{OldFormat}
 use Rattle.zeb_engine.specs.PrivateLooking.{RefusesRule, RefusesText, RefusesVersion, TellsText}
 use Rattle.zeb_engine.specs.Readiness.{IsReadyToReindex, KeepsText}
 use Rattle.zeb_engine.proofs.Looking.{look_settles, pattern_as_rule, then_ends}
-use Rattle.zeb_engine.proofs.Ready.{texts_agree, texts_differ}
+use Rattle.zeb_engine.proofs.Ready.{texts_differ}
 use Rattle.zeb_engine.proofs.ReadyTexts.{other_text}
 use Rattle.zeb_engine.proofs.looks.check_rule.Goals as goal
 

@@ -1,4 +1,4 @@
-use Rattle.std.proofs.Common.{◌≡◌, codes, string_bytes, Err, rules}
+use Rattle.std.proofs.Common.{codes, string_bytes, Err}
 use Rattle.sqlite.specs.Held.{state}
 use Rattle.zeb_change.specs.declared.refusals.Refusal.TheVariants.{NotInitialised}
 use Rattle.zeb_engine.specs.PrivateLooking.{RefusesVersion}

@@ -1,9 +1,8 @@
-use Rattle.std.proofs.Common.{◌≡◌, ◌∙◌, Err, Some, refl, rules, ap, arith, subst}
+use Rattle.std.proofs.Common.{◌≡◌, Err, refl, rules, ap, arith}
 use Rattle.std.specs.Option.{option_map}
 use Rattle.sqlite.specs.Held.{state}
 use Rattle.sqlite.specs.State.{HasCleanDisk}
 use Rattle.zeb_profile.specs.Canonical.{pattern_text}
-use Rattle.zeb_profile.specs.Indexes.{identifier_pattern}
 use Rattle.zeb_register.specs.Formats.{version_of}
 use Rattle.zeb_change.specs.Conditions.{conditions}
 use Rattle.zeb_engine.proofs.Crashing.{survives_after}

@@ -1,7 +1,6 @@
-use Rattle.std.proofs.Common.{◌≡◌, ◌∙◌, codes, Err, IsUtf8, rules, arith, ap, subst}
+use Rattle.std.proofs.Common.{◌≡◌, codes, Err, IsUtf8, rules, arith, ap, subst}
 use Rattle.sqlite.specs.Held.{state}
 use Rattle.sqlite.specs.State.{HasCleanDisk}
-use Rattle.zeb_profile.specs.Canonical.{canonical_text}
 use Rattle.zeb_register.specs.Calls.{Alters}
 use Rattle.zeb_register.specs.Formats.{version_of}
 use Rattle.zeb_register.specs.Sql.{Replaces}

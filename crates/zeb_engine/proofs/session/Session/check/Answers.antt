@@ -1,4 +1,4 @@
-use Rattle.std.proofs.Common.{◌≡◌, ◌∙◌, Bool, true, false, List, Ok, Err, IsTrue, rules, arith, sym, subst}
+use Rattle.std.proofs.Common.{◌≡◌, false, List, Err, IsTrue, rules, arith, sym, subst}
 use Rattle.sqlite.specs.Held.{state}
 use Rattle.sqlite.specs.State.{HasCleanDisk}
 use Rattle.zeb_register.specs.Formats.{version_of}
