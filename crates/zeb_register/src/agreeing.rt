@@ -206,8 +206,8 @@ fn database_agrees<S: Alter>(
     match table {
         Table::Records => records_agree(conn, db, database),
         Table::Postings => postings_agree(conn, db, database),
-        Table::Blocks => Err(RegFault::Memory),
-        Table::Dict => Err(RegFault::Memory),
+        // Packed tables can't be looked at as a whole yet.
+        Table::Blocks | Table::Dict => Err(RegFault::Memory),
     }
 }
 

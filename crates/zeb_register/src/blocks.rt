@@ -144,6 +144,7 @@ impl Layout for Blocks {
         totals_packed(alloc, conn, work, db, index, register)
     }
 
+    /// Always refused for now: packed tables can't be looked at as a whole yet.
     fn agrees<S: Alter>(
         alloc: Global,
         conn: &mut Connection<S>,
