@@ -27,7 +27,7 @@ use std::env;
 use std::io::{self, BufReader, BufWriter};
 use std::process::ExitCode;
 use zeb_marc::FromRead;
-use zeb_paths::Disk;
+use zeb_paths::{Disk, Tally};
 
 fn main(rt: HostRuntime) -> ExitCode {
     ExitCode::from(run_outside(&rt).unwrap_or(FAILED))
@@ -42,12 +42,16 @@ fn run_outside(rt: &HostRuntime) -> io::Result<u8> {
     let mut input = FromRead::new(BufReader::new(rt.alloc(), rt.reader())?);
     let mut output = Sink::new(BufWriter::new(rt.alloc(), rt.stdout())?);
     let mut fault_output = Sink::new(rt.stderr());
-    Ok(run(
+    let tally = Tally::new(rt);
+    let mut paths = Disk::counted(rt, &tally);
+    let status = run(
         rt.alloc(),
         words.as_slice(),
-        &mut Disk::new(rt),
+        &mut paths,
         &mut input,
         &mut output,
         &mut fault_output,
-    ))
+    );
+    tally.end();
+    Ok(status)
 }
