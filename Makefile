@@ -34,6 +34,7 @@ check:
 
 words: bin/zebraidx
 	@tests/words/run
+	@tests/words/faults
 
 edits:
 	@tools/edits $(CRATE) $(EDIT)
