@@ -36,6 +36,7 @@ check:
 
 words: bin/zebraidx
 	@tests/words/run
+	@tests/words/faults
 
 edits:
 	@tools/edits $(CRATE) $(EDIT)

@@ -4,6 +4,7 @@ ghost use Rattle.std.specs.Prelude.{◌≡◌, None};
 ghost use Rattle.std.specs.Io.{ReadsAtMost};
 
 use crate::paths::{NamesFault, OpenFailed, PathKind, Paths};
+use crate::tally::Tally;
 use sqlite::{Connection, File, FileStore, Unknown};
 use std::alloc::Global;
 use std::fs;
@@ -14,12 +15,20 @@ use zeb_marc::{ReadFailed, Source};
 #[derive(Clone, Copy)]
 pub struct Disk<'a> {
     rt: &'a HostRuntime,
+    tally: Option<&'a Tally<'a>>,
 }
 
 impl<'a> Disk<'a> {
     /// The file system of this process.
     pub fn new(rt: &'a HostRuntime) -> Disk<'a> {
-        Disk { rt }
+        Disk { rt, tally: None }
+    }
+
+    /// The same, where a tally counts the records that are read. It begins anew with each reader: those of one command are all
+    /// made before the first is read.
+    pub fn counted(rt: &'a HostRuntime, tally: &'a Tally<'a>) -> Disk<'a> {
+        let tally = Some(tally);
+        Disk { rt, tally }
     }
 }
 
@@ -48,8 +57,12 @@ impl<'a> Paths for Disk<'a> {
     }
 
     fn reader(&self, path: String) -> FileReader<'a> {
+        if let Some(tally) = self.tally {
+            tally.begin();
+        }
         FileReader {
             rt: self.rt,
+            tally: self.tally,
             path,
             progress: Progress::Unopened,
             failed: false,
@@ -76,6 +89,7 @@ enum Progress {
 #[derive(Drop)]
 pub struct FileReader<'a> {
     rt: &'a HostRuntime,
+    tally: Option<&'a Tally<'a>>,
     path: String,
     progress: Progress,
     failed: bool,
@@ -108,6 +122,9 @@ impl Source for FileReader<'_> {
             Ok(count) => {
                 if count == 0 && !buffer.is_empty() {
                     self.progress = Progress::Ended;
+                }
+                if let Some(tally) = self.tally {
+                    tally.pass(&buffer[..count]);
                 }
                 Ok(count)
             }

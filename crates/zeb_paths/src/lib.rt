@@ -4,6 +4,7 @@
 mod disk;
 mod paths;
 mod shelf;
+mod tally;
 #[cfg(test)]
 mod tests;
 mod walk;
@@ -11,4 +12,5 @@ mod walk;
 pub use disk::{Disk, FileReader};
 pub use paths::{NamesFault, OpenFailed, PathKind, Paths};
 pub use shelf::{Shelf, ShelfReader, Shelved};
+pub use tally::Tally;
 pub use walk::{Walk, WalkFault};

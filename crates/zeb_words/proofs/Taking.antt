@@ -18,14 +18,14 @@ use Rattle.zeb_words.specs.declared.words.Usage.TheVariants.{BadUsage, Refused, 
 use Rattle.clap.specs.Kinds.{IsAmong}
 use Rattle.clap.specs.declared.error.kind.ErrorKind.TheVariants.{DisplayHelp}
 use Rattle.zeb_words.specs.declared.words.Act.{Act}
-use Rattle.zeb_words.specs.declared.words.Act.TheVariants.{Init, Create, Drop, Update, Delete, Adelete, Stat, Dump, Check, Find, Scan, Batch}
+use Rattle.zeb_words.specs.declared.words.Act.TheVariants.{Init, Create, Drop, Update, Delete, Adelete, Stat, Dump, Check, Find, Scan, Batch, Shell}
 use Rattle.zeb_words.proofs.ReadingLemmas.{pair_parts}
 use Rattle.zeb_words.proofs.Items.{AllItems, AtMostOne, Once, most_once, row, values}
 use Rattle.zeb_words.proofs.Leads.{none_of_both}
 use Rattle.zeb_words.proofs.Uses.{no_clash, rows_are}
 use Rattle.zeb_words.proofs.Top.{rule_by, shape, used_rule}
 use Rattle.zeb_words.proofs.Top.{values as raw_values}
-use Rattle.zeb_words.proofs.TopRead.{Any, IsCommandOf, Walks, enters, good, is_adelete, is_batch, is_check, is_create, is_delete, is_drop, is_dump, is_find, is_init, is_scan, is_stat, is_update, item_of, only, rows_at_end, using, walks}
+use Rattle.zeb_words.proofs.TopRead.{Any, IsCommandOf, Walks, enters, good, is_adelete, is_batch, is_check, is_create, is_delete, is_drop, is_dump, is_find, is_init, is_scan, is_shell, is_stat, is_update, item_of, only, rows_at_end, using, walks}
 use Rattle.zeb_words.proofs.Leaf.{Bare, Changing, Finding, Leaf, Naming, Scanning, rules}
 use Rattle.zeb_words.proofs.LeafRead.{default_none, own_fault}
 use Rattle.zeb_words.proofs.LeafActs.{bare_taken, name_taken, paths_taken}
@@ -71,6 +71,7 @@ act_taken name words shows (Scan query m n) h =
     let t = asks_taken Scanning names.number names.position scan_options words (string_bytes query) m n h.2 in
     record { l = Scanning; is = at name _ Scanning h.0 is_scan; fault = t.fault; read = (h.0, h.1, t.text, t.a_read, t.b_read, h.3) }
 act_taken name words shows Batch h = record { l = Bare; is = at name _ Bare h.0 is_batch; fault = bare_taken words h.2; read = (h.0, h.1) }
+act_taken name words shows Shell h = record { l = Bare; is = at name _ Bare h.0 is_shell; fault = bare_taken words h.2; read = (h.0, h.1) }
 
 pub differ : (a b : Text) → bytes_eq a b ≡ false → a ≡ b → ⊥
 differ a b e same =
@@ -99,6 +100,7 @@ never_past name words shows Dump h e past = absurd (differ (codes "dump") (codes
 never_past name words shows Check h e past = absurd (differ (codes "check") (codes "scan") refl (sym h.0 ∙ e))
 never_past name words shows (Find query m n) h e past = absurd (differ (codes "find") (codes "scan") refl (sym h.0 ∙ e))
 never_past name words shows Batch h e past = absurd (differ (codes "batch") (codes "scan") refl (sym h.0 ∙ e))
+never_past name words shows Shell h e past = absurd (differ (codes "shell") (codes "scan") refl (sym h.0 ∙ e))
 
 -- the numbers that matches of this command say, where it has any
 pub record Numbered (name : Text) (rows : List Row) (m n : ℕ) : Type 0 where
@@ -150,6 +152,7 @@ act_numbers name words shows Stat h = (0, 0, no_numbers name (codes "stat") _ h.
 act_numbers name words shows Dump h = (0, 0, no_numbers name (codes "dump") _ h.0 refl refl)
 act_numbers name words shows Check h = (0, 0, no_numbers name (codes "check") _ h.0 refl refl)
 act_numbers name words shows Batch h = (0, 0, no_numbers name (codes "batch") _ h.0 refl refl)
+act_numbers name words shows Shell h = (0, 0, no_numbers name (codes "shell") _ h.0 refl refl)
 
 -- ---- settings
 

@@ -88,10 +88,11 @@ pub data IsCommandOf : Text → Leaf → Type 0 where
   is_find : IsCommandOf (codes "find") Finding
   is_scan : IsCommandOf (codes "scan") Scanning
   is_batch : IsCommandOf (codes "batch") Bare
+  is_shell : IsCommandOf (codes "shell") Bare
 
 pub command_of : (name : Text) → IsCommand name → (l : Leaf) × IsCommandOf name l
 unfolding NoAliases Among
-command_of name is = by (named_in name names (refl, (refl, (refl, (refl, (refl, (refl, (refl, (refl, (refl, (refl, (refl, (refl, tt)))))))))))) is)
+command_of name is = by (named_in name names (refl, (refl, (refl, (refl, (refl, (refl, (refl, (refl, (refl, (refl, (refl, (refl, (refl, tt))))))))))))) is)
   where
     at : {l : Leaf} {known : Text} → known ≡ name → IsCommandOf known l → (l : Leaf) × IsCommandOf name l
     at {l = l} e is = (l, subst (λ t. IsCommandOf t l) e is)
@@ -109,7 +110,8 @@ command_of name is = by (named_in name names (refl, (refl, (refl, (refl, (refl, 
     by (inr (inr (inr (inr (inr (inr (inr (inr (inr (inl e)))))))))) = at e is_find
     by (inr (inr (inr (inr (inr (inr (inr (inr (inr (inr (inl e))))))))))) = at e is_scan
     by (inr (inr (inr (inr (inr (inr (inr (inr (inr (inr (inr (inl e)))))))))))) = at e is_batch
-    by (inr (inr (inr (inr (inr (inr (inr (inr (inr (inr (inr (inr e)))))))))))) = absurd e
+    by (inr (inr (inr (inr (inr (inr (inr (inr (inr (inr (inr (inr (inl e))))))))))))) = at e is_shell
+    by (inr (inr (inr (inr (inr (inr (inr (inr (inr (inr (inr (inr (inr e))))))))))))) = absurd e
 
 -- what the parse makes of a command and the words behind it
 pub record Enters (name : Text) (l : Leaf) (words : List Text) : Type 0 where
@@ -133,6 +135,7 @@ enters name l words is_check = record { met = refl; rows = refl; fault = refl; t
 enters name l words is_find = record { met = refl; rows = refl; fault = refl; turn = λ rows p. refl; walk = λ rows p. refl }
 enters name l words is_scan = record { met = refl; rows = refl; fault = refl; turn = λ rows p. refl; walk = λ rows p. refl }
 enters name l words is_batch = record { met = refl; rows = refl; fault = refl; turn = λ rows p. refl; walk = λ rows p. refl }
+enters name l words is_shell = record { met = refl; rows = refl; fault = refl; turn = λ rows p. refl; walk = λ rows p. refl }
 
 -- ---- the end of the words
 

@@ -7,7 +7,7 @@ use Rattle.zeb_words.specs.declared.words.Words.{Words}
 use Rattle.zeb_words.specs.declared.words.Usage.{Usage}
 use Rattle.zeb_words.specs.declared.words.Usage.TheVariants.{BadUsage, Refused, Help, Memory}
 use Rattle.zeb_words.specs.declared.words.Act.{Act}
-use Rattle.zeb_words.specs.declared.words.Act.TheVariants.{Init, Create, Drop, Update, Delete, Adelete, Stat, Dump, Check, Find, Scan, Batch}
+use Rattle.zeb_words.specs.declared.words.Act.TheVariants.{Init, Create, Drop, Update, Delete, Adelete, Stat, Dump, Check, Find, Scan, Batch, Shell}
 
 -- an option with a number: its name, the number where it isn't given, and its range
 pub record NumberOption : Type 0 where
@@ -63,6 +63,7 @@ NamesAct command words shows (Find query m n) = (command ≡ codes "find") × (s
 NamesAct command words shows (Scan query m n) =
     (command ≡ codes "scan") × (shows ≡ false) × Asks words (string_bytes query) number m position n × (n ≤ m)
 NamesAct command words shows Batch = (command ≡ codes "batch") × (shows ≡ false) × SaysAll words []
+NamesAct command words shows Shell = (command ≡ codes "shell") × (shows ≡ false) × SaysAll words []
 
 -- The words are those of settings, the word of a command and the words behind it, and name this file, database and act.
 pub record NamesWords (words : List Text) (named : Words) : Type 0 where
@@ -99,6 +100,7 @@ pub data Meaning : Type 0 where
   ToFind : Text → ℕ → ℕ → Meaning
   ToScan : Text → ℕ → ℕ → Meaning
   ToBatch : Meaning
+  ToShell : Meaning
 
 abbrev pub meaning : Act → Meaning
 meaning Init = ToInit
@@ -113,6 +115,7 @@ meaning Check = ToCheck
 meaning (Find query m n) = ToFind (string_bytes query) m n
 meaning (Scan query m n) = ToScan (string_bytes query) m n
 meaning Batch = ToBatch
+meaning Shell = ToShell
 
 -- the same file, the same database and the same act
 abbrev pub AreSame : Words → Words → Type 0

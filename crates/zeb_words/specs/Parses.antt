@@ -16,7 +16,7 @@ use Rattle.zeb_words.specs.declared.words.Words.{Words}
 use Rattle.zeb_words.specs.declared.words.Act.{Act}
 use Rattle.zeb_words.specs.declared.words.Usage.{Usage}
 use Rattle.zeb_words.specs.declared.words.Usage.TheVariants.{BadUsage, Refused, Help, Memory}
-use Rattle.zeb_words.specs.declared.words.Act.TheVariants.{Init, Create, Drop, Update, Delete, Adelete, Stat, Dump, Check, Find, Scan, Batch}
+use Rattle.zeb_words.specs.declared.words.Act.TheVariants.{Init, Create, Drop, Update, Delete, Adelete, Stat, Dump, Check, Find, Scan, Batch, Shell}
 
 -- ---- what the parser is told
 
@@ -79,9 +79,9 @@ changes_app =
 
 abbrev pub program_app : App
 program_app =
-    and_sub (and_sub (and_sub (and_sub (and_sub (and_sub changes_app
+    and_sub (and_sub (and_sub (and_sub (and_sub (and_sub (and_sub changes_app
     (new_app (codes "stat"))) (new_app (codes "dump"))) (new_app (codes "check")))
-    find_app) scan_app) (new_app (codes "batch"))
+    find_app) scan_app) (new_app (codes "batch"))) (new_app (codes "shell"))
 
 -- ---- what the matches come to
 
@@ -128,6 +128,7 @@ IsActRead name shows rows (Scan query number position) =
     × IsNumberRead (one_of (codes "number") rows) 20 number
     × IsNumberRead (one_of (codes "position") rows) 1 position × (position ≤ number)
 IsActRead name shows rows Batch = (name ≡ codes "batch") × (shows ≡ false)
+IsActRead name shows rows Shell = (name ≡ codes "shell") × (shows ≡ false)
 
 -- the same of all words, by the matches of the options and those of the command
 pub record IsReadFrom (rows : List Row) (sub : Option (Text × List Row)) (named : Words) : Type 0 where

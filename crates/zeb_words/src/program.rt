@@ -10,7 +10,7 @@ use clap::builder::ValueParser;
 use clap::{Arg, ArgAction, Command, value_parser};
 use std::alloc::{AllocError, Global};
 
-/// The program, with its options and its twelve commands.
+/// The program, with its options and its thirteen commands.
 pub(crate) fn program<'a>(alloc: Global) -> Result<Command<'a>, AllocError>
     ensures { IfOk result (λ command. app_of command ≡ program_app) }
 {
@@ -20,7 +20,12 @@ pub(crate) fn program<'a>(alloc: Global) -> Result<Command<'a>, AllocError>
         .subcommand(plain(alloc, "check", "Compare the tables with the records"))?
         .subcommand(finding(alloc)?)?
         .subcommand(scanning(alloc)?)?
-        .subcommand(plain(alloc, "batch", "Run the lines of the standard input"))
+        .subcommand(plain(alloc, "batch", "Run the lines of the standard input"))?
+        .subcommand(plain(
+            alloc,
+            "shell",
+            "Run each line of the standard input as it comes",
+        ))
 }
 
 /// The program with its options and the commands that write.

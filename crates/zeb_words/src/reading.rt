@@ -62,6 +62,7 @@ fn act_of(alloc: Global, name: &str, shows: bool, given: &ArgMatches<'_>) -> Res
         "find" => found(alloc, given),
         "scan" => scanned(alloc, given),
         "batch" => Ok(Act::Batch),
+        "shell" => Ok(Act::Shell),
         _ => Err(Usage::BadUsage),
     }
 }

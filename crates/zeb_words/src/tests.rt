@@ -5,12 +5,13 @@ use std::alloc::{AllocError, AllocGlobal};
 use std::process::Abort;
 
 /// Lines of words with one space between, and what is read: the profile's file, the database and the command, or why there is none.
-const ROWS: [(&str, &str); 34] = [
+const ROWS: [(&str, &str); 36] = [
     ("init", "zebra.cfg Default Init"),
     ("stat", "zebra.cfg Default Stat"),
     ("dump", "zebra.cfg Default Dump"),
     ("check", "zebra.cfg Default Check"),
     ("batch", "zebra.cfg Default Batch"),
+    ("shell", "zebra.cfg Default Shell"),
     (
         "update a b",
         "zebra.cfg Default Update { paths: [\"a\", \"b\"], shows: false }",
@@ -65,6 +66,7 @@ const ROWS: [(&str, &str); 34] = [
     ("create a:b", "bad usage"),
     ("scan --number 3 --position 4 x", "bad usage"),
     ("-s stat", "bad usage"),
+    ("-s shell", "bad usage"),
     // The parser's.
     ("find", "refused"),
     ("find x y", "refused"),

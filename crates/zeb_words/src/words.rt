@@ -60,8 +60,10 @@ pub enum Act {
         number: u32,
         position: u32,
     },
-    /// Runs the lines of the standard input.
+    /// Runs the lines of the standard input, which is read whole first.
     Batch,
+    /// Runs the lines of the standard input, each as it comes.
+    Shell,
 }
 
 /// Why words name no command.

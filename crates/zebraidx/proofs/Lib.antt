@@ -1,5 +1,6 @@
 pub mod AnswerLemmas
 pub mod BatchLemmas
+pub mod LineInputLemmas
 pub mod LineLemmas
 pub mod MemoryLemmas
 pub mod NumberLemmas

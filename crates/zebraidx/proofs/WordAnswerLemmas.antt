@@ -1,9 +1,9 @@
 -- What is written for words, at each end.
-use Rattle.std.proofs.Common.{◌≡◌, ℕ, Bool, false, List, inl, inr, refl}
+use Rattle.std.proofs.Common.{◌≡◌, ◌<◌, ◌⊎◌, ℕ, Bool, false, List, inl, inr, refl, arith, subst, sym}
 use Rattle.std.specs.Prelude.{Option, Result, Ok, Err, IfOk, OnErr}
 use Rattle.std.specs.declared.alloc.AllocError.{AllocError}
-use Rattle.std.specs.Io.KnownBytes.{Keeps}
-use Rattle.std.proofs.KnownBytes.{Appends-kept, Keeps-trans}
+use Rattle.std.specs.Io.KnownBytes.{IsAtEnd, Keeps}
+use Rattle.std.proofs.KnownBytes.{Appends-kept, Keeps-refl, Keeps-trans}
 use Rattle.zeb_change.specs.declared.refusals.Refusal.{Refusal}
 use Rattle.zeb_change.specs.declared.refusals.Refusal.TheVariants.{NotInitialised, OldFormat, ProfileChanged, Diagnostic, Exists, Record, Unknown, DatabaseFull, TooManyRecords, Damaged, IdentifierRuleChanged, ReadFault, Store, Memory, Unsupported}
 use Rattle.zeb_engine.specs.Refusals.{status_of}
@@ -11,7 +11,7 @@ use Rattle.zeb_words.specs.Names.{NamesWords}
 use Rattle.zeb_words.specs.declared.words.Words.{Words}
 use Rattle.zeb_words.specs.declared.words.Usage.{Usage}
 use Rattle.zeb_words.specs.declared.words.Usage.TheVariants as usage
-use Rattle.zebraidx.specs.WordAnswers.{AnswersWords, misused, batched, named, IsFaultStatus, NamesBatch, TellsApart, TellsUsage}
+use Rattle.zebraidx.specs.WordAnswers.{AnswersWords, misused, batched, served, named, IsFaultStatus, NamesBatch, NamesShell, TellsApart, TellsUsage}
 
 -- a refusal's status is that of a fault
 pub refusal_status : (refusal : Refusal) → IsFaultStatus (status_of refusal)
@@ -48,34 +48,67 @@ TellsApart-kept : (old mid new fault_old fault_mid fault_new : Option (List ℕ)
 TellsApart-kept old mid new fault_old fault_mid fault_new status kept fault_kept (inl t) = inl (t.0, Keeps-trans fault_old fault_mid fault_new t.1 fault_kept)
 TellsApart-kept old mid new fault_old fault_mid fault_new status kept fault_kept (inr t) = inr (t.0, Keeps-trans old mid new t.1 kept)
 
-pub kept_words : (words : List (List ℕ)) (old mid new fault_old fault_mid fault_new : Option (List ℕ)) (status : ℕ) → Keeps mid new → Keeps fault_mid fault_new
-    → AnswersWords words old mid fault_old fault_mid status → AnswersWords words old new fault_old fault_new status
-kept_words words old mid new fault_old fault_mid fault_new status kept fault_kept (misused why none is tells) =
+pub kept_words : (words : List (List ℕ)) (left old mid new fault_old fault_mid fault_new : Option (List ℕ)) (status : ℕ) → Keeps mid new → Keeps fault_mid fault_new
+    → AnswersWords words left old mid fault_old fault_mid status → AnswersWords words left old new fault_old fault_new status
+kept_words words left old mid new fault_old fault_mid fault_new status kept fault_kept (misused why none is tells) =
     misused why none is (TellsUsage-kept why old mid new fault_old fault_mid fault_new status kept fault_kept tells)
-kept_words words old mid new fault_old fault_mid fault_new status kept fault_kept (batched names) = batched names
-kept_words words old mid new fault_old fault_mid fault_new status kept fault_kept (named command is tells) =
+kept_words words left old mid new fault_old fault_mid fault_new status kept fault_kept (batched names) = batched names
+kept_words words left old mid new fault_old fault_mid fault_new status kept fault_kept (served names end) = served names (λ less. passed (end less))
+  where
+    passed : IsAtEnd left ⊎ Keeps old mid → IsAtEnd left ⊎ Keeps old new
+    passed (inl at) = inl at
+    passed (inr same) = inr (Keeps-trans old mid new same kept)
+kept_words words left old mid new fault_old fault_mid fault_new status kept fault_kept (named command is tells) =
     named command is (TellsApart-kept old mid new fault_old fault_mid fault_new status kept fault_kept tells)
 
--- a command that isn't a batch
-pub named_words : (words : List (List ℕ)) (old new fault_old fault_new : Option (List ℕ)) (command : Words) (failed fault_failed : Bool) (r : Result ℕ AllocError) → NamesWords words command
+-- a command that is no batch and no shell
+pub named_words : (words : List (List ℕ)) (left old new fault_old fault_new : Option (List ℕ)) (command : Words) (failed fault_failed : Bool) (r : Result ℕ AllocError) → NamesWords words command
     → IfOk r (λ status. TellsApart old new fault_old fault_new status)
-    → IfOk r (λ status. failed ≡ false → fault_failed ≡ false → AnswersWords words old new fault_old fault_new status)
-named_words words old new fault_old fault_new command failed fault_failed (Err e) is h = h
-named_words words old new fault_old fault_new command failed fault_failed (Ok status) is h = λ _ _. named command is h
+    → IfOk r (λ status. failed ≡ false → fault_failed ≡ false → AnswersWords words left old new fault_old fault_new status)
+named_words words left old new fault_old fault_new command failed fault_failed (Err e) is h = h
+named_words words left old new fault_old fault_new command failed fault_failed (Ok status) is h = λ _ _. named command is h
 
-pub stopped_words : (words : List (List ℕ)) (old new fault_old fault_new : Option (List ℕ)) (command : Words) (failed fault_failed : Bool) (r : Result ℕ AllocError) → NamesWords words command
+pub stopped_words : (words : List (List ℕ)) (left old new fault_old fault_new : Option (List ℕ)) (command : Words) (failed fault_failed : Bool) (r : Result ℕ AllocError) → NamesWords words command
     → OnErr r (Keeps old new)
-    → OnErr r (failed ≡ false → fault_failed ≡ false → AnswersWords words old new fault_old fault_new 3)
-stopped_words words old new fault_old fault_new command failed fault_failed (Ok status) is h = h
-stopped_words words old new fault_old fault_new command failed fault_failed (Err e) is h = λ _ _. named command is (inr (inr refl, h))
+    → OnErr r (failed ≡ false → fault_failed ≡ false → AnswersWords words left old new fault_old fault_new 3)
+stopped_words words left old new fault_old fault_new command failed fault_failed (Ok status) is h = h
+stopped_words words left old new fault_old fault_new command failed fault_failed (Err e) is h = λ _ _. named command is (inr (inr refl, h))
 
 -- a batch
-pub batch_words : (words : List (List ℕ)) (old new fault_old fault_new : Option (List ℕ)) (failed fault_failed : Bool) (r : Result ℕ AllocError) → NamesBatch words
-    → IfOk r (λ status. failed ≡ false → fault_failed ≡ false → AnswersWords words old new fault_old fault_new status)
-batch_words words old new fault_old fault_new failed fault_failed (Err e) names = tt
-batch_words words old new fault_old fault_new failed fault_failed (Ok status) names = λ _ _. batched names
+pub batch_words : (words : List (List ℕ)) (left old new fault_old fault_new : Option (List ℕ)) (failed fault_failed : Bool) (r : Result ℕ AllocError) → NamesBatch words
+    → IfOk r (λ status. failed ≡ false → fault_failed ≡ false → AnswersWords words left old new fault_old fault_new status)
+batch_words words left old new fault_old fault_new failed fault_failed (Err e) names = tt
+batch_words words left old new fault_old fault_new failed fault_failed (Ok status) names = λ _ _. batched names
 
-pub stopped_batch_words : (words : List (List ℕ)) (old new fault_old fault_new : Option (List ℕ)) (failed fault_failed : Bool) (r : Result ℕ AllocError) → NamesBatch words
-    → OnErr r (failed ≡ false → fault_failed ≡ false → AnswersWords words old new fault_old fault_new 3)
-stopped_batch_words words old new fault_old fault_new failed fault_failed (Ok status) names = tt
-stopped_batch_words words old new fault_old fault_new failed fault_failed (Err e) names = λ _ _. batched names
+pub stopped_batch_words : (words : List (List ℕ)) (left old new fault_old fault_new : Option (List ℕ)) (failed fault_failed : Bool) (r : Result ℕ AllocError) → NamesBatch words
+    → OnErr r (failed ≡ false → fault_failed ≡ false → AnswersWords words left old new fault_old fault_new 3)
+stopped_batch_words words left old new fault_old fault_new failed fault_failed (Ok status) names = tt
+stopped_batch_words words left old new fault_old fault_new failed fault_failed (Err e) names = λ _ _. batched names
+
+-- a shell
+pub shell_words : (words : List (List ℕ)) (left old new fault_old fault_new : Option (List ℕ)) (failed fault_failed : Bool) (r : Result ℕ AllocError) → NamesShell words
+    → IfOk r (λ status. status < 3 → IsAtEnd left ⊎ Keeps old new)
+    → IfOk r (λ status. failed ≡ false → fault_failed ≡ false → AnswersWords words left old new fault_old fault_new status)
+shell_words words left old new fault_old fault_new failed fault_failed (Err e) names end = tt
+shell_words words left old new fault_old fault_new failed fault_failed (Ok status) names end = λ _ _. served names end
+
+pub stopped_shell_words : (words : List (List ℕ)) (left old new fault_old fault_new : Option (List ℕ)) (failed fault_failed : Bool) (r : Result ℕ AllocError) → NamesShell words
+    → OnErr r (failed ≡ false → fault_failed ≡ false → AnswersWords words left old new fault_old fault_new 3)
+stopped_shell_words words left old new fault_old fault_new failed fault_failed (Ok status) names = tt
+stopped_shell_words words left old new fault_old fault_new failed fault_failed (Err e) names = λ _ _. served names (λ less. absurd (omega (arith, less)))
+
+-- a shell that was refused before it read, or failed
+pub shell_fault : (r : Result ℕ AllocError) (End Unread Same : Type 0) → Unread ⊎ Same → (Unread → IfOk r (λ status. status ≡ 3)) → IfOk r (λ status. status < 3 → End ⊎ Same)
+shell_fault (Err e) End Unread Same why told = tt
+shell_fault (Ok status) End Unread Same (inl unread) told = λ less. absurd (omega (arith, told unread, less))
+shell_fault (Ok status) End Unread Same (inr same) told = λ less. inr same
+
+-- an output that is the same keeps what it holds
+pub shell_kept : {S : Type 0} (contents : S → Option (List ℕ)) (old new : S) (r : Result ℕ AllocError) (End : Type 0)
+    → IfOk r (λ status. status < 3 → End ⊎ (new ≡ old)) → IfOk r (λ status. status < 3 → End ⊎ Keeps (contents old) (contents new))
+shell_kept contents old new (Err e) End h = tt
+shell_kept contents old new (Ok status) End h = λ less. kept (h less)
+  where
+    kept : End ⊎ (new ≡ old) → End ⊎ Keeps (contents old) (contents new)
+    kept (inl end) = inl end
+    kept (inr same) = inr (subst (λ s. Keeps (contents old) (contents s)) (sym same) (Keeps-refl (contents old)))

@@ -1,6 +1,7 @@
 pub mod Answers
 pub mod Numbers
 pub mod Batches
+pub mod Errands
 pub mod Faults
 pub mod Inputs
 pub mod Lines

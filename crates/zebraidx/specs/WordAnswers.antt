@@ -1,11 +1,10 @@
 -- What is written for words, and the status (this program's own). What an answer is isn't said here, but where it goes.
-use Rattle.std.specs.Prelude.{◌≡◌, ◌≢◌, ◌⊎◌, ⊤, ℕ, Option, List, ◌++◌, string_bytes}
-use Rattle.std.specs.Io.KnownBytes.{Appends, Keeps}
+use Rattle.std.specs.Prelude.{◌≡◌, ◌<◌, ◌⊎◌, ℕ, Option, List, ◌++◌, string_bytes}
+use Rattle.std.specs.Io.KnownBytes.{Appends, IsAtEnd, Keeps}
 use Rattle.zeb_words.specs.Names.{NamesNone, NamesWords}
 use Rattle.zeb_words.specs.Parses.{IsRefusedAs}
 use Rattle.zeb_words.specs.declared.words.Words.{Words}
-use Rattle.zeb_words.specs.declared.words.Act.{Act}
-use Rattle.zeb_words.specs.declared.words.Act.TheVariants.{Batch}
+use Rattle.zeb_words.specs.declared.words.Act.TheVariants.{Batch, Shell}
 use Rattle.zeb_words.specs.declared.words.Usage.{Usage}
 use Rattle.zeb_words.specs.declared.words.Usage.TheVariants.{BadUsage, Refused, Help, Memory}
 use Rattle.zebraidx.specs.ScriptAnswers.{usage_line}
@@ -13,6 +12,14 @@ use Rattle.zebraidx.specs.ScriptAnswers.{usage_line}
 -- words that name a batch
 abbrev pub NamesBatch : List (List ℕ) → Type 0
 NamesBatch words = (named : Words) × NamesWords words named × (named.act ≡ Batch)
+
+-- words that name a shell
+abbrev pub NamesShell : List (List ℕ) → Type 0
+NamesShell words = (named : Words) × NamesWords words named × (named.act ≡ Shell)
+
+-- words that have the lines of the input run
+abbrev pub NamesLines : List (List ℕ) → Type 0
+NamesLines words = NamesBatch words ⊎ NamesShell words
 
 -- what is written of words that name no command, to the output and to the fault output, and the status: a line, with the parser's
 -- text below it where the words are refused by the parser; or the help that is asked for
@@ -33,14 +40,17 @@ IsFaultStatus status = (status ≡ 1) ⊎ (status ≡ 3)
 abbrev pub TellsApart : Option (List ℕ) → Option (List ℕ) → Option (List ℕ) → Option (List ℕ) → ℕ → Type 0
 TellsApart old new fault_old fault_new status = ((status ≡ 0) × Keeps fault_old fault_new) ⊎ (IsFaultStatus status × Keeps old new)
 
--- what is written for words, and the status
-pub data AnswersWords : List (List ℕ) → Option (List ℕ) → Option (List ℕ) → Option (List ℕ) → Option (List ℕ) → ℕ → Type 0 where
+-- what is written for words, and the status, where this is left of the input
+pub data AnswersWords : List (List ℕ) → Option (List ℕ) → Option (List ℕ) → Option (List ℕ) → Option (List ℕ) → Option (List ℕ) → ℕ → Type 0 where
   -- words that name no command; which of the ways it is, is the parser's to say
-  misused : {words : List (List ℕ)} {old new fault_old fault_new : Option (List ℕ)} {status : ℕ} → (usage : Usage) → NamesNone words usage
-      → IsRefusedAs words usage → TellsUsage usage old new fault_old fault_new status → AnswersWords words old new fault_old fault_new status
-  -- words that name a batch, whose answers and refusals go to the output
-  batched : {words : List (List ℕ)} {old new fault_old fault_new : Option (List ℕ)} {status : ℕ} → NamesBatch words
-      → AnswersWords words old new fault_old fault_new status
+  misused : {words : List (List ℕ)} {left old new fault_old fault_new : Option (List ℕ)} {status : ℕ} → (usage : Usage) → NamesNone words usage
+      → IsRefusedAs words usage → TellsUsage usage old new fault_old fault_new status → AnswersWords words left old new fault_old fault_new status
+  -- words that name a batch, whose lines' answers and refusals go to the output
+  batched : {words : List (List ℕ)} {left old new fault_old fault_new : Option (List ℕ)} {status : ℕ} → NamesBatch words
+      → AnswersWords words left old new fault_old fault_new status
+  -- words that name a shell, which does the same, and leaves a part of the input only where something failed, or nothing was answered
+  served : {words : List (List ℕ)} {left old new fault_old fault_new : Option (List ℕ)} {status : ℕ} → NamesShell words
+      → (status < 3 → IsAtEnd left ⊎ Keeps old new) → AnswersWords words left old new fault_old fault_new status
   -- words that name another command
-  named : {words : List (List ℕ)} {old new fault_old fault_new : Option (List ℕ)} {status : ℕ} → (command : Words) → NamesWords words command
-      → TellsApart old new fault_old fault_new status → AnswersWords words old new fault_old fault_new status
+  named : {words : List (List ℕ)} {left old new fault_old fault_new : Option (List ℕ)} {status : ℕ} → (command : Words) → NamesWords words command
+      → TellsApart old new fault_old fault_new status → AnswersWords words left old new fault_old fault_new status

@@ -7,7 +7,8 @@ ghost use Rattle.sqlite.specs.State.{HasCleanDisk};
 ghost use Rattle.zeb_change.specs.Conditions.{conditions};
 ghost use Rattle.zeb_engine.specs.Refusals.{refusal_text, status_of};
 ghost use Rattle.zebraidx.specs.ScriptAnswers.{AnswersOpened, AnswersStopped};
-ghost use Rattle.zebraidx.specs.Answers.{Writes, IsAnswer, AnswersLine, AnswersBatch, AnswersPart};
+ghost use Rattle.std.specs.Io.KnownBytes.{Appends};
+ghost use Rattle.zebraidx.specs.Answers.{Writes, bad_line, IsAnswer, AnswersLine, AnswersBatch, AnswersPart};
 ghost use Rattle.zebraidx.specs.Serving.{Leads, Stops};
 ghost use Rattle.zebraidx.specs.WordAnswers.{IsFaultStatus};
 
@@ -102,10 +103,7 @@ pub fn run_line<S: Alter, L: Layout, W: Write>(
     match Line::read(alloc, line)? {
         Line::Remark => Ok(ANSWERED),
         Line::Command(command) => run_command(alloc, session, &command, output),
-        Line::Bad => {
-            output.write_line(format_args!("zebraidx: bad line {number}"));
-            Ok(MISUSED)
-        }
+        Line::Bad => Ok(refuse_line(number, output)),
     }
 }
 
@@ -133,6 +131,17 @@ fn run_command<S: Alter, L: Layout, W: Write>(
         }
         Err(refusal) => refuse(alloc, &refusal, output),
     }
+}
+
+/// Writes that the line of this number is no command, and answers the status of such a line.
+pub fn refuse_line<W: Write>(number: u64, output: &mut Sink<W>) -> u8
+    ensures sound { output.new.failed ≡ false → output.old.failed ≡ false }
+    ensures status { result ≡ MISUSED }
+    ensures line { output.new.failed ≡ false →
+        Appends (W.contents output.old.writer) (W.contents output.new.writer) (bad_line number) }
+{
+    output.write_line(format_args!("zebraidx: bad line {number}"));
+    MISUSED
 }
 
 /// Writes a refusal's line, and answers its status.

@@ -1,11 +1,11 @@
 //! The words of a command line: what they ask for is done, and its answer or why there is none is written.
 
-ghost use Rattle.std.specs.Prelude.{◌≡◌, ◌≤◌, ◌+◌, ◌++◌, false, true, map, string_bytes, IfOk, IfSome, OnErr, IsErrAnd};
-ghost use Rattle.std.specs.Io.KnownBytes.{Appends, Keeps};
+ghost use Rattle.std.specs.Prelude.{◌≡◌, ◌⊎◌, ◌≤◌, ◌<◌, ◌+◌, ◌++◌, false, true, map, string_bytes, IfErr, IfOk, IfSome, OnErr, IsErrAnd};
+ghost use Rattle.std.specs.Io.KnownBytes.{Appends, IsAtEnd, Keeps};
 ghost use Rattle.zebraidx.specs.Faults.{IsUnread};
 ghost use Rattle.zebraidx.specs.Inputs.{TakesAtMost};
 ghost use Rattle.zebraidx.specs.ScriptAnswers.{usage_line};
-ghost use Rattle.zebraidx.specs.WordAnswers.{AnswersWords, NamesBatch, TellsApart, TellsUsage};
+ghost use Rattle.zebraidx.specs.WordAnswers.{AnswersWords, NamesLines, NamesShell, TellsApart, TellsUsage};
 
 use crate::faults::{Fault, tell};
 use crate::files::{read_profile, unread};
@@ -13,8 +13,9 @@ use crate::input::{GREATEST_INPUT, read_text};
 use crate::path_lines::run_path_lines;
 use crate::program::{ANSWERED, FAILED, MISUSED};
 use crate::script::Batch;
+use crate::shell::run_shell_lines;
 use crate::sinks::Sink;
-use crate::tasks::{Task, open_register, perform};
+use crate::tasks::{Errand, Task, open_register, perform};
 use std::alloc::{AllocError, Global};
 use std::io::Write;
 use zeb_engine::Session;
@@ -34,14 +35,15 @@ pub fn run_words<R: Source, W: Write, V: Write, P: Paths>(
 ) -> Result<u8, AllocError>
     requires { R.has_failed input.old ≡ false }
     ensures range { IfOk result (λ status. status ≤ FAILED) }
-    ensures bounded { TakesAtMost (GREATEST_INPUT + 1) (R.remaining input.old) (R.remaining input.new) }
-    ensures unread { ¬ NamesBatch (map string_bytes words.now) → input.new ≡ input.old }
+    ensures bounded { ¬ NamesShell (map string_bytes words.now) →
+        TakesAtMost (GREATEST_INPUT + 1) (R.remaining input.old) (R.remaining input.new) }
+    ensures unread { ¬ NamesLines (map string_bytes words.now) → input.new ≡ input.old }
     ensures failed_read { R.has_failed input.new ≡ true → IfOk result (λ status. status ≡ FAILED) }
     ensures answer { IfOk result (λ status. output.new.failed ≡ false → fault_output.new.failed ≡ false →
-        AnswersWords (map string_bytes words.now) (W.contents output.old.writer) (W.contents output.new.writer)
+        AnswersWords (map string_bytes words.now) (R.remaining input.new) (W.contents output.old.writer) (W.contents output.new.writer)
         (V.contents fault_output.old.writer) (V.contents fault_output.new.writer) status) }
     ensures stopped { OnErr result (output.new.failed ≡ false → fault_output.new.failed ≡ false →
-        AnswersWords (map string_bytes words.now) (W.contents output.old.writer) (W.contents output.new.writer)
+        AnswersWords (map string_bytes words.now) (R.remaining input.new) (W.contents output.old.writer) (W.contents output.new.writer)
         (V.contents fault_output.old.writer) (V.contents fault_output.new.writer) FAILED) }
 {
     let Words {
@@ -52,9 +54,10 @@ pub fn run_words<R: Source, W: Write, V: Write, P: Paths>(
         Ok(words) => words,
         Err(usage) => return Ok(refuse_words(usage, output, fault_output)),
     };
-    match Task::of(database, act) {
-        Some(task) => run_task(alloc, config, &task, paths, output, fault_output),
-        None => run_batch(alloc, config, paths, input, output, fault_output),
+    match Errand::of(database, act) {
+        Errand::Task(task) => run_task(alloc, config, &task, paths, output, fault_output),
+        Errand::Batch => run_batch(alloc, config, paths, input, output, fault_output),
+        Errand::Shell => run_shell(alloc, config, paths, input, output, fault_output),
     }
 }
 
@@ -158,4 +161,47 @@ fn begin_batch<R: Source, P: Paths>(
     };
     let session = open_register(alloc, paths, profile)?;
     Ok((session, text))
+}
+
+/// Runs the lines of the input as they come, and answers the greatest status met.
+fn run_shell<R: Source, W: Write, V: Write, P: Paths>(
+    alloc: Global,
+    config: String,
+    paths: &mut P,
+    input: &mut R,
+    output: &mut Sink<W>,
+    fault_output: &mut Sink<V>,
+) -> Result<u8, AllocError>
+    requires { R.has_failed input.old ≡ false }
+    ensures range { IfOk result (λ status. status ≤ FAILED) }
+    ensures failed_read { R.has_failed input.new ≡ true → IfOk result (λ status. status ≡ FAILED) }
+    ensures whole { IfOk result (λ status. status < FAILED → IsAtEnd (R.remaining input.new) ⊎ (output.new ≡ output.old)) }
+{
+    match serve(alloc, config, paths, input, output) {
+        Ok(status) => Ok(status),
+        Err(fault) => tell(alloc, &fault, fault_output),
+    }
+}
+
+/// Opens the register, and then runs the lines of the input as they come.
+fn serve<R: Source, W: Write, P: Paths>(
+    alloc: Global,
+    config: String,
+    paths: &mut P,
+    input: &mut R,
+    output: &mut Sink<W>,
+) -> Result<u8, Fault>
+    requires { R.has_failed input.old ≡ false }
+    ensures range { IfOk result (λ status. status ≤ FAILED) }
+    ensures failed_read { R.has_failed input.new ≡ true → IsErrAnd result IsUnread }
+    ensures whole { IfOk result (λ status. status < FAILED → IsAtEnd (R.remaining input.new)) }
+    // Lines are answered only where a register was opened.
+    ensures begun { IfErr result (λ fault. IsUnread fault ⊎ (output.new ≡ output.old)) }
+{
+    let profile = read_profile(alloc, paths, config)?;
+    let mut session = open_register(alloc, paths, profile)?;
+    match run_shell_lines(alloc, &mut session, paths, input, output) {
+        Ok(status) => Ok(status),
+        Err(fault) => Err(unread(fault, String::from_str(alloc, "input")?)),
+    }
 }

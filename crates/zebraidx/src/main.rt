@@ -7,12 +7,14 @@ mod digits;
 mod faults;
 mod files;
 mod input;
+mod line_input;
 mod lines;
 mod memory;
 mod numbers;
 mod path_lines;
 mod program;
 mod script;
+mod shell;
 mod sinks;
 mod tasks;
 #[cfg(test)]
@@ -22,10 +24,10 @@ mod words;
 use program::{FAILED, run};
 use sinks::Sink;
 use std::env;
-use std::io::{self, BufWriter};
+use std::io::{self, BufReader, BufWriter};
 use std::process::ExitCode;
 use zeb_marc::FromRead;
-use zeb_paths::Disk;
+use zeb_paths::{Disk, Tally};
 
 fn main(rt: HostRuntime) -> ExitCode {
     ExitCode::from(run_outside(&rt).unwrap_or(FAILED))
@@ -37,15 +39,19 @@ fn run_outside(rt: &HostRuntime) -> io::Result<u8> {
     for word in env::args(rt)?.skip(1) {
         words.push(word)?;
     }
-    let mut input = FromRead::new(rt.reader());
+    let mut input = FromRead::new(BufReader::new(rt.alloc(), rt.reader())?);
     let mut output = Sink::new(BufWriter::new(rt.alloc(), rt.stdout())?);
     let mut fault_output = Sink::new(rt.stderr());
-    Ok(run(
+    let tally = Tally::new(rt);
+    let mut paths = Disk::counted(rt, &tally);
+    let status = run(
         rt.alloc(),
         words.as_slice(),
-        &mut Disk::new(rt),
+        &mut paths,
         &mut input,
         &mut output,
         &mut fault_output,
-    ))
+    );
+    tally.end();
+    Ok(status)
 }

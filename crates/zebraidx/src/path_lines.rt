@@ -39,7 +39,8 @@ pub fn run_path_lines<S: Alter, L: Layout, P: Paths, W: Write>(
     Ok(greatest)
 }
 
-fn run_path_line<S: Alter, L: Layout, P: Paths, W: Write>(
+/// Runs one line of a batch, whose number this is, and answers its status.
+pub fn run_path_line<S: Alter, L: Layout, P: Paths, W: Write>(
     alloc: Global,
     session: &mut Session<S, L>,
     paths: &P,

@@ -4,7 +4,7 @@ ghost use Rattle.std.specs.Prelude.{◌≡◌, ◌≢◌, ◌≤◌, ◌+◌, []
 ghost use Rattle.std.specs.Io.KnownBytes.{Appends, Keeps};
 ghost use Rattle.zebraidx.specs.Inputs.{TakesAtMost};
 ghost use Rattle.zebraidx.specs.ScriptAnswers.{AnswersScript, fault_line, fault_status};
-ghost use Rattle.zebraidx.specs.WordAnswers.{AnswersWords, IsFaultStatus, NamesBatch};
+ghost use Rattle.zebraidx.specs.WordAnswers.{AnswersWords, IsFaultStatus, NamesLines, NamesShell};
 
 use crate::batch::run_batch;
 use crate::command_line::run_words;
@@ -40,7 +40,8 @@ pub const FAILED: u8 = 3;
 /// profile's path. Its answer goes to the output, and to the fault output why there is none: words that
 /// aren't understood, a profile or a path that can't be read, a refusal. The command `batch` runs the
 /// lines of the input in one session, where a file may be named by its path; what they answer goes to
-/// the output, as that of a script does.
+/// the output, as that of a script does. The command `shell` does the same with each line as it comes: its
+/// answer is passed on before the next line is read. It ends where a write has failed, too.
 ///
 /// The status is the greatest met: 0 answered, 1 refused, 2 a line that is none or words that aren't
 /// understood, 3 where the input or a path couldn't be read, a write or the store failed or memory ran
@@ -56,9 +57,10 @@ pub fn run<R: Source, W: Write, V: Write, P: Paths>(
     requires { R.has_failed input.old ≡ false }
     ensures range { result ≤ FAILED }
 
-    // However long the input is, and whatever the answer. Words leave it alone, but where they name a batch.
-    ensures bounded { TakesAtMost (GREATEST_INPUT + 1) (R.remaining input.old) (R.remaining input.new) }
-    ensures unread { words.now ≢ [] → ¬ NamesBatch (map string_bytes words.now) → input.new ≡ input.old }
+    // However long the input is, and whatever the answer, but for a shell. Words leave it alone, but where they name a batch or a shell.
+    ensures bounded { ¬ NamesShell (map string_bytes words.now) →
+        TakesAtMost (GREATEST_INPUT + 1) (R.remaining input.old) (R.remaining input.new) }
+    ensures unread { words.now ≢ [] → ¬ NamesLines (map string_bytes words.now) → input.new ≡ input.old }
 
     // A failed read of the input, and a failed write, show in the status.
     ensures failed_read { words.now ≡ [] → R.has_failed input.new ≡ true → result ≡ FAILED }
@@ -73,7 +75,7 @@ pub fn run<R: Source, W: Write, V: Write, P: Paths>(
 
     // With words.
     ensures words { words.now ≢ [] → output.new.failed ≡ false → fault_output.new.failed ≡ false →
-        AnswersWords (map string_bytes words.now) (W.contents output.old.writer) (W.contents output.new.writer)
+        AnswersWords (map string_bytes words.now) (R.remaining input.new) (W.contents output.old.writer) (W.contents output.new.writer)
         (V.contents fault_output.old.writer) (V.contents fault_output.new.writer) result }
     ensures failed_batch { words.now ≢ [] → R.has_failed input.new ≡ true → result ≡ FAILED }
 {
@@ -97,14 +99,15 @@ fn respond<R: Source, W: Write, V: Write, P: Paths>(
 ) -> u8
     requires { R.has_failed input.old ≡ false }
     ensures range { result ≤ FAILED }
-    ensures bounded { TakesAtMost (GREATEST_INPUT + 1) (R.remaining input.old) (R.remaining input.new) }
-    ensures unread { words.now ≢ [] → ¬ NamesBatch (map string_bytes words.now) → input.new ≡ input.old }
+    ensures bounded { ¬ NamesShell (map string_bytes words.now) →
+        TakesAtMost (GREATEST_INPUT + 1) (R.remaining input.old) (R.remaining input.new) }
+    ensures unread { words.now ≢ [] → ¬ NamesLines (map string_bytes words.now) → input.new ≡ input.old }
     ensures failed_read { words.now ≡ [] → R.has_failed input.new ≡ true → result ≡ FAILED }
     ensures script { words.now ≡ [] → R.has_failed input.new ≡ false → output.new.failed ≡ false → IfSome (R.remaining input.old) (λ text.
         AnswersScript text (W.contents output.old.writer) (W.contents output.new.writer) result) }
     ensures quiet { words.now ≡ [] → fault_output.new ≡ fault_output.old }
     ensures words { words.now ≢ [] → output.new.failed ≡ false → fault_output.new.failed ≡ false →
-        AnswersWords (map string_bytes words.now) (W.contents output.old.writer) (W.contents output.new.writer)
+        AnswersWords (map string_bytes words.now) (R.remaining input.new) (W.contents output.old.writer) (W.contents output.new.writer)
         (V.contents fault_output.old.writer) (V.contents fault_output.new.writer) result }
     ensures failed_batch { words.now ≢ [] → R.has_failed input.new ≡ true → result ≡ FAILED }
 {

@@ -25,13 +25,23 @@ pub enum Task {
     Analyse(Vec<String>),
 }
 
-impl Task {
-    ghost use Rattle.std.specs.Prelude.{◌≡◌, IfNone};
-    ghost use Rattle.zeb_words.specs.declared.words.Act.TheVariants.{Batch};
+/// What words ask for.
+#[derive(Debug, Drop)]
+pub enum Errand {
+    /// One task.
+    Task(Task),
+    /// To run the lines of the input, which is read whole first.
+    Batch,
+    /// To run the lines of the input, each as it comes.
+    Shell,
+}
 
-    /// The task that an act on this database is, or `None` where it is a batch.
-    pub fn of(database: DbName, act: Act) -> Option<Task>
-        ensures { IfNone result (act ≡ Batch) }
+impl Errand {
+    ghost use Rattle.zebraidx.specs.Errands.{RunsLinesOf};
+
+    /// What an act on this database asks for.
+    pub fn of(database: DbName, act: Act) -> Errand
+        ensures { RunsLinesOf act result }
     {
         let command = match act {
             Act::Init => Command::Init,
@@ -60,16 +70,17 @@ impl Task {
                 number,
                 position,
             },
-            Act::Update { paths, shows: true } => return Some(Task::Analyse(paths)),
+            Act::Update { paths, shows: true } => return Errand::Task(Task::Analyse(paths)),
             Act::Update {
                 paths,
                 shows: false,
-            } => return Some(change(Kind::Update, database, paths)),
-            Act::Delete(paths) => return Some(change(Kind::Delete, database, paths)),
-            Act::Adelete(paths) => return Some(change(Kind::Adelete, database, paths)),
-            Act::Batch => return None,
+            } => return Errand::Task(change(Kind::Update, database, paths)),
+            Act::Delete(paths) => return Errand::Task(change(Kind::Delete, database, paths)),
+            Act::Adelete(paths) => return Errand::Task(change(Kind::Adelete, database, paths)),
+            Act::Batch => return Errand::Batch,
+            Act::Shell => return Errand::Shell,
         };
-        Some(Task::Ask(command))
+        Errand::Task(Task::Ask(command))
     }
 }
 

@@ -10,6 +10,7 @@ use std::{io, str};
 use zeb_marc::{FromRead, Slice};
 use zeb_paths::{Paths, Shelf};
 
+mod by_lines;
 mod fakes;
 mod folder;
 mod queries;

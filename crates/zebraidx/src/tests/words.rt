@@ -77,7 +77,7 @@ Any:w 3 3 whale
 ";
 
 /// The bytes of each of [`FILES`].
-fn contents(alloc: Global) -> Result<Vec<Vec<u8>>, Fail> {
+pub fn contents(alloc: Global) -> Result<Vec<Vec<u8>>, Fail> {
     let mut contents = Vec::new(alloc);
     for (_, records) in FILES {
         let digits = with_records(alloc, records)?;
@@ -90,7 +90,7 @@ fn contents(alloc: Global) -> Result<Vec<Vec<u8>>, Fail> {
 }
 
 /// The files of the shelf, those of records with these bytes.
-fn shelved<'a>(alloc: Global, contents: &'a [Vec<u8>]) -> Result<Vec<Shelved<'a>>, Fail> {
+pub fn shelved<'a>(alloc: Global, contents: &'a [Vec<u8>]) -> Result<Vec<Shelved<'a>>, Fail> {
     let mut files = Vec::new(alloc);
     files.push(BYTES)?;
     files.push(LOST)?;
@@ -106,7 +106,7 @@ fn shelved<'a>(alloc: Global, contents: &'a [Vec<u8>]) -> Result<Vec<Shelved<'a>
 }
 
 /// Runs the program on words over this store, with these lines as the input.
-fn run_words(
+pub fn run_words(
     alloc: Global,
     words: &[&str],
     store: Option<Connection<MemStore>>,
@@ -123,7 +123,7 @@ fn run_words(
 }
 
 /// A store in memory whose register holds Moby Dick in the database `Default`.
-fn loaded(alloc: Global) -> Result<Connection<MemStore>, Fail> {
+pub fn loaded(alloc: Global) -> Result<Connection<MemStore>, Fail> {
     let connection = Connection::open_in_memory(alloc)?;
     let (Ok(profile), Some(database)) = (Profile::read(alloc, BOOKS), DbName::read("Default"))
     else {
@@ -332,67 +332,6 @@ fn tells_of_usage(rt: HostRuntime) -> Result<(), Fail> {
     assert_eq!(rt; outcome.status, 0);
     assert!(rt; outcome.output.as_slice().ends_with(b"\n"));
     assert!(rt; outcome.fault_output.is_empty());
-    Ok(())
-}
-
-#[test]
-fn runs_a_batch(rt: HostRuntime) -> Result<(), Fail> {
-    let lines = "\
-find Default moby
-
-# a remark
-init
-update Default\t in
-find Default dock
-update Default hex:<A>
-find Default dock
-update Default missing
-update Default torn
-delete Default lost.mrc
-update Default hex:0
-update Default
-update a/b in
-adelete Default a.mrc
-stat X
-check
-";
-    let output = "\
-hits 1
-1 a1
-ok
-inserted 2 updated 0 deleted 0
-hits 1
-1 a1
-inserted 0 updated 1 deleted 0
-hits 0
-zebraidx: cannot read missing
-zebraidx: file 2 record 2: Truncated
-zebraidx: file 1: read fault
-zebraidx: cannot read hex:0
-zebraidx: bad line 13
-zebraidx: bad line 14
-inserted 0 updated 0 deleted 1
-zebraidx: diagnostic 235 at 0: X
-zebraidx: bad line 17
-";
-    let lines = with_records(rt.alloc(), lines)?;
-    let store = Some(loaded(rt.alloc())?);
-    let outcome = run_words(rt.alloc(), &["batch"], store, lines.as_bytes())?;
-    expect(&rt, &["batch"], &outcome, (3, output, ""))?;
-    // The status is the greatest met.
-    for (line, status, output) in [
-        ("", 0, ""),
-        ("stat X", 1, "zebraidx: diagnostic 235 at 0: X\n"),
-        (
-            "x\nstat X",
-            2,
-            "zebraidx: bad line 1\nzebraidx: diagnostic 235 at 0: X\n",
-        ),
-    ] {
-        let store = Some(loaded(rt.alloc())?);
-        let outcome = run_words(rt.alloc(), &["batch"], store, line.as_bytes())?;
-        expect(&rt, &["batch"], &outcome, (status, output, ""))?;
-    }
     Ok(())
 }
 

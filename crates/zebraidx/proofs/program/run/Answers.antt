@@ -9,5 +9,5 @@ returns-clause-script g c = λ none read sound quiet.
 
 pub returns-clause-words : goal.returns-clause-words
 returns-clause-words g c = λ some sound quiet.
-    kept_words (map string_bytes c.args.words.now) _ _ _ _ _ _ _ (c.flush.ensures.bytes sound) (c.flush-2.ensures.bytes quiet)
+    kept_words (map string_bytes c.args.words.now) _ _ _ _ _ _ _ _ (c.flush.ensures.bytes sound) (c.flush-2.ensures.bytes quiet)
     (c.respond-status.ensures.words some (c.flush.ensures.sound sound) (c.flush-2.ensures.sound quiet))

@@ -1,0 +1,66 @@
+//! How many records have been read, for whoever waits at a terminal.
+
+use std::cell::Cell;
+use std::io::{IsTerminal, Write};
+
+/// The byte that a record ends with.
+const RECORD_END: u8 = 0x1d;
+
+/// After so many records the number is shown again.
+const STEP: u64 = 1_000;
+
+/// Counts records as the bytes of files pass, and shows the number on standard error: one line, which is rewritten, and which
+/// the next line that is written there takes the place of.
+#[derive(Drop)]
+pub struct Tally<'a> {
+    rt: &'a HostRuntime,
+    shows: bool,
+    count: Cell<u64>,
+}
+
+impl<'a> Tally<'a> {
+    /// A tally of no record yet. It counts and shows nothing where standard error is no terminal.
+    pub fn new(rt: &'a HostRuntime) -> Tally<'a> {
+        Tally {
+            rt,
+            shows: rt.stderr().is_terminal(),
+            count: Cell::new(0),
+        }
+    }
+
+    /// Counts from 0 again.
+    pub fn begin(&self) {
+        self.count.set(0);
+    }
+
+    /// Counts the records that end in these bytes.
+    pub fn pass(&self, bytes: &[u8]) {
+        if !self.shows {
+            return;
+        }
+        let before = self.count.get();
+        let mut count = before;
+        for byte in bytes {
+            if *byte == RECORD_END {
+                count = count.saturating_add(1);
+            }
+        }
+        self.count.set(count);
+        if count / STEP > before / STEP {
+            self.show('\r');
+        }
+    }
+
+    /// Ends the line, where there is one and the answer on standard output doesn't take its place.
+    pub fn end(&self) {
+        if self.count.get() >= STEP && !self.rt.stdout().is_terminal() {
+            self.show('\n');
+        }
+    }
+
+    /// Writes the number. Nothing rests on it, so a write that fails is passed over.
+    fn show(&self, end: char) {
+        let count = self.count.get();
+        let _written = write!(self.rt.stderr(), "{count} records{end}");
+    }
+}
