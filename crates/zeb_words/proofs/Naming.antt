@@ -15,14 +15,14 @@ use Rattle.zeb_words.specs.Names as names
 use Rattle.zeb_words.specs.Parses.{IsActRead, IsFlagRead, IsNumberRead, IsParsedAs, path_texts, program_app, text_or}
 use Rattle.zeb_words.specs.declared.words.Words.{Words}
 use Rattle.zeb_words.specs.declared.words.Act.{Act}
-use Rattle.zeb_words.specs.declared.words.Act.TheVariants.{Init, Create, Drop, Update, Delete, Adelete, Stat, Dump, Check, Find, Scan, Batch, Shell}
+use Rattle.zeb_words.specs.declared.words.Act.TheVariants.{Init, Create, Drop, Update, Delete, Adelete, Stat, Dump, Check, Reindex, Upgrade, Find, Scan, Batch, Shell}
 use Rattle.zeb_words.proofs.ReadingLemmas.{pair_parts}
 use Rattle.zeb_words.proofs.Items.{Once, row}
 use Rattle.zeb_words.proofs.Leads.{none_of_both}
 use Rattle.zeb_words.proofs.Uses.{Each, clean, rows_are}
 use Rattle.zeb_words.proofs.Top.{shape, used_rule, values}
 use Rattle.zeb_words.proofs.TopFound.{AreTexts, found}
-use Rattle.zeb_words.proofs.TopRead.{Any, IsCommandOf, Walks, command_of, enters, good, is_adelete, is_batch, is_check, is_create, is_delete, is_drop, is_dump, is_find, is_init, is_scan, is_shell, is_stat, is_update, item_of, only, using, walks}
+use Rattle.zeb_words.proofs.TopRead.{Any, IsCommandOf, Walks, command_of, enters, good, is_adelete, is_batch, is_check, is_create, is_delete, is_drop, is_dump, is_find, is_init, is_reindex, is_scan, is_shell, is_stat, is_update, is_upgrade, item_of, only, using, walks}
 use Rattle.zeb_words.proofs.Leaf.{Bare, Changing, Finding, Leaf, Naming, Scanning}
 use Rattle.zeb_words.proofs.Leaf.{uses as leaf_uses}
 use Rattle.zeb_words.proofs.LeafRead.{Own, own, own_fault}
@@ -53,6 +53,8 @@ leaf_is name l is_adelete = refl
 leaf_is name l is_stat = refl
 leaf_is name l is_dump = refl
 leaf_is name l is_check = refl
+leaf_is name l is_reindex = refl
+leaf_is name l is_upgrade = refl
 leaf_is name l is_find = refl
 leaf_is name l is_scan = refl
 leaf_is name l is_batch = refl
@@ -96,6 +98,8 @@ act_named name l words shows o is (Adelete paths) h = let said = paths_at l word
 act_named name l words shows o is Stat h = (h.0, h.1, bare_at l words (is ∙ ap leaf_by h.0) o)
 act_named name l words shows o is Dump h = (h.0, h.1, bare_at l words (is ∙ ap leaf_by h.0) o)
 act_named name l words shows o is Check h = (h.0, h.1, bare_at l words (is ∙ ap leaf_by h.0) o)
+act_named name l words shows o is Reindex h = (h.0, h.1, bare_at l words (is ∙ ap leaf_by h.0) o)
+act_named name l words shows o is Upgrade h = (h.0, h.1, bare_at l words (is ∙ ap leaf_by h.0) o)
 act_named name l words shows o is (Find query m n) h = (h.0, h.1, find_at l words (string_bytes query) m n (is ∙ ap leaf_by h.0) o h.2 h.3 h.4)
 act_named name l words shows o is (Scan query m n) h = (h.0, h.1, scan_at l words (string_bytes query) m n (is ∙ ap leaf_by h.0) o h.2 h.3 h.4, h.5)
 act_named name l words shows o is Batch h = (h.0, h.1, bare_at l words (is ∙ ap leaf_by h.0) o)

@@ -4,10 +4,10 @@ use Rattle.std.specs.Prelude.{unwrap_or, if◌then◌else◌}
 use Rattle.std.specs.Str.{bytes_eq}
 use Rattle.clap.specs.Walk.{Row, Text, all_of, one_of}
 use Rattle.clap.specs.Simple.{matches_of}
-use Rattle.zeb_words.specs.Names.{Meaning, ToAdelete, ToBatch, ToCheck, ToCreate, ToDelete, ToDrop, ToDump, ToFind, ToInit, ToScan, ToShell, ToStat, ToUpdate, WordsNameOneCommand, meaning}
+use Rattle.zeb_words.specs.Names.{Meaning, ToAdelete, ToBatch, ToCheck, ToCreate, ToDelete, ToDrop, ToDump, ToFind, ToInit, ToReindex, ToScan, ToShell, ToStat, ToUpdate, ToUpgrade, WordsNameOneCommand, meaning}
 use Rattle.zeb_words.specs.Parses.{IsActRead, program_app, text_or}
 use Rattle.zeb_words.specs.declared.words.Act.{Act}
-use Rattle.zeb_words.specs.declared.words.Act.TheVariants.{Init, Create, Drop, Update, Delete, Adelete, Stat, Dump, Check, Find, Scan, Batch, Shell}
+use Rattle.zeb_words.specs.declared.words.Act.TheVariants.{Init, Create, Drop, Update, Delete, Adelete, Stat, Dump, Check, Reindex, Upgrade, Find, Scan, Batch, Shell}
 use Rattle.zeb_words.proofs.ReadingLemmas.{pair_parts, same_flag}
 use Rattle.zeb_words.proofs.Taking.{Numbered, names_taken}
 
@@ -23,10 +23,12 @@ meant name shows rows m n =
     (if bytes_eq name (codes "stat") then ToStat else
     (if bytes_eq name (codes "dump") then ToDump else
     (if bytes_eq name (codes "check") then ToCheck else
+    (if bytes_eq name (codes "reindex") then ToReindex else
+    (if bytes_eq name (codes "upgrade") then ToUpgrade else
     (if bytes_eq name (codes "find") then (ToFind (text_or (codes "query") [] rows) m n) else
     (if bytes_eq name (codes "scan") then (ToScan (text_or (codes "query") [] rows) m n) else
     (if bytes_eq name (codes "batch") then ToBatch else
-    (ToShell))))))))))))
+    (ToShell))))))))))))))
 
 meaning_is : (name : Text) (shows : Bool) (rows : List Row) (m n : ℕ) → Numbered name rows m n → (act : Act) → IsActRead name shows rows act
     → meaning act ≡ meant name shows rows m n
@@ -39,6 +41,8 @@ meaning_is name shows rows m n numbered (Adelete paths) h = ap ToAdelete h.2 ∙
 meaning_is name shows rows m n numbered Stat h = refl ∙ ap (λ t. meant t shows rows m n) (sym h.0)
 meaning_is name shows rows m n numbered Dump h = refl ∙ ap (λ t. meant t shows rows m n) (sym h.0)
 meaning_is name shows rows m n numbered Check h = refl ∙ ap (λ t. meant t shows rows m n) (sym h.0)
+meaning_is name shows rows m n numbered Reindex h = refl ∙ ap (λ t. meant t shows rows m n) (sym h.0)
+meaning_is name shows rows m n numbered Upgrade h = refl ∙ ap (λ t. meant t shows rows m n) (sym h.0)
 meaning_is name shows rows m n numbered (Find query x y) h = (λ i. ToFind (h.2 i) (numbered.find_first h.0 x h.3 i) (numbered.find_count h.0 y h.4 i)) ∙ ap (λ t. meant t shows rows m n) (sym h.0)
 meaning_is name shows rows m n numbered (Scan query x y) h = (λ i. ToScan (h.2 i) (numbered.scan_number h.0 x h.3 i) (numbered.scan_position h.0 y h.4 i)) ∙ ap (λ t. meant t shows rows m n) (sym h.0)
 meaning_is name shows rows m n numbered Batch h = refl ∙ ap (λ t. meant t shows rows m n) (sym h.0)

@@ -18,14 +18,14 @@ use Rattle.zeb_words.specs.declared.words.Usage.TheVariants.{BadUsage, Refused, 
 use Rattle.clap.specs.Kinds.{IsAmong}
 use Rattle.clap.specs.declared.error.kind.ErrorKind.TheVariants.{DisplayHelp}
 use Rattle.zeb_words.specs.declared.words.Act.{Act}
-use Rattle.zeb_words.specs.declared.words.Act.TheVariants.{Init, Create, Drop, Update, Delete, Adelete, Stat, Dump, Check, Find, Scan, Batch, Shell}
+use Rattle.zeb_words.specs.declared.words.Act.TheVariants.{Init, Create, Drop, Update, Delete, Adelete, Stat, Dump, Check, Reindex, Upgrade, Find, Scan, Batch, Shell}
 use Rattle.zeb_words.proofs.ReadingLemmas.{pair_parts}
 use Rattle.zeb_words.proofs.Items.{AllItems, AtMostOne, Once, most_once, row, values}
 use Rattle.zeb_words.proofs.Leads.{none_of_both}
 use Rattle.zeb_words.proofs.Uses.{no_clash, rows_are}
 use Rattle.zeb_words.proofs.Top.{rule_by, shape, used_rule}
 use Rattle.zeb_words.proofs.Top.{values as raw_values}
-use Rattle.zeb_words.proofs.TopRead.{Any, IsCommandOf, Walks, enters, good, is_adelete, is_batch, is_check, is_create, is_delete, is_drop, is_dump, is_find, is_init, is_scan, is_shell, is_stat, is_update, item_of, only, rows_at_end, using, walks}
+use Rattle.zeb_words.proofs.TopRead.{Any, IsCommandOf, Walks, enters, good, is_adelete, is_batch, is_check, is_create, is_delete, is_drop, is_dump, is_find, is_init, is_reindex, is_scan, is_shell, is_stat, is_update, is_upgrade, item_of, only, rows_at_end, using, walks}
 use Rattle.zeb_words.proofs.Leaf.{Bare, Changing, Finding, Leaf, Naming, Scanning, rules}
 use Rattle.zeb_words.proofs.LeafRead.{default_none, own_fault}
 use Rattle.zeb_words.proofs.LeafActs.{bare_taken, name_taken, paths_taken}
@@ -64,6 +64,8 @@ act_taken name words shows (Adelete paths) h =
 act_taken name words shows Stat h = record { l = Bare; is = at name _ Bare h.0 is_stat; fault = bare_taken words h.2; read = (h.0, h.1) }
 act_taken name words shows Dump h = record { l = Bare; is = at name _ Bare h.0 is_dump; fault = bare_taken words h.2; read = (h.0, h.1) }
 act_taken name words shows Check h = record { l = Bare; is = at name _ Bare h.0 is_check; fault = bare_taken words h.2; read = (h.0, h.1) }
+act_taken name words shows Reindex h = record { l = Bare; is = at name _ Bare h.0 is_reindex; fault = bare_taken words h.2; read = (h.0, h.1) }
+act_taken name words shows Upgrade h = record { l = Bare; is = at name _ Bare h.0 is_upgrade; fault = bare_taken words h.2; read = (h.0, h.1) }
 act_taken name words shows (Find query m n) h =
     let t = asks_taken Finding names.first names.count find_options words (string_bytes query) m n h.2 in
     record { l = Finding; is = at name _ Finding h.0 is_find; fault = t.fault; read = (h.0, h.1, t.text, t.a_read, t.b_read) }
@@ -98,6 +100,8 @@ never_past name words shows (Adelete paths) h e past = absurd (differ (codes "ad
 never_past name words shows Stat h e past = absurd (differ (codes "stat") (codes "scan") refl (sym h.0 ∙ e))
 never_past name words shows Dump h e past = absurd (differ (codes "dump") (codes "scan") refl (sym h.0 ∙ e))
 never_past name words shows Check h e past = absurd (differ (codes "check") (codes "scan") refl (sym h.0 ∙ e))
+never_past name words shows Reindex h e past = absurd (differ (codes "reindex") (codes "scan") refl (sym h.0 ∙ e))
+never_past name words shows Upgrade h e past = absurd (differ (codes "upgrade") (codes "scan") refl (sym h.0 ∙ e))
 never_past name words shows (Find query m n) h e past = absurd (differ (codes "find") (codes "scan") refl (sym h.0 ∙ e))
 never_past name words shows Batch h e past = absurd (differ (codes "batch") (codes "scan") refl (sym h.0 ∙ e))
 never_past name words shows Shell h e past = absurd (differ (codes "shell") (codes "scan") refl (sym h.0 ∙ e))
@@ -151,6 +155,8 @@ act_numbers name words shows (Adelete paths) h = (0, 0, no_numbers name (codes "
 act_numbers name words shows Stat h = (0, 0, no_numbers name (codes "stat") _ h.0 refl refl)
 act_numbers name words shows Dump h = (0, 0, no_numbers name (codes "dump") _ h.0 refl refl)
 act_numbers name words shows Check h = (0, 0, no_numbers name (codes "check") _ h.0 refl refl)
+act_numbers name words shows Reindex h = (0, 0, no_numbers name (codes "reindex") _ h.0 refl refl)
+act_numbers name words shows Upgrade h = (0, 0, no_numbers name (codes "upgrade") _ h.0 refl refl)
 act_numbers name words shows Batch h = (0, 0, no_numbers name (codes "batch") _ h.0 refl refl)
 act_numbers name words shows Shell h = (0, 0, no_numbers name (codes "shell") _ h.0 refl refl)
 

@@ -85,6 +85,8 @@ pub data IsCommandOf : Text → Leaf → Type 0 where
   is_stat : IsCommandOf (codes "stat") Bare
   is_dump : IsCommandOf (codes "dump") Bare
   is_check : IsCommandOf (codes "check") Bare
+  is_reindex : IsCommandOf (codes "reindex") Bare
+  is_upgrade : IsCommandOf (codes "upgrade") Bare
   is_find : IsCommandOf (codes "find") Finding
   is_scan : IsCommandOf (codes "scan") Scanning
   is_batch : IsCommandOf (codes "batch") Bare
@@ -92,7 +94,7 @@ pub data IsCommandOf : Text → Leaf → Type 0 where
 
 pub command_of : (name : Text) → IsCommand name → (l : Leaf) × IsCommandOf name l
 unfolding NoAliases Among
-command_of name is = by (named_in name names (refl, (refl, (refl, (refl, (refl, (refl, (refl, (refl, (refl, (refl, (refl, (refl, (refl, tt))))))))))))) is)
+command_of name is = by (named_in name names (refl, (refl, (refl, (refl, (refl, (refl, (refl, (refl, (refl, (refl, (refl, (refl, (refl, (refl, (refl, tt))))))))))))))) is)
   where
     at : {l : Leaf} {known : Text} → known ≡ name → IsCommandOf known l → (l : Leaf) × IsCommandOf name l
     at {l = l} e is = (l, subst (λ t. IsCommandOf t l) e is)
@@ -104,14 +106,16 @@ command_of name is = by (named_in name names (refl, (refl, (refl, (refl, (refl, 
     by (inr (inr (inr (inl e)))) = at e is_update
     by (inr (inr (inr (inr (inl e))))) = at e is_delete
     by (inr (inr (inr (inr (inr (inl e)))))) = at e is_adelete
-    by (inr (inr (inr (inr (inr (inr (inl e))))))) = at e is_stat
-    by (inr (inr (inr (inr (inr (inr (inr (inl e)))))))) = at e is_dump
-    by (inr (inr (inr (inr (inr (inr (inr (inr (inl e))))))))) = at e is_check
-    by (inr (inr (inr (inr (inr (inr (inr (inr (inr (inl e)))))))))) = at e is_find
-    by (inr (inr (inr (inr (inr (inr (inr (inr (inr (inr (inl e))))))))))) = at e is_scan
-    by (inr (inr (inr (inr (inr (inr (inr (inr (inr (inr (inr (inl e)))))))))))) = at e is_batch
-    by (inr (inr (inr (inr (inr (inr (inr (inr (inr (inr (inr (inr (inl e))))))))))))) = at e is_shell
-    by (inr (inr (inr (inr (inr (inr (inr (inr (inr (inr (inr (inr (inr e))))))))))))) = absurd e
+    by (inr (inr (inr (inr (inr (inr (inl e))))))) = at e is_check
+    by (inr (inr (inr (inr (inr (inr (inr (inl e)))))))) = at e is_reindex
+    by (inr (inr (inr (inr (inr (inr (inr (inr (inl e))))))))) = at e is_upgrade
+    by (inr (inr (inr (inr (inr (inr (inr (inr (inr (inl e)))))))))) = at e is_stat
+    by (inr (inr (inr (inr (inr (inr (inr (inr (inr (inr (inl e))))))))))) = at e is_dump
+    by (inr (inr (inr (inr (inr (inr (inr (inr (inr (inr (inr (inl e)))))))))))) = at e is_find
+    by (inr (inr (inr (inr (inr (inr (inr (inr (inr (inr (inr (inr (inl e))))))))))))) = at e is_scan
+    by (inr (inr (inr (inr (inr (inr (inr (inr (inr (inr (inr (inr (inr (inl e)))))))))))))) = at e is_batch
+    by (inr (inr (inr (inr (inr (inr (inr (inr (inr (inr (inr (inr (inr (inr (inl e))))))))))))))) = at e is_shell
+    by (inr (inr (inr (inr (inr (inr (inr (inr (inr (inr (inr (inr (inr (inr (inr e))))))))))))))) = absurd e
 
 -- what the parse makes of a command and the words behind it
 pub record Enters (name : Text) (l : Leaf) (words : List Text) : Type 0 where
@@ -132,6 +136,8 @@ enters name l words is_adelete = record { met = refl; rows = refl; fault = refl;
 enters name l words is_stat = record { met = refl; rows = refl; fault = refl; turn = λ rows p. refl; walk = λ rows p. refl }
 enters name l words is_dump = record { met = refl; rows = refl; fault = refl; turn = λ rows p. refl; walk = λ rows p. refl }
 enters name l words is_check = record { met = refl; rows = refl; fault = refl; turn = λ rows p. refl; walk = λ rows p. refl }
+enters name l words is_reindex = record { met = refl; rows = refl; fault = refl; turn = λ rows p. refl; walk = λ rows p. refl }
+enters name l words is_upgrade = record { met = refl; rows = refl; fault = refl; turn = λ rows p. refl; walk = λ rows p. refl }
 enters name l words is_find = record { met = refl; rows = refl; fault = refl; turn = λ rows p. refl; walk = λ rows p. refl }
 enters name l words is_scan = record { met = refl; rows = refl; fault = refl; turn = λ rows p. refl; walk = λ rows p. refl }
 enters name l words is_batch = record { met = refl; rows = refl; fault = refl; turn = λ rows p. refl; walk = λ rows p. refl }

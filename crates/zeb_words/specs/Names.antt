@@ -7,7 +7,7 @@ use Rattle.zeb_words.specs.declared.words.Words.{Words}
 use Rattle.zeb_words.specs.declared.words.Usage.{Usage}
 use Rattle.zeb_words.specs.declared.words.Usage.TheVariants.{BadUsage, Refused, Help, Memory}
 use Rattle.zeb_words.specs.declared.words.Act.{Act}
-use Rattle.zeb_words.specs.declared.words.Act.TheVariants.{Init, Create, Drop, Update, Delete, Adelete, Stat, Dump, Check, Find, Scan, Batch, Shell}
+use Rattle.zeb_words.specs.declared.words.Act.TheVariants.{Init, Create, Drop, Update, Delete, Adelete, Stat, Dump, Check, Reindex, Upgrade, Find, Scan, Batch, Shell}
 
 -- an option with a number: its name, the number where it isn't given, and its range
 pub record NumberOption : Type 0 where
@@ -59,6 +59,8 @@ NamesAct command words shows (Adelete paths) =
 NamesAct command words shows Stat = (command ≡ codes "stat") × (shows ≡ false) × SaysAll words []
 NamesAct command words shows Dump = (command ≡ codes "dump") × (shows ≡ false) × SaysAll words []
 NamesAct command words shows Check = (command ≡ codes "check") × (shows ≡ false) × SaysAll words []
+NamesAct command words shows Reindex = (command ≡ codes "reindex") × (shows ≡ false) × SaysAll words []
+NamesAct command words shows Upgrade = (command ≡ codes "upgrade") × (shows ≡ false) × SaysAll words []
 NamesAct command words shows (Find query m n) = (command ≡ codes "find") × (shows ≡ false) × Asks words (string_bytes query) first m count n
 NamesAct command words shows (Scan query m n) =
     (command ≡ codes "scan") × (shows ≡ false) × Asks words (string_bytes query) number m position n × (n ≤ m)
@@ -97,6 +99,8 @@ pub data Meaning : Type 0 where
   ToStat : Meaning
   ToDump : Meaning
   ToCheck : Meaning
+  ToReindex : Meaning
+  ToUpgrade : Meaning
   ToFind : Text → ℕ → ℕ → Meaning
   ToScan : Text → ℕ → ℕ → Meaning
   ToBatch : Meaning
@@ -112,6 +116,8 @@ meaning (Adelete paths) = ToAdelete (path_texts paths.items)
 meaning Stat = ToStat
 meaning Dump = ToDump
 meaning Check = ToCheck
+meaning Reindex = ToReindex
+meaning Upgrade = ToUpgrade
 meaning (Find query m n) = ToFind (string_bytes query) m n
 meaning (Scan query m n) = ToScan (string_bytes query) m n
 meaning Batch = ToBatch

@@ -16,7 +16,7 @@ use Rattle.zeb_words.specs.declared.words.Words.{Words}
 use Rattle.zeb_words.specs.declared.words.Act.{Act}
 use Rattle.zeb_words.specs.declared.words.Usage.{Usage}
 use Rattle.zeb_words.specs.declared.words.Usage.TheVariants.{BadUsage, Refused, Help, Memory}
-use Rattle.zeb_words.specs.declared.words.Act.TheVariants.{Init, Create, Drop, Update, Delete, Adelete, Stat, Dump, Check, Find, Scan, Batch, Shell}
+use Rattle.zeb_words.specs.declared.words.Act.TheVariants.{Init, Create, Drop, Update, Delete, Adelete, Stat, Dump, Check, Reindex, Upgrade, Find, Scan, Batch, Shell}
 
 -- ---- what the parser is told
 
@@ -77,10 +77,15 @@ changes_app =
     (new_app (codes "init"))) (naming_app (codes "create"))) (naming_app (codes "drop")))
     (changing_app (codes "update"))) (changing_app (codes "delete"))) (changing_app (codes "adelete"))
 
+abbrev pub upkeep_app : App
+upkeep_app =
+    and_sub (and_sub (and_sub changes_app
+    (new_app (codes "check"))) (new_app (codes "reindex"))) (new_app (codes "upgrade"))
+
 abbrev pub program_app : App
 program_app =
-    and_sub (and_sub (and_sub (and_sub (and_sub (and_sub (and_sub changes_app
-    (new_app (codes "stat"))) (new_app (codes "dump"))) (new_app (codes "check")))
+    and_sub (and_sub (and_sub (and_sub (and_sub (and_sub upkeep_app
+    (new_app (codes "stat"))) (new_app (codes "dump")))
     find_app) scan_app) (new_app (codes "batch"))) (new_app (codes "shell"))
 
 -- ---- what the matches come to
@@ -120,6 +125,8 @@ IsActRead name shows rows (Adelete paths) =
 IsActRead name shows rows Stat = (name ≡ codes "stat") × (shows ≡ false)
 IsActRead name shows rows Dump = (name ≡ codes "dump") × (shows ≡ false)
 IsActRead name shows rows Check = (name ≡ codes "check") × (shows ≡ false)
+IsActRead name shows rows Reindex = (name ≡ codes "reindex") × (shows ≡ false)
+IsActRead name shows rows Upgrade = (name ≡ codes "upgrade") × (shows ≡ false)
 IsActRead name shows rows (Find query first count) =
     (name ≡ codes "find") × (shows ≡ false) × (string_bytes query ≡ text_or (codes "query") [] rows)
     × IsNumberRead (one_of (codes "first") rows) 1 first × IsNumberRead (one_of (codes "count") rows) 20 count

@@ -4,20 +4,19 @@ ghost use Rattle.std.specs.Prelude.{◌≡◌, IfOk, Some, false};
 ghost use Rattle.clap.specs.Simple.{app_of, new_app, new_rule};
 ghost use Rattle.clap.specs.Walk.{rule_of};
 ghost use Rattle.clap.specs.declared.builder.command.Command.TheViews.{out-Command};
-ghost use Rattle.zeb_words.specs.Parses.{changes_app, changing_app, find_app, naming_app, program_app, query_rule, scan_app, shows_rule, top_app};
+ghost use Rattle.zeb_words.specs.Parses.{changes_app, changing_app, find_app, naming_app, program_app, query_rule, scan_app, shows_rule, top_app, upkeep_app};
 
 use clap::builder::ValueParser;
 use clap::{Arg, ArgAction, Command, value_parser};
 use std::alloc::{AllocError, Global};
 
-/// The program, with its options and its thirteen commands.
+/// The program, with its options and its fifteen commands.
 pub(crate) fn program<'a>(alloc: Global) -> Result<Command<'a>, AllocError>
     ensures { IfOk result (λ command. app_of command ≡ program_app) }
 {
-    with_changes(alloc)?
+    with_upkeep(alloc)?
         .subcommand(plain(alloc, "stat", "Count records, terms and occurrences"))?
         .subcommand(plain(alloc, "dump", "Write the kept records"))?
-        .subcommand(plain(alloc, "check", "Compare the tables with the records"))?
         .subcommand(finding(alloc)?)?
         .subcommand(scanning(alloc)?)?
         .subcommand(plain(alloc, "batch", "Run the lines of the standard input"))?
@@ -28,7 +27,25 @@ pub(crate) fn program<'a>(alloc: Global) -> Result<Command<'a>, AllocError>
         ))
 }
 
-/// The program with its options and the commands that write.
+/// The program with its options, the commands that change records, and those that look after the whole register.
+fn with_upkeep<'a>(alloc: Global) -> Result<Command<'a>, AllocError>
+    ensures { IfOk result (λ command. app_of command ≡ upkeep_app) }
+{
+    with_changes(alloc)?
+        .subcommand(plain(alloc, "check", "Compare the tables with the records"))?
+        .subcommand(plain(
+            alloc,
+            "reindex",
+            "Make the registers anew under the profile",
+        ))?
+        .subcommand(plain(
+            alloc,
+            "upgrade",
+            "Bring an earlier register into today's format",
+        ))
+}
+
+/// The program with its options and the commands that change records.
 fn with_changes<'a>(alloc: Global) -> Result<Command<'a>, AllocError>
     ensures { IfOk result (λ command. app_of command ≡ changes_app) }
 {

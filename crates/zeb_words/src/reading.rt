@@ -59,6 +59,8 @@ fn act_of(alloc: Global, name: &str, shows: bool, given: &ArgMatches<'_>) -> Res
         "stat" => Ok(Act::Stat),
         "dump" => Ok(Act::Dump),
         "check" => Ok(Act::Check),
+        "reindex" => Ok(Act::Reindex),
+        "upgrade" => Ok(Act::Upgrade),
         "find" => found(alloc, given),
         "scan" => scanned(alloc, given),
         "batch" => Ok(Act::Batch),

@@ -5,11 +5,13 @@ use std::alloc::{AllocError, AllocGlobal};
 use std::process::Abort;
 
 /// Lines of words with one space between, and what is read: the profile's file, the database and the command, or why there is none.
-const ROWS: [(&str, &str); 36] = [
+const ROWS: [(&str, &str); 39] = [
     ("init", "zebra.cfg Default Init"),
     ("stat", "zebra.cfg Default Stat"),
     ("dump", "zebra.cfg Default Dump"),
     ("check", "zebra.cfg Default Check"),
+    ("reindex", "zebra.cfg Default Reindex"),
+    ("upgrade", "zebra.cfg Default Upgrade"),
     ("batch", "zebra.cfg Default Batch"),
     ("shell", "zebra.cfg Default Shell"),
     (
@@ -67,6 +69,7 @@ const ROWS: [(&str, &str); 36] = [
     ("scan --number 3 --position 4 x", "bad usage"),
     ("-s stat", "bad usage"),
     ("-s shell", "bad usage"),
+    ("reindex Default", "refused"),
     // The parser's.
     ("find", "refused"),
     ("find x y", "refused"),

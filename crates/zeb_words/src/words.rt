@@ -47,6 +47,10 @@ pub enum Act {
     Dump,
     /// Compares the tables with the kept records.
     Check,
+    /// Makes the registers anew from the kept records, under the profile.
+    Reindex,
+    /// Turns a register of an earlier format into one of today's.
+    Upgrade,
     /// The records that a query finds, from the `first`-th on (1 to 999,999,999), at most `count` (0 to
     /// 1,000,000) of them.
     Find {

@@ -5,7 +5,7 @@ use Rattle.std.specs.declared.alloc.AllocError.{AllocError}
 use Rattle.hex.specs.Hex.{decode_of}
 use Rattle.hex.specs.declared.error.FromHexError.{FromHexError}
 use Rattle.zeb_engine.specs.declared.commands.Command.{Command}
-use Rattle.zeb_engine.specs.declared.commands.Command.TheVariants.{Init, Check, Create, Drop, Stat, Dump, Change, Find, Scan, Analyse}
+use Rattle.zeb_engine.specs.declared.commands.Command.TheVariants.{Init, Check, Reindex, Upgrade, Create, Drop, Stat, Dump, Change, Find, Scan, Analyse}
 use Rattle.zeb_change.specs.declared.settings.Kind.{Kind}
 use Rattle.zeb_change.specs.declared.settings.Kind.TheVariants.{Update, Delete, Adelete}
 use Rattle.zebraidx.specs.Batches.{Names, NamesChange, HasChange, IsChange, HasScan, IsScan, kind_word}
@@ -19,6 +19,21 @@ no_init : (k : Kind) → kind_word k ≡ codes "init" → ⊥
 no_init Update e = apart (codes "update") (codes "init") (λ l. omega (arith, l)) e
 no_init Delete e = apart (codes "delete") (codes "init") (λ l. omega (arith, l)) e
 no_init Adelete e = apart (codes "adelete") (codes "init") (λ l. omega (arith, l)) e
+
+no_check : (k : Kind) → kind_word k ≡ codes "check" → ⊥
+no_check Update e = apart (codes "update") (codes "check") (λ l. omega (arith, l)) e
+no_check Delete e = apart (codes "delete") (codes "check") (λ l. omega (arith, l)) e
+no_check Adelete e = apart (codes "adelete") (codes "check") (λ l. omega (arith, l)) e
+
+no_reindex : (k : Kind) → kind_word k ≡ codes "reindex" → ⊥
+no_reindex Update e = apart (codes "update") (codes "reindex") (λ l. omega (arith, l)) e
+no_reindex Delete e = apart (codes "delete") (codes "reindex") (λ l. omega (arith, l)) e
+no_reindex Adelete e = apart (codes "adelete") (codes "reindex") (λ l. omega (arith, l)) e
+
+no_upgrade : (k : Kind) → kind_word k ≡ codes "upgrade" → ⊥
+no_upgrade Update e = let lengths : length (codes "update") ≡ length (codes "upgrade") = ap length e in omega (arith, lengths)
+no_upgrade Delete e = apart (codes "delete") (codes "upgrade") (λ l. omega (arith, l)) e
+no_upgrade Adelete e = apart (codes "adelete") (codes "upgrade") (λ l. omega (arith, l)) e
 
 no_create : (k : Kind) → kind_word k ≡ codes "create" → ⊥
 no_create Update e = apart (codes "update") (codes "create") (λ l. omega (arith, l)) e
@@ -57,7 +72,9 @@ has_bytes r (file ∷ files) e = let same : r ≡ Ok file = cc in rw same refl
 -- where no change is named, no command is, since the first word is a change's
 unnamed : (k : Kind) (t : List ℕ) → first_word t ≡ kind_word k → ¬ HasChange (after_first_word t) → (c : Command) → ¬ Names t c
 unnamed k t word lacks Init names = no_init k (sym word ∙ names.0)
-unnamed k t word lacks Check names = names
+unnamed k t word lacks Check names = no_check k (sym word ∙ names.0)
+unnamed k t word lacks Reindex names = no_reindex k (sym word ∙ names.0)
+unnamed k t word lacks Upgrade names = no_upgrade k (sym word ∙ names.0)
 unnamed k t word lacks (Create name) names = no_create k (sym word ∙ names.0)
 unnamed k t word lacks (Drop name) names = no_drop k (sym word ∙ names.0)
 unnamed k t word lacks (Stat name) names = no_stat k (sym word ∙ names.0)
@@ -70,6 +87,8 @@ unnamed k t word lacks (Analyse files) names = names
 named : (k : Kind) (t : List ℕ) → first_word t ≡ kind_word k → (c : Command) → IsChange k (after_first_word t) c → Names t c
 named k t word Init h = absurd h
 named k t word Check h = absurd h
+named k t word Reindex h = absurd h
+named k t word Upgrade h = absurd h
 named k t word (Create name) h = absurd h
 named k t word (Drop name) h = absurd h
 named k t word (Stat name) h = absurd h
@@ -91,7 +110,9 @@ names_change k t rest (Ok (Some c)) word same h = named k t word c (subst (λ x.
 -- where no scan is named, no command is, since the first word is a scan's
 unnamed_scan : (t : List ℕ) → first_word t ≡ codes "scan" → ¬ HasScan (after_first_word t) → (c : Command) → ¬ Names t c
 unnamed_scan t word lacks Init names = apart (codes "scan") (codes "init") (λ l. omega (arith, l)) (sym word ∙ names.0)
-unnamed_scan t word lacks Check names = names
+unnamed_scan t word lacks Check names = apart (codes "scan") (codes "check") (λ l. omega (arith, l)) (sym word ∙ names.0)
+unnamed_scan t word lacks Reindex names = apart (codes "scan") (codes "reindex") (λ l. omega (arith, l)) (sym word ∙ names.0)
+unnamed_scan t word lacks Upgrade names = apart (codes "scan") (codes "upgrade") (λ l. omega (arith, l)) (sym word ∙ names.0)
 unnamed_scan t word lacks (Create name) names = apart (codes "scan") (codes "create") (λ l. omega (arith, l)) (sym word ∙ names.0)
 unnamed_scan t word lacks (Drop name) names = apart (codes "scan") (codes "drop") (λ l. omega (arith, l)) (sym word ∙ names.0)
 unnamed_scan t word lacks (Stat name) names = apart (drop 1 (codes "scan")) (drop 1 (codes "stat")) (λ l. omega (arith, l)) (ap (drop 1) (sym word ∙ names.0))
@@ -105,6 +126,8 @@ unnamed_scan t word lacks (Analyse files) names = names
 named_scan : (t : List ℕ) → first_word t ≡ codes "scan" → (c : Command) → IsScan (after_first_word t) c → Names t c
 named_scan t word Init h = absurd h
 named_scan t word Check h = absurd h
+named_scan t word Reindex h = absurd h
+named_scan t word Upgrade h = absurd h
 named_scan t word (Create name) h = absurd h
 named_scan t word (Drop name) h = absurd h
 named_scan t word (Stat name) h = absurd h

@@ -5,7 +5,7 @@ use Rattle.std.specs.declared.alloc.AllocError.{AllocError}
 use Rattle.std.specs.Io.KnownBytes.{IsAtEnd, Keeps}
 use Rattle.std.proofs.KnownBytes.{Appends-kept, Keeps-refl, Keeps-trans}
 use Rattle.zeb_change.specs.declared.refusals.Refusal.{Refusal}
-use Rattle.zeb_change.specs.declared.refusals.Refusal.TheVariants.{NotInitialised, OldFormat, ProfileChanged, Diagnostic, Exists, Record, Unknown, DatabaseFull, TooManyRecords, Damaged, IdentifierRuleChanged, ReadFault, Store, Memory, Unsupported}
+use Rattle.zeb_change.specs.declared.refusals.Refusal.TheVariants.{NotInitialised, OldFormat, ProfileChanged, Diagnostic, Exists, Record, Unknown, DatabaseFull, TooManyRecords, Damaged, IdentifierRuleChanged, ReadFault, Store, Memory}
 use Rattle.zeb_engine.specs.Refusals.{status_of}
 use Rattle.zeb_words.specs.Names.{NamesWords}
 use Rattle.zeb_words.specs.declared.words.Words.{Words}
@@ -29,7 +29,6 @@ refusal_status IdentifierRuleChanged = inl refl
 refusal_status (ReadFault file) = inr refl
 refusal_status Store = inr refl
 refusal_status Memory = inr refl
-refusal_status Unsupported = inl refl
 
 -- what is passed on stays what it was
 TellsUsage-kept : (why : Usage) (old mid new fault_old fault_mid fault_new : Option (List ℕ)) (status : ℕ) → Keeps mid new → Keeps fault_mid fault_new

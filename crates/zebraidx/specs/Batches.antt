@@ -6,7 +6,7 @@ use Rattle.zeb_image.specs.Names.{IsDatabaseName}
 use Rattle.zeb_image.specs.NameOf.{name_bytes}
 use Rattle.zeb_image.specs.declared.names.DbName.{DbName}
 use Rattle.zeb_engine.specs.declared.commands.Command.{Command}
-use Rattle.zeb_engine.specs.declared.commands.Command.TheVariants.{Init, Create, Drop, Stat, Dump, Change, Find, Scan}
+use Rattle.zeb_engine.specs.declared.commands.Command.TheVariants.{Init, Check, Reindex, Upgrade, Create, Drop, Stat, Dump, Change, Find, Scan}
 use Rattle.zeb_change.specs.declared.settings.Kind.{Kind}
 use Rattle.zeb_change.specs.declared.settings.Kind.TheVariants.{Update, Delete, Adelete}
 use Rattle.zebraidx.specs.Numbers.{number_of}
@@ -58,6 +58,9 @@ pub record NamesScan (text : List ℕ) (database : DbName) (query : List ℕ) (n
 -- the text, which begins and ends with no blank, names the command
 abbrev pub Names : List ℕ → Command → Type 0
 Names text Init = (first_word text ≡ codes "init") × (after_first_word text ≡ [])
+Names text Check = (first_word text ≡ codes "check") × (after_first_word text ≡ [])
+Names text Reindex = (first_word text ≡ codes "reindex") × (after_first_word text ≡ [])
+Names text Upgrade = (first_word text ≡ codes "upgrade") × (after_first_word text ≡ [])
 Names text (Create name) = (first_word text ≡ codes "create") × IsName (after_first_word text) name
 Names text (Drop name) = (first_word text ≡ codes "drop") × IsName (after_first_word text) name
 Names text (Stat name) = (first_word text ≡ codes "stat") × IsName (after_first_word text) name

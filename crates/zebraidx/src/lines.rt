@@ -33,6 +33,9 @@ impl Line {
     ///
     /// ```text
     /// init
+    /// check
+    /// reindex
+    /// upgrade
     /// create NAME
     /// drop NAME
     /// stat NAME
@@ -66,6 +69,9 @@ fn read_command(alloc: Global, text: &str) -> Result<Option<Command>, AllocError
     let (word, rest) = cut_word(text);
     match word {
         "init" => Ok(rest.is_empty().then_some(Command::Init)),
+        "check" => Ok(rest.is_empty().then_some(Command::Check)),
+        "reindex" => Ok(rest.is_empty().then_some(Command::Reindex)),
+        "upgrade" => Ok(rest.is_empty().then_some(Command::Upgrade)),
         "create" => Ok(DbName::read(rest).map(Command::Create)),
         "drop" => Ok(DbName::read(rest).map(Command::Drop)),
         "stat" => Ok(DbName::read(rest).map(Command::Stat)),

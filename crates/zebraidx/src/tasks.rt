@@ -50,6 +50,8 @@ impl Errand {
             Act::Stat => Command::Stat(database),
             Act::Dump => Command::Dump(database),
             Act::Check => Command::Check,
+            Act::Reindex => Command::Reindex,
+            Act::Upgrade => Command::Upgrade,
             Act::Find {
                 query,
                 first,

@@ -35,6 +35,9 @@ update a/b in
 adelete Default a.mrc
 stat X
 check
+reindex
+upgrade
+check Default
 ";
     let output = "\
 hits 1
@@ -53,7 +56,10 @@ zebraidx: bad line 13
 zebraidx: bad line 14
 inserted 0 updated 0 deleted 1
 zebraidx: diagnostic 235 at 0: X
-zebraidx: bad line 17
+ok
+ok
+ok
+zebraidx: bad line 20
 ";
     let lines = with_records(rt.alloc(), lines)?;
     for word in WORDS {

@@ -171,8 +171,11 @@ pub fn expect(
 
 #[test]
 fn answers_words(rt: HostRuntime) -> Result<(), Fail> {
-    let rows: [(&[&str], &str); 16] = [
+    let rows: [(&[&str], &str); 19] = [
         (&["init"], "ok\n"),
+        (&["check"], "ok\n"),
+        (&["reindex"], "ok\n"),
+        (&["upgrade"], "ok\n"),
         (&["create", "X"], "ok\n"),
         (&["drop", "Default"], "ok\n"),
         (&["find", "@attr 1=4 moby"], "hits 1\n1 a1\n"),

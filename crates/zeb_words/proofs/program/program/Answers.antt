@@ -5,10 +5,9 @@ use Rattle.zeb_words.proofs.program.program.Goals as goal
 
 pub returns : goal.returns
 returns c =
-    let one = c.in_ok-subcommand.ensures.shape c.plain.ensures.local ∙ ap₂ and_sub c.in_ok-with_changes.ensures c.plain.ensures.app in
+    let one = c.in_ok-subcommand.ensures.shape c.plain.ensures.local ∙ ap₂ and_sub c.in_ok-with_upkeep.ensures c.plain.ensures.app in
     let two = c.in_ok-subcommand-2.ensures.shape c.plain-2.ensures.local ∙ ap₂ and_sub one c.plain-2.ensures.app in
-    let three = c.in_ok-subcommand-3.ensures.shape c.plain-3.ensures.local ∙ ap₂ and_sub two c.plain-3.ensures.app in
-    let four = c.in_ok-subcommand-4.ensures.shape c.in_ok-finding.ensures.local ∙ ap₂ and_sub three c.in_ok-finding.ensures.app in
-    let five = c.in_ok-subcommand-5.ensures.shape c.in_ok-scanning.ensures.local ∙ ap₂ and_sub four c.in_ok-scanning.ensures.app in
-    let six = c.in_ok-subcommand-6.ensures.shape c.plain-4.ensures.local ∙ ap₂ and_sub five c.plain-4.ensures.app in
-    IfOk-weaker c.subcommand-7.result _ _ (λ command h. h.shape c.plain-5.ensures.local ∙ ap₂ and_sub six c.plain-5.ensures.app) c.subcommand-7.ensures
+    let three = c.in_ok-subcommand-3.ensures.shape c.in_ok-finding.ensures.local ∙ ap₂ and_sub two c.in_ok-finding.ensures.app in
+    let four = c.in_ok-subcommand-4.ensures.shape c.in_ok-scanning.ensures.local ∙ ap₂ and_sub three c.in_ok-scanning.ensures.app in
+    let five = c.in_ok-subcommand-5.ensures.shape c.plain-3.ensures.local ∙ ap₂ and_sub four c.plain-3.ensures.app in
+    IfOk-weaker c.subcommand-6.result _ _ (λ command h. h.shape c.plain-4.ensures.local ∙ ap₂ and_sub five c.plain-4.ensures.app) c.subcommand-6.ensures
