@@ -2,3 +2,4 @@ pub mod Names
 pub mod NameOf
 pub mod Holdings
 pub mod Image
+pub mod Looking

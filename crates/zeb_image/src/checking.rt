@@ -2,7 +2,7 @@
 
 ghost use Rattle.std.specs.Prelude.{◌≡◌, ◌≢◌, ◌↔◌, IsTrue, IfOk, List};
 ghost use Rattle.sqlite.specs.Held.{state};
-ghost use Rattle.sqlite.specs.State.{HasCleanDisk, IsUnchanged};
+ghost use Rattle.sqlite.specs.State.{HasCleanDisk};
 ghost use Rattle.zeb_profile.specs.Canonical.{canonical_text};
 ghost use Rattle.zeb_register.specs.Calls.{Reading};
 ghost use Rattle.zeb_register.specs.Formats.{version_of};
@@ -10,6 +10,7 @@ ghost use Rattle.zeb_register.specs.Store.{IsStore};
 ghost use Rattle.zeb_change.specs.Base.{Base};
 ghost use Rattle.zeb_image.specs.Holdings.{under};
 ghost use Rattle.zeb_image.specs.Image.{IsImage};
+ghost use Rattle.zeb_image.specs.Looking.{Looks};
 
 use sqlite::{Alter, Connection};
 use std::alloc::Global;
@@ -26,7 +27,7 @@ pub fn is_image<S: Alter, L: Layout>(
     connection: &mut Connection<S>,
     profile: &Profile,
 ) -> Result<bool, RegFault>
-    ensures call { Reading (state S.Store connection.old) (state S.Store connection.new) result (λ _. IsUnchanged) }
+    ensures call { Reading (state S.Store connection.old) (state S.Store connection.new) result (λ it. Looks (IsTrue it)) }
     ensures value { HasCleanDisk (state S.Store connection.new) → IsStore (state S.Store connection.old)
         → IfOk result (λ it. IsTrue it ↔ ((bases : List Base) × IsImage (state S.Store connection.old).now.trees
         (under (version_of L.format) (canonical_text profile.now) bases))) }
