@@ -3,3 +3,4 @@ pub mod NameOf
 pub mod Holdings
 pub mod Image
 pub mod Looking
+pub mod Rebuilding

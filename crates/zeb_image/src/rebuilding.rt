@@ -9,6 +9,7 @@ ghost use Rattle.zeb_register.specs.Formats.{Format};
 ghost use Rattle.zeb_register.specs.Store.{IsStore, KeepsLists};
 ghost use Rattle.zeb_change.specs.Base.{Base};
 ghost use Rattle.zeb_image.specs.Image.{AreBases, IsImageOf};
+ghost use Rattle.zeb_image.specs.Rebuilding.{AreSound};
 
 use sqlite::{Alter, Transaction};
 use std::alloc::Global;
@@ -36,6 +37,8 @@ pub fn rebuild<S: Alter, L: Layout>(
         → IsStore (state S.Store tx.old.conn.now) → result ≡ Err RegFault.Damaged
         → (format : Format) (told : List Directive) (bases : List Base) → IsImageOf format told (state S.Store tx.old.conn.now).now.trees bases
         → ¬ AreBases profile.now bases }
+    ensures checked { HasCleanDisk (state S.Store tx.new.conn.now) → IsTrue (state S.Store tx.old.conn.now).in_transaction
+        → IsStore (state S.Store tx.old.conn.now) → OnOk result (AreSound profile.now (state S.Store tx.old.conn.now).now.trees) }
 {
     Err(RegFault::Memory)
 }
