@@ -17,7 +17,8 @@ use Rattle.zeb_engine.specs.Steps.{Outcome, holding}
 use Rattle.zeb_engine.specs.Works.{Works, Serves}
 use Rattle.zeb_engine.specs.declared.writes.Write.{Write}
 use Rattle.zeb_engine.specs.declared.writes.Write.TheVariants as write
-use Rattle.zeb_engine.specs.PrivateWriting.{Begins, IsReached}
+use Rattle.zeb_engine.specs.Checking.{FindsSound}
+use Rattle.zeb_engine.specs.PrivateWriting.{Begins, IsReached, ReadsSound}
 use Rattle.zeb_engine.proofs.Ready.{image_still}
 use Rattle.zeb_register.specs.Formats.{Format}
 
@@ -96,3 +97,20 @@ on_ok (Err e) P Q so p = p
 pub opened_so : {A E : Type 0} (r : Result A E) (P Q Opened : Type 0) → (Opened → OnOk r P) → ((Opened → P) → Q) → OnOk r Q
 opened_so (Ok x) P Q Opened told so = so told
 opened_so (Err e) P Q Opened told so = tt
+
+-- what a write read sound is read sound before it begins
+pub sound_over : {S : Type 0} (g : Ghosts S) (w : Write) (old inside : Held S) (result : Result Reply Refusal) → inside ≡ record old { in_transaction = true } → ReadsSound w (state g inside) result → ReadsSound w (state g old) result
+sound_over g (write.Init profile pattern) old inside result begins did = tt
+sound_over g (write.Create name) old inside result begins did = tt
+sound_over g (write.Drop name id) old inside result begins did = tt
+sound_over g (write.Reindex alloc profile) old inside result begins did = λ store.
+    let began = subst (λ (held : Held _). FindsSound profile.now (state g held) result) begins did in
+    began (record { is = store.is; sound = store.sound; keyed = store.keyed })
+sound_over g (write.Upgrade alloc profile) old inside result begins did = tt
+
+pub sound_refused : (w : Write) (s : State) (why : Refusal) → ReadsSound w s (Err why)
+sound_refused (write.Init profile pattern) s why = tt
+sound_refused (write.Create name) s why = tt
+sound_refused (write.Drop name id) s why = tt
+sound_refused (write.Reindex alloc profile) s why = λ store. tt
+sound_refused (write.Upgrade alloc profile) s why = tt

@@ -1,5 +1,5 @@
 -- What a check and an upgrade tell of whole tables, whatever these hold.
-use Rattle.std.specs.Prelude.{◌≡◌, ◌≢◌, ◌⊎◌, ℕ, List, Result, Ok, Err}
+use Rattle.std.specs.Prelude.{◌≡◌, ◌≢◌, ◌⊎◌, ℕ, List, Result, Ok, Err, OnOk}
 use Rattle.sqlite.specs.Tree.{Trees}
 use Rattle.sqlite.specs.State.{State}
 use Rattle.zeb_profile.specs.declared.directives.Directive.{Directive}
@@ -9,6 +9,7 @@ use Rattle.zeb_change.specs.declared.refusals.Refusal.{Refusal}
 use Rattle.zeb_change.specs.declared.refusals.Refusal.TheVariants.{Damaged}
 use Rattle.zeb_image.specs.Holdings.{Holdings}
 use Rattle.zeb_image.specs.Image.{IsImage}
+use Rattle.zeb_image.specs.Rebuilding.{AreSound}
 use Rattle.zeb_engine.specs.declared.replies.Reply.{Reply}
 use Rattle.zeb_engine.specs.declared.replies.Reply.TheVariants.{Done}
 use Rattle.zeb_engine.specs.Answers.{answer_of, IsFailure}
@@ -31,3 +32,7 @@ ChecksTables version profile s result = IsStore s → IsReadyFor version profile
 abbrev pub UpgradesTables : List ℕ → List Directive → State → Result Reply Refusal → Type 0
 UpgradesTables version profile s result =
     version ≢ version_of plain_rows → IsStore s → IsReadyFor (version_of plain_rows) profile s.now.trees → TellsImage s.now.trees result
+
+-- of an accepted reindex, on the tables of a store: each record of a listed database is one, and has its identifier under the profile
+abbrev pub FindsSound : {T : Type 0} → List Directive → State → Result T Refusal → Type 0
+FindsSound profile s result = IsStore s → OnOk result (AreSound profile s.now.trees)

@@ -20,6 +20,7 @@ use Rattle.zeb_image.specs.Holdings.{Holdings, base_named}
 use Rattle.zeb_change.specs.Base.{Base}
 use Rattle.zeb_image.specs.Image.{HasTexts, IsImage}
 use Rattle.zeb_image.specs.NameOf.{name_bytes}
+use Rattle.zeb_engine.specs.Checking.{FindsSound}
 use Rattle.zeb_engine.specs.Steps.{Outcome, holding, ready, initialised, turned, created, dropped, reindexed, ruled, upgradable, upgraded}
 
 -- these conditions are those of a layout's version and of a profile, whose identifier rule has this pattern
@@ -99,3 +100,11 @@ FailsAlone (write.Create name) result = Unit {0}
 FailsAlone (write.Drop name id) result = Unit {0}
 FailsAlone (write.Reindex alloc profile) result = Unit {0}
 FailsAlone (write.Upgrade alloc profile) result = Unit {0}
+
+-- a reindex is accepted over sound records alone
+abbrev pub ReadsSound : Write → State → Result Reply Refusal → Type 0
+ReadsSound (write.Init profile pattern) s result = Unit {0}
+ReadsSound (write.Create name) s result = Unit {0}
+ReadsSound (write.Drop name id) s result = Unit {0}
+ReadsSound (write.Reindex alloc profile) s result = FindsSound profile.now s result
+ReadsSound (write.Upgrade alloc profile) s result = Unit {0}

@@ -7,7 +7,7 @@ ghost use Rattle.zeb_register.specs.Formats.{version_of};
 ghost use Rattle.zeb_change.specs.declared.settings.Limits.{Limits};
 ghost use Rattle.zeb_change.specs.Conditions.{conditions};
 ghost use Rattle.zeb_change.specs.Reading.{NoReadFault};
-ghost use Rattle.zeb_engine.specs.Checking.{UpgradesTables};
+ghost use Rattle.zeb_engine.specs.Checking.{FindsSound, UpgradesTables};
 ghost use Rattle.zeb_engine.specs.Crashes.{Commits};
 ghost use Rattle.zeb_engine.specs.Readiness.{ReindexesByTexts, UpgradesByTexts};
 ghost use Rattle.zeb_engine.specs.Steps.{reindexed, upgraded};
@@ -41,6 +41,7 @@ pub(crate) fn reindex<S: Alter, L: Layout>(
         (state S.Store connection.new) result }
     ensures texts { HasCleanDisk (state S.Store connection.new)
         → ReindexesByTexts (version_of L.format) profile.now (state S.Store connection.old) result }
+    ensures sound { HasCleanDisk (state S.Store connection.new) → FindsSound profile.now (state S.Store connection.old) result }
     ensures unread { NoReadFault result }
 {
     // Its profile is some text's, and has a rule for identifiers.

@@ -12,7 +12,7 @@ ghost use Rattle.zeb_engine.specs.Answers.{IsFailure, answer_of, refused};
 ghost use Rattle.zeb_change.specs.Refused.{why_of};
 ghost use Rattle.zeb_change.specs.Conditions.{conditions};
 ghost use Rattle.zeb_image.specs.NameOf.{name_bytes};
-ghost use Rattle.zeb_engine.specs.Checking.{ChecksTables, UpgradesTables};
+ghost use Rattle.zeb_engine.specs.Checking.{ChecksTables, FindsSound, UpgradesTables};
 ghost use Rattle.zeb_engine.specs.Readiness.{GoesByTexts, LooksFirst, ReindexesByTexts, UpgradesByTexts};
 ghost use Rattle.zeb_change.specs.Reading.{HasFailedAt, NamesFailed, NoneFailed, NoReadFault};
 ghost use Rattle.zeb_engine.specs.Steps.{Step, TakesFiles, holding, OnlyAsks};
@@ -192,6 +192,9 @@ impl<S: Alter, L: Layout> Session<S, L> {
             → GoesByTexts (version_of L.format) self.old.profile (state S.Store self.old.connection) result }
         ensures reindexes { HasCleanDisk (state S.Store self.new.connection) → command.now ≡ Command.Reindex
             → ReindexesByTexts (version_of L.format) self.old.profile (state S.Store self.old.connection) result }
+        // An accepted reindex has found each kept record sound, whatever the other tables hold.
+        ensures sound { HasCleanDisk (state S.Store self.new.connection) → command.now ≡ Command.Reindex
+            → FindsSound self.old.profile (state S.Store self.old.connection) result }
         ensures upgrades { HasCleanDisk (state S.Store self.new.connection) → command.now ≡ Command.Upgrade
             → UpgradesByTexts (version_of L.format) self.old.profile (state S.Store self.old.connection) result }
         // A check tells of all tables whether they are an image, whatever they hold.
@@ -241,6 +244,8 @@ impl<S: Alter, L: Layout> Session<S, L> {
             → GoesByTexts (version_of L.format) self.old.profile (state S.Store self.old.connection) result }
         ensures reindexes { HasCleanDisk (state S.Store self.new.connection) → command.now ≡ Command.Reindex
             → ReindexesByTexts (version_of L.format) self.old.profile (state S.Store self.old.connection) result }
+        ensures sound { HasCleanDisk (state S.Store self.new.connection) → command.now ≡ Command.Reindex
+            → FindsSound self.old.profile (state S.Store self.old.connection) result }
         ensures upgrades { HasCleanDisk (state S.Store self.new.connection) → command.now ≡ Command.Upgrade
             → UpgradesByTexts (version_of L.format) self.old.profile (state S.Store self.old.connection) result }
         ensures checked { HasCleanDisk (state S.Store self.new.connection) → command.now ≡ Command.Check

@@ -10,6 +10,7 @@ ghost use Rattle.zeb_change.specs.declared.settings.Limits.{Limits};
 ghost use Rattle.zeb_engine.specs.Answers.{IsFailure, refused};
 ghost use Rattle.zeb_change.specs.Refused.{why_of, NeverUnready};
 ghost use Rattle.zeb_change.specs.Conditions.{Conditions, conditions};
+ghost use Rattle.zeb_engine.specs.Checking.{FindsSound};
 ghost use Rattle.zeb_engine.specs.Crashes.{Commits};
 ghost use Rattle.zeb_image.specs.Image.{IsImage};
 ghost use Rattle.zeb_image.specs.NameOf.{name_bytes};
@@ -18,7 +19,7 @@ ghost use Rattle.zeb_engine.specs.Steps.{holding, initialised, turned, created, 
 ghost use Rattle.zeb_engine.specs.Transactions.{Commanded};
 ghost use Rattle.zeb_change.specs.Inside.{Stays};
 ghost use Rattle.zeb_engine.specs.Works.{Always, IsReady, Serves, Works};
-ghost use Rattle.zeb_engine.specs.PrivateWriting.{AreOf, Begins, IsFree, IsKnown, FailsAlone, Fits, IsReached, IsRuled, IsUpgradable, PutsTexts, written};
+ghost use Rattle.zeb_engine.specs.PrivateWriting.{AreOf, Begins, IsFree, IsKnown, FailsAlone, Fits, IsReached, IsRuled, IsUpgradable, PutsTexts, ReadsSound, written};
 
 use crate::readiness::{IDENTIFIER, PROFILE, VERSION, existing_database};
 use crate::replies::Reply;
@@ -163,6 +164,8 @@ fn reindex<S: Alter, L: Layout>(
     ensures crash { Survives (state S.Store tx.old.conn.now) (state S.Store tx.new.conn.now) (λ _. ⊥) }
     ensures unread { NoReadFault result }
     ensures ready { NeverUnready result }
+    ensures sound { HasCleanDisk (state S.Store tx.new.conn.now) → IsTrue (state S.Store tx.old.conn.now).in_transaction
+        → FindsSound profile.now (state S.Store tx.old.conn.now) result }
     ensures ruled { result ≢ Err Refusal.IdentifierRuleChanged }
 {
     rebuild::<S, L>(alloc, tx, profile)?;
@@ -210,6 +213,8 @@ fn apply<S: Alter, L: Layout>(
     ensures crash { Survives (state S.Store tx.old.conn.now) (state S.Store tx.new.conn.now) (λ _. ⊥) }
     ensures unread { NoReadFault result }
     ensures ready { NeverUnready result }
+    ensures sound { HasCleanDisk (state S.Store tx.new.conn.now) → IsTrue (state S.Store tx.old.conn.now).in_transaction
+        → ReadsSound write.now (state S.Store tx.old.conn.now) result }
     ensures ruled { result ≢ Err Refusal.IdentifierRuleChanged }
 {
     match write {
@@ -240,6 +245,7 @@ pub(crate) fn transact<S: Alter, L: Layout>(
         (state S.Store connection.new) result }
     ensures unread { NoReadFault result }
     ensures ready { NeverUnready result }
+    ensures sound { HasCleanDisk (state S.Store connection.new) → ReadsSound write.now (state S.Store connection.old) result }
     ensures ruled { result ≢ Err Refusal.IdentifierRuleChanged }
 {
     let _settled = connection.is_autocommit();

@@ -1,9 +1,13 @@
-use Rattle.std.proofs.Common.{◌≡◌, Err, refl, rules, ap, arith}
+use Rattle.std.proofs.Common.{◌≡◌, Err, refl, rules, ap, arith, subst}
 use Rattle.std.specs.Option.{option_map}
+use Rattle.std.specs.Prelude.{OnOk}
+use Rattle.sqlite.specs.Effect.{Database}
 use Rattle.sqlite.specs.Held.{state}
 use Rattle.sqlite.specs.State.{HasCleanDisk}
 use Rattle.zeb_profile.specs.Canonical.{pattern_text}
 use Rattle.zeb_register.specs.Formats.{version_of}
+use Rattle.zeb_register.proofs.Calls.{store_same}
+use Rattle.zeb_image.specs.Rebuilding.{AreSound}
 use Rattle.zeb_change.specs.Conditions.{conditions}
 use Rattle.zeb_engine.proofs.Crashing.{survives_after}
 use Rattle.zeb_engine.proofs.RenewalAnswers.{reindex_texts, rule_as_reindex, rule_met, rule_unserved}
@@ -49,3 +53,12 @@ pub returns-clause-texts : goal.returns-clause-texts
 returns-clause-texts g c clean store =
     let first : HasCleanDisk (state g.S.Store c.check_rule.new.connection) = omega (arith, c.transact.ensures.survives.clean) in
     reindex_texts (version_of g.L.Layout.format) c.args.profile.now (state g.S.Store c.args.connection.now).now.trees ((c.in_ok-check_rule.ensures.look first).told store) c.transact.result c.transact.ensures.ready c.transact.ensures.ruled
+
+pub returns-clause-sound : goal.returns-clause-sound
+returns-clause-sound g c clean store =
+    let old = state g.S.Store c.args.connection.now in
+    let mid = state g.S.Store c.check_rule.new.connection in
+    let first : HasCleanDisk mid = omega (arith, c.transact.ensures.survives.clean) in
+    let look = c.in_ok-check_rule.ensures.look first in
+    let still = (look.same look.found.1).1 in
+    subst (λ (d : Database). OnOk c.transact.result (AreSound c.args.profile.now d.trees)) still (c.transact.ensures.sound clean (store_same old mid still store))

@@ -65,7 +65,8 @@ returns-then-branch-clause-survives g c =
     let first : HasCleanDisk mid = omega (arith, c.transact.ensures.survives.clean, c.is_image.ensures.call.crash.clean) in
     let look = subst (λ (s : Standing). IsLook (FindsStanding own profile) (RefusesLayout own profile) old mid (Ok s)) c.in-First.is (c.in_ok-standing.ensures.look first) in
     let met = first_met k old mid look before keeps in
-    let read = c.in_ok-is_image-in-First.ensures.call.ok second in
+    let yes : IsTrue c.in_ok-is_image-in-First.field-0 = search rules in
+    let read = (c.in_ok-is_image-in-First.ensures.call.ok second).1 yes in
     let nothing = nothing_then old mid late look.same (c.is_image.ensures.call.same second c.check_layout.ensures.idle) in
     made k read.0.is_open before (λ _. (record { version_is = refl; profile_is = refl; sound = c.is_of_some_text.ensures }, (met.0, met.2))) (keeps_still before old late nothing keeps))
 
@@ -81,7 +82,8 @@ returns-then-branch-clause-serves g c clean limits before fits keeps =
     let first : HasCleanDisk mid = omega (arith, c.transact.ensures.survives.clean, c.is_image.ensures.call.crash.clean) in
     let look = subst (λ (s : Standing). IsLook (FindsStanding own profile) (RefusesLayout own profile) old mid (Ok s)) c.in-First.is (c.in_ok-standing.ensures.look first) in
     let met = first_met k old mid look before keeps in
-    let read = c.in_ok-is_image-in-First.ensures.call.ok second in
+    let yes : IsTrue c.in_ok-is_image-in-First.field-0 = search rules in
+    let read = (c.in_ok-is_image-in-First.ensures.call.ok second).1 yes in
     let nothing = nothing_then old mid late look.same (c.is_image.ensures.call.same second c.check_layout.ensures.idle) in
     c.transact.ensures.serves clean k read.0.is_open before (λ _. (record { version_is = refl; profile_is = refl; sound = c.is_of_some_text.ensures }, (met.0, met.2))) (keeps_still before old late nothing keeps)
 
@@ -100,7 +102,7 @@ returns-then-branch-clause-told g c clean other store texts =
     let idle : IsTrue c.is_autocommit-settled.result = search rules in
     let yes : IsTrue c.in_ok-is_image-in-First.field-0 = search rules in
     let image = told_image k (version_of plain_rows) old mid still c.in_ok-is_image-in-First.field-0 (c.in_ok-is_image-in-First.ensures.value second (store_same old mid still store)) yes in
-    let read = c.in_ok-is_image-in-First.ensures.call.ok second in
+    let read = (c.in_ok-is_image-in-First.ensures.call.ok second).1 yes in
     let nothing = nothing_then old mid late look.same (c.is_image.ensures.call.same second c.check_layout.ensures.idle) in
     first_tells k old store texts (λ is_open. sym (c.is_autocommit-settled.ensures.settled idle is_open)) image (state g.S.Store c.transact.new.connection) c.transact.result (λ before fits keeps.
     let met = first_met k old mid look before keeps in

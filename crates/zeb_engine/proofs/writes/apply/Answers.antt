@@ -50,3 +50,18 @@ returns-in-Reindex-clause-begun g c clean inside = rw c.in-Reindex.is (nothing_s
 
 pub returns-in-Upgrade-clause-begun : goal.returns-in-Upgrade-clause-begun
 returns-in-Upgrade-clause-begun g c clean inside = rw c.in-Upgrade.is (nothing_so c.upgrade.result)
+
+pub returns-in-Init-clause-sound : goal.returns-in-Init-clause-sound
+returns-in-Init-clause-sound g c clean inside = rw c.in-Init.is tt
+
+pub returns-in-Create-clause-sound : goal.returns-in-Create-clause-sound
+returns-in-Create-clause-sound g c clean inside = rw c.in-Create.is tt
+
+pub returns-in-Drop-clause-sound : goal.returns-in-Drop-clause-sound
+returns-in-Drop-clause-sound g c clean inside = rw c.in-Drop.is tt
+
+pub returns-in-Reindex-clause-sound : goal.returns-in-Reindex-clause-sound
+returns-in-Reindex-clause-sound g c clean inside = rw c.in-Reindex.is (c.reindex.ensures.sound clean inside)
+
+pub returns-in-Upgrade-clause-sound : goal.returns-in-Upgrade-clause-sound
+returns-in-Upgrade-clause-sound g c clean inside = rw c.in-Upgrade.is tt

@@ -45,3 +45,8 @@ returns-clause-works g c clean inside opened k =
     let alters = subst (λ t. Alters meta_tree (Replaces (IsEntryOf (codes "profile")) (entry (codes "profile") t)) mid new) c.text.ensures (c.in_ok-meta_put.ensures.call.ok clean first.mode) in
     let readable = subst IsUtf8 c.text.ensures c.text.utf8 in
     reindex_works g.L.Layout.format profile k old mid new first (c.in_ok-rebuild.ensures.built cleaner inside) readable alters
+
+pub returns-clause-sound : goal.returns-clause-sound
+returns-clause-sound g c clean inside store =
+    let cleaner : HasCleanDisk (state g.S.Store c.rebuild.new.tx.conn.now) = omega (arith, c.meta_put.ensures.call.crash.clean) in
+    c.in_ok-rebuild.ensures.checked cleaner inside store

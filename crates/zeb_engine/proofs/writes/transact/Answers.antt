@@ -8,7 +8,7 @@ use Rattle.zeb_change.specs.Conditions.{Conditions}
 use Rattle.zeb_engine.specs.Works.{Serves}
 use Rattle.zeb_engine.specs.PrivateWriting.{Begins, Fits, IsReached, written}
 use Rattle.zeb_engine.proofs.Crashing.{write_survives}
-use Rattle.zeb_engine.proofs.Serving.{begins_over, early_serves, refusal_serves, reply_serves, reached_inside}
+use Rattle.zeb_engine.proofs.Serving.{begins_over, early_serves, refusal_serves, reply_serves, reached_inside, sound_over, sound_refused}
 use Rattle.zeb_engine.proofs.writes.transact.Goals as goal
 use Rattle.zeb_register.specs.Formats.{version_of}
 
@@ -82,3 +82,20 @@ returns-in_err-commit-clause-serves g c clean k reached =
     let nothing : ChangesNothing old (state g.S.Store end) = search rules in
     subst₂ (λ h r. Serves (Fits (version_of g.L.Layout.format) k write) (written k write) old (state g.S.Store h) r) same (sym told)
     (early_serves (written k write) (Fits (version_of g.L.Layout.format) k write) old (state g.S.Store end) Store nothing (λ before fits keeps. inl (inl refl)))
+
+pub returns-in_err-reply-clause-sound : goal.returns-in_err-reply-clause-sound
+returns-in_err-reply-clause-sound g c clean =
+    let told : c.from_residual.result ≡ Err c.in_err-reply.field-0.0 = search rules in
+    rw told (sound_refused c.args.write.now (state g.S.Store c.args.connection.now) c.in_err-reply.field-0.0)
+
+pub returns-in_err-commit-clause-sound : goal.returns-in_err-commit-clause-sound
+returns-in_err-commit-clause-sound g c clean =
+    let told : c.from_residual-in_err-commit.result ≡ Err Store = search rules in
+    rw told (sound_refused c.args.write.now (state g.S.Store c.args.connection.now) Store)
+
+pub returns-clause-sound : goal.returns-clause-sound
+returns-clause-sound g c clean =
+    let begun = c.transaction-tx.ensures.begun in
+    let late : HasCleanDisk (state g.S.Store c.commit.new.self.0) = search rules in
+    let did = c.in_ok-reply.ensures.sound (omega (arith, c.commit.ensures.survives.clean)) (rw begun refl) in
+    sound_over g.S.Store c.args.write.now c.args.connection.now c.transaction-tx.result.conn.now (Ok c.in_ok-reply.reply) begun did

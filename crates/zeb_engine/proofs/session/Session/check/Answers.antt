@@ -46,7 +46,7 @@ returns-then-branch-clause-checked g c clean store texts =
     let old = state g.S.Store c.args.self.now.connection in
     let mid = state g.S.Store c.check_ready.new.connection in
     let first : HasCleanDisk mid = omega (arith, c.is_image.ensures.call.crash.clean) in
-    let still = (c.check_ready.ensures.same first (c.in_ok-is_image.ensures.call.ok clean).0.was_open).1 in
+    let still = (c.check_ready.ensures.same first (c.in_ok-is_image.ensures.call.ok clean).0).1 in
     let yes : IsTrue c.in_ok-is_image.field-0 = search rules in
     tells_some k own old mid still c.in_ok-is_image.field-0 (c.in_ok-is_image.ensures.value clean (store_same old mid still store)) yes
 
@@ -69,6 +69,6 @@ returns-else-branch-clause-checked g c clean store texts =
     let old = state g.S.Store c.args.self.now.connection in
     let mid = state g.S.Store c.check_ready.new.connection in
     let first : HasCleanDisk mid = omega (arith, c.is_image.ensures.call.crash.clean) in
-    let still = (c.check_ready.ensures.same first (c.in_ok-is_image.ensures.call.ok clean).0.was_open).1 in
+    let still = (c.check_ready.ensures.same first (c.in_ok-is_image.ensures.call.ok clean).0).1 in
     let no : c.in_ok-is_image.field-0 ≡ false = search rules in
     tells_none k own old mid still c.in_ok-is_image.field-0 (c.in_ok-is_image.ensures.value clean (store_same old mid still store)) texts no
