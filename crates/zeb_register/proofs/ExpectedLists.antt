@@ -50,7 +50,7 @@ record_lower a b less =
 pub records_rise : (records : List Record) → IsStrictlySortedBy number_order records → IsStrictlySortedBy row_cmp (map record_shown records)
 records_rise records up = strictly_mapped number_order row_cmp record_shown records (λ a b here there. record_lower a b) up
 
-rank_is : (r : Register) → register_rank r ≡ code_of_register r
+pub rank_is : (r : Register) → register_rank r ≡ code_of_register r
 rank_is Word = refl
 rank_is Phrase = refl
 rank_is Number = refl
@@ -60,7 +60,7 @@ then_so Less p q so h = refl
 then_so Equal p q so h = so h
 then_so Greater p q so h = absurd (let e : Greater ≡ Less = h in cc)
 
-then_joined : (a b c d : Ordering) → ordering_then (ordering_then a (ordering_then b c)) d ≡ ordering_then a (ordering_then b (ordering_then c d))
+pub then_joined : (a b c d : Ordering) → ordering_then (ordering_then a (ordering_then b c)) d ≡ ordering_then a (ordering_then b (ordering_then c d))
 then_joined Less b c d = refl
 then_joined Greater b c d = refl
 then_joined Equal Less c d = refl

@@ -1,10 +1,10 @@
 -- The statements that list whole tables, or all rows of a database, each with what it is compiled to.
-use Rattle.std.proofs.Common.{◌≡◌, ◌∙◌, ℕ, ℤ, false, List, [], ◌∷◌, map, codes, refl, sym, ap, ap₂, subst, Ordering, Less, Equal}
+use Rattle.std.proofs.Common.{◌≡◌, ◌∙◌, ℕ, ℤ, false, List, [], ◌∷◌, map, codes, refl, sym, ap, ap₂, subst, Ordering, Less, Equal, Greater}
 use Rattle.std.specs.Ordering.{ordering_then}
 use Rattle.sqlite.specs.declared.types.Value.TheVariants.{Int}
 use Rattle.sqlite.specs.Command.TheVariants.{Select}
 use Rattle.sqlite.specs.Listing.{understood, reads_listing}
-use Rattle.sqlite.specs.Order.{Row, column}
+use Rattle.sqlite.specs.Order.{Row, column, value_cmp}
 use Rattle.sqlite.specs.State.{State, Shown}
 use Rattle.sqlite.specs.Table.{Table}
 use Rattle.sqlite.proofs.Callers.{IsPlain, command_of, reads_as}
@@ -17,6 +17,7 @@ use Rattle.zeb_register.specs.Tables.{store_schema, meta_table}
 use Rattle.zeb_register.proofs.Calls.{IsSilent}
 use Rattle.zeb_register.proofs.Falling.{alone_first}
 use Rattle.zeb_register.proofs.PostingStatements.{blocks, blocks_static, dict, dict_static, postings, postings_keys, postings_static}
+use Rattle.zeb_register.proofs.PackedStatements.{blocks_keys, dict_keys}
 use Rattle.zeb_register.proofs.Prefix.{IsAfter, lists_after}
 use Rattle.zeb_register.proofs.RecordStatements.{records, records_static}
 use Rattle.zeb_register.proofs.RowLemmas.{int_of}
@@ -85,6 +86,72 @@ lists_postings db old new rows store shown =
     let P = IsAfter (old.now.trees 7) key [] [] in
     let got = lists_after store_schema 3 postings postings_static _ postings_keys postings_text key [] [] 6 posting_columns no_limit posting_names postings_is postings_plain.0 postings_plain.1 refl refl refl refl (λ r s lower. lower) old new rows store shown in
     list_so P (IsRest 7 key old.now.trees) rows (λ x. (λ h. (h.0, h.1), λ h. (h.0, h.1, tt))) (subst (IsListOf P) (sym got.2) got.1)
+
+-- ---- all blocks of a database, and all its keys
+
+abbrev pub blocks_text : List ℕ
+blocks_text = codes "SELECT idx, reg, term, block, data FROM blocks WHERE db = ?1 ORDER BY idx, reg, term, block"
+
+abbrev block_columns : List ℕ
+block_columns = 2 ∷ 3 ∷ 4 ∷ 5 ∷ 6 ∷ []
+
+abbrev block_names : List (List ℕ)
+block_names = codes "idx" ∷ codes "reg" ∷ codes "term" ∷ codes "block" ∷ codes "data" ∷ []
+
+blocks_is : command_of (understood store_schema blocks_text) ≡ Select (alone (reading 9 (keyed_from 1 0 1) (shows block_columns) (2 ∷ 3 ∷ 4 ∷ 5 ∷ []) no_limit)) block_names
+unfolding understood everything
+blocks_is = refl
+
+blocks_plain : IsPlain (understood store_schema blocks_text) × (reads_listing store_schema blocks_text ≡ false)
+unfolding understood everything
+blocks_plain = ((refl, refl), refl)
+
+pub blocks_silent : IsSilent blocks_text
+unfolding everything
+blocks_silent = λ schema base. refl
+
+-- what ends an order may be followed by more
+then_less : (o p q : Ordering) → (p ≡ Less → q ≡ Less) → ordering_then o p ≡ Less → ordering_then o q ≡ Less
+then_less Less p q so h = refl
+then_less Equal p q so h = so h
+then_less Greater p q so h = absurd (let e : Greater ≡ Less = h in cc)
+
+pub lists_blocks : (db : ℤ) (old new : State) (rows : List Row) → IsStore old → Shown blocks_text (Int db ∷ []) old new rows → IsListOf (IsRest blocks_tree (Int db ∷ []) old.now.trees) rows
+lists_blocks db old new rows store shown =
+    let key = Int db ∷ [] in
+    let P = IsAfter (old.now.trees 9) key [] [] in
+    let got = lists_after store_schema 4 blocks blocks_static _ blocks_keys blocks_text key [] [] 5 (2 ∷ 3 ∷ 4 ∷ 5 ∷ []) no_limit block_names blocks_is blocks_plain.0 blocks_plain.1 refl refl refl refl
+    (λ r s lower. then_less (value_cmp (column r 2) (column s 2)) _ _ (then_less (value_cmp (column r 3) (column s 3)) _ _ (then_less (value_cmp (column r 4) (column s 4)) _ _ (first_lower (value_cmp (column r 5) (column s 5)) _))) lower) old new rows store shown in
+    list_so P (IsRest 9 key old.now.trees) rows (λ x. (λ h. (h.0, h.1), λ h. (h.0, h.1, tt))) (subst (IsListOf P) (sym got.2) got.1)
+
+abbrev pub keys_text : List ℕ
+keys_text = codes "SELECT idx, reg, term, records FROM dict WHERE db = ?1 ORDER BY idx, reg, term"
+
+abbrev key_columns : List ℕ
+key_columns = 2 ∷ 3 ∷ 4 ∷ 5 ∷ []
+
+abbrev key_names : List (List ℕ)
+key_names = codes "idx" ∷ codes "reg" ∷ codes "term" ∷ codes "records" ∷ []
+
+keys_is : command_of (understood store_schema keys_text) ≡ Select (alone (reading 11 (keyed_from 1 0 1) (shows key_columns) (2 ∷ 3 ∷ 4 ∷ []) no_limit)) key_names
+unfolding understood everything
+keys_is = refl
+
+keys_plain : IsPlain (understood store_schema keys_text) × (reads_listing store_schema keys_text ≡ false)
+unfolding understood everything
+keys_plain = ((refl, refl), refl)
+
+pub keys_silent : IsSilent keys_text
+unfolding everything
+keys_silent = λ schema base. refl
+
+pub lists_keys : (db : ℤ) (old new : State) (rows : List Row) → IsStore old → Shown keys_text (Int db ∷ []) old new rows → IsListOf (IsRest dict_tree (Int db ∷ []) old.now.trees) rows
+lists_keys db old new rows store shown =
+    let key = Int db ∷ [] in
+    let P = IsAfter (old.now.trees 11) key [] [] in
+    let got = lists_after store_schema 5 dict dict_static _ dict_keys keys_text key [] [] 4 (2 ∷ 3 ∷ 4 ∷ []) no_limit key_names keys_is keys_plain.0 keys_plain.1 refl refl refl refl
+    (λ r s lower. then_less (value_cmp (column r 2) (column s 2)) _ _ (then_less (value_cmp (column r 3) (column s 3)) _ _ (first_lower (value_cmp (column r 4) (column s 4)) _)) lower) old new rows store shown in
+    list_so P (IsRest 11 key old.now.trees) rows (λ x. (λ h. (h.0, h.1), λ h. (h.0, h.1, tt))) (subst (IsListOf P) (sym got.2) got.1)
 
 -- ---- whose each row is
 

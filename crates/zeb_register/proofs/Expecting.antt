@@ -26,7 +26,7 @@ use Rattle.zeb_register.specs.Content.{Content, IsRising, posting_cmp}
 use Rattle.zeb_register.specs.Expected.{AreExpected, IsExpectedAs, IsOrdered, IsPostingExpected, key_posting_order}
 use Rattle.zeb_register.specs.Formats.{Format, holds_in}
 use Rattle.zeb_register.specs.Kept.{record_shown}
-use Rattle.zeb_register.specs.RowExpected.{IsThere, ListsAgree, list_under}
+use Rattle.zeb_register.specs.RowExpected.{IsThere, ListsAgree, list_under, with_key}
 use Rattle.zeb_register.specs.Sql.{HasRow}
 use Rattle.zeb_register.specs.Store.{HasDatabase, IsStore, records_tree}
 use Rattle.zeb_register.proofs.ContentChanges.{posting_total}
@@ -51,9 +51,6 @@ only_one {R = R} o (z ∷ xs) x y up (inr later) (inl two) tie =
 only_one o (z ∷ xs) x y up (inr one) (inr two) tie = only_one o xs x y up.1 one two tie
 
 -- ---- the postings of a key
-
-abbrev pub with_key : Key → Posting → KeyPosting
-with_key key p = record { key = key; posting = p }
 
 pub under_has : (key : Key) (postings : List KeyPosting) (p : Posting) → Has (list_under key postings) p ↔ Has postings (with_key key p)
 under_has key postings p = (

@@ -16,12 +16,12 @@ use Rattle.zeb_register.specs.Catalog.{AreDatabases}
 use Rattle.zeb_register.specs.Expected.{AreExpected, IsOrdered}
 use Rattle.zeb_register.specs.Formats.{plain_rows}
 use Rattle.zeb_register.specs.PlainRows.{HoldsRows, key_row, posting_row}
-use Rattle.zeb_register.specs.RowExpected.{BelongsTo, HoldsThere, IsThere, LacksPacked, ListsAgree, key_shown, posting_shown}
+use Rattle.zeb_register.specs.RowExpected.{BelongsTo, HoldsThere, IsThere, LacksPacked, ListsAgree, key_shown, posting_shown, with_key}
 use Rattle.zeb_register.specs.Sql.{HasRow}
 use Rattle.zeb_register.specs.Store.{IsStore, blocks_tree, dict_tree, postings_tree}
 use Rattle.zeb_register.specs.Tables.{store_schema}
 use Rattle.zeb_register.proofs.ExpectedStatements.{owner_row}
-use Rattle.zeb_register.proofs.Expecting.{as_expected, content, content_up, id_is, one_of, posted_as, put_together, there_is, there_of, with_key}
+use Rattle.zeb_register.proofs.Expecting.{as_expected, content, content_up, id_is, one_of, posted_as, put_together, there_is, there_of}
 use Rattle.zeb_register.proofs.PostingStatements.{blocks, blocks_static, dict, dict_static, postings, postings_static}
 use Rattle.zeb_register.proofs.ValueKinds.{IsPlainTable, codes_of}
 

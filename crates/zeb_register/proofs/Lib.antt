@@ -54,3 +54,5 @@ pub mod ExpectedLists
 pub mod ExpectedDatabases
 pub mod Expecting
 pub mod ExpectingRows
+pub mod PackedBeside
+pub mod ExpectingBlocks

@@ -24,7 +24,7 @@ use Rattle.zeb_register.proofs.DatabaseStatements.{databases, databases_static}
 use Rattle.zeb_register.proofs.RecordStatements.{records, records_static, records_keys}
 
 module _ (at : ℕ) (table : Table) (static : IsPlainTable store_schema at table) (keys : List (List ℕ)) (has : HasKeys store_schema table keys) (s : State) (store : IsStore s) where
-  single : (i j : ℤ) (a b : Row) → Has (s.now.trees table.tree) (Int i ∷ a) → Has (s.now.trees table.tree) (Int j ∷ b) → SharesKey keys (Int i ∷ a) (Int j ∷ b) → SharesKey keys (Int j ∷ b) (Int i ∷ a) → ◌≡◌ {A = Row} (Int i ∷ a) (Int j ∷ b)
+  pub single : (i j : ℤ) (a b : Row) → Has (s.now.trees table.tree) (Int i ∷ a) → Has (s.now.trees table.tree) (Int j ∷ b) → SharesKey keys (Int i ∷ a) (Int j ∷ b) → SharesKey keys (Int j ∷ b) (Int i ∷ a) → ◌≡◌ {A = Row} (Int i ∷ a) (Int j ∷ b)
   single i j a b here there left right = from (value_cmp (Int i) (Int j)) refl
     where
       alone : (r t : Row) → Has (s.now.trees table.tree) r → Has (s.now.trees table.tree) t → is_int (rowid r) ≡ true → is_int (rowid t) ≡ true → SharesKey keys r t → value_cmp (rowid r) (rowid t) ≡ Less → ⊥

@@ -167,3 +167,23 @@ AreBeside listed databases trees = AreDatabases trees listed × (map listed_name
 -- no packed table has a row
 abbrev pub LacksPacked : Trees → Type 0
 LacksPacked trees = BelongsTo blocks_tree [] trees × BelongsTo dict_tree [] trees
+
+-- ---- rows of packed tables, each before those that are left
+
+abbrev pub with_key : Key → Posting → KeyPosting
+with_key key p = record { key = key; posting = p }
+
+-- the row spells the postings that stand before the rest: those of its key in its block
+abbrev pub IsBlockBefore : Row → List KeyPosting → List KeyPosting → Type 0
+IsBlockBefore row postings rest =
+    (key : Key) × (block : ℕ) × (bytes : List ℕ) × (part : List Posting) × (row ≡ key_shown key ++ Int (pos block) ∷ Blob bytes ∷ [])
+    × BlockSpells block part bytes × (postings ≡ map (with_key key) part ++ rest)
+
+-- the rows spell the postings, one behind the other
+abbrev pub AreBlocks : List Row → List KeyPosting → Type 0
+AreBlocks [] postings = postings ≡ []
+AreBlocks (row ∷ rows) postings = (rest : List KeyPosting) × IsBlockBefore row postings rest × AreBlocks rows rest
+
+-- `dict` holds what is expected, and the table of single postings has no row
+abbrev pub HoldsKeysAlone : List ListedDatabase → List ExpectedDatabase → Trees → Type 0
+HoldsKeysAlone listed databases trees = HoldsExpected Dict listed databases trees × BelongsTo postings_tree [] trees

@@ -10,8 +10,10 @@ ghost use Rattle.zeb_register.specs.PlainRows.{key_row};
 ghost use Rattle.zeb_register.specs.Store.{IsStore};
 ghost use Rattle.zeb_register.specs.Tallies.{Works};
 
+use crate::agreeing::lists_beside;
 use crate::dropping::database_drop_whole;
 use crate::packed::{postings_packed, terms_packed, terms_packed_before, terms_packed_from};
+use crate::packed_agreeing::packed_agree;
 use crate::packed_runs::{key_change_packed, key_changes_packed};
 use crate::packed_totals::totals_packed;
 use crate::registers::{Layout, Place, RecordChange, TermCount, Totals, Work};
@@ -144,12 +146,14 @@ impl Layout for Blocks {
         totals_packed(alloc, conn, work, db, index, register)
     }
 
-    /// Always refused for now: packed tables can't be looked at as a whole yet.
     fn agrees<S: Alter>(
         alloc: Global,
         conn: &mut Connection<S>,
         expected: &Expected,
     ) -> Result<bool, RegFault> {
-        Err(RegFault::Memory)
+        let Some(listed) = lists_beside(alloc, conn, expected)? else {
+            return Ok(false);
+        };
+        packed_agree(conn, &listed, &expected.databases)
     }
 }

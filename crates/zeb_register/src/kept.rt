@@ -13,10 +13,11 @@ ghost use Rattle.zeb_register.specs.Kept.{IsFirstFrom, IsRecordCount};
 ghost use Rattle.zeb_register.specs.RowStatements.{IsRecordShown};
 ghost use Rattle.zeb_register.specs.Calls.{OnlyReads, Alters, Inside, Reading, MayRefuse};
 
-use crate::statements::postings::{nothing_inside, nothing_of};
+use crate::statements::inside::{nothing_inside, rows_from_inside};
+use crate::statements::postings::nothing_of;
 use crate::statements::records::{
     count_rows, elder_rows, ident_rows, record_keep, record_remove, record_rows, records_clear,
-    rows_from, rows_from_inside,
+    rows_from,
 };
 use crate::values::{read, stored};
 use crate::{DatabaseId, RegFault};

@@ -17,6 +17,7 @@ mod lists;
 mod meta;
 mod occurring;
 mod packed;
+mod packed_agreeing;
 mod packed_changes;
 mod packed_parts;
 mod packed_runs;

@@ -1,6 +1,7 @@
 //! The statements on the tables, each in a function of its own.
 
 pub(crate) mod databases;
+pub(crate) mod inside;
 pub(crate) mod owners;
 pub(crate) mod packed;
 pub(crate) mod packed_changes;

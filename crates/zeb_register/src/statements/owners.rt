@@ -9,7 +9,8 @@ ghost use Rattle.zeb_register.specs.Store.{blocks_tree, dict_tree, postings_tree
 use sqlite::{Alter, Connection, Error, Row};
 
 pub(crate) fn records_owners<S: Alter>(conn: &mut Connection<S>) -> Result<Vec<Row>, Error>
-    ensures call { Reading (state S.Store conn.old) (state S.Store conn.new) result (λ rows a b. Reads (ShowsOwners records_tree) a b rows.items) }
+    ensures call { Reading (state S.Store conn.old) (state S.Store conn.new) result
+        (λ rows a b. Reads (ShowsOwners records_tree) a b rows.items) }
 {
     // What is seen outside a transaction is what was committed.
     let _idle = conn.is_autocommit();
@@ -17,7 +18,8 @@ pub(crate) fn records_owners<S: Alter>(conn: &mut Connection<S>) -> Result<Vec<R
 }
 
 pub(crate) fn postings_owners<S: Alter>(conn: &mut Connection<S>) -> Result<Vec<Row>, Error>
-    ensures call { Reading (state S.Store conn.old) (state S.Store conn.new) result (λ rows a b. Reads (ShowsOwners postings_tree) a b rows.items) }
+    ensures call { Reading (state S.Store conn.old) (state S.Store conn.new) result
+        (λ rows a b. Reads (ShowsOwners postings_tree) a b rows.items) }
 {
     // What is seen outside a transaction is what was committed.
     let _idle = conn.is_autocommit();
@@ -25,7 +27,8 @@ pub(crate) fn postings_owners<S: Alter>(conn: &mut Connection<S>) -> Result<Vec<
 }
 
 pub(crate) fn blocks_owners<S: Alter>(conn: &mut Connection<S>) -> Result<Vec<Row>, Error>
-    ensures call { Reading (state S.Store conn.old) (state S.Store conn.new) result (λ rows a b. Reads (ShowsOwners blocks_tree) a b rows.items) }
+    ensures call { Reading (state S.Store conn.old) (state S.Store conn.new) result
+        (λ rows a b. Reads (ShowsOwners blocks_tree) a b rows.items) }
 {
     // What is seen outside a transaction is what was committed.
     let _idle = conn.is_autocommit();
@@ -33,7 +36,8 @@ pub(crate) fn blocks_owners<S: Alter>(conn: &mut Connection<S>) -> Result<Vec<Ro
 }
 
 pub(crate) fn dict_owners<S: Alter>(conn: &mut Connection<S>) -> Result<Vec<Row>, Error>
-    ensures call { Reading (state S.Store conn.old) (state S.Store conn.new) result (λ rows a b. Reads (ShowsOwners dict_tree) a b rows.items) }
+    ensures call { Reading (state S.Store conn.old) (state S.Store conn.new) result
+        (λ rows a b. Reads (ShowsOwners dict_tree) a b rows.items) }
 {
     // What is seen outside a transaction is what was committed.
     let _idle = conn.is_autocommit();

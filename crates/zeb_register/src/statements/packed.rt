@@ -30,6 +30,35 @@ pub(crate) fn block_rows<S: Alter>(
     )
 }
 
+/// All blocks of a database, by key and number: the key, the number, and the bytes.
+pub(crate) fn database_blocks<S: Alter>(
+    conn: &mut Connection<S>,
+    db: i64,
+) -> Result<Vec<Row>, Error>
+    ensures call { Reading (state S.Store conn.old) (state S.Store conn.new) result
+        (λ rows a b. Lists (IsRest blocks_tree (Int db ∷ [])) a b rows.items) }
+{
+    // What is seen outside a transaction is what was committed.
+    let _idle = conn.is_autocommit();
+    conn.query_all(
+        "SELECT idx, reg, term, block, data FROM blocks WHERE db = ?1 ORDER BY idx, reg, term, block",
+        params![db],
+    )
+}
+
+/// All keys of a database, rising, each with the number of its records.
+pub(crate) fn database_keys<S: Alter>(conn: &mut Connection<S>, db: i64) -> Result<Vec<Row>, Error>
+    ensures call { Reading (state S.Store conn.old) (state S.Store conn.new) result
+        (λ rows a b. Lists (IsRest dict_tree (Int db ∷ [])) a b rows.items) }
+{
+    // What is seen outside a transaction is what was committed.
+    let _idle = conn.is_autocommit();
+    conn.query_all(
+        "SELECT idx, reg, term, records FROM dict WHERE db = ?1 ORDER BY idx, reg, term",
+        params![db],
+    )
+}
+
 /// The terms of a register, each with the number of its records.
 pub(crate) fn dict_rows<S: Alter>(
     conn: &mut Connection<S>,

@@ -9,7 +9,7 @@ ghost use Rattle.sqlite.specs.declared.types.Value.TheVariants.{Int};
 ghost use Rattle.zeb_register.specs.Sql.{Loses};
 ghost use Rattle.zeb_register.specs.RowStatements.{Gains, posting, place_key, IsPlaceOf, Lists, ListsInside};
 ghost use Rattle.zeb_register.specs.Store.{IsStore, postings_tree, key_of, IsPostingIn, IsRest};
-ghost use Rattle.zeb_register.specs.Calls.{Alters, Inside, OnlyReads, Reading, MayRefuse};
+ghost use Rattle.zeb_register.specs.Calls.{Alters, Inside, Reading, MayRefuse};
 ghost use Rattle.zeb_register.specs.Faults.{fault_of};
 ghost use Rattle.zeb_register.specs.RowTerms.{HasTerm, ShowsLeast, ShowsGreatest, Reads};
 
@@ -25,15 +25,6 @@ pub(crate) fn nothing_of<S: Alter>(conn: &mut Connection<S>) -> Result<(), Error
     // What is seen outside a transaction is what was committed.
     let _idle = conn.is_autocommit();
     conn.query_all("SELECT term FROM postings LIMIT 0", &[])?;
-    Ok(())
-}
-
-/// The same inside a transaction.
-pub(crate) fn nothing_inside<S: Alter>(tx: &mut Transaction<'_, S>) -> Result<(), Error>
-    ensures same { tx.new.conn.ghost_name ≡ tx.old.conn.ghost_name }
-    ensures call { Inside (state S.Store tx.old.conn.now) (state S.Store tx.new.conn.now) result (λ _. OnlyReads) }
-{
-    tx.query_all("SELECT term FROM postings LIMIT 0", &[])?;
     Ok(())
 }
 

@@ -7,7 +7,7 @@ ghost use Rattle.sqlite.specs.declared.types.Value.TheVariants.{Int};
 ghost use Rattle.zeb_register.specs.Sql.{IsListOf, Loses, Replaces};
 ghost use Rattle.zeb_register.specs.Store.{IsStore, records_tree, record_row, HasNumber, SharesRecord, IsRecordIn, IsRest};
 ghost use Rattle.zeb_register.specs.RowStatements.{IsElderRow, IsIdentRow, IsRestAtLeast, Lists, ListsInside, ShowsCount};
-ghost use Rattle.zeb_register.specs.RowTerms.{Reads, ReadsInside};
+ghost use Rattle.zeb_register.specs.RowTerms.{Reads};
 ghost use Rattle.zeb_register.specs.Faults.{fault_of};
 ghost use Rattle.zeb_register.specs.Calls.{Alters, Inside, Reading, MayRefuse};
 
@@ -126,23 +126,6 @@ pub(crate) fn rows_from<S: Alter>(
     // What is seen outside a transaction is what was committed.
     let _idle = conn.is_autocommit();
     conn.query_all(
-        "SELECT sysno, ident, bytes FROM records WHERE db = ?1 AND sysno >= ?2 ORDER BY sysno LIMIT 1",
-        params![db, start],
-    )
-}
-
-/// The same inside a transaction.
-pub(crate) fn rows_from_inside<S: Alter>(
-    tx: &mut Transaction<'_, S>,
-    db: i64,
-    start: i64,
-) -> Result<Vec<Row>, Error>
-    ensures same { tx.new.conn.ghost_name ≡ tx.old.conn.ghost_name }
-    ensures call { Inside (state S.Store tx.old.conn.now) (state S.Store tx.new.conn.now) result
-        (λ rows a b. ReadsInside (λ trees rows. (all : List _) × IsListOf (IsRestAtLeast records_tree (Int db ∷ []) start trees) all
-        × (rows ≡ take 1 all)) a b rows.items) }
-{
-    tx.query_all(
         "SELECT sysno, ident, bytes FROM records WHERE db = ?1 AND sysno >= ?2 ORDER BY sysno LIMIT 1",
         params![db, start],
     )

@@ -10,3 +10,7 @@ returns-in-Records-clause-value g c clean store order =
 pub returns-in-Postings-clause-value : goal.returns-in-Postings-clause-value
 returns-in-Postings-clause-value g c clean store order =
     subst (λ t. IfOk c.postings_agree.result (λ b. IsTrue b ↔ AsExpected t c.args.db.0 c.args.database.now (state g.S.Store c.args.conn.now).now.trees)) (sym c.in-Postings.is) (c.postings_agree.ensures.value clean store order)
+
+pub returns-in-Blocks-clause-value : goal.returns-in-Blocks-clause-value
+returns-in-Blocks-clause-value g c clean store order =
+    subst (λ t. IfOk c.blocks_agree.result (λ b. IsTrue b ↔ AsExpected t c.args.db.0 c.args.database.now (state g.S.Store c.args.conn.now).now.trees)) (sym c.in-Blocks.is) (c.blocks_agree.ensures.value clean store order)

@@ -7,7 +7,7 @@ use Rattle.zeb_register.specs.Sql.{IsListOf}
 use Rattle.zeb_register.specs.Store.{records_tree}
 use Rattle.zeb_register.proofs.Calls.{read_inside, query_keeps}
 use Rattle.zeb_register.proofs.RecordReadings.{from_silent, lists_from}
-use Rattle.zeb_register.proofs.statements.records.rows_from_inside.Goals as goal
+use Rattle.zeb_register.proofs.statements.inside.rows_from_inside.Goals as goal
 
 pub returns-clause-call : goal.returns-clause-call
 returns-clause-call g c = record {

@@ -1,7 +1,7 @@
 use Rattle.std.proofs.Common.{rules, ℕ, Err}
 use Rattle.zeb_register.proofs.Calls.{alone_inside, on_err, query_keeps}
 use Rattle.zeb_register.proofs.TermStatements.{nothing_silent}
-use Rattle.zeb_register.proofs.statements.postings.nothing_inside.Goals as goal
+use Rattle.zeb_register.proofs.statements.inside.nothing_inside.Goals as goal
 
 pub returns-clause-call : goal.returns-clause-call
 returns-clause-call g c = record {

@@ -1,0 +1,160 @@
+//! The packed tables of a database beside what is expected of it. Rows are read in order, and each takes its postings from the front of
+//! those that are left.
+
+ghost use Rattle.std.specs.Prelude.{◌≡◌, ◌≢◌, ◌↔◌, ◌≤◌, ◌++◌, ℕ, pos, List, true, false, length, drop, map, MatchOption, IsTrue, IfOk};
+ghost use Rattle.sqlite.specs.Held.{state};
+ghost use Rattle.sqlite.specs.State.{HasCleanDisk, IsUnchanged};
+ghost use Rattle.sqlite.specs.declared.types.Value.TheVariants.{Int};
+ghost use Rattle.sqlite.specs.Order.{column};
+ghost use Rattle.zeb_blocks.specs.Blocks.{BlockSpells};
+ghost use Rattle.zeb_register.specs.Calls.{Reading};
+ghost use Rattle.zeb_register.specs.RowExpected.{AreBlocks, AreInOrder, AsExpected, HoldsExpected, HoldsKeysAlone, IsBlockBefore, IsInOrder, with_key};
+ghost use Rattle.zeb_register.specs.Store.{IsStore};
+
+use crate::agreeing::{Table, belongs, table_agrees};
+use crate::expected::is_key;
+use crate::statements::packed::database_blocks;
+use crate::{DatabaseId, ExpectedDatabase, KeyPosting, ListedDatabase, RegFault};
+use sqlite::types::ValueRef;
+use sqlite::{Alter, Connection, Row};
+use zeb_blocks::{Posting, Postings};
+use zeb_extract::Key;
+
+/// Whether the packed tables have just the expected rows, and the table of single postings none.
+pub(crate) fn packed_agree<S: Alter>(
+    conn: &mut Connection<S>,
+    listed: &[ListedDatabase],
+    expected: &[ExpectedDatabase],
+) -> Result<bool, RegFault>
+    requires { length listed.now ≡ length expected.now }
+    ensures call { Reading (state S.Store conn.old) (state S.Store conn.new) result (λ _. IsUnchanged) }
+    ensures value { HasCleanDisk (state S.Store conn.new) → IsStore (state S.Store conn.old) → AreInOrder expected.now
+        → IfOk result (λ agree. IsTrue agree ↔ (HoldsExpected Table.Blocks listed.now expected.now (state S.Store conn.old).now.trees
+        × HoldsKeysAlone listed.now expected.now (state S.Store conn.old).now.trees)) }
+    ensures honest { result ≢ Err RegFault.Damaged }
+{
+    if !table_agrees(conn, Table::Blocks, listed, expected)? {
+        return Ok(false);
+    }
+    keys_alone(conn, listed, expected)
+}
+
+/// Whether `dict` has just the expected rows, and the table of single postings none.
+fn keys_alone<S: Alter>(
+    conn: &mut Connection<S>,
+    listed: &[ListedDatabase],
+    expected: &[ExpectedDatabase],
+) -> Result<bool, RegFault>
+    requires { length listed.now ≡ length expected.now }
+    ensures call { Reading (state S.Store conn.old) (state S.Store conn.new) result (λ _. IsUnchanged) }
+    ensures value { HasCleanDisk (state S.Store conn.new) → IsStore (state S.Store conn.old) → AreInOrder expected.now
+        → IfOk result (λ agree. IsTrue agree ↔ HoldsKeysAlone listed.now expected.now (state S.Store conn.old).now.trees) }
+    ensures honest { result ≢ Err RegFault.Damaged }
+{
+    if !table_agrees(conn, Table::Dict, listed, expected)? {
+        return Ok(false);
+    }
+    belongs(conn, Table::Postings, &[])
+}
+
+/// Whether the blocks of a database are just the expected ones.
+pub(crate) fn blocks_agree<S: Alter>(
+    conn: &mut Connection<S>,
+    db: DatabaseId,
+    database: &ExpectedDatabase,
+) -> Result<bool, RegFault>
+    ensures call { Reading (state S.Store conn.old) (state S.Store conn.new) result (λ _. IsUnchanged) }
+    ensures value { HasCleanDisk (state S.Store conn.new) → IsStore (state S.Store conn.old) → IsInOrder database.now
+        → IfOk result (λ agree. IsTrue agree ↔ AsExpected Table.Blocks db.0 database.now (state S.Store conn.old).now.trees) }
+    ensures honest { result ≢ Err RegFault.Damaged }
+{
+    let rows = database_blocks(conn, db.column())?;
+    Ok(are_blocks(&rows, &database.postings))
+}
+
+/// Whether the rows spell just these postings, one block behind the other.
+fn are_blocks(rows: &[Row], postings: &[KeyPosting]) -> bool
+    ensures same { result ≡ true → AreBlocks rows.now postings.now }
+    ensures other { result ≡ false → ¬ AreBlocks rows.now postings.now }
+{
+    let mut at = 0;
+    for row in rows {
+        let Some(end) = block_end(row, postings, at) else {
+            return false;
+        };
+        at = end;
+    }
+    at == postings.len()
+}
+
+/// Where the postings end that the row spells from a place on, if it spells those that stand there.
+fn block_end(row: &Row, postings: &[KeyPosting], at: usize) -> Option<usize>
+    requires { at ≤ length postings.now }
+    ensures { MatchOption result ((rest : List KeyPosting) → ¬ IsBlockBefore row.now (drop at postings.now) rest)
+        (λ end. (end ≤ length postings.now) × IsBlockBefore row.now (drop at postings.now) (drop end postings.now)) }
+{
+    let first = postings.get(at)?;
+    if row.column_count() != 5 || !is_key(row, &first.key) {
+        return None;
+    }
+    let block = number_at(row, 3)?;
+    match row.get_ref(4) {
+        Ok(ValueRef::Blob(bytes)) => spelled_end(block, bytes, &first.key, postings, at),
+        _ => None,
+    }
+}
+
+/// The number at this place of a row, if one of 0 or more stands there.
+fn number_at(row: &Row, at: usize) -> Option<u64>
+    ensures { MatchOption result ((n : ℕ) → column row.now at ≢ Int (pos n)) (λ n. column row.now at ≡ Int (pos n)) }
+{
+    match row.get_ref(at) {
+        Ok(ValueRef::Int(value)) if value >= 0 => Some(value as u64),
+        _ => None,
+    }
+}
+
+/// Where the postings of a key end that bytes spell in a block, if they stand from a place on.
+fn spelled_end(
+    block: u64,
+    bytes: &[u8],
+    key: &Key,
+    postings: &[KeyPosting],
+    at: usize,
+) -> Option<usize>
+    requires { at ≤ length postings.now }
+    ensures { MatchOption result ((part : List Posting) (rest : List KeyPosting) → BlockSpells block part bytes.now
+        → drop at postings.now ≢ map (with_key key.now) part ++ rest)
+        (λ end. (end ≤ length postings.now) × ((part : List Posting) × BlockSpells block part bytes.now
+        × (drop at postings.now ≡ map (with_key key.now) part ++ drop end postings.now))) }
+{
+    match Postings::read(block, bytes) {
+        Ok(part) => part_end(part, key, postings, at),
+        Err(_) => None,
+    }
+}
+
+/// Where these postings of a key end, if they stand from a place on.
+fn part_end(part: Postings<'_>, key: &Key, postings: &[KeyPosting], at: usize) -> Option<usize>
+    requires { at ≤ length postings.now }
+    ensures { MatchOption result ((rest : List KeyPosting) → drop at postings.now ≢ map (with_key key.now) part.entry ++ rest)
+        (λ end. (end ≤ length postings.now) × (drop at postings.now ≡ map (with_key key.now) part.entry ++ drop end postings.now)) }
+{
+    let mut end = at;
+    for posting in part {
+        let expected = postings.get(end)?;
+        if !is_under(expected, key, posting) {
+            return None;
+        }
+        end += 1;
+    }
+    Some(end)
+}
+
+/// Whether this is the posting under the key.
+fn is_under(expected: &KeyPosting, key: &Key, posting: Posting) -> bool
+    ensures same { result ≡ true → expected.now ≡ with_key key.now posting }
+    ensures other { result ≡ false → expected.now ≢ with_key key.now posting }
+{
+    expected.key == *key && expected.posting == posting
+}

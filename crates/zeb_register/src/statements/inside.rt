@@ -1,0 +1,38 @@
+//! Statements that read inside a transaction what others read outside.
+
+ghost use Rattle.std.specs.Prelude.{◌≡◌, List, [], ◌∷◌, take};
+ghost use Rattle.sqlite.specs.Held.{state};
+ghost use Rattle.sqlite.specs.declared.types.Value.TheVariants.{Int};
+ghost use Rattle.zeb_register.specs.Calls.{Inside, OnlyReads};
+ghost use Rattle.zeb_register.specs.RowStatements.{IsRestAtLeast};
+ghost use Rattle.zeb_register.specs.RowTerms.{ReadsInside};
+ghost use Rattle.zeb_register.specs.Sql.{IsListOf};
+ghost use Rattle.zeb_register.specs.Store.{records_tree};
+
+use sqlite::{Alter, Error, Row, Transaction, params};
+
+/// Reads nothing. It is refused where the connection is closed.
+pub(crate) fn nothing_inside<S: Alter>(tx: &mut Transaction<'_, S>) -> Result<(), Error>
+    ensures same { tx.new.conn.ghost_name ≡ tx.old.conn.ghost_name }
+    ensures call { Inside (state S.Store tx.old.conn.now) (state S.Store tx.new.conn.now) result (λ _. OnlyReads) }
+{
+    tx.query_all("SELECT term FROM postings LIMIT 0", &[])?;
+    Ok(())
+}
+
+/// The record with the least number that is not below `start`: at most one row.
+pub(crate) fn rows_from_inside<S: Alter>(
+    tx: &mut Transaction<'_, S>,
+    db: i64,
+    start: i64,
+) -> Result<Vec<Row>, Error>
+    ensures same { tx.new.conn.ghost_name ≡ tx.old.conn.ghost_name }
+    ensures call { Inside (state S.Store tx.old.conn.now) (state S.Store tx.new.conn.now) result
+        (λ rows a b. ReadsInside (λ trees rows. (all : List _) × IsListOf (IsRestAtLeast records_tree (Int db ∷ []) start trees) all
+        × (rows ≡ take 1 all)) a b rows.items) }
+{
+    tx.query_all(
+        "SELECT sysno, ident, bytes FROM records WHERE db = ?1 AND sysno >= ?2 ORDER BY sysno LIMIT 1",
+        params![db, start],
+    )
+}
