@@ -22,7 +22,6 @@ pub data Why : Type 0 where
   read_fault : ℕ → Why
   store_failed : Why
   out_of_memory : Why
-  unsupported : Why
 
 abbrev pub why_of : Refusal → Why
 why_of refusal.NotInitialised = not_initialised
@@ -39,7 +38,6 @@ why_of refusal.IdentifierRuleChanged = rule_changed
 why_of (refusal.ReadFault file) = read_fault file
 why_of refusal.Store = store_failed
 why_of refusal.Memory = out_of_memory
-why_of refusal.Unsupported = unsupported
 
 -- the store or the memory failed
 abbrev pub IsFailing : Why → Type 0

@@ -45,7 +45,7 @@ pub enum Refusal {
     TooManyRecords,
     /// The tables hold what no commands leave.
     Damaged,
-    /// The rule for identifiers differs from the register's.
+    /// The profile's rule for identifiers isn't the register's.
     IdentifierRuleChanged,
     /// A reader failed.
     ReadFault {
@@ -55,8 +55,6 @@ pub enum Refusal {
     Store,
     /// Memory ran out.
     Memory,
-    /// A command or a query that is not there yet.
-    Unsupported,
 }
 
 impl From<AllocError> for Refusal {

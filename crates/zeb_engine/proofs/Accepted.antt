@@ -8,7 +8,7 @@ use Rattle.zeb_change.specs.Conditions.{Conditions}
 use Rattle.zeb_engine.specs.Counts.{IsAccepted}
 use Rattle.zeb_change.specs.Folding.{Progress, at_first, files_folded}
 use Rattle.zeb_change.specs.Base.{Base}
-use Rattle.zeb_engine.specs.Holdings.{Holdings, base_named}
+use Rattle.zeb_image.specs.Holdings.{Holdings, base_named}
 use Rattle.zeb_engine.specs.Steps.{change_ends, change_from, changed_by_files, ends, ready, start_of, turned, turned_from}
 
 module _ (c : Conditions) (kind : Kind) (name : List ℕ) (files : List Split) (before : Holdings) (inserted updated deleted : ℕ) where

@@ -16,9 +16,9 @@ use Rattle.zeb_engine.specs.Alone.{Alone, IsSaid, Said}
 use Rattle.zeb_engine.specs.Answers.{Answer, answer_of, refused, IsFailure}
 use Rattle.zeb_change.specs.Refused.{Why, diagnostic, why_of, Meets}
 use Rattle.zeb_change.specs.Conditions.{Conditions}
-use Rattle.zeb_engine.specs.Holdings.{Holdings, base_named}
+use Rattle.zeb_image.specs.Holdings.{Holdings, base_named}
 use Rattle.zeb_change.specs.Base.{Base}
-use Rattle.zeb_engine.specs.Image.{Keeps}
+use Rattle.zeb_image.specs.Image.{Keeps}
 use Rattle.zeb_change.specs.Outcomes.{query_refusal}
 use Rattle.zeb_engine.specs.Steps.{AskedAmong, AskedFrom, AskedIn, existing, found_or, no_database, ready}
 use Rattle.zeb_engine.specs.Works.{Asks}

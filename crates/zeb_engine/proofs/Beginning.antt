@@ -17,7 +17,7 @@ use Rattle.zeb_profile.specs.Laws.{IsProfile}
 use Rattle.zeb_register.proofs.FormatLemmas.{registers_empty}
 use Rattle.zeb_engine.proofs.ReadyImages.{ready_image}
 use Rattle.zeb_change.specs.Conditions.{Conditions, AreSessions}
-use Rattle.zeb_engine.specs.Image.{HasTexts, AreBases, IsImage, IsImageOf}
+use Rattle.zeb_image.specs.Image.{HasTexts, AreBases, IsImage, IsImageOf}
 use Rattle.zeb_engine.specs.Steps.{holding}
 use Rattle.zeb_engine.specs.PrivateWriting.{AreOf, PutsTexts}
 use Rattle.zeb_register.specs.Formats.{Format, holds_in, version_of}

@@ -12,9 +12,9 @@ use Rattle.zeb_change.specs.Refused.{Why, why_of, Meets}
 use Rattle.zeb_engine.specs.Answers.{refused, IsFailure}
 use Rattle.zeb_engine.specs.PrivateChanging.{BeginsWith}
 use Rattle.zeb_change.specs.Conditions.{Conditions}
-use Rattle.zeb_engine.specs.Holdings.{Holdings, base_named}
+use Rattle.zeb_image.specs.Holdings.{Holdings, base_named}
 use Rattle.zeb_change.specs.Base.{Base}
-use Rattle.zeb_engine.specs.Image.{IsImage}
+use Rattle.zeb_image.specs.Image.{IsImage}
 use Rattle.zeb_engine.specs.Steps.{changed_by_files, ready, start_of, turned}
 use Rattle.zeb_engine.proofs.ListedDatabases.{none_named, row_named}
 use Rattle.zeb_engine.proofs.Turns.{step_unbegun}

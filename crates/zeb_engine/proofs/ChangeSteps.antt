@@ -20,15 +20,15 @@ use Rattle.zeb_change.specs.Refused.{Why, why_of, Meets}
 use Rattle.zeb_engine.specs.Answers.{changed, refused, reply_answer, IsFailure}
 use Rattle.zeb_engine.specs.PrivateChanging.{BeginsWith, last_of}
 use Rattle.zeb_change.specs.Conditions.{Conditions, AreSessions}
-use Rattle.zeb_engine.specs.Names.{IsDatabaseName}
+use Rattle.zeb_image.specs.Names.{IsDatabaseName}
 use Rattle.zeb_change.specs.Folding.{Progress, at_first, files_folded}
-use Rattle.zeb_engine.specs.Holdings.{Holdings, new_base, base_named, with_base}
+use Rattle.zeb_image.specs.Holdings.{Holdings, new_base, base_named, with_base}
 use Rattle.zeb_change.specs.Base.{Base}
-use Rattle.zeb_engine.specs.Image.{AreBases, HasTexts, IsImage, IsImageOf}
+use Rattle.zeb_image.specs.Image.{AreBases, HasTexts, IsImage, IsImageOf}
 use Rattle.zeb_engine.specs.Steps.{changed_by_files, ready, start_of, turned}
 use Rattle.zeb_change.specs.UnderWay.{IsFolded, IsUnderWay}
 use Rattle.zeb_engine.proofs.Held.{image_numbered}
-use Rattle.zeb_engine.proofs.Bases.{named_found}
+use Rattle.zeb_image.proofs.Bases.{named_found}
 use Rattle.zeb_engine.proofs.Beginning.{texts_still}
 use Rattle.zeb_engine.proofs.Creating.{with_new_base, created_image, new_base_in}
 use Rattle.zeb_engine.proofs.FoldNames.{files_named}

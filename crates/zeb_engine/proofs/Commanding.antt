@@ -6,8 +6,8 @@ use Rattle.zeb_profile.specs.declared.directives.Directive.{Directive}
 use Rattle.zeb_register.specs.Calls.{ChangesNothing}
 use Rattle.zeb_engine.specs.declared.commands.Command.TheVariants.{Analyse, Find, Scan}
 use Rattle.zeb_change.specs.declared.settings.Limits.{Limits}
-use Rattle.zeb_engine.specs.declared.names.DbName.{DbName}
-use Rattle.zeb_engine.specs.NameOf.{name_bytes}
+use Rattle.zeb_image.specs.declared.names.DbName.{DbName}
+use Rattle.zeb_image.specs.NameOf.{name_bytes}
 use Rattle.zeb_engine.specs.declared.replies.Reply.{Reply}
 use Rattle.zeb_change.specs.declared.refusals.Refusal.{Refusal}
 use Rattle.zeb_change.specs.declared.refusals.Refusal.TheVariants as refusal
@@ -16,10 +16,10 @@ use Rattle.zeb_engine.specs.Answers.{Answer, answer_of, refused, IsFailure}
 use Rattle.zeb_change.specs.Refused.{Why, why_of, Meets}
 use Rattle.zeb_change.specs.Conditions.{Conditions}
 use Rattle.zeb_engine.specs.Alone.{Alone, AnswersAlone, FindSays, ScanSays}
-use Rattle.zeb_engine.specs.Holdings.{Holdings}
+use Rattle.zeb_image.specs.Holdings.{Holdings}
 use Rattle.zeb_change.specs.Base.{Base}
-use Rattle.zeb_engine.specs.Image.{Keeps}
-use Rattle.zeb_engine.specs.Steps.{Turn, Outcome, Ends, OnlyAnswers, FoundFrom, ScannedFrom, ready, turned, waited, waits}
+use Rattle.zeb_image.specs.Image.{Keeps}
+use Rattle.zeb_engine.specs.Steps.{Turn, Outcome, Ends, OnlyAnswers, FoundFrom, ScannedFrom, ready, turned, checked, checked_from}
 use Rattle.zeb_engine.specs.Works.{Always, Asks, Finds, ScansFrom, Serves, ServesBy, ServesCommand}
 use Rattle.zeb_engine.proofs.Serving.{early_serves}
 use Rattle.zeb_engine.proofs.Turns.{turn_refused}
@@ -38,10 +38,10 @@ module _ (format : Format) (c : Conditions) (old new : State) (refusal : Refusal
     | inr said ↦ inr (turn_refused c before turn (why_of refusal) said)
   ])
 
-  pub unready_waits : Serves Always (waited c) old new (Err refusal)
-  unready_waits = early_serves (waited c) Always old new refusal nothing (λ before fits keeps. elim (told before keeps) [
+  pub unready_checks : Serves Always (checked c) old new (Err refusal)
+  unready_checks = early_serves (checked c) Always old new refusal nothing (λ before fits keeps. elim (told before keeps) [
     | inl failed ↦ inl failed
-    | inr said ↦ inr (ap (λ r. (waits r, before)) said)
+    | inr said ↦ inr (ap (λ r. (checked_from r, before)) said)
   ])
 
 -- an answer that is described

@@ -20,8 +20,8 @@ use Rattle.zeb_engine.specs.Adopting.{StaysOpen}
 use Rattle.zeb_engine.specs.Answers.{Answer, reply_answer, IsFailure}
 use Rattle.zeb_change.specs.Conditions.{Conditions}
 use Rattle.zeb_engine.specs.Crashes.{Accepts, Bears, KeepsDisk, IsEmptyDisk, IsStoreDisk, Stands, Leaves, Commits, CommitsBy, CommitsAdopted, CommitsTables, Endures}
-use Rattle.zeb_engine.specs.Holdings.{Holdings}
-use Rattle.zeb_engine.specs.Image.{IsImage, Keeps}
+use Rattle.zeb_image.specs.Holdings.{Holdings}
+use Rattle.zeb_image.specs.Image.{IsImage, Keeps}
 use Rattle.zeb_engine.specs.Steps.{Ends, Outcome}
 use Rattle.zeb_engine.specs.Transactions.{EnduresRefusal, IsDurable, LeavesNoMore}
 use Rattle.zeb_engine.specs.declared.writes.Write.{Write}
@@ -136,7 +136,6 @@ module _ (Told : Holdings → Answer → Holdings → Type 0) (old new : State) 
   endures_refusal (refusal.ReadFault file) no_more either = λ before leaves db left. leaves db (no_more (λ is. cc) db left)
   endures_refusal refusal.Store no_more either = either
   endures_refusal refusal.Memory no_more either = λ before leaves db left. leaves db (no_more (λ is. cc) db left)
-  endures_refusal refusal.Unsupported no_more either = λ before leaves db left. leaves db (no_more (λ is. cc) db left)
 
   pub endures : (result : Result Reply Refusal) → HasCleanDisk new → IsDurable new → OnOk result (StaysOpen old new) → IfErr result (EnduresRefusal old new) → Survives old new (CommitsBy Told old)
       → ServesBy Told old new result → Endures Told old new result

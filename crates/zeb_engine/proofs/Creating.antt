@@ -13,12 +13,12 @@ use Rattle.zeb_register.specs.Content.{Content}
 use Rattle.zeb_register.specs.Catalog.{PutsDatabase}
 use Rattle.zeb_register.specs.Store.{HasDatabase, KeepsRegisters, record_row}
 use Rattle.zeb_change.specs.Base.{Base}
-use Rattle.zeb_engine.specs.Holdings.{new_base, base_named, with_base}
-use Rattle.zeb_engine.specs.Names.{IsDatabaseName}
-use Rattle.zeb_engine.specs.Image.{AreBases, AreListed, IsImageOf}
+use Rattle.zeb_image.specs.Holdings.{new_base, base_named, with_base}
+use Rattle.zeb_image.specs.Names.{IsDatabaseName}
+use Rattle.zeb_image.specs.Image.{AreBases, AreListed, IsImageOf}
 use Rattle.zeb_change.specs.Stored.{AreKept, IsBase}
-use Rattle.zeb_engine.proofs.Bases.{bytes_other, named_none, with_base_has, with_base_in_order}
-use Rattle.zeb_engine.proofs.Ids.{none_in}
+use Rattle.zeb_image.proofs.Bases.{bytes_other, named_none, with_base_has, with_base_in_order}
+use Rattle.zeb_image.proofs.Ids.{none_in}
 use Rattle.zeb_register.specs.Formats.{Format, holds_in}
 
 -- what a new database has

@@ -13,13 +13,13 @@ use Rattle.zeb_register.specs.Catalog.{PutsDatabase}
 use Rattle.zeb_register.specs.Content.{Content}
 use Rattle.zeb_register.specs.Store.{HasDatabase, KeepsRegisters, databases_tree}
 use Rattle.zeb_change.specs.Base.{Base, Kept}
-use Rattle.zeb_engine.specs.Holdings.{base_placed, with_base}
-use Rattle.zeb_engine.specs.Names.{IsDatabaseName}
-use Rattle.zeb_engine.specs.Image.{AreBases, AreListed, IsImageOf}
+use Rattle.zeb_image.specs.Holdings.{base_placed, with_base}
+use Rattle.zeb_image.specs.Names.{IsDatabaseName}
+use Rattle.zeb_image.specs.Image.{AreBases, AreListed, IsImageOf}
 use Rattle.zeb_change.specs.Stored.{AreStored, IsBase}
 use Rattle.zeb_change.specs.UnderWay.{with_records}
-use Rattle.zeb_engine.proofs.Bases.{bytes_told, name_order, with_base_has, with_base_in_order}
-use Rattle.zeb_engine.proofs.Ids.{id_same, id_other, ids_told}
+use Rattle.zeb_image.proofs.Bases.{bytes_told, name_order, with_base_has, with_base_in_order}
+use Rattle.zeb_image.proofs.Ids.{id_same, id_other, ids_told}
 use Rattle.zeb_change.proofs.UnderWay.{same_kept}
 use Rattle.zeb_register.specs.Formats.{Format, holds_in}
 

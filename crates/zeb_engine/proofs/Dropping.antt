@@ -13,11 +13,11 @@ use Rattle.zeb_register.specs.Content.{Content, IsRising, IsWithout, posting_cmp
 use Rattle.zeb_register.specs.Sql.{Loses}
 use Rattle.zeb_register.specs.Store.{HasDatabase, IsRecordIn, TakesDatabase, record_row}
 use Rattle.zeb_change.specs.Base.{Base, Kept}
-use Rattle.zeb_engine.specs.Holdings.{base_named, without_base}
-use Rattle.zeb_engine.specs.Image.{AreBases, AreListed, IsImageOf}
+use Rattle.zeb_image.specs.Holdings.{base_named, without_base}
+use Rattle.zeb_image.specs.Image.{AreBases, AreListed, IsImageOf}
 use Rattle.zeb_change.specs.Stored.{AreKept, ArePosted}
-use Rattle.zeb_engine.proofs.Bases.{named_found, without_base_has, without_base_in_order}
-use Rattle.zeb_engine.proofs.Ids.{id_same, id_other, ids_told}
+use Rattle.zeb_image.proofs.Bases.{named_found, without_base_has, without_base_in_order}
+use Rattle.zeb_image.proofs.Ids.{id_same, id_other, ids_told}
 use Rattle.zeb_register.specs.Formats.{Format, holds_in}
 
 pub without_bases : (profile : List Directive) (name : List ℕ) (bases : List Base) → AreBases profile bases → AreBases profile (without_base name bases)

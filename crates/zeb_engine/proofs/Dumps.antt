@@ -1,5 +1,5 @@
 -- How many records a database has, the records that are read of it one after the other, and what a dump answers.
-use Rattle.std.proofs.Common.{◌≡◌, ◌↔◌, ◌⊎◌, ◌∙◌, ◌++◌, ◌+◌, ◌-◌, ◌<◌, ◌≤◌, ℕ, ℤ, pos, Bool, true, false, List, [], ◌∷◌, length, map, Option, Some, None, Result, Ok, Err, string_bytes, refl, sym, ap, ap₂, subst, inl, inr, IsUtf8, arith, append-nil}
+use Rattle.std.proofs.Common.{◌≡◌, ◌⊎◌, ◌∙◌, ◌++◌, ◌+◌, ◌-◌, ◌<◌, ◌≤◌, ℕ, ℤ, pos, Bool, false, List, [], ◌∷◌, length, map, Option, Some, None, Result, Ok, Err, string_bytes, refl, sym, ap, ap₂, subst, inl, inr, IsUtf8, arith, append-nil}
 use Rattle.std.specs.Prelude.{filter, nat_lt}
 use Rattle.std.specs.Cmp.{nat_cmp_total, on_total}
 use Rattle.std.specs.List.{IsDistinct, flat_map}
@@ -31,9 +31,9 @@ use Rattle.zeb_engine.specs.declared.replies.Reply.{Reply}
 use Rattle.zeb_change.specs.Refused.{Why, why_of}
 use Rattle.zeb_engine.specs.Answers.{answer_of, refused, IsFailure}
 use Rattle.zeb_change.specs.Conditions.{Conditions}
-use Rattle.zeb_engine.specs.Holdings.{Holdings, base_named}
+use Rattle.zeb_image.specs.Holdings.{Holdings, base_named}
 use Rattle.zeb_change.specs.Base.{Base, Kept}
-use Rattle.zeb_engine.specs.Image.{Keeps}
+use Rattle.zeb_image.specs.Image.{Keeps}
 use Rattle.zeb_engine.specs.PrivateDumping.{KeepsBase}
 use Rattle.zeb_engine.specs.Steps.{dumped_by, dumped_from, dumped_in, existing, found_or, no_database, ready}
 use Rattle.zeb_engine.specs.Works.{Always, Serves}

@@ -26,7 +26,7 @@ use Rattle.zeb_search.specs.Holds.{TreeHolds}
 use Rattle.zeb_search.specs.Lists.{AreNumbers}
 use Rattle.zeb_search.proofs.Known.{holder_known}
 use Rattle.zeb_engine.specs.declared.commands.Command.{Command}
-use Rattle.zeb_engine.specs.declared.commands.Command.TheVariants.{Init, Check, Create, Drop, Stat, Dump, Change, Find, Scan, Analyse}
+use Rattle.zeb_engine.specs.declared.commands.Command.TheVariants.{Init, Check, Reindex, Upgrade, Create, Drop, Stat, Dump, Change, Find, Scan, Analyse}
 use Rattle.zeb_engine.specs.Analysed.{IsAnalysed, analysis_answer}
 use Rattle.zeb_engine.specs.Answers.{Answer, Extent, counted, found, refused, scanned}
 use Rattle.zeb_change.specs.Refused.{Why, diagnostic}
@@ -35,10 +35,10 @@ use Rattle.zeb_engine.specs.Counting.{IsCounted, IsExtent, Paired, Target, name_
 use Rattle.zeb_engine.specs.Finding.{AreShown, IsAnswered, IsFound, IsNamed, IsPlanned, IsShown, has_name}
 use Rattle.zeb_change.specs.Occurs.{OccursIn, occurs}
 use Rattle.zeb_change.specs.Base.{Base, Kept}
-use Rattle.zeb_engine.specs.Holdings.{Holdings, base_named}
-use Rattle.zeb_engine.specs.NameOf.{name_bytes}
+use Rattle.zeb_image.specs.Holdings.{Holdings, base_named}
+use Rattle.zeb_image.specs.NameOf.{name_bytes}
 use Rattle.zeb_engine.specs.Scanning.{IsScanned, IsScanPlanned, around}
-use Rattle.zeb_engine.specs.Steps.{AskedAmong, AskedFrom, AskedIn, CountedFrom, FindAnswers, ScanAnswers, StatAnswers, Step, changed_by_files, created, dropped, dumped_by, initialised, no_database, ready, turned, waited}
+use Rattle.zeb_engine.specs.Steps.{AskedAmong, AskedFrom, AskedIn, CountedFrom, FindAnswers, ScanAnswers, StatAnswers, Step, changed_by_files, created, dropped, dumped_by, initialised, no_database, ready, turned, checked, reindexed, upgraded}
 use Rattle.zeb_change.specs.Folding.{splits_of}
 use Rattle.zeb_engine.proofs.EveryAnswerAnalyses.{analyses_there}
 use Rattle.zeb_engine.proofs.EveryAnswerHolds.{IsSetOf}
@@ -260,7 +260,9 @@ step_there c (Find name query first count) before =
     let said = asked_by_query (FindAnswers c.profile (string_bytes query) first count) (name_bytes name) (string_bytes query)
     (λ is base. find_there c.profile base.records first count (string_bytes query) is) (ready c before) in
     (said.0, before, (said.1, refl))
-step_there c Check before = let told = waited c before in (told.0, told.1, (refl, refl))
+step_there c Check before = let told = checked c before in (told.0, told.1, (refl, refl))
+step_there c Reindex before = let told = reindexed c before in (told.0, told.1, (refl, refl))
+step_there c Upgrade before = let told = upgraded c before in (told.0, told.1, (refl, refl))
 step_there c (Stat name) before = let said = counted_there c (name_bytes name) (ready c before) in (said.0, before, (said.1, refl))
 step_there c (Dump name) before = let told = dumped_by c (name_bytes name) before in (told.0, told.1, (refl, refl))
 step_there c (Scan name query number position) before =

@@ -26,7 +26,7 @@ use Rattle.zeb_search.proofs.ReadableNames.{names_readable}
 use Rattle.zeb_search.proofs.HoldsAlike.{tree_alike}
 use Rattle.zeb_search.proofs.Known.{IsKnown, holder_known}
 use Rattle.zeb_change.specs.Base.{Base, Kept}
-use Rattle.zeb_engine.specs.Holdings.{base_named}
+use Rattle.zeb_image.specs.Holdings.{base_named}
 use Rattle.zeb_change.specs.Outcomes.{query_refusal}
 use Rattle.zeb_engine.specs.Steps.{FindAnswers}
 use Rattle.zeb_engine.specs.Works.{KeepsEach}

@@ -18,14 +18,14 @@ use Rattle.zeb_search.specs.Registers.{has_ident_in}
 use Rattle.zeb_change.specs.Conditions.{Conditions, AreSessions}
 use Rattle.zeb_engine.specs.Finding.{has_name}
 use Rattle.zeb_change.specs.Occurs.{occurs}
-use Rattle.zeb_engine.specs.Holdings.{Holdings, base_named}
+use Rattle.zeb_image.specs.Holdings.{Holdings, base_named}
 use Rattle.zeb_change.specs.Base.{Base, Kept}
 use Rattle.zeb_change.specs.Stored.{IsBase}
-use Rattle.zeb_engine.specs.Image.{AreBases, IsImage, IsImageOf}
+use Rattle.zeb_image.specs.Image.{AreBases, IsImage, IsImageOf}
 use Rattle.zeb_engine.specs.Steps.{ready, found_or, existing}
 use Rattle.zeb_change.specs.UnderWay.{AreNumbered}
 use Rattle.zeb_change.specs.Refused.{Meets}
-use Rattle.zeb_engine.proofs.Bases.{named_found}
+use Rattle.zeb_image.proofs.Bases.{named_found}
 use Rattle.zeb_change.proofs.BaseLemmas.{base_numbered}
 use Rattle.zeb_change.proofs.KeptLemmas.{one_number}
 use Rattle.zeb_engine.proofs.ReadyImages.{image_ready}

@@ -9,8 +9,8 @@ use Rattle.zeb_engine.specs.declared.replies.Reply.{Reply}
 use Rattle.zeb_engine.specs.Answers.{answer_of, refused, IsFailure}
 use Rattle.zeb_change.specs.Refused.{damaged, why_of}
 use Rattle.zeb_change.specs.Conditions.{Conditions}
-use Rattle.zeb_engine.specs.Holdings.{Holdings}
-use Rattle.zeb_engine.specs.Image.{Keeps}
+use Rattle.zeb_image.specs.Holdings.{Holdings}
+use Rattle.zeb_image.specs.Image.{Keeps}
 use Rattle.zeb_engine.specs.Steps.{Outcome, changed_by_files, turned}
 use Rattle.zeb_change.specs.Folding.{splits_of}
 use Rattle.zeb_engine.specs.Works.{ServesCommand}

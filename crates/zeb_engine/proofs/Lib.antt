@@ -1,15 +1,21 @@
-pub mod Bases
 pub mod Ready
 pub mod ReadyTexts
 pub mod ListedDatabases
 pub mod ReadyImages
-pub mod Ids
 pub mod Creating
 pub mod Dropping
 pub mod Turns
+pub mod RuleLines
+pub mod RenewalSteps
 pub mod Beginning
 pub mod WriteSteps
+pub mod Rebuilt
+pub mod Renewing
+pub mod RenewalTexts
+pub mod Looking
 pub mod Serving
+pub mod Checks
+pub mod RenewalAnswers
 pub mod Commanding
 pub mod Asked
 pub mod RunLemmas
@@ -38,7 +44,6 @@ pub mod WorkedQuery
 pub mod WorkedRun
 pub mod FaultAnswers
 pub mod OwnAnswers
-pub mod OneText
 pub mod OneHolding
 pub mod FoldCounts
 pub mod FoldRecords
@@ -55,3 +60,4 @@ pub mod EveryAnswerLists
 pub mod EveryAnswerTerms
 pub mod EveryAnswerAnalyses
 pub mod EveryAnswer
+pub mod CheckFollows

@@ -11,10 +11,10 @@ use Rattle.zeb_register.specs.declared.RegFault.TheVariants as register
 use Rattle.zeb_change.specs.Refused.{Why, why_of, Meets}
 use Rattle.zeb_engine.specs.Answers.{IsFailure, refused}
 use Rattle.zeb_change.specs.Base.{Base}
-use Rattle.zeb_engine.specs.Holdings.{base_named}
-use Rattle.zeb_engine.specs.Image.{AreBases, AreListed}
+use Rattle.zeb_image.specs.Holdings.{base_named}
+use Rattle.zeb_image.specs.Image.{AreBases, AreListed}
 use Rattle.zeb_change.specs.Outcomes.{register_refusal}
-use Rattle.zeb_engine.proofs.Bases.{named_found, named_there}
+use Rattle.zeb_image.proofs.Bases.{named_found, named_there}
 
 -- a fault of the tables that is no damage is a failure
 pub fault_meets : {A X : Type 0} (Good : A → X → Type 0) (said : Result A Why) (fault : RegFault) → (fault ≡ register.Damaged → ⊥) → Meets Good said (Err (register_refusal fault))

@@ -14,7 +14,7 @@ use Rattle.zeb_register.specs.declared.registers.TermCount.{TermCount}
 use Rattle.zeb_register.proofs.OccurringLemmas.{one_terms}
 use Rattle.zeb_register.proofs.RisingLists.{same_list}
 use Rattle.zeb_engine.specs.declared.commands.Command.{Command}
-use Rattle.zeb_engine.specs.declared.commands.Command.TheVariants.{Init, Check, Create, Drop, Stat, Dump, Change, Find, Scan, Analyse}
+use Rattle.zeb_engine.specs.declared.commands.Command.TheVariants.{Init, Check, Reindex, Upgrade, Create, Drop, Stat, Dump, Change, Find, Scan, Analyse}
 use Rattle.zeb_engine.specs.Analysed.{IsAnalysed, analysis_answer}
 use Rattle.zeb_engine.specs.Answers.{Answer, found, scanned}
 use Rattle.zeb_change.specs.Refused.{Why}
@@ -24,8 +24,8 @@ use Rattle.zeb_search.specs.Lists.{AreNumbers}
 use Rattle.zeb_engine.specs.Finding.{IsAnswered, IsFound, IsNamed, IsPlanned, IsShown, asked_of, has_name}
 use Rattle.zeb_change.specs.Occurs.{occurs}
 use Rattle.zeb_change.specs.Base.{Base, Kept}
-use Rattle.zeb_engine.specs.Holdings.{Holdings, base_named}
-use Rattle.zeb_engine.specs.NameOf.{name_bytes}
+use Rattle.zeb_image.specs.Holdings.{Holdings, base_named}
+use Rattle.zeb_image.specs.NameOf.{name_bytes}
 use Rattle.zeb_engine.specs.Scanning.{IsScanned, IsScanPlanned, around}
 use Rattle.zeb_engine.specs.Steps.{AskedAmong, AskedFrom, AskedIn, FindAnswers, Outcome, ScanAnswers, ready, Step}
 use Rattle.zeb_engine.proofs.StepLemmas.{Answers, IsTold, step_told}
@@ -121,6 +121,8 @@ answers_once c (Find name query first count) before one other x y =
     asked_once one other (FindAnswers c.profile (string_bytes query) first count)
     (λ base. answered_once (occurs c.profile base.records) (has_name base.records) (name_once base.records) first count one other c.profile (string_bytes query)) (name_bytes name) (string_bytes query) (ready c before) x y
 answers_once c Check before one other x y = x ∙ sym y
+answers_once c Reindex before one other x y = x ∙ sym y
+answers_once c Upgrade before one other x y = x ∙ sym y
 answers_once c (Stat name) before one other x y = counted_once c (name_bytes name) one other (ready c before) x y
 answers_once c (Dump name) before one other x y = x ∙ sym y
 answers_once c (Scan name query number position) before one other x y =

@@ -9,7 +9,7 @@ use Rattle.zeb_change.specs.Conditions.{Conditions}
 use Rattle.zeb_engine.specs.Counting.{IsCounted, IsExtent, Paired, Target, target_list}
 use Rattle.zeb_change.specs.Occurs.{occurs}
 use Rattle.zeb_change.specs.Base.{Base}
-use Rattle.zeb_engine.specs.Holdings.{base_named}
+use Rattle.zeb_image.specs.Holdings.{base_named}
 use Rattle.zeb_engine.specs.Steps.{CountedFrom, CountedIn}
 
 module _ (O : ℕ → Occurrence → Type 0) (profile : List Directive) where

@@ -9,10 +9,10 @@ use Rattle.zeb_register.specs.Formats.{Format}
 use Rattle.zeb_register.specs.Store.{HasDatabase, HasRecord, meta_tree}
 use Rattle.zeb_register.proofs.RisingLists.{same_list}
 use Rattle.zeb_change.specs.Base.{Base, Kept}
-use Rattle.zeb_engine.specs.Holdings.{Holdings, nothing_yet, under}
-use Rattle.zeb_engine.specs.Image.{AreBases, IsImage, IsImageOf, IsImageUnder}
+use Rattle.zeb_image.specs.Holdings.{Holdings, nothing_yet, under}
+use Rattle.zeb_image.specs.Image.{AreBases, IsImage, IsImageOf, IsImageUnder}
 use Rattle.zeb_change.specs.Stored.{IsBase}
-use Rattle.zeb_engine.proofs.OneText.{under_other}
+use Rattle.zeb_image.proofs.OneText.{under_other}
 use Rattle.zeb_engine.proofs.Ready.{none_there, profile_is, version_is}
 
 same_record : (one other : Kept) → one.sysno ≡ other.sysno → one.ident ≡ other.ident → one.bytes ≡ other.bytes → one ≡ other

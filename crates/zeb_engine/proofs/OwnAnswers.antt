@@ -1,6 +1,6 @@
 -- What the definition answers is never damage, nor a failure of the store, of the memory or of a reader.
 use Rattle.std.proofs.Common.{◌+◌, ◌-◌, ℕ, Bool, true, false, cond, List, [], ◌∷◌, Option, Some, None, Result, Ok, Err, map, length, take, drop, nat_le, nat_lt, sym, subst, string_bytes}
-use Rattle.std.specs.Prelude.{◌&&◌, ⊤}
+use Rattle.std.specs.Prelude.{◌&&◌, ◌||◌, ⊤}
 use Rattle.std.specs.Str.{bytes_eq}
 use Rattle.std.specs.Fmt.{decimal}
 use Rattle.zeb_marc.specs.declared.faults.MarcFault.{MarcFault}
@@ -9,6 +9,7 @@ use Rattle.zeb_marc.specs.Records.{first_fault, fields_of}
 use Rattle.zeb_marc.specs.Contents.{units_of}
 use Rattle.zeb_marc.specs.Splits.{split_of}
 use Rattle.zeb_profile.specs.Canonical.{canonical_text}
+use Rattle.zeb_register.specs.Formats.{plain_rows, version_of}
 use Rattle.zeb_query.specs.Faults.{Refusal}
 use Rattle.zeb_query.specs.Plans.{PlanValue, ScanValue, plan_of, scan_of}
 use Rattle.zeb_query.specs.Reading.{query_fault}
@@ -20,23 +21,24 @@ use Rattle.zeb_analysis.specs.declared.faults.AnalysisFault.TheVariants as analy
 use Rattle.zeb_analysis.specs.Analysing.{Analysed, AnalysesTo}
 use Rattle.zeb_analysis.specs.Laws.{IsRefusal}
 use Rattle.zeb_engine.specs.declared.commands.Command.{Command}
-use Rattle.zeb_engine.specs.declared.commands.Command.TheVariants.{Init, Check, Create, Drop, Stat, Dump, Change, Find, Scan, Analyse}
+use Rattle.zeb_engine.specs.declared.commands.Command.TheVariants.{Init, Check, Reindex, Upgrade, Create, Drop, Stat, Dump, Change, Find, Scan, Analyse}
 use Rattle.zeb_change.specs.declared.settings.Kind.{Kind}
 use Rattle.zeb_change.specs.declared.settings.Kind.TheVariants.{Update, Delete, Adelete}
 use Rattle.zeb_change.specs.declared.tally.Fate.TheVariants.{Inserted, PassedOver}
-use Rattle.zeb_engine.specs.NameOf.{name_bytes}
+use Rattle.zeb_image.specs.NameOf.{name_bytes}
 use Rattle.zeb_engine.specs.Answers.{Answer, refused}
-use Rattle.zeb_change.specs.Refused.{Why, old_format, profile_changed, diagnostic, unknown, database_full, too_many_records, damaged, read_fault, store_failed, out_of_memory, why_of}
+use Rattle.zeb_change.specs.Refused.{Why, old_format, profile_changed, rule_changed, diagnostic, unknown, database_full, too_many_records, damaged, read_fault, store_failed, out_of_memory, why_of}
 use Rattle.zeb_change.specs.Conditions.{Conditions}
 use Rattle.zeb_engine.specs.Finding.{IsPlanned, IsShown, asked_of, has_name}
 use Rattle.zeb_change.specs.Occurs.{occurs}
 use Rattle.zeb_engine.specs.Scanning.{IsScanPlanned}
 use Rattle.zeb_change.specs.Folding.{Changed, Progress, at_end, at_first, changed_by, changed_record, counted, deleted, file_folded, files_folded, folded, ident_in, slices_folded, updated, with_ident, with_record, ◌then◌, splits_of}
 use Rattle.zeb_change.specs.Base.{Base, Kept, kept_as, with_new}
-use Rattle.zeb_engine.specs.Holdings.{Holdings, nothing_yet, under, base_named}
+use Rattle.zeb_image.specs.Holdings.{Holdings, nothing_yet, under, base_named}
 use Rattle.zeb_engine.specs.Analysed.{IsAnalysed, analysis_answer}
+use Rattle.zeb_engine.specs.Rules.{same_rule}
 use Rattle.zeb_change.specs.Outcomes.{analysis_refusal, marc_refusal}
-use Rattle.zeb_engine.specs.Steps.{AskedAmong, AskedFrom, AskedIn, CountedFrom, CountedIn, FindAnswers, ScanAnswers, Turn, change_ends, change_from, changed_by_files, created, created_in, dropped, dropped_in, dumped_from, dumped_in, ends, initialised, ready, start_of, turned, turned_from, waits}
+use Rattle.zeb_engine.specs.Steps.{AskedAmong, AskedFrom, AskedIn, CountedFrom, CountedIn, FindAnswers, ScanAnswers, Turn, change_ends, change_from, changed_by_files, created, created_in, dropped, dropped_in, dumped_from, dumped_in, ends, initialised, ready, start_of, turned, turned_from, checked_from, reindexed, ruled, upgradable, upgraded, all_stay}
 use Rattle.zeb_engine.proofs.StepLemmas.{Answers}
 use Rattle.zeb_engine.proofs.Analyses.{fault_of_text, refusal_of_texts}
 use Rattle.zeb_engine.proofs.FaultAnswers.{IsOfText, IsOfRecord, first_of_text, split_of_text, identifier_of_record}
@@ -157,13 +159,41 @@ turn_ends : (c : Conditions) (before : Holdings) (said : Result (Answer × List 
 turn_ends c before (Ok turned) is = is
 turn_ends c before (Err why) is = is
 
+from_own : (c : Conditions) (turn : Turn) (before : Holdings) → ((bases : List Base) → IsOwnTurn (turn bases)) → (said : Result (List Base) Why) → AreOwn said → IsOwnAnswer (turned_from c turn before said).0
+from_own c turn before each (Ok bases) is = turn_ends c before (turn bases) (each bases)
+from_own c turn before each (Err why) is = is
+
 pub turned_own : (c : Conditions) (turn : Turn) (before : Holdings) → ((bases : List Base) → IsOwnTurn (turn bases)) → IsOwnAnswer (turned c turn before).0
 unfolding turned
-turned_own c turn before each = go (ready c before) (ready_own c before)
+turned_own c turn before each = from_own c turn before each (ready c before) (ready_own c before)
+
+ruled_own : (c : Conditions) (before : Holdings) → AreOwn (ruled c before)
+unfolding ruled
+ruled_own c nothing_yet = tt
+ruled_own c (under version text bases) = go (bytes_eq version c.version) (same_rule text (canonical_text c.profile))
   where
-    go : (said : Result (List Base) Why) → AreOwn said → IsOwnAnswer (turned_from c turn before said).0
-    go (Ok bases) is = turn_ends c before (turn bases) (each bases)
-    go (Err why) is = is
+    go : (one other : Bool) → AreOwn {A = List Base} (cond one (cond other (Ok bases) (Err rule_changed)) (Err old_format))
+    go true true = tt
+    go true false = tt
+    go false other = tt
+
+reindexed_own : (c : Conditions) (before : Holdings) → IsOwnAnswer (reindexed c before).0
+unfolding reindexed
+reindexed_own c before = from_own c all_stay before (λ bases. tt) (ruled c before) (ruled_own c before)
+
+upgradable_own : (c : Conditions) (before : Holdings) → AreOwn (upgradable c before)
+unfolding upgradable
+upgradable_own c nothing_yet = tt
+upgradable_own c (under version text bases) = go (bytes_eq version c.version || bytes_eq version (version_of plain_rows)) (bytes_eq text (canonical_text c.profile))
+  where
+    go : (one other : Bool) → AreOwn {A = List Base} (cond one (cond other (Ok bases) (Err profile_changed)) (Err old_format))
+    go true true = tt
+    go true false = tt
+    go false other = tt
+
+upgraded_own : (c : Conditions) (before : Holdings) → IsOwnAnswer (upgraded c before).0
+unfolding upgraded
+upgraded_own c before = from_own c all_stay before (λ bases. tt) (upgradable c before) (upgradable_own c before)
 
 created_own : (name : List ℕ) (bases : List Base) → IsOwnTurn (created name bases)
 unfolding created
@@ -199,9 +229,9 @@ change_own c kind name texts bases = go (start_of kind name (base_named name bas
     go (Ok base) is = ends_so (files_folded c kind 1 (splits_of texts) (at_first base)) (files_own c kind 1 texts (at_first base))
     go (Err why) is = is
 
-waits_own : (said : Result (List Base) Why) → AreOwn said → IsOwnAnswer (waits said)
-waits_own (Ok bases) is = tt
-waits_own (Err why) is = is
+checked_own : (said : Result (List Base) Why) → AreOwn said → IsOwnAnswer (checked_from said)
+checked_own (Ok bases) is = tt
+checked_own (Err why) is = is
 
 -- ---- finds
 
@@ -289,7 +319,9 @@ answers_own c (Find name query first count) before answer is =
     asked_own (FindAnswers c.profile (string_bytes query) first count)
     (λ base given h. planned_own (occurs c.profile base.records) (has_name base.records) first count given (plan_of c.profile h.0) h.2) (name_bytes name) (string_bytes query) answer
     (ready c before) (ready_own c before) is
-answers_own c Check before answer is = subst IsOwnAnswer (sym is) (waits_own (ready c before) (ready_own c before))
+answers_own c Check before answer is = subst IsOwnAnswer (sym is) (checked_own (ready c before) (ready_own c before))
+answers_own c Reindex before answer is = subst IsOwnAnswer (sym is) (reindexed_own c before)
+answers_own c Upgrade before answer is = subst IsOwnAnswer (sym is) (upgraded_own c before)
 answers_own c (Stat name) before answer is = counted_own c (name_bytes name) answer (ready c before) (ready_own c before) is
 answers_own c (Dump name) before answer is = subst IsOwnAnswer (sym is) (dumped_own (name_bytes name) (ready c before) (ready_own c before))
 answers_own c (Scan name query number position) before answer is =

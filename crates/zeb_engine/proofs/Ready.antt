@@ -15,11 +15,11 @@ use Rattle.zeb_register.proofs.Calls.{store_same}
 use Rattle.zeb_register.specs.Store.{IsStore, IsValueOf, AreReadableTexts, entry, meta_tree}
 use Rattle.zeb_change.specs.Refused.{Why, not_initialised, old_format, profile_changed}
 use Rattle.zeb_change.specs.Conditions.{Conditions}
-use Rattle.zeb_engine.specs.Holdings.{Holdings, nothing_yet, under}
+use Rattle.zeb_image.specs.Holdings.{Holdings, nothing_yet, under}
 use Rattle.zeb_change.specs.Base.{Base}
-use Rattle.zeb_engine.specs.Image.{IsImage, HasTexts}
+use Rattle.zeb_image.specs.Image.{IsImage, HasTexts}
 use Rattle.zeb_engine.specs.Steps.{ready, holding}
-use Rattle.zeb_engine.proofs.Bases.{bytes_other}
+use Rattle.zeb_image.proofs.Bases.{bytes_other}
 use Rattle.zeb_register.specs.Formats.{Format}
 
 abbrev pub version_in : Holdings → Option (List ℕ)

@@ -8,11 +8,11 @@ use Rattle.zeb_profile.specs.Indexes.{identifier_pattern}
 use Rattle.zeb_register.specs.Formats.{Format}
 use Rattle.zeb_register.proofs.FormatLemmas.{one_format}
 use Rattle.zeb_change.specs.Conditions.{Conditions, AreSessions}
-use Rattle.zeb_engine.specs.Holdings.{Holdings}
+use Rattle.zeb_image.specs.Holdings.{Holdings}
 use Rattle.zeb_change.specs.Base.{Base}
-use Rattle.zeb_engine.specs.Image.{AreBases, HasTexts, IsImage, IsImageOf, IsImageUnder}
+use Rattle.zeb_image.specs.Image.{AreBases, HasTexts, IsImage, IsImageOf, IsImageUnder}
 use Rattle.zeb_engine.specs.Steps.{ready, holding}
-use Rattle.zeb_engine.proofs.OneText.{under_other}
+use Rattle.zeb_image.proofs.OneText.{under_other}
 use Rattle.zeb_engine.proofs.Ready.{ready_is}
 
 -- under some profile that has the session's text

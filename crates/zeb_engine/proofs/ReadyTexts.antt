@@ -50,7 +50,6 @@ module _ (version : List ℕ) (profile : List Directive) where
   other_texts trees (refusal.ReadFault file) is never = tt
   other_texts trees refusal.Store is never = tt
   other_texts trees refusal.Memory is never = tt
-  other_texts trees refusal.Unsupported is never = is
 
   -- the work of a command on a register that is ready
   pub ready_then : {T X : Type 0} (s : State) (x : X) → GoesByTexts version profile s (Ok x) → (result : Result T Refusal) → NeverUnready result → GoesByTexts version profile s result

@@ -2,7 +2,7 @@
 use Rattle.std.proofs.Common.{◌≡◌, ◌∙◌, ℕ, List, map, Option, Some, None, Result, Ok, Err, refl, sym}
 use Rattle.zeb_marc.specs.Splits.{Split}
 use Rattle.zeb_engine.specs.declared.commands.Command.{Command}
-use Rattle.zeb_engine.specs.declared.commands.Command.TheVariants.{Init, Check, Create, Drop, Stat, Dump, Change, Find, Scan, Analyse}
+use Rattle.zeb_engine.specs.declared.commands.Command.TheVariants.{Init, Check, Reindex, Upgrade, Create, Drop, Stat, Dump, Change, Find, Scan, Analyse}
 use Rattle.zeb_change.specs.declared.settings.Kind.{Kind}
 use Rattle.zeb_engine.specs.Answers.{Answer, refused}
 use Rattle.zeb_change.specs.Refused.{Why}
@@ -10,9 +10,9 @@ use Rattle.zeb_change.specs.Conditions.{Conditions}
 use Rattle.zeb_engine.specs.Crashes.{Accepts, IsRefused}
 use Rattle.zeb_change.specs.Folding.{Progress, at_first, files_folded, splits_of}
 use Rattle.zeb_change.specs.Base.{Base}
-use Rattle.zeb_engine.specs.Holdings.{Holdings, base_named}
-use Rattle.zeb_engine.specs.NameOf.{name_bytes}
-use Rattle.zeb_engine.specs.Steps.{Turn, change_ends, change_from, changed_by_files, created, created_in, dropped, dropped_in, ends, initialised, ready, start_of, turned, turned_from}
+use Rattle.zeb_image.specs.Holdings.{Holdings, base_named}
+use Rattle.zeb_image.specs.NameOf.{name_bytes}
+use Rattle.zeb_engine.specs.Steps.{Turn, all_stay, change_ends, change_from, changed_by_files, created, created_in, dropped, dropped_in, ends, initialised, ready, reindexed, ruled, start_of, turned, turned_from, upgradable, upgraded}
 use Rattle.zeb_engine.proofs.StepLemmas.{Answers, after}
 
 -- what a turn answers that is taken is no refusal
@@ -60,6 +60,17 @@ changed_fine c kind name files bases = from (start_of kind name (base_named name
     from (Ok base) = folds_fine bases (files_folded c kind 1 files (at_first base))
     from (Err why) = tt
 
+stay_fine : (bases : List Base) → IsFine (all_stay bases)
+stay_fine bases = λ why is. absurd cc
+
+reindexed_still : (c : Conditions) (before : Holdings) (why : Why) → (reindexed c before).0 ≡ refused why → (reindexed c before).1 ≡ before
+unfolding reindexed
+reindexed_still c before why is = from_still c all_stay stay_fine before why (ruled c before) is
+
+upgraded_still : (c : Conditions) (before : Holdings) (why : Why) → (upgraded c before).0 ≡ refused why → (upgraded c before).1 ≡ before
+unfolding upgraded
+upgraded_still c before why is = from_still c all_stay stay_fine before why (upgradable c before) is
+
 init_accepts : (c : Conditions) (before : Holdings) (why : Why) → (initialised c before).0 ≡ refused why → ⊥
 unfolding initialised
 init_accepts c before why is = absurd cc
@@ -67,6 +78,8 @@ init_accepts c before why is = absurd cc
 pub refused_still : (c : Conditions) (command : Command) (before : Holdings) (answer : Answer) → Answers c command before answer → IsRefused answer → after c command before ≡ before
 refused_still c Init before answer told refuses = absurd (init_accepts c before refuses.0 (sym told ∙ refuses.1))
 refused_still c Check before answer told refuses = refl
+refused_still c Reindex before answer told refuses = reindexed_still c before refuses.0 (sym told ∙ refuses.1)
+refused_still c Upgrade before answer told refuses = upgraded_still c before refuses.0 (sym told ∙ refuses.1)
 refused_still c (Create name) before answer told refuses = turned_still c (created (name_bytes name)) (created_fine (name_bytes name)) before refuses.0 (sym told ∙ refuses.1)
 refused_still c (Drop name) before answer told refuses = turned_still c (dropped (name_bytes name)) (dropped_fine (name_bytes name)) before refuses.0 (sym told ∙ refuses.1)
 refused_still c (Stat name) before answer told refuses = refl

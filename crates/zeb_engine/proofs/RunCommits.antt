@@ -10,8 +10,8 @@ use Rattle.zeb_engine.specs.Answers.{Answer, answer_of, refused, reply_answer}
 use Rattle.zeb_change.specs.Refused.{why_of}
 use Rattle.zeb_change.specs.Conditions.{Conditions}
 use Rattle.zeb_engine.specs.Crashes.{CommitsCommand, CommitsOne, IsCarriedOut, LeavesOne}
-use Rattle.zeb_engine.specs.Holdings.{Holdings}
-use Rattle.zeb_engine.specs.Image.{Keeps}
+use Rattle.zeb_image.specs.Holdings.{Holdings}
+use Rattle.zeb_image.specs.Image.{Keeps}
 use Rattle.zeb_engine.specs.Steps.{Run}
 use Rattle.zeb_engine.specs.Transactions.{EnduresRefusal}
 use Rattle.zeb_engine.specs.Works.{Runs, ServesCommand}

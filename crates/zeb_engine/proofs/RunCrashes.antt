@@ -10,8 +10,8 @@ use Rattle.zeb_engine.specs.Answers.{Answer, answer_of, refused}
 use Rattle.zeb_change.specs.Refused.{store_failed, why_of}
 use Rattle.zeb_change.specs.Conditions.{Conditions}
 use Rattle.zeb_engine.specs.Crashes.{AreRefused, CommitsCommand, Endures, EnduresRun, IsRefused, RunLeft, Stands}
-use Rattle.zeb_engine.specs.Holdings.{Holdings}
-use Rattle.zeb_engine.specs.Image.{Keeps}
+use Rattle.zeb_image.specs.Holdings.{Holdings}
+use Rattle.zeb_image.specs.Image.{Keeps}
 use Rattle.zeb_engine.specs.Steps.{Answered, Run, Step}
 use Rattle.zeb_engine.specs.Transactions.{AsksStore, Commanded, IsDurable}
 use Rattle.zeb_engine.specs.Works.{Runs, ServesCommand}
@@ -77,7 +77,6 @@ is_store refusal.IdentifierRuleChanged = inr (λ is. cc)
 is_store (refusal.ReadFault file) = inr (λ is. cc)
 is_store refusal.Store = inl refl
 is_store refusal.Memory = inr (λ is. cc)
-is_store refusal.Unsupported = inr (λ is. cc)
 
 -- after one command
 pub did_endures : (c : Conditions) (command : Command) (old new : State) (result : Result Reply Refusal) → HasCleanDisk new → IsDurable new → Did command old new result → Survives old new (CommitsCommand c command old)

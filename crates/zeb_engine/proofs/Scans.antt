@@ -18,7 +18,7 @@ use Rattle.zeb_engine.specs.Answers.{Answer, scanned, refused}
 use Rattle.zeb_change.specs.Refused.{diagnostic, why_of}
 use Rattle.zeb_change.specs.Occurs.{occurs}
 use Rattle.zeb_change.specs.Base.{Base}
-use Rattle.zeb_engine.specs.Holdings.{base_named}
+use Rattle.zeb_image.specs.Holdings.{base_named}
 use Rattle.zeb_change.specs.Outcomes.{query_refusal}
 use Rattle.zeb_engine.specs.Scanning.{AreAround, IsScanPlanned}
 use Rattle.zeb_engine.specs.Steps.{ScanAnswers}

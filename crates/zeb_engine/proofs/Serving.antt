@@ -11,8 +11,8 @@ use Rattle.zeb_engine.specs.declared.replies.Reply.{Reply}
 use Rattle.zeb_change.specs.declared.refusals.Refusal.{Refusal}
 use Rattle.zeb_engine.specs.Answers.{refused, IsFailure}
 use Rattle.zeb_change.specs.Refused.{why_of}
-use Rattle.zeb_engine.specs.Holdings.{Holdings}
-use Rattle.zeb_engine.specs.Image.{IsImage, Keeps}
+use Rattle.zeb_image.specs.Holdings.{Holdings}
+use Rattle.zeb_image.specs.Image.{IsImage, Keeps}
 use Rattle.zeb_engine.specs.Steps.{Outcome, holding}
 use Rattle.zeb_engine.specs.Works.{Works, Serves}
 use Rattle.zeb_engine.specs.declared.writes.Write.{Write}
@@ -73,6 +73,8 @@ pub reached_inside : {S : Type 0} (g : Ghosts S) (w : Write) (old inside : Held 
 reached_inside g (write.Init profile pattern) old inside begins reached = tt
 reached_inside g (write.Create name) old inside begins reached = subst (λ (held : Held _). IsTrue (state g held).is_open) (sym begins) reached
 reached_inside g (write.Drop name id) old inside begins reached = subst (λ (held : Held _). IsTrue (state g held).is_open) (sym begins) reached
+reached_inside g (write.Reindex alloc profile) old inside begins reached = subst (λ (held : Held _). IsTrue (state g held).is_open) (sym begins) reached
+reached_inside g (write.Upgrade alloc profile) old inside begins reached = subst (λ (held : Held _). IsTrue (state g held).is_open) (sym begins) reached
 
 -- what the work of `init` left is what was committed
 pub begins_over : (format : Format) (version : List ℕ) {S : Type 0} (g : Ghosts S) (w : Write) (old inside : Held S) (mid new : State) → inside ≡ record old { in_transaction = true } → Shows mid new mid.now mid.now false
@@ -83,6 +85,8 @@ begins_over format version g (write.Init profile pattern) old inside mid new beg
     (store_same mid new commits.now_is left.0, λ c of. subst (λ (d : Database). IsImage d.trees (holding c [])) (sym commits.now_is) (left.1 c of))
 begins_over format version g (write.Create name) old inside mid new begins commits did = tt
 begins_over format version g (write.Drop name id) old inside mid new begins commits did = tt
+begins_over format version g (write.Reindex alloc profile) old inside mid new begins commits did = tt
+begins_over format version g (write.Upgrade alloc profile) old inside mid new begins commits did = tt
 
 pub on_ok : {A E : Type 0} (r : Result A E) (P Q : Type 0) → (P → Q) → OnOk r P → OnOk r Q
 on_ok (Ok x) P Q so p = so p

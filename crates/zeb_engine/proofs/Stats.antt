@@ -15,9 +15,9 @@ use Rattle.zeb_engine.specs.Answers.{Extent, answer_of, extent_of, refused, IsFa
 use Rattle.zeb_change.specs.Refused.{Why, why_of, Meets}
 use Rattle.zeb_change.specs.Conditions.{Conditions}
 use Rattle.zeb_engine.specs.Counting.{IsExtent, Paired, Target}
-use Rattle.zeb_engine.specs.Holdings.{Holdings, base_named}
+use Rattle.zeb_image.specs.Holdings.{Holdings, base_named}
 use Rattle.zeb_change.specs.Base.{Base}
-use Rattle.zeb_engine.specs.Image.{Keeps}
+use Rattle.zeb_image.specs.Image.{Keeps}
 use Rattle.zeb_engine.specs.Steps.{CountedFrom, CountedIn, StatAnswers, existing, found_or, no_database, ready}
 use Rattle.zeb_engine.proofs.Held.{existing_met}
 use Rattle.zeb_engine.proofs.Serving.{keeps_still}

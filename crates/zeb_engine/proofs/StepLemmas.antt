@@ -1,13 +1,13 @@
 -- A command's step, in two parts: its answer, and what is held then, which is computed.
 use Rattle.std.proofs.Common.{◌≡◌, ◌↔◌, ◌∙◌, map, Option, Some, None, string_bytes, ap, sym}
 use Rattle.zeb_engine.specs.declared.commands.Command.{Command}
-use Rattle.zeb_engine.specs.declared.commands.Command.TheVariants.{Init, Check, Create, Drop, Stat, Dump, Change, Find, Scan, Analyse}
-use Rattle.zeb_engine.specs.NameOf.{name_bytes}
+use Rattle.zeb_engine.specs.declared.commands.Command.TheVariants.{Init, Check, Reindex, Upgrade, Create, Drop, Stat, Dump, Change, Find, Scan, Analyse}
+use Rattle.zeb_image.specs.NameOf.{name_bytes}
 use Rattle.zeb_engine.specs.Analysed.{IsAnalysed}
 use Rattle.zeb_engine.specs.Answers.{Answer}
 use Rattle.zeb_change.specs.Conditions.{Conditions}
-use Rattle.zeb_engine.specs.Holdings.{Holdings}
-use Rattle.zeb_engine.specs.Steps.{Outcome, Ends, Step, CountedFrom, FoundFrom, ScannedFrom, changed_by_files, created, dropped, dumped_by, initialised, ready, turned, waited}
+use Rattle.zeb_image.specs.Holdings.{Holdings}
+use Rattle.zeb_engine.specs.Steps.{Outcome, Ends, Step, CountedFrom, FoundFrom, ScannedFrom, changed_by_files, created, dropped, dumped_by, initialised, ready, turned, checked, reindexed, upgraded}
 use Rattle.zeb_change.specs.Folding.{splits_of}
 
 -- What a command answers and leaves. A find, a scan and a stat have none: what they answer is said by the records that are kept; nor has an
@@ -18,7 +18,9 @@ outcome c (Create name) before = Some (turned c (created (name_bytes name)) befo
 outcome c (Drop name) before = Some (turned c (dropped (name_bytes name)) before)
 outcome c (Change kind name files) before = Some (turned c (changed_by_files c kind (name_bytes name) (splits_of (map (λ file. file.items) files.items))) before)
 outcome c (Find name query first count) before = None
-outcome c Check before = Some (waited c before)
+outcome c Check before = Some (checked c before)
+outcome c Reindex before = Some (reindexed c before)
+outcome c Upgrade before = Some (upgraded c before)
 outcome c (Stat name) before = None
 outcome c (Dump name) before = Some (dumped_by c (name_bytes name) before)
 outcome c (Scan name query number position) before = None
@@ -52,6 +54,8 @@ step_told c (Drop name) before answer later step = step
 step_told c (Change kind name files) before answer later step = step
 step_told c (Find name query first count) before answer later step = step
 step_told c Check before answer later step = step
+step_told c Reindex before answer later step = step
+step_told c Upgrade before answer later step = step
 step_told c (Stat name) before answer later step = step
 step_told c (Dump name) before answer later step = step
 step_told c (Scan name query number position) before answer later step = step
@@ -72,7 +76,9 @@ module _ (answer : Answer) (later : Holdings) where
   step_is c (Drop name) before o is = ends_so (turned c (dropped (name_bytes name)) before) o is
   step_is c (Change kind name files) before o is = ends_so (turned c (changed_by_files c kind (name_bytes name) (splits_of (map (λ file. file.items) files.items))) before) o is
   step_is c (Find name query first count) before o is = absurd cc
-  step_is c Check before o is = ends_so (waited c before) o is
+  step_is c Check before o is = ends_so (checked c before) o is
+  step_is c Reindex before o is = ends_so (reindexed c before) o is
+  step_is c Upgrade before o is = ends_so (upgraded c before) o is
   step_is c (Stat name) before o is = absurd cc
   step_is c (Dump name) before o is = ends_so (dumped_by c (name_bytes name) before) o is
   step_is c (Scan name query number position) before o is = absurd cc

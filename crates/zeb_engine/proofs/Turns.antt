@@ -6,7 +6,7 @@ use Rattle.zeb_change.specs.Refused.{Why, exists, Meets}
 use Rattle.zeb_engine.specs.Answers.{done, changed, refused}
 use Rattle.zeb_change.specs.Conditions.{Conditions}
 use Rattle.zeb_change.specs.Folding.{Progress, at_first, files_folded}
-use Rattle.zeb_engine.specs.Holdings.{Holdings, new_base, base_named, with_base, without_base}
+use Rattle.zeb_image.specs.Holdings.{Holdings, new_base, base_named, with_base, without_base}
 use Rattle.zeb_change.specs.Base.{Base}
 use Rattle.zeb_engine.specs.Steps.{Turn, ready, holding, ends, turned, turned_from, created, created_in, dropped, dropped_in, changed_by_files, change_from, change_ends, start_of, no_database, found_or, existing, initialised}
 

@@ -5,12 +5,12 @@ use Rattle.sqlite.specs.State.{State, HasCleanDisk, Survives}
 use Rattle.sqlite.specs.Store.{Ghosts}
 use Rattle.zeb_register.specs.Calls.{ChangesNothing}
 use Rattle.zeb_engine.specs.declared.commands.Command.{Command}
-use Rattle.zeb_engine.specs.declared.commands.Command.TheVariants.{Init, Check, Create, Drop, Stat, Dump, Change, Find, Scan, Analyse}
+use Rattle.zeb_engine.specs.declared.commands.Command.TheVariants.{Init, Check, Reindex, Upgrade, Create, Drop, Stat, Dump, Change, Find, Scan, Analyse}
 use Rattle.zeb_change.specs.declared.refusals.Refusal.{Refusal}
 use Rattle.zeb_engine.specs.Adopting.{StaysOpen}
 use Rattle.zeb_engine.specs.Answers.{Answer}
 use Rattle.zeb_change.specs.Conditions.{Conditions}
-use Rattle.zeb_engine.specs.Holdings.{Holdings}
+use Rattle.zeb_image.specs.Holdings.{Holdings}
 use Rattle.zeb_engine.specs.Steps.{Step}
 use Rattle.zeb_engine.specs.Transactions.{AsksStore, Commanded, CommandedBy, EnduresRefusal, LeavesNoMore}
 
@@ -31,6 +31,8 @@ as_it_was g old new same =
 pub did : {S T : Type 0} (g : Ghosts S) (command : Command) (old new : Held S) (result : Result T Refusal) → CommandedBy g command old new result → Did command (state g old) (state g new) result
 did g Init old new result it = inl (tt, it)
 did g Check old new result it = inl (tt, it)
+did g Reindex old new result it = inl (tt, it)
+did g Upgrade old new result it = inl (tt, it)
 did g (Create name) old new result it = inl (tt, it)
 did g (Drop name) old new result it = inl (tt, it)
 did g (Stat name) old new result it = inl (tt, it)
@@ -61,6 +63,8 @@ module _ {T : Type 0} (command : Command) (old new : State) (result : Result T R
 pub unasked_still : (c : Conditions) (command : Command) (before later : Holdings) (answer : Answer) → (¬ AsksStore command) → Step c command before answer later → later ≡ before
 unasked_still c Init before later answer not step = absurd (not tt)
 unasked_still c Check before later answer not step = absurd (not tt)
+unasked_still c Reindex before later answer not step = absurd (not tt)
+unasked_still c Upgrade before later answer not step = absurd (not tt)
 unasked_still c (Create name) before later answer not step = absurd (not tt)
 unasked_still c (Drop name) before later answer not step = absurd (not tt)
 unasked_still c (Stat name) before later answer not step = absurd (not tt)

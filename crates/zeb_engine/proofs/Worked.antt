@@ -25,7 +25,7 @@ use Rattle.zeb_extract.specs.Occurrences.{IsOccurrence}
 use Rattle.zeb_extract.specs.Sample.{moby_dick, moby_dick_analysis, title_profile, term_at}
 use Rattle.zeb_extract.proofs.Analysis.{called, members}
 use Rattle.zeb_engine.specs.declared.commands.Command.{Command}
-use Rattle.zeb_engine.specs.declared.commands.Command.TheVariants.{Init, Check, Create, Drop, Stat, Dump, Change, Find, Scan, Analyse}
+use Rattle.zeb_engine.specs.declared.commands.Command.TheVariants.{Init, Check, Reindex, Upgrade, Create, Drop, Stat, Dump, Change, Find, Scan, Analyse}
 use Rattle.zeb_change.specs.declared.settings.Kind.TheVariants.{Update, Delete, Adelete}
 use Rattle.zeb_change.specs.declared.settings.Limits.{Limits}
 use Rattle.zeb_change.specs.declared.faults.RecordFault.TheVariants as fault
@@ -39,7 +39,7 @@ use Rattle.zeb_search.proofs.PlainWords.{plain_word}
 use Rattle.zeb_engine.specs.Finding.{AreShown, IsFound, IsNamed, has_name}
 use Rattle.zeb_change.specs.Occurs.{OccursIn, occurs}
 use Rattle.zeb_change.specs.Folding.{Progress, at_first, counted, folded, ident_in, splits_of}
-use Rattle.zeb_engine.specs.Holdings.{Holdings, new_base, with_base}
+use Rattle.zeb_image.specs.Holdings.{Holdings, new_base, with_base}
 use Rattle.zeb_change.specs.Base.{Base, Kept, with_new, with_bytes}
 use Rattle.zeb_engine.specs.Steps.{initialised, turned, changed_by_files}
 use Rattle.zeb_engine.proofs.StepLemmas.{outcome}
@@ -170,6 +170,8 @@ turn_of c before texts (Change Delete name files) is = absurd is
 turn_of c before texts (Change Adelete name files) is = absurd is
 turn_of c before texts Init is = absurd is
 turn_of c before texts Check is = absurd is
+turn_of c before texts Reindex is = absurd is
+turn_of c before texts Upgrade is = absurd is
 turn_of c before texts (Create name) is = absurd is
 turn_of c before texts (Drop name) is = absurd is
 turn_of c before texts (Stat name) is = absurd is

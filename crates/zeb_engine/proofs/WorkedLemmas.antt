@@ -12,7 +12,7 @@ use Rattle.zeb_engine.specs.Answers.{changed, refused}
 use Rattle.zeb_change.specs.Conditions.{Conditions}
 use Rattle.zeb_change.specs.Folding.{Changed, Progress, at_first, counted, updated, folded, file_folded, files_folded, ident_in, splits_of}
 use Rattle.zeb_change.specs.Base.{Base, Kept, kept_as, with_new, with_bytes}
-use Rattle.zeb_engine.specs.Holdings.{with_base, base_named}
+use Rattle.zeb_image.specs.Holdings.{with_base, base_named}
 use Rattle.zeb_change.specs.Outcomes.{marc_refusal}
 use Rattle.zeb_engine.specs.Steps.{ready, holding, turned, changed_by_files, start_of}
 use Rattle.zeb_change.proofs.FoldLemmas.{named_record}

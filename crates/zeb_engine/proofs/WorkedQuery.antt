@@ -16,13 +16,13 @@ use Rattle.zeb_query.proofs.WordStretches.{words_are_read}
 use Rattle.zeb_query.specs.Plans.{leaf_plan, plan_asked, plan_of}
 use Rattle.zeb_extract.specs.Sample.{title_profile}
 use Rattle.zeb_engine.specs.declared.commands.Command.{Command}
-use Rattle.zeb_engine.specs.declared.commands.Command.TheVariants.{Init, Check, Create, Drop, Stat, Dump, Change, Find, Scan, Analyse}
+use Rattle.zeb_engine.specs.declared.commands.Command.TheVariants.{Init, Check, Reindex, Upgrade, Create, Drop, Stat, Dump, Change, Find, Scan, Analyse}
 use Rattle.zeb_change.specs.declared.settings.Limits.{Limits}
-use Rattle.zeb_engine.specs.NameOf.{name_bytes}
+use Rattle.zeb_image.specs.NameOf.{name_bytes}
 use Rattle.zeb_engine.specs.Answers.{Answer}
 use Rattle.zeb_change.specs.Conditions.{Conditions}
 use Rattle.zeb_engine.specs.Finding.{IsPlanned}
-use Rattle.zeb_engine.specs.Holdings.{Holdings}
+use Rattle.zeb_image.specs.Holdings.{Holdings}
 use Rattle.zeb_engine.specs.Steps.{AskedAmong, FindAnswers, FoundFrom, ready, Step}
 use Rattle.zeb_engine.specs.Worked.{book_base, book_conditions, one_book, title_plan, IsFindBy}
 use Rattle.zeb_engine.proofs.OneAnswer.{answered_once, name_once}
@@ -103,6 +103,8 @@ module _ (version : List ℕ) (limits : Limits) (answer : Answer) where
   asked later (Change kind name files) is = absurd is
   asked later Init is = absurd is
   asked later Check is = absurd is
+  asked later Reindex is = absurd is
+  asked later Upgrade is = absurd is
   asked later (Create name) is = absurd is
   asked later (Drop name) is = absurd is
   asked later (Stat name) is = absurd is

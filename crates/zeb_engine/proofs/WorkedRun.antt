@@ -2,12 +2,12 @@
 use Rattle.std.proofs.Common.{◌≡◌, ℕ, List, [], ◌∷◌, Some, refl, inl, codes}
 use Rattle.zeb_marc.specs.Worked.{worked_record}
 use Rattle.zeb_engine.specs.declared.commands.Command.{Command}
-use Rattle.zeb_engine.specs.declared.commands.Command.TheVariants.{Init, Check, Create, Drop, Stat, Dump, Change, Find, Scan, Analyse}
+use Rattle.zeb_engine.specs.declared.commands.Command.TheVariants.{Init, Check, Reindex, Upgrade, Create, Drop, Stat, Dump, Change, Find, Scan, Analyse}
 use Rattle.zeb_change.specs.declared.settings.Kind.TheVariants.{Update, Delete, Adelete}
 use Rattle.zeb_change.specs.declared.settings.Limits.{Limits}
 use Rattle.zeb_engine.specs.Answers.{Answer, done, changed}
 use Rattle.zeb_change.specs.Conditions.{Conditions}
-use Rattle.zeb_engine.specs.Holdings.{Holdings, nothing_yet}
+use Rattle.zeb_image.specs.Holdings.{Holdings, nothing_yet}
 use Rattle.zeb_engine.specs.Steps.{Outcome, Run, Step}
 use Rattle.zeb_engine.proofs.StepLemmas.{outcome, step_is}
 use Rattle.zeb_engine.specs.Worked.{book_conditions, no_books, one_book, IsFindBy, IsUpdateBy}
@@ -24,6 +24,8 @@ module _ (c : Conditions) (before : Holdings) (commands : List Command) (answers
   updates texts o (Change Adelete name files) by is rest = absurd by
   updates texts o Init by is rest = absurd by
   updates texts o Check by is rest = absurd by
+  updates texts o Reindex by is rest = absurd by
+  updates texts o Upgrade by is rest = absurd by
   updates texts o (Create name) by is rest = absurd by
   updates texts o (Drop name) by is rest = absurd by
   updates texts o (Stat name) by is rest = absurd by
@@ -37,6 +39,8 @@ module _ (c : Conditions) (before : Holdings) (commands : List Command) (answers
   finds text answer (Change kind name files) by is rest = absurd by
   finds text answer Init by is rest = absurd by
   finds text answer Check by is rest = absurd by
+  finds text answer Reindex by is rest = absurd by
+  finds text answer Upgrade by is rest = absurd by
   finds text answer (Create name) by is rest = absurd by
   finds text answer (Drop name) by is rest = absurd by
   finds text answer (Stat name) by is rest = absurd by

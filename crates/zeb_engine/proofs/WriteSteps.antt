@@ -14,9 +14,9 @@ use Rattle.zeb_change.specs.declared.refusals.Refusal.{Refusal}
 use Rattle.zeb_engine.specs.Answers.{refused, reply_answer, IsFailure}
 use Rattle.zeb_change.specs.Refused.{why_of}
 use Rattle.zeb_change.specs.Conditions.{Conditions}
-use Rattle.zeb_engine.specs.Holdings.{Holdings, new_base, with_base, without_base}
-use Rattle.zeb_engine.specs.Names.{IsDatabaseName}
-use Rattle.zeb_engine.specs.Image.{IsImage}
+use Rattle.zeb_image.specs.Holdings.{Holdings, new_base, with_base, without_base}
+use Rattle.zeb_image.specs.Names.{IsDatabaseName}
+use Rattle.zeb_image.specs.Image.{IsImage}
 use Rattle.zeb_engine.specs.Steps.{Outcome, holding, initialised, turned, created, dropped}
 use Rattle.zeb_change.specs.Inside.{Stays}
 use Rattle.zeb_engine.specs.Works.{Works}

@@ -16,7 +16,7 @@ use Rattle.zeb_engine.specs.declared.replies.Reply.{Reply}
 use Rattle.zeb_engine.specs.Answers.{Answer, answer_of}
 use Rattle.zeb_engine.specs.Counting.{IsCounted}
 use Rattle.zeb_engine.specs.Finding.{IsAnswered}
-use Rattle.zeb_engine.specs.NameOf.{name_bytes}
+use Rattle.zeb_image.specs.NameOf.{name_bytes}
 use Rattle.zeb_engine.specs.Scanning.{IsScanned}
 
 -- what may be answered of a database, by its number and the last system number that it gave

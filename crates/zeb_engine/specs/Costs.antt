@@ -11,9 +11,9 @@ use Rattle.zeb_change.specs.Folding.{at_first, splits_of}
 use Rattle.zeb_engine.specs.declared.commands.Command.{Command}
 use Rattle.zeb_engine.specs.declared.commands.Command.TheVariants.{Change}
 use Rattle.zeb_engine.specs.declared.replies.Reply.{Reply}
-use Rattle.zeb_engine.specs.Holdings.{Holdings, base_named}
-use Rattle.zeb_engine.specs.Image.{Keeps}
-use Rattle.zeb_engine.specs.NameOf.{name_bytes}
+use Rattle.zeb_image.specs.Holdings.{Holdings, base_named}
+use Rattle.zeb_image.specs.Image.{Keeps}
+use Rattle.zeb_image.specs.NameOf.{name_bytes}
 use Rattle.zeb_engine.specs.Steps.{ready, start_of}
 
 -- the records of the files cost so much, from the database on with which the change begins

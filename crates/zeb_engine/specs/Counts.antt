@@ -7,7 +7,7 @@ use Rattle.zeb_engine.specs.Answers.{changed}
 use Rattle.zeb_change.specs.Conditions.{Conditions}
 use Rattle.zeb_change.specs.Folding.{Progress, at_first, files_folded}
 use Rattle.zeb_change.specs.Base.{Base, Kept}
-use Rattle.zeb_engine.specs.Holdings.{Holdings, base_named, with_base}
+use Rattle.zeb_image.specs.Holdings.{Holdings, base_named, with_base}
 use Rattle.zeb_engine.specs.Steps.{Outcome, holding, ready, start_of}
 
 -- all records of the files are folded into the database, with these counts

@@ -14,8 +14,8 @@ use Rattle.zeb_change.specs.declared.refusals.Refusal.TheVariants.{Store}
 use Rattle.zeb_engine.specs.Answers.{Answer, refused, reply_answer}
 use Rattle.zeb_change.specs.Refused.{Why, store_failed}
 use Rattle.zeb_change.specs.Conditions.{Conditions}
-use Rattle.zeb_engine.specs.Holdings.{Holdings, nothing_yet}
-use Rattle.zeb_engine.specs.Image.{IsImage, Keeps}
+use Rattle.zeb_image.specs.Holdings.{Holdings, nothing_yet}
+use Rattle.zeb_image.specs.Image.{IsImage, Keeps}
 use Rattle.zeb_engine.specs.Steps.{Answered, Outcome, Step}
 use Rattle.zeb_engine.specs.Transactions.{AsksStore}
 

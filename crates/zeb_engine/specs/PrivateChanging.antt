@@ -7,7 +7,7 @@ use Rattle.zeb_register.specs.Store.{HasDatabase}
 use Rattle.zeb_change.specs.declared.settings.Kind.{Kind}
 use Rattle.zeb_change.specs.declared.settings.Kind.TheVariants.{Update}
 use Rattle.zeb_change.specs.Conditions.{Conditions}
-use Rattle.zeb_engine.specs.Holdings.{Holdings, base_named}
+use Rattle.zeb_image.specs.Holdings.{Holdings, base_named}
 use Rattle.zeb_change.specs.Base.{Base}
 use Rattle.zeb_engine.specs.Steps.{ready}
 

@@ -16,11 +16,11 @@ use Rattle.zeb_engine.specs.declared.replies.Reply.{Reply}
 use Rattle.zeb_engine.specs.Answers.{IsFailure, refused}
 use Rattle.zeb_change.specs.Refused.{why_of}
 use Rattle.zeb_change.specs.Conditions.{Conditions}
-use Rattle.zeb_engine.specs.Holdings.{Holdings, base_named}
+use Rattle.zeb_image.specs.Holdings.{Holdings, base_named}
 use Rattle.zeb_change.specs.Base.{Base}
-use Rattle.zeb_engine.specs.Image.{HasTexts, IsImage}
-use Rattle.zeb_engine.specs.NameOf.{name_bytes}
-use Rattle.zeb_engine.specs.Steps.{Outcome, holding, ready, initialised, turned, created, dropped}
+use Rattle.zeb_image.specs.Image.{HasTexts, IsImage}
+use Rattle.zeb_image.specs.NameOf.{name_bytes}
+use Rattle.zeb_engine.specs.Steps.{Outcome, holding, ready, initialised, turned, created, dropped, reindexed, ruled, upgradable, upgraded}
 
 -- these conditions are those of a layout's version and of a profile, whose identifier rule has this pattern
 pub record AreOf (version : List ℕ) (profile : List Directive) (pattern : List ℕ) (c : Conditions) : Type 0 where
@@ -37,22 +37,42 @@ IsFree name c trees before = (bases : List Base) × (ready c before ≡ Ok bases
 abbrev pub IsKnown : List ℕ → ℤ → Conditions → Trees → Holdings → Type 0
 IsKnown name id c trees before = (bases : List Base) × (base : Base) × (ready c before ≡ Ok bases) × (base_named name bases ≡ Some base) × HasDatabase trees id base.name (pos base.last)
 
+-- these are the conditions of a session of this version and under this profile
+pub record AreUnder (version : List ℕ) (profile : List Directive) (c : Conditions) : Type 0 where
+  pub version_is : c.version ≡ version
+  pub profile_is : c.profile ≡ profile
+  pub sound : ∥ IsProfile profile ∥₁
+
+-- the register has the session's rule for identifiers
+abbrev pub IsRuled : List ℕ → List Directive → Conditions → Holdings → Type 0
+IsRuled version profile c before = AreUnder version profile c × ((bases : List Base) × (ruled c before ≡ Ok bases))
+
+-- the register may be upgraded
+abbrev pub IsUpgradable : List ℕ → List Directive → Conditions → Holdings → Type 0
+IsUpgradable version profile c before = AreUnder version profile c × ((bases : List Base) × (upgradable c before ≡ Ok bases))
+
 abbrev pub written : Conditions → Write → Holdings → Outcome
 written c (write.Init profile pattern) = initialised c
 written c (write.Create name) = turned c (created (name_bytes name.now))
 written c (write.Drop name id) = turned c (dropped (name_bytes name.now))
+written c (write.Reindex alloc profile) = reindexed c
+written c (write.Upgrade alloc profile) = upgraded c
 
 -- what was found out before a write began
 abbrev pub Fits : List ℕ → Conditions → Write → Trees → Holdings → Type 0
 Fits version c (write.Init profile pattern) trees before = AreOf version profile.now pattern.now c
 Fits version c (write.Create name) trees before = IsFree (name_bytes name.now) c trees before
 Fits version c (write.Drop name id) trees before = (c.version ≡ version) × IsKnown (name_bytes name.now) id.0 c trees before
+Fits version c (write.Reindex alloc profile) trees before = IsRuled version profile.now c before
+Fits version c (write.Upgrade alloc profile) trees before = IsUpgradable version profile.now c before
 
 -- a write that rests on what was read needs a connection that is open
 abbrev pub IsReached : Write → State → Type 0
 IsReached (write.Init profile pattern) s = Unit {0}
 IsReached (write.Create name) s = IsTrue s.is_open
 IsReached (write.Drop name id) s = IsTrue s.is_open
+IsReached (write.Reindex alloc profile) s = IsTrue s.is_open
+IsReached (write.Upgrade alloc profile) s = IsTrue s.is_open
 
 -- each table but that of the texts is as it was
 abbrev pub KeepsBesideTexts : Trees → Trees → Type 0
@@ -69,9 +89,13 @@ abbrev pub Begins : List ℕ → Write → State → State → Type 0
 Begins version (write.Init profile pattern) old new = IsStore old → IsStore new × ((c : Conditions) → AreOf version profile.now pattern.now c → IsImage new.now.trees (holding c []))
 Begins version (write.Create name) old new = Unit {0}
 Begins version (write.Drop name id) old new = Unit {0}
+Begins version (write.Reindex alloc profile) old new = Unit {0}
+Begins version (write.Upgrade alloc profile) old new = Unit {0}
 
 -- only a failure refuses an `init`
 abbrev pub FailsAlone : Write → Result Reply Refusal → Type 0
 FailsAlone (write.Init profile pattern) result = IfErr result (λ refusal. IsFailure (refused (why_of refusal)))
 FailsAlone (write.Create name) result = Unit {0}
 FailsAlone (write.Drop name id) result = Unit {0}
+FailsAlone (write.Reindex alloc profile) result = Unit {0}
+FailsAlone (write.Upgrade alloc profile) result = Unit {0}

@@ -3,7 +3,7 @@ use Rattle.std.specs.Prelude.{ℕ, ◌==◌, if◌then◌else◌, List, [], ◌+
 use Rattle.std.specs.Fmt.{decimal}
 use Rattle.zeb_change.specs.declared.faults.RecordFault.{RecordFault}
 use Rattle.zeb_change.specs.declared.refusals.Refusal.{Refusal}
-use Rattle.zeb_change.specs.declared.refusals.Refusal.TheVariants.{NotInitialised, OldFormat, ProfileChanged, Diagnostic, Exists, Record, Unknown, DatabaseFull, TooManyRecords, Damaged, IdentifierRuleChanged, ReadFault, Store, Memory, Unsupported}
+use Rattle.zeb_change.specs.declared.refusals.Refusal.TheVariants.{NotInitialised, OldFormat, ProfileChanged, Diagnostic, Exists, Record, Unknown, DatabaseFull, TooManyRecords, Damaged, IdentifierRuleChanged, ReadFault, Store, Memory}
 use Rattle.zeb_change.specs.Faults.{fault_name}
 
 -- the addinfo stands only where there is one
@@ -44,7 +44,6 @@ refusal_text IdentifierRuleChanged = codes "zebraidx: identifier rule differs"
 refusal_text (ReadFault file) = read_text file
 refusal_text Store = codes "zebraidx: store fault"
 refusal_text Memory = codes "zebraidx: out of memory"
-refusal_text Unsupported = codes "zebraidx: not supported"
 
 abbrev pub status_of : Refusal → ℕ
 status_of NotInitialised = 1
@@ -61,4 +60,3 @@ status_of IdentifierRuleChanged = 1
 status_of (ReadFault file) = 3
 status_of Store = 3
 status_of Memory = 3
-status_of Unsupported = 1

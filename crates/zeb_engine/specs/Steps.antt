@@ -1,20 +1,21 @@
 -- What each command answers, and what the register holds then. A refusal gives back what it held. The order of refusals is
 -- that of the cases: the register, the query's text, the database, the query's meaning, and then record after record.
-use Rattle.std.specs.Prelude.{◌≡◌, ◌⊎◌, ℕ, List, [], ◌∷◌, map, Option, Some, None, Result, Ok, Err, length, string_bytes, if◌then◌else◌}
+use Rattle.std.specs.Prelude.{◌≡◌, ◌⊎◌, ◌||◌, ℕ, List, [], ◌∷◌, map, Option, Some, None, Result, Ok, Err, length, string_bytes, if◌then◌else◌}
 use Rattle.std.specs.List.{flat_map}
 use Rattle.std.specs.Str.{bytes_eq}
 use Rattle.zeb_profile.specs.declared.directives.Directive.{Directive}
 use Rattle.zeb_profile.specs.Canonical.{canonical_text}
 use Rattle.zeb_query.specs.Reading.{query_fault}
 use Rattle.zeb_marc.specs.Splits.{Split}
+use Rattle.zeb_register.specs.Formats.{plain_rows, version_of}
 use Rattle.zeb_engine.specs.declared.commands.Command.{Command}
-use Rattle.zeb_engine.specs.declared.commands.Command.TheVariants.{Init, Check, Create, Drop, Stat, Dump, Change, Find, Scan, Analyse}
+use Rattle.zeb_engine.specs.declared.commands.Command.TheVariants.{Init, Check, Reindex, Upgrade, Create, Drop, Stat, Dump, Change, Find, Scan, Analyse}
 use Rattle.zeb_change.specs.declared.settings.Kind.{Kind}
 use Rattle.zeb_change.specs.declared.settings.Kind.TheVariants.{Update, Delete, Adelete}
-use Rattle.zeb_engine.specs.NameOf.{name_bytes}
+use Rattle.zeb_image.specs.NameOf.{name_bytes}
 use Rattle.zeb_engine.specs.Answers.{Answer, done, changed, dumped, refused, IsFailure}
-use Rattle.zeb_change.specs.Refused.{Why, not_initialised, old_format, profile_changed, diagnostic, exists, unsupported}
-use Rattle.zeb_engine.specs.Holdings.{Holdings, nothing_yet, under, new_base, base_named, with_base, without_base}
+use Rattle.zeb_change.specs.Refused.{Why, not_initialised, old_format, profile_changed, diagnostic, exists, rule_changed}
+use Rattle.zeb_image.specs.Holdings.{Holdings, nothing_yet, under, new_base, base_named, with_base, without_base}
 use Rattle.zeb_change.specs.Base.{Base}
 use Rattle.zeb_change.specs.Conditions.{Conditions}
 use Rattle.zeb_change.specs.Folding.{Progress, at_first, files_folded, splits_of}
@@ -23,6 +24,7 @@ use Rattle.zeb_engine.specs.Finding.{IsAnswered, has_name}
 use Rattle.zeb_change.specs.Occurs.{occurs}
 use Rattle.zeb_engine.specs.Scanning.{IsScanned}
 use Rattle.zeb_engine.specs.Analysed.{IsAnalysed}
+use Rattle.zeb_engine.specs.Rules.{same_rule}
 
 -- an answer, and what is held then
 abbrev pub Outcome : Type 0
@@ -155,16 +157,42 @@ dumped_from name (Ok bases) = dumped_in name (base_named name bases)
 abbrev pub dumped_by : Conditions → List ℕ → Holdings → Outcome
 dumped_by c name before = (dumped_from name (ready c before), before)
 
+-- ---- the command that checks: what is held is sound, so only a register that isn't ready is refused
+
+abbrev pub checked_from : Result (List Base) Why → Answer
+checked_from (Err why) = refused why
+checked_from (Ok bases) = done
+
+abbrev pub checked : Conditions → Holdings → Outcome
+checked c before = (checked_from (ready c before), before)
+
+-- ---- the commands that make the registers anew: the databases stay, and are then held under the session's version and its profile
+
+-- the same databases
+abbrev pub all_stay : Turn
+all_stay bases = Ok (done, bases)
+
+-- the databases of a register of this version, whose profile has the same rule for identifiers
+unfoldable pub ruled : Conditions → Holdings → Result (List Base) Why
+ruled c nothing_yet = Err not_initialised
+ruled c (under version text bases) =
+    if bytes_eq version c.version then (if same_rule text (canonical_text c.profile) then Ok bases else Err rule_changed) else Err old_format
+
+unfoldable pub reindexed : Conditions → Holdings → Outcome
+reindexed c before = turned_from c all_stay before (ruled c before)
+
+-- the databases of a register of this version or of the first one, under this profile
+unfoldable pub upgradable : Conditions → Holdings → Result (List Base) Why
+upgradable c nothing_yet = Err not_initialised
+upgradable c (under version text bases) =
+    if bytes_eq version c.version || bytes_eq version (version_of plain_rows)
+    then (if bytes_eq text (canonical_text c.profile) then Ok bases else Err profile_changed)
+    else Err old_format
+
+unfoldable pub upgraded : Conditions → Holdings → Outcome
+upgraded c before = turned_from c all_stay before (upgradable c before)
+
 -- ---- one command
-
--- commands that are not there yet
-abbrev pub waits : Result (List Base) Why → Answer
-waits (Err why) = refused why
-waits (Ok bases) = refused unsupported
-
--- a command that is not there yet, on a register that is ready
-abbrev pub waited : Conditions → Holdings → Outcome
-waited c before = (waits (ready c before), before)
 
 -- an outcome that is computed
 abbrev pub Ends : Outcome → Answer → Holdings → Type 0
@@ -185,7 +213,9 @@ Step c (Create name) before = Ends (turned c (created (name_bytes name)) before)
 Step c (Drop name) before = Ends (turned c (dropped (name_bytes name)) before)
 Step c (Change kind name files) before = TakesFiles c kind (name_bytes name) (map (λ file. file.items) files.items) before
 Step c (Find name query first count) before = OnlyAnswers (FoundFrom c (name_bytes name) (string_bytes query) first count (ready c before)) before
-Step c Check before = Ends (waited c before)
+Step c Check before = Ends (checked c before)
+Step c Reindex before = Ends (reindexed c before)
+Step c Upgrade before = Ends (upgraded c before)
 Step c (Stat name) before = OnlyAnswers (CountedFrom c (name_bytes name) (ready c before)) before
 Step c (Dump name) before = Ends (dumped_by c (name_bytes name) before)
 Step c (Scan name query number position) before = OnlyAnswers (ScannedFrom c (name_bytes name) (string_bytes query) number position (ready c before)) before
@@ -199,6 +229,8 @@ OnlyAsks (Drop name) = ⊥
 OnlyAsks (Change kind name files) = ⊥
 OnlyAsks (Find name query first count) = Unit {0}
 OnlyAsks Check = Unit {0}
+OnlyAsks Reindex = ⊥
+OnlyAsks Upgrade = ⊥
 OnlyAsks (Stat name) = Unit {0}
 OnlyAsks (Dump name) = Unit {0}
 OnlyAsks (Scan name query number position) = Unit {0}

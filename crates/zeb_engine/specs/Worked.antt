@@ -13,9 +13,9 @@ use Rattle.zeb_engine.specs.declared.commands.Command.TheVariants.{Change, Find}
 use Rattle.zeb_change.specs.declared.settings.Kind.TheVariants.{Update}
 use Rattle.zeb_change.specs.declared.settings.Limits.{Limits}
 use Rattle.zeb_engine.specs.Answers.{Answer}
-use Rattle.zeb_engine.specs.NameOf.{name_bytes}
+use Rattle.zeb_image.specs.NameOf.{name_bytes}
 use Rattle.zeb_change.specs.Conditions.{Conditions, conditions}
-use Rattle.zeb_engine.specs.Holdings.{Holdings, under}
+use Rattle.zeb_image.specs.Holdings.{Holdings, under}
 use Rattle.zeb_change.specs.Base.{Base, Kept}
 
 -- a session under the profile of titles, dates and any words

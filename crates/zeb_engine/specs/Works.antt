@@ -12,9 +12,9 @@ use Rattle.zeb_change.specs.declared.refusals.Refusal.{Refusal}
 use Rattle.zeb_engine.specs.Answers.{Answer, refused, reply_answer, answer_of, IsFailure}
 use Rattle.zeb_change.specs.Refused.{why_of}
 use Rattle.zeb_change.specs.Conditions.{Conditions}
-use Rattle.zeb_engine.specs.Holdings.{Holdings}
+use Rattle.zeb_image.specs.Holdings.{Holdings}
 use Rattle.zeb_change.specs.Base.{Base}
-use Rattle.zeb_engine.specs.Image.{IsImage, Sees, Keeps}
+use Rattle.zeb_image.specs.Image.{IsImage, Sees, Keeps}
 use Rattle.zeb_engine.specs.Steps.{Outcome, Answered, FoundFrom, ScannedFrom, Run, Step, ready}
 use Rattle.zeb_engine.specs.Transactions.{AsksStore, NoneAsks}
 

@@ -11,10 +11,10 @@ ghost use Rattle.zeb_change.specs.Conditions.{Conditions};
 ghost use Rattle.zeb_engine.specs.Crashes.{Commits};
 ghost use Rattle.zeb_change.specs.Folding.{splits_of};
 ghost use Rattle.zeb_change.specs.Base.{Base};
-ghost use Rattle.zeb_engine.specs.Holdings.{Holdings, base_named};
+ghost use Rattle.zeb_image.specs.Holdings.{Holdings, base_named};
 ghost use Rattle.zeb_engine.specs.Costs.{Costs};
-ghost use Rattle.zeb_engine.specs.Image.{IsImage, Keeps};
-ghost use Rattle.zeb_engine.specs.NameOf.{name_bytes};
+ghost use Rattle.zeb_image.specs.Image.{IsImage, Keeps};
+ghost use Rattle.zeb_image.specs.NameOf.{name_bytes};
 ghost use Rattle.zeb_change.specs.Refused.{NeverUnready, Meets};
 ghost use Rattle.zeb_change.specs.Reading.{HasFailedAt, NoneFailed, NoReadFault};
 ghost use Rattle.zeb_engine.specs.Steps.{changed_by_files, ready, start_of, turned};
@@ -23,11 +23,11 @@ ghost use Rattle.zeb_change.specs.Inside.{Stays};
 ghost use Rattle.zeb_change.specs.UnderWay.{conditions_of};
 ghost use Rattle.zeb_engine.specs.Works.{IsReady, Serves, Works};
 
-use crate::names::DbName;
 use crate::readiness::existing_database;
 use crate::replies::Reply;
 use sqlite::{Alter, Connection, Transaction};
 use zeb_change::{Fold, Kind, Progress, Refusal, Setting, Tally, fold_files};
+use zeb_image::DbName;
 use zeb_marc::{RecordBuf, Source};
 use zeb_register::{Database, Layout, Work, database_of, database_put};
 

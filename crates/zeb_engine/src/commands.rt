@@ -1,15 +1,19 @@
 //! What the engine is told.
 
-use crate::names::DbName;
 use zeb_change::Kind;
+use zeb_image::DbName;
 
 /// One command. Records are files of ISO 2709 slices, given as their bytes.
 #[derive(Debug, Drop)]
 pub enum Command {
     /// No database, under the session's profile.
     Init,
-    /// Whether all tables are what the kept records give.
+    /// Whether the tables are the image of what is held: `Damaged` where they aren't. Reads every row and every kept record.
     Check,
+    /// The session's profile in the place of the register's, whose rule for identifiers it has to have; the registers are made anew by it.
+    Reindex,
+    /// The session's layout in the place of the first one: the registers are made anew in it. Nothing changes where it is the session's.
+    Upgrade,
     /// An empty database of this name.
     Create(DbName),
     /// Takes away the database with its records and postings.

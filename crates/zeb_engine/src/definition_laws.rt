@@ -18,9 +18,9 @@ ghost use Rattle.zeb_change.specs.Occurs.{occurs};
 ghost use Rattle.zeb_engine.specs.Worked.{word_plan};
 ghost use Rattle.zeb_change.specs.Folding.{Progress};
 ghost use Rattle.zeb_change.specs.Base.{Base, Kept};
-ghost use Rattle.zeb_engine.specs.Holdings.{Holdings};
+ghost use Rattle.zeb_image.specs.Holdings.{Holdings};
 ghost use Rattle.zeb_change.specs.Stored.{IsBase};
-ghost use Rattle.zeb_engine.specs.Image.{IsImage, IsImageUnder};
+ghost use Rattle.zeb_image.specs.Image.{IsImage, IsImageUnder};
 ghost use Rattle.zeb_engine.specs.Steps.{Step, changed_by_files, turned};
 
 use crate::commands::Command;

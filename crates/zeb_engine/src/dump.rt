@@ -13,7 +13,7 @@ ghost use Rattle.zeb_change.specs.Refused.{why_of};
 ghost use Rattle.zeb_change.specs.Conditions.{conditions};
 ghost use Rattle.zeb_change.specs.declared.settings.Limits.{Limits};
 ghost use Rattle.zeb_change.specs.Base.{Kept};
-ghost use Rattle.zeb_engine.specs.NameOf.{name_bytes};
+ghost use Rattle.zeb_image.specs.NameOf.{name_bytes};
 ghost use Rattle.zeb_engine.specs.PrivateDumping.{KeepsBase};
 ghost use Rattle.zeb_change.specs.Refused.{NeverUnready};
 ghost use Rattle.zeb_engine.specs.Readiness.{GoesByTexts};
@@ -21,12 +21,12 @@ ghost use Rattle.zeb_change.specs.Reading.{NoReadFault};
 ghost use Rattle.zeb_engine.specs.Steps.{dumped_by};
 ghost use Rattle.zeb_engine.specs.Works.{Always, Serves, ShowsStore};
 
-use crate::names::DbName;
 use crate::readiness::{check_ready, existing_database};
 use crate::replies::Reply;
 use sqlite::{Alter, Connection};
 use std::alloc::Global;
 use zeb_change::Refusal;
+use zeb_image::DbName;
 use zeb_profile::Profile;
 use zeb_register::{DatabaseId, Layout, record_from};
 

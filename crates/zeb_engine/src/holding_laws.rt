@@ -9,7 +9,7 @@ ghost use Rattle.zeb_change.specs.Conditions.{Conditions};
 ghost use Rattle.zeb_engine.specs.Counts.{FoldsTo};
 ghost use Rattle.zeb_change.specs.Folding.{Progress};
 ghost use Rattle.zeb_change.specs.Base.{Base, Kept};
-ghost use Rattle.zeb_engine.specs.Holdings.{base_named, with_base};
+ghost use Rattle.zeb_image.specs.Holdings.{base_named, with_base};
 ghost use Rattle.zeb_engine.specs.Lasting.{IsLastOf, KeepsIdent, NoneHas, SomeHas, slices_in};
 
 use zeb_change::Kind;

@@ -7,7 +7,7 @@ ghost use Rattle.zeb_change.specs.Refused.{faulty};
 ghost use Rattle.zeb_engine.specs.Finding.{IsFound, has_name};
 ghost use Rattle.zeb_change.specs.Occurs.{occurs};
 ghost use Rattle.zeb_register.specs.Occurring.{HasKey};
-ghost use Rattle.zeb_engine.specs.Holdings.{Holdings, nothing_yet};
+ghost use Rattle.zeb_image.specs.Holdings.{Holdings, nothing_yet};
 ghost use Rattle.zeb_engine.specs.Steps.{Run, Step};
 ghost use Rattle.zeb_engine.specs.Worked.{book_base, book_conditions, faulty_file, no_books, one_book, title_plan, title_word, IsFindBy, IsJust, IsUpdateBy};
 

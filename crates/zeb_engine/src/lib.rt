@@ -10,9 +10,11 @@ mod dump;
 mod find;
 mod holding_laws;
 mod laws;
-mod names;
+mod looks;
 mod readiness;
 mod refusals;
+mod renewal_laws;
+mod renewals;
 mod replies;
 mod scan;
 mod session;
@@ -28,8 +30,11 @@ pub use definition_laws::{
 };
 pub use holding_laws::{a_database_is_in_its_place, the_last_record_stays};
 pub use laws::worked_examples;
-pub use names::DbName;
 pub use refusals::{refusal_line, status};
+pub use renewal_laws::{
+    a_check_accepts_what_commands_leave, a_text_tells_the_rule, the_databases_stay,
+};
 pub use replies::{Hit, Holding, Reply, render};
 pub use session::Session;
 pub use zeb_change::{Kind, Limits, RecordFault, Refusal};
+pub use zeb_image::DbName;

@@ -11,18 +11,19 @@ ghost use Rattle.zeb_engine.specs.Answers.{IsFailure, refused};
 ghost use Rattle.zeb_change.specs.Refused.{why_of, NeverUnready, Meets};
 ghost use Rattle.zeb_change.specs.Conditions.{Conditions, conditions};
 ghost use Rattle.zeb_change.specs.declared.settings.Limits.{Limits};
-ghost use Rattle.zeb_engine.specs.Holdings.{Holdings};
+ghost use Rattle.zeb_image.specs.Holdings.{Holdings};
 ghost use Rattle.zeb_change.specs.Base.{Base};
-ghost use Rattle.zeb_engine.specs.Image.{Keeps};
-ghost use Rattle.zeb_engine.specs.NameOf.{name_bytes};
+ghost use Rattle.zeb_image.specs.Image.{Keeps};
+ghost use Rattle.zeb_image.specs.NameOf.{name_bytes};
+ghost use Rattle.zeb_engine.specs.PrivateLooking.{IsUnready};
 ghost use Rattle.zeb_engine.specs.Readiness.{GoesByTexts};
 ghost use Rattle.zeb_change.specs.Reading.{NoReadFault};
 ghost use Rattle.zeb_engine.specs.Steps.{ready, existing};
 
-use crate::names::DbName;
 use sqlite::{Alter, Connection};
 use std::alloc::Global;
 use zeb_change::Refusal;
+use zeb_image::DbName;
 use zeb_profile::Profile;
 use zeb_register::{Database, Layout, database_of, meta_of};
 
@@ -54,6 +55,7 @@ pub(crate) fn check_ready<S: Alter, L: Layout>(
     ensures texts { HasCleanDisk (state S.Store connection.new)
         → GoesByTexts (version_of L.format) profile.now (state S.Store connection.old) result }
     ensures unread { NoReadFault result }
+    ensures few { IfErr result IsUnready }
     ensures crash { Survives (state S.Store connection.old) (state S.Store connection.new) (λ _. ⊥) }
 {
     let Some(version) = meta_of(connection, VERSION)? else {

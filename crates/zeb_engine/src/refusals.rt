@@ -70,7 +70,6 @@ pub fn refusal_line(alloc: Global, refusal: &Refusal) -> Result<String, AllocErr
         Refusal::IdentifierRuleChanged => "zebraidx: identifier rule differs",
         Refusal::Store => "zebraidx: store fault",
         Refusal::Memory => "zebraidx: out of memory",
-        Refusal::Unsupported => "zebraidx: not supported",
     };
     String::from_str(alloc, text)
 }

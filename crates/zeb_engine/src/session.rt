@@ -11,10 +11,11 @@ ghost use Rattle.zeb_engine.specs.Analysed.{AnswersAnalysis};
 ghost use Rattle.zeb_engine.specs.Answers.{IsFailure, answer_of, refused};
 ghost use Rattle.zeb_change.specs.Refused.{why_of};
 ghost use Rattle.zeb_change.specs.Conditions.{conditions};
-ghost use Rattle.zeb_engine.specs.NameOf.{name_bytes};
-ghost use Rattle.zeb_engine.specs.Readiness.{GoesByTexts, LooksFirst};
+ghost use Rattle.zeb_image.specs.NameOf.{name_bytes};
+ghost use Rattle.zeb_engine.specs.Checking.{ChecksTables, UpgradesTables};
+ghost use Rattle.zeb_engine.specs.Readiness.{GoesByTexts, LooksFirst, ReindexesByTexts, UpgradesByTexts};
 ghost use Rattle.zeb_change.specs.Reading.{HasFailedAt, NamesFailed, NoneFailed, NoReadFault};
-ghost use Rattle.zeb_engine.specs.Steps.{Step, TakesFiles, created, dropped, holding, OnlyAsks, turned};
+ghost use Rattle.zeb_engine.specs.Steps.{Step, TakesFiles, holding, OnlyAsks};
 ghost use Rattle.zeb_engine.specs.Transactions.{Commanded, CommandedBy, EnduresRefusal, IsDurable};
 ghost use Rattle.zeb_register.specs.Calls.{ChangesNothing};
 ghost use Rattle.zeb_register.specs.Formats.{version_of};
@@ -25,22 +26,24 @@ use crate::changes::change_database;
 use crate::commands::Command;
 use crate::dump::dump;
 use crate::find::Question;
-use crate::names::DbName;
 use crate::readiness::check_ready;
+use crate::renewals::{reindex, upgrade};
 use crate::replies::Reply;
 use crate::scan::Around;
 use crate::stat::stat;
 use crate::tables::make_absent_tables;
-use crate::writes::{create_database, drop_database, init_register};
+use crate::writes::init_register;
 use sqlite::{Alter, Connection};
 use std::alloc::Global;
 use std::marker::PhantomData;
 use zeb_change::{Kind, Limits, Refusal, Setting, check_readers};
+use zeb_image::DbName;
 use zeb_marc::{Slice, Source};
 use zeb_profile::Profile;
 use zeb_register::{Layout, Work};
 
 mod asking;
+mod writing;
 
 /// A register under a profile. No transaction is open between two commands.
 pub struct Session<S: Alter, L: Layout> {
@@ -67,12 +70,12 @@ impl<S: Alter + Drop, L: Layout> Drop for Session<S, L> {
 }
 
 impl<S: Alter, L: Layout> Session<S, L> {
-    ghost use Rattle.zeb_engine.specs.Works.{Always, FindOpen, Serves, ServesBy, ServesCommand};
-    ghost use Rattle.zeb_engine.specs.Crashes.{Bears, Commits, CommitsBy, CommitsCommand, CommitsAdopted, CommitsOne, Endures, EnduresRun, KeepsDisk, Stands};
+    ghost use Rattle.zeb_engine.specs.Works.{FindOpen, ServesBy, ServesCommand};
+    ghost use Rattle.zeb_engine.specs.Crashes.{Bears, CommitsBy, CommitsCommand, CommitsAdopted, CommitsOne, Endures, EnduresRun, KeepsDisk, Stands};
     ghost use Rattle.zeb_engine.specs.Headline.{Headline};
     ghost use Rattle.zeb_engine.specs.Adopting.{StaysOpen};
-    ghost use Rattle.zeb_engine.specs.Holdings.{Holdings};
-    ghost use Rattle.zeb_engine.specs.Image.{IsImage, Keeps};
+    ghost use Rattle.zeb_image.specs.Holdings.{Holdings};
+    ghost use Rattle.zeb_image.specs.Image.{IsImage, Keeps};
     ghost use Rattle.zeb_register.specs.Sql.{KeepsTables};
     ghost use Rattle.zeb_register.specs.Tables.{store_schema};
 
@@ -187,6 +190,16 @@ impl<S: Alter, L: Layout> Session<S, L> {
         // Of another command the texts of the store tell whether its register was ready, on any tables.
         ensures ready { HasCleanDisk (state S.Store self.new.connection) → LooksFirst command.now
             → GoesByTexts (version_of L.format) self.old.profile (state S.Store self.old.connection) result }
+        ensures reindexes { HasCleanDisk (state S.Store self.new.connection) → command.now ≡ Command.Reindex
+            → ReindexesByTexts (version_of L.format) self.old.profile (state S.Store self.old.connection) result }
+        ensures upgrades { HasCleanDisk (state S.Store self.new.connection) → command.now ≡ Command.Upgrade
+            → UpgradesByTexts (version_of L.format) self.old.profile (state S.Store self.old.connection) result }
+        // A check tells of all tables whether they are an image, whatever they hold.
+        ensures checked { HasCleanDisk (state S.Store self.new.connection) → command.now ≡ Command.Check
+            → ChecksTables (version_of L.format) self.old.profile (state S.Store self.old.connection) result }
+        // So does an upgrade of those of the first version, before it changes them.
+        ensures upgraded { HasCleanDisk (state S.Store self.new.connection) → command.now ≡ Command.Upgrade
+            → UpgradesTables (version_of L.format) self.old.profile (state S.Store self.old.connection) result }
         // A find, a scan and a stat are answered by the registers, on any tables that hold a content.
         ensures alone { HasCleanDisk (state S.Store self.new.connection)
             → AnswersAlone L.format self.old.profile command.now (state S.Store self.old.connection) result }
@@ -226,6 +239,14 @@ impl<S: Alter, L: Layout> Session<S, L> {
             (holding (conditions (version_of L.format) self.old.profile self.old.limits) [])) }
         ensures ready { HasCleanDisk (state S.Store self.new.connection) → LooksFirst command.now
             → GoesByTexts (version_of L.format) self.old.profile (state S.Store self.old.connection) result }
+        ensures reindexes { HasCleanDisk (state S.Store self.new.connection) → command.now ≡ Command.Reindex
+            → ReindexesByTexts (version_of L.format) self.old.profile (state S.Store self.old.connection) result }
+        ensures upgrades { HasCleanDisk (state S.Store self.new.connection) → command.now ≡ Command.Upgrade
+            → UpgradesByTexts (version_of L.format) self.old.profile (state S.Store self.old.connection) result }
+        ensures checked { HasCleanDisk (state S.Store self.new.connection) → command.now ≡ Command.Check
+            → ChecksTables (version_of L.format) self.old.profile (state S.Store self.old.connection) result }
+        ensures upgraded { HasCleanDisk (state S.Store self.new.connection) → command.now ≡ Command.Upgrade
+            → UpgradesTables (version_of L.format) self.old.profile (state S.Store self.old.connection) result }
         ensures failed { command.now ≡ Command.Init → IfErr result (λ refusal. IsFailure (refused (why_of refusal))) }
         ensures alone { HasCleanDisk (state S.Store self.new.connection)
             → AnswersAlone L.format self.old.profile command.now (state S.Store self.old.connection) result }
@@ -261,7 +282,9 @@ impl<S: Alter, L: Layout> Session<S, L> {
                     count: *count,
                 },
             ),
-            Command::Check => self.wait(),
+            Command::Check => self.check(),
+            Command::Reindex => reindex::<S, L>(self.alloc, &mut self.connection, &self.profile),
+            Command::Upgrade => upgrade::<S, L>(self.alloc, &mut self.connection, &self.profile),
             Command::Stat(name) => stat::<S, L>(
                 self.alloc,
                 &mut self.connection,
@@ -289,42 +312,6 @@ impl<S: Alter, L: Layout> Session<S, L> {
                 analyse_files(self.alloc, &self.profile, self.limits, files)
             }
         }
-    }
-
-    /// An empty database, on a register that is ready.
-    fn create(&mut self, name: &DbName) -> Result<Reply, Refusal>
-        ensures call { Commanded (state S.Store self.old.connection) (state S.Store self.new.connection) result }
-        ensures survives { Survives (state S.Store self.old.connection) (state S.Store self.new.connection)
-            (Commits Always (turned (conditions (version_of L.format) self.old.profile self.old.limits) (created (name_bytes name.now)))
-            (state S.Store self.old.connection)) }
-        ensures under { (self.new.profile ≡ self.old.profile) × (self.new.limits ≡ self.old.limits) }
-        ensures serves { HasCleanDisk (state S.Store self.new.connection)
-            → Serves Always (turned (conditions (version_of L.format) self.old.profile self.old.limits) (created (name_bytes name.now)))
-            (state S.Store self.old.connection) (state S.Store self.new.connection) result }
-        ensures unread { NoReadFault result }
-        ensures ready { HasCleanDisk (state S.Store self.new.connection)
-            → GoesByTexts (version_of L.format) self.old.profile (state S.Store self.old.connection) result }
-    {
-        check_ready::<S, L>(&mut self.connection, &self.profile)?;
-        create_database::<S, L>(&mut self.connection, name)
-    }
-
-    /// No database of this name any more, on a register that is ready.
-    fn take(&mut self, name: &DbName) -> Result<Reply, Refusal>
-        ensures call { Commanded (state S.Store self.old.connection) (state S.Store self.new.connection) result }
-        ensures survives { Survives (state S.Store self.old.connection) (state S.Store self.new.connection)
-            (Commits Always (turned (conditions (version_of L.format) self.old.profile self.old.limits) (dropped (name_bytes name.now)))
-            (state S.Store self.old.connection)) }
-        ensures under { (self.new.profile ≡ self.old.profile) × (self.new.limits ≡ self.old.limits) }
-        ensures serves { HasCleanDisk (state S.Store self.new.connection)
-            → Serves Always (turned (conditions (version_of L.format) self.old.profile self.old.limits) (dropped (name_bytes name.now)))
-            (state S.Store self.old.connection) (state S.Store self.new.connection) result }
-        ensures unread { NoReadFault result }
-        ensures ready { HasCleanDisk (state S.Store self.new.connection)
-            → GoesByTexts (version_of L.format) self.old.profile (state S.Store self.old.connection) result }
-    {
-        check_ready::<S, L>(&mut self.connection, &self.profile)?;
-        drop_database::<S, L>(self.alloc, &mut self.connection, name)
     }
 
     /// Changes a database by files that are given as their bytes.

@@ -14,19 +14,19 @@ ghost use Rattle.zeb_change.specs.Refused.{why_of, NeverUnready};
 ghost use Rattle.zeb_change.specs.Conditions.{conditions};
 ghost use Rattle.zeb_engine.specs.Counting.{IsExtent, Paired, name_of_index, target_in, target_list};
 ghost use Rattle.zeb_change.specs.declared.settings.Limits.{Limits};
-ghost use Rattle.zeb_engine.specs.Holdings.{Holdings};
-ghost use Rattle.zeb_engine.specs.NameOf.{name_bytes};
+ghost use Rattle.zeb_image.specs.Holdings.{Holdings};
+ghost use Rattle.zeb_image.specs.NameOf.{name_bytes};
 ghost use Rattle.zeb_engine.specs.Readiness.{GoesByTexts};
 ghost use Rattle.zeb_change.specs.Reading.{NoReadFault};
 ghost use Rattle.zeb_engine.specs.Steps.{CountedFrom, ready};
 ghost use Rattle.zeb_engine.specs.Works.{Asks, ShowsStore};
 
-use crate::names::DbName;
 use crate::readiness::{check_ready, existing_database};
 use crate::replies::{Holding, Reply};
 use sqlite::{Alter, Connection};
 use std::alloc::{AllocError, Global};
 use zeb_change::Refusal;
+use zeb_image::DbName;
 use zeb_profile::{Profile, Register};
 use zeb_register::{DatabaseId, Layout, Totals, Work, record_count};
 

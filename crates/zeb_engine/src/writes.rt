@@ -1,6 +1,6 @@
 //! The commands that write without reading records, each in one transaction.
 
-ghost use Rattle.std.specs.Prelude.{◌≡◌, false, [], IsTrue, OnOk, OnErr, IfErr};
+ghost use Rattle.std.specs.Prelude.{◌≡◌, ◌≢◌, false, [], Err, IsTrue, OnOk, OnErr, IfErr};
 ghost use Rattle.sqlite.specs.Held.{state};
 ghost use Rattle.sqlite.specs.State.{HasCleanDisk, KeepsCommit, Survives};
 ghost use Rattle.zeb_register.specs.Calls.{GoesOn};
@@ -11,21 +11,21 @@ ghost use Rattle.zeb_engine.specs.Answers.{IsFailure, refused};
 ghost use Rattle.zeb_change.specs.Refused.{why_of, NeverUnready};
 ghost use Rattle.zeb_change.specs.Conditions.{Conditions, conditions};
 ghost use Rattle.zeb_engine.specs.Crashes.{Commits};
-ghost use Rattle.zeb_engine.specs.Image.{IsImage};
-ghost use Rattle.zeb_engine.specs.NameOf.{name_bytes};
+ghost use Rattle.zeb_image.specs.Image.{IsImage};
+ghost use Rattle.zeb_image.specs.NameOf.{name_bytes};
 ghost use Rattle.zeb_change.specs.Reading.{NoReadFault};
-ghost use Rattle.zeb_engine.specs.Steps.{holding, initialised, turned, created, dropped};
+ghost use Rattle.zeb_engine.specs.Steps.{holding, initialised, turned, created, dropped, reindexed, upgraded};
 ghost use Rattle.zeb_engine.specs.Transactions.{Commanded};
 ghost use Rattle.zeb_change.specs.Inside.{Stays};
 ghost use Rattle.zeb_engine.specs.Works.{Always, IsReady, Serves, Works};
-ghost use Rattle.zeb_engine.specs.PrivateWriting.{AreOf, Begins, IsFree, IsKnown, FailsAlone, Fits, IsReached, PutsTexts, written};
+ghost use Rattle.zeb_engine.specs.PrivateWriting.{AreOf, Begins, IsFree, IsKnown, FailsAlone, Fits, IsReached, IsRuled, IsUpgradable, PutsTexts, written};
 
-use crate::names::DbName;
 use crate::readiness::{IDENTIFIER, PROFILE, VERSION, existing_database};
 use crate::replies::Reply;
 use sqlite::{Alter, Connection, Transaction};
 use std::alloc::Global;
 use zeb_change::Refusal;
+use zeb_image::{DbName, rebuild};
 use zeb_profile::Profile;
 use zeb_register::{DatabaseId, Layout, database_of, database_put, meta_put, wipe};
 
@@ -41,6 +41,16 @@ pub(crate) enum Write<'a> {
     Create(&'a DbName),
     /// No database of this name any more, which the tables know by this id.
     Drop(&'a DbName, DatabaseId),
+    /// This profile, and the registers of what is kept by it.
+    Reindex {
+        alloc: Global,
+        profile: &'a Profile,
+    },
+    /// This layout, and the registers of what is kept under this profile in it.
+    Upgrade {
+        alloc: Global,
+        profile: &'a Profile,
+    },
 }
 
 /// The three texts of a register whose tables hold no text.
@@ -62,6 +72,7 @@ fn put_texts<S: Alter>(
     ensures crash { Survives (state S.Store tx.old.conn.now) (state S.Store tx.new.conn.now) (λ _. ⊥) }
     ensures unread { NoReadFault result }
     ensures ready { NeverUnready result }
+    ensures ruled { result ≢ Err Refusal.IdentifierRuleChanged }
 {
     meta_put(tx, VERSION, version)?;
     meta_put(tx, PROFILE, text)?;
@@ -89,6 +100,7 @@ fn init<S: Alter, L: Layout>(
     ensures crash { Survives (state S.Store tx.old.conn.now) (state S.Store tx.new.conn.now) (λ _. ⊥) }
     ensures unread { NoReadFault result }
     ensures ready { NeverUnready result }
+    ensures ruled { result ≢ Err Refusal.IdentifierRuleChanged }
 {
     wipe(tx)?;
     put_texts(tx, L::version(), profile.text(), pattern)?;
@@ -107,6 +119,7 @@ fn create<S: Alter, L: Layout>(tx: &mut Transaction<'_, S>, name: &DbName) -> Re
     ensures crash { Survives (state S.Store tx.old.conn.now) (state S.Store tx.new.conn.now) (λ _. ⊥) }
     ensures unread { NoReadFault result }
     ensures ready { NeverUnready result }
+    ensures ruled { result ≢ Err Refusal.IdentifierRuleChanged }
 {
     database_put(tx, name.as_str(), 0)?;
     Ok(Reply::Done)
@@ -128,8 +141,55 @@ fn take<S: Alter, L: Layout>(
     ensures crash { Survives (state S.Store tx.old.conn.now) (state S.Store tx.new.conn.now) (λ _. ⊥) }
     ensures unread { NoReadFault result }
     ensures ready { NeverUnready result }
+    ensures ruled { result ≢ Err Refusal.IdentifierRuleChanged }
 {
     L::database_take(tx, id)?;
+    Ok(Reply::Done)
+}
+
+/// The registers made anew by this profile, whose text is kept then.
+fn reindex<S: Alter, L: Layout>(
+    alloc: Global,
+    tx: &mut Transaction<'_, S>,
+    profile: &Profile,
+) -> Result<Reply, Refusal>
+    ensures same { tx.new.conn.ghost_name ≡ tx.old.conn.ghost_name }
+    ensures stays { HasCleanDisk (state S.Store tx.new.conn.now) → IsTrue (state S.Store tx.old.conn.now).in_transaction
+        → Stays (state S.Store tx.old.conn.now) (state S.Store tx.new.conn.now) result }
+    ensures works { HasCleanDisk (state S.Store tx.new.conn.now) → IsTrue (state S.Store tx.old.conn.now).in_transaction
+        → IsTrue (state S.Store tx.old.conn.now).is_open → (c : Conditions)
+        → Works (λ _ before. IsRuled (version_of L.format) profile.now c before) (reindexed c) (state S.Store tx.old.conn.now)
+        (state S.Store tx.new.conn.now) result }
+    ensures crash { Survives (state S.Store tx.old.conn.now) (state S.Store tx.new.conn.now) (λ _. ⊥) }
+    ensures unread { NoReadFault result }
+    ensures ready { NeverUnready result }
+    ensures ruled { result ≢ Err Refusal.IdentifierRuleChanged }
+{
+    rebuild::<S, L>(alloc, tx, profile)?;
+    meta_put(tx, PROFILE, profile.text())?;
+    Ok(Reply::Done)
+}
+
+/// The registers made anew in this layout, whose version is kept then.
+fn upgrade<S: Alter, L: Layout>(
+    alloc: Global,
+    tx: &mut Transaction<'_, S>,
+    profile: &Profile,
+) -> Result<Reply, Refusal>
+    ensures same { tx.new.conn.ghost_name ≡ tx.old.conn.ghost_name }
+    ensures stays { HasCleanDisk (state S.Store tx.new.conn.now) → IsTrue (state S.Store tx.old.conn.now).in_transaction
+        → Stays (state S.Store tx.old.conn.now) (state S.Store tx.new.conn.now) result }
+    ensures works { HasCleanDisk (state S.Store tx.new.conn.now) → IsTrue (state S.Store tx.old.conn.now).in_transaction
+        → IsTrue (state S.Store tx.old.conn.now).is_open → (c : Conditions)
+        → Works (λ _ before. IsUpgradable (version_of L.format) profile.now c before) (upgraded c) (state S.Store tx.old.conn.now)
+        (state S.Store tx.new.conn.now) result }
+    ensures crash { Survives (state S.Store tx.old.conn.now) (state S.Store tx.new.conn.now) (λ _. ⊥) }
+    ensures unread { NoReadFault result }
+    ensures ready { NeverUnready result }
+    ensures ruled { result ≢ Err Refusal.IdentifierRuleChanged }
+{
+    rebuild::<S, L>(alloc, tx, profile)?;
+    meta_put(tx, VERSION, L::version())?;
     Ok(Reply::Done)
 }
 
@@ -150,16 +210,19 @@ fn apply<S: Alter, L: Layout>(
     ensures crash { Survives (state S.Store tx.old.conn.now) (state S.Store tx.new.conn.now) (λ _. ⊥) }
     ensures unread { NoReadFault result }
     ensures ready { NeverUnready result }
+    ensures ruled { result ≢ Err Refusal.IdentifierRuleChanged }
 {
     match write {
         Write::Init { profile, pattern } => init::<S, L>(tx, profile, pattern),
         Write::Create(name) => create::<S, L>(tx, name),
         Write::Drop(name, id) => take::<S, L>(tx, name, *id),
+        Write::Reindex { alloc, profile } => reindex::<S, L>(*alloc, tx, profile),
+        Write::Upgrade { alloc, profile } => upgrade::<S, L>(*alloc, tx, profile),
     }
 }
 
 /// The reply is there before the commit, which is the last that the store is asked.
-fn transact<S: Alter, L: Layout>(
+pub(crate) fn transact<S: Alter, L: Layout>(
     connection: &mut Connection<S>,
     write: &Write<'_>,
 ) -> Result<Reply, Refusal>
@@ -177,6 +240,7 @@ fn transact<S: Alter, L: Layout>(
         (state S.Store connection.new) result }
     ensures unread { NoReadFault result }
     ensures ready { NeverUnready result }
+    ensures ruled { result ≢ Err Refusal.IdentifierRuleChanged }
 {
     let _settled = connection.is_autocommit();
     let mut tx = connection.transaction();

@@ -8,7 +8,7 @@ use Rattle.clap.specs.Simple.{App, built, entered, matches_of, subcommand_of}
 use Rattle.clap.specs.Faults.{check_fault, entered_fault, fault_of}
 use Rattle.clap.specs.Kinds.{or_else}
 use Rattle.clap.specs.declared.error.kind.ErrorKind.TheVariants as kind
-use Rattle.zeb_engine.specs.NameOf.{name_bytes}
+use Rattle.zeb_image.specs.NameOf.{name_bytes}
 use Rattle.zeb_words.specs.Grammar.{Argument, Says, Setting, Spells, databases, files}
 use Rattle.zeb_words.specs.Names.{Asks, NamesAct, NamesWords}
 use Rattle.zeb_words.specs.Names as names

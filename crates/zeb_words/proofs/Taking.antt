@@ -7,7 +7,7 @@ use Rattle.clap.specs.Walk.{Row, Text, has_row, one_of, rows_after, with_default
 use Rattle.clap.specs.Simple.{App, built, entered, matches_of, subcommand_of}
 use Rattle.clap.specs.Faults.{check_fault, default_fault, defaults_fault, entered_fault, fault_of}
 use Rattle.clap.specs.Kinds.{or_else}
-use Rattle.zeb_engine.specs.NameOf.{name_bytes}
+use Rattle.zeb_image.specs.NameOf.{name_bytes}
 use Rattle.zeb_words.specs.Grammar.{Config, Database, Given, IsOneOr, Setting, Shows, databases, files, shown}
 use Rattle.zeb_words.specs.Names.{NamesAct, NamesNone, NamesWords}
 use Rattle.zeb_words.specs.Names as names

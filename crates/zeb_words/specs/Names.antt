@@ -1,6 +1,6 @@
 -- The command that words name, by this program's own grammar.
 use Rattle.std.specs.Prelude.{ℕ, ◌≡◌, ◌≢◌, ◌≤◌, Bool, false, List, [], ◌∷◌, ◌++◌, map, codes, string_bytes, ⊤}
-use Rattle.zeb_engine.specs.NameOf.{name_bytes}
+use Rattle.zeb_image.specs.NameOf.{name_bytes}
 use Rattle.zeb_words.specs.Parses.{path_texts}
 use Rattle.zeb_words.specs.Grammar.{Argument, HasOnly, IsNumberOr, IsOneOr, Part, Says, Setting, Spells, Text, arguments, databases, files, shown, values_of}
 use Rattle.zeb_words.specs.declared.words.Words.{Words}

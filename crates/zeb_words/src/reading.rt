@@ -4,8 +4,8 @@ ghost use Rattle.std.specs.Prelude.{◌≡◌, IfErr, IfOk, false, [], codes, ma
 ghost use Rattle.clap.specs.Walk.{all_of, one_of, rows_of};
 ghost use Rattle.clap.specs.Simple.{subcommand_rows_of};
 ghost use Rattle.clap.specs.Matches.{found_of};
-ghost use Rattle.zeb_engine.specs.NameOf.{name_bytes};
-ghost use Rattle.zeb_engine.specs.Names.{IsDatabaseName};
+ghost use Rattle.zeb_image.specs.NameOf.{name_bytes};
+ghost use Rattle.zeb_image.specs.Names.{IsDatabaseName};
 ghost use Rattle.zeb_words.specs.Parses.{AreBad, IsBadAct, IsPast, IsActRead, IsNumberRead, IsOwn, IsReadFrom, path_texts, text_or};
 
 use crate::words::{Act, Usage, Words};

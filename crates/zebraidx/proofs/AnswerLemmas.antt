@@ -4,7 +4,7 @@ use Rattle.std.specs.Prelude.{Option, Some, None, max}
 use Rattle.std.specs.Io.KnownBytes.{Appends}
 use Rattle.std.proofs.lemmas.List.{append-nil}
 use Rattle.zeb_change.specs.Conditions.{Conditions}
-use Rattle.zeb_engine.specs.Holdings.{Holdings}
+use Rattle.zeb_image.specs.Holdings.{Holdings}
 use Rattle.zebraidx.specs.Lines.{first_line, after_first_line}
 use Rattle.zebraidx.specs.Answers.{AnswersLine, AnswersLines, none, more, Writes}
 

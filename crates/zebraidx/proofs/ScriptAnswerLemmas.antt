@@ -11,8 +11,8 @@ use Rattle.sqlite.specs.State.{State}
 use Rattle.zeb_register.specs.Content.{Content}
 use Rattle.zeb_change.specs.Conditions.{Conditions, conditions}
 use Rattle.zeb_change.specs.declared.settings.Limits.{Limits}
-use Rattle.zeb_engine.specs.Holdings.{nothing_yet}
-use Rattle.zeb_engine.specs.Image.{Keeps as Holding}
+use Rattle.zeb_image.specs.Holdings.{nothing_yet}
+use Rattle.zeb_image.specs.Image.{Keeps as Holding}
 use Rattle.zeb_change.specs.declared.refusals.Refusal.{Refusal}
 use Rattle.zeb_change.specs.declared.refusals.Refusal.TheVariants.{Store, Memory}
 use Rattle.zeb_engine.specs.Refusals.{refusal_text, status_of}

@@ -2,9 +2,9 @@
 -- Words are separated by blanks.
 use Rattle.std.specs.Prelude.{◌≡◌, ◌≢◌, ◌≤◌, ℕ, Some, List, [], ◌∷◌, Ok, IsOk, map, take, drop, codes, string_bytes}
 use Rattle.hex.specs.Hex.{decode_of}
-use Rattle.zeb_engine.specs.Names.{IsDatabaseName}
-use Rattle.zeb_engine.specs.NameOf.{name_bytes}
-use Rattle.zeb_engine.specs.declared.names.DbName.{DbName}
+use Rattle.zeb_image.specs.Names.{IsDatabaseName}
+use Rattle.zeb_image.specs.NameOf.{name_bytes}
+use Rattle.zeb_image.specs.declared.names.DbName.{DbName}
 use Rattle.zeb_engine.specs.declared.commands.Command.{Command}
 use Rattle.zeb_engine.specs.declared.commands.Command.TheVariants.{Init, Check, Reindex, Upgrade, Create, Drop, Stat, Dump, Change, Find, Scan}
 use Rattle.zeb_change.specs.declared.settings.Kind.{Kind}

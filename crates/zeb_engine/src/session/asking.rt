@@ -7,21 +7,22 @@ ghost use Rattle.zeb_register.specs.Calls.{ChangesNothing};
 ghost use Rattle.zeb_register.specs.Formats.{version_of};
 ghost use Rattle.zeb_engine.specs.Alone.{Alone, FindSays, ScanSays};
 ghost use Rattle.zeb_change.specs.Conditions.{conditions};
-ghost use Rattle.zeb_engine.specs.NameOf.{name_bytes};
+ghost use Rattle.zeb_image.specs.NameOf.{name_bytes};
+ghost use Rattle.zeb_engine.specs.Checking.{ChecksTables};
 ghost use Rattle.zeb_engine.specs.Readiness.{GoesByTexts};
 ghost use Rattle.zeb_change.specs.Reading.{NoReadFault};
 ghost use Rattle.zeb_engine.specs.Transactions.{Commanded};
-ghost use Rattle.zeb_engine.specs.Steps.{waited};
+ghost use Rattle.zeb_engine.specs.Steps.{checked};
 ghost use Rattle.zeb_engine.specs.Works.{Always, Finds, ScansFrom, Serves};
 
 use crate::find::{Question, find};
-use crate::names::DbName;
 use crate::readiness::check_ready;
 use crate::replies::Reply;
 use crate::scan::{Around, scan};
 use crate::session::Session;
 use sqlite::Alter;
 use zeb_change::Refusal;
+use zeb_image::{DbName, is_image};
 use zeb_register::Layout;
 
 impl<S: Alter, L: Layout> Session<S, L> {
@@ -87,21 +88,29 @@ impl<S: Alter, L: Layout> Session<S, L> {
         )
     }
 
-    /// A command that is not there yet is refused, on a register that is ready.
-    pub(super) fn wait(&mut self) -> Result<Reply, Refusal>
+    /// Whether the tables of a register that is ready are the image of what it holds: `Damaged` where they aren't.
+    pub(super) fn check(&mut self) -> Result<Reply, Refusal>
         ensures call { Commanded (state S.Store self.old.connection) (state S.Store self.new.connection) result }
         ensures reads { HasCleanDisk (state S.Store self.new.connection)
             → ChangesNothing (state S.Store self.old.connection) (state S.Store self.new.connection) }
         ensures survives { Survives (state S.Store self.old.connection) (state S.Store self.new.connection) (λ _. ⊥) }
         ensures under { (self.new.profile ≡ self.old.profile) × (self.new.limits ≡ self.old.limits) }
         ensures serves { HasCleanDisk (state S.Store self.new.connection)
-            → Serves Always (waited (conditions (version_of L.format) self.old.profile self.old.limits))
+            → Serves Always (checked (conditions (version_of L.format) self.old.profile self.old.limits))
             (state S.Store self.old.connection) (state S.Store self.new.connection) result }
         ensures unread { NoReadFault result }
         ensures ready { HasCleanDisk (state S.Store self.new.connection)
             → GoesByTexts (version_of L.format) self.old.profile (state S.Store self.old.connection) result }
+        ensures checked { HasCleanDisk (state S.Store self.new.connection)
+            → ChecksTables (version_of L.format) self.old.profile (state S.Store self.old.connection) result }
     {
+        // What is shown is what was committed.
+        let _settled = self.connection.is_autocommit();
         check_ready::<S, L>(&mut self.connection, &self.profile)?;
-        Err(Refusal::Unsupported)
+        if is_image::<S, L>(self.alloc, &mut self.connection, &self.profile)? {
+            Ok(Reply::Done)
+        } else {
+            Err(Refusal::Damaged)
+        }
     }
 }

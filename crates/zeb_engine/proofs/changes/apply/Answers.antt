@@ -9,7 +9,7 @@ use Rattle.zeb_engine.specs.declared.replies.Reply.TheVariants as reply
 use Rattle.zeb_engine.specs.PrivateChanging.{BeginsWith, last_of}
 use Rattle.zeb_change.specs.Conditions.{AreSessions}
 use Rattle.zeb_change.specs.Folding.{at_first, Progress, splits_of}
-use Rattle.zeb_engine.specs.NameOf.{name_bytes}
+use Rattle.zeb_image.specs.NameOf.{name_bytes}
 use Rattle.zeb_change.specs.Outcomes.{register_refusal}
 use Rattle.zeb_engine.specs.Steps.{changed_by_files, turned}
 use Rattle.zeb_change.specs.UnderWay.{IsFolded, conditions_of}

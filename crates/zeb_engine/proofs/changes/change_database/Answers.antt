@@ -6,8 +6,8 @@ use Rattle.zeb_register.specs.declared.catalog.Database.{Database}
 use Rattle.zeb_change.specs.declared.refusals.Refusal.TheVariants.{Memory}
 use Rattle.zeb_engine.specs.PrivateChanging.{BeginsWith}
 use Rattle.zeb_change.specs.Base.{Base}
-use Rattle.zeb_engine.specs.Holdings.{base_named}
-use Rattle.zeb_engine.specs.NameOf.{name_bytes}
+use Rattle.zeb_image.specs.Holdings.{base_named}
+use Rattle.zeb_image.specs.NameOf.{name_bytes}
 use Rattle.zeb_engine.specs.Steps.{changed_by_files, start_of, turned}
 use Rattle.zeb_change.specs.Folding.{splits_of}
 use Rattle.zeb_engine.specs.Works.{IsReady, Serves}

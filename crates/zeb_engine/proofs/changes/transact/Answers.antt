@@ -6,10 +6,10 @@ use Rattle.zeb_change.specs.declared.refusals.Refusal.TheVariants.{Damaged, Read
 use Rattle.zeb_engine.specs.declared.replies.Reply.{Reply}
 use Rattle.zeb_engine.specs.PrivateChanging.{BeginsWith}
 use Rattle.zeb_change.specs.Conditions.{Conditions}
-use Rattle.zeb_engine.specs.Image.{IsImage}
+use Rattle.zeb_image.specs.Image.{IsImage}
 use Rattle.zeb_register.specs.Store.{IsStore}
 use Rattle.zeb_engine.specs.Crashes.{Commits}
-use Rattle.zeb_engine.specs.NameOf.{name_bytes}
+use Rattle.zeb_image.specs.NameOf.{name_bytes}
 use Rattle.zeb_change.specs.Reading.{NoneFailed}
 use Rattle.zeb_engine.specs.Steps.{changed_by_files, turned}
 use Rattle.zeb_change.specs.Folding.{splits_of}
@@ -19,7 +19,7 @@ use Rattle.zeb_engine.proofs.Crashing.{commit_stands, commit_survives}
 use Rattle.zeb_engine.proofs.Serving.{refusal_serves, reply_serves}
 use Rattle.zeb_register.specs.Formats.{version_of}
 use Rattle.zeb_engine.specs.Costs.{Costs}
-use Rattle.zeb_engine.specs.Holdings.{Holdings}
+use Rattle.zeb_image.specs.Holdings.{Holdings}
 use Rattle.zeb_engine.proofs.changes.transact.Goals as goal
 
 pub returns-in_err-reply-clause-serves : goal.returns-in_err-reply-clause-serves

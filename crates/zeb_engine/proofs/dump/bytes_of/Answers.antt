@@ -1,10 +1,9 @@
-use Rattle.std.proofs.Common.{rules, ◌≡◌, ◌∙◌, ◌+◌, ◌<◌, ◌^◌, ◌++◌, List, Some, None, Err, arith, ap, subst, sym}
+use Rattle.std.proofs.Common.{rules, ◌≡◌, ◌∙◌, ◌+◌, ◌<◌, ◌^◌, ◌++◌, Err, arith, ap, subst, sym}
 use Rattle.sqlite.specs.Held.{state}
 use Rattle.sqlite.specs.State.{HasCleanDisk}
 use Rattle.sqlite.specs.Tree.{Trees}
 use Rattle.zeb_register.proofs.Calls.{nothing_still, nothing_then}
 use Rattle.zeb_register.specs.Kept.{AreReadable, IsFirstFrom}
-use Rattle.zeb_change.specs.Base.{Kept}
 use Rattle.zeb_change.specs.Outcomes.{register_refusal}
 use Rattle.zeb_engine.proofs.Dumps.{all_readable, bytes_in, read_all, read_few, read_more}
 use Rattle.zeb_engine.proofs.Dumps.{below, none_below}

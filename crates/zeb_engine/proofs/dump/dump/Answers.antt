@@ -8,7 +8,7 @@ use Rattle.zeb_engine.specs.declared.replies.Reply.TheVariants.{Dumped}
 use Rattle.zeb_engine.specs.Answers.{dumped}
 use Rattle.zeb_change.specs.Conditions.{conditions}
 use Rattle.zeb_change.specs.Base.{Base}
-use Rattle.zeb_engine.specs.NameOf.{name_bytes}
+use Rattle.zeb_image.specs.NameOf.{name_bytes}
 use Rattle.zeb_engine.specs.Steps.{dumped_by, dumped_in, ready}
 use Rattle.zeb_engine.specs.Works.{Always, Serves}
 use Rattle.zeb_engine.proofs.Commanding.{ready_met}

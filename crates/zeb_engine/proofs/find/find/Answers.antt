@@ -15,7 +15,7 @@ use Rattle.zeb_change.specs.declared.refusals.Refusal.{Refusal}
 use Rattle.zeb_engine.specs.Answers.{answer_of}
 use Rattle.zeb_change.specs.Conditions.{conditions}
 use Rattle.zeb_engine.specs.Finding.{asked_of}
-use Rattle.zeb_engine.specs.NameOf.{name_bytes}
+use Rattle.zeb_image.specs.NameOf.{name_bytes}
 use Rattle.zeb_change.specs.Outcomes.{query_refusal, register_refusal}
 use Rattle.zeb_engine.specs.Steps.{FindAnswers}
 use Rattle.zeb_change.specs.Refused.{Meets}

@@ -1,7 +1,7 @@
 use Rattle.std.proofs.Common.{refl, inl, inr}
 use Rattle.sqlite_rules.proofs.ListLemmas.{has_contained, contains_had}
-use Rattle.zeb_engine.specs.Holdings.{with_base}
-use Rattle.zeb_engine.proofs.Bases.{named_there, with_base_has, with_base_in_order}
+use Rattle.zeb_image.specs.Holdings.{with_base}
+use Rattle.zeb_image.proofs.Bases.{named_there, with_base_has, with_base_in_order}
 use Rattle.zeb_engine.proofs.holding_laws.a_database_is_in_its_place.Goals as goal
 
 pub returns-clause-members : goal.returns-clause-members

@@ -10,7 +10,7 @@ use Rattle.zeb_engine.specs.declared.replies.Reply.{Reply}
 use Rattle.zeb_change.specs.declared.refusals.Refusal.{Refusal}
 use Rattle.zeb_engine.specs.Answers.{answer_of}
 use Rattle.zeb_change.specs.Conditions.{conditions}
-use Rattle.zeb_engine.specs.NameOf.{name_bytes}
+use Rattle.zeb_image.specs.NameOf.{name_bytes}
 use Rattle.zeb_change.specs.Outcomes.{query_refusal}
 use Rattle.zeb_engine.specs.Steps.{ScanAnswers}
 use Rattle.zeb_engine.proofs.Asked.{Ends, existing_ends}

@@ -1,4 +1,4 @@
-use Rattle.std.proofs.Common.{rules, ◌≡◌, ◌∙◌, ◌∷◌, [], ℕ, pos, List, length, map, Err, Ok, IsTrue, arith, refl, sym, ap, ap₂, subst}
+use Rattle.std.proofs.Common.{rules, ◌≡◌, ◌∙◌, ℕ, pos, List, map, Err, Ok, IsTrue, arith, refl, sym, ap, ap₂, subst}
 use Rattle.sqlite.specs.Held.{state}
 use Rattle.sqlite.specs.State.{HasCleanDisk}
 use Rattle.sqlite.specs.Tree.{Trees}
@@ -13,7 +13,7 @@ use Rattle.zeb_change.specs.Conditions.{conditions}
 use Rattle.zeb_engine.specs.Counting.{IsExtent, Paired, Target}
 use Rattle.zeb_change.specs.Occurs.{occurs}
 use Rattle.zeb_change.specs.Base.{Base}
-use Rattle.zeb_engine.specs.NameOf.{name_bytes}
+use Rattle.zeb_image.specs.NameOf.{name_bytes}
 use Rattle.zeb_change.specs.Outcomes.{register_refusal}
 use Rattle.zeb_engine.specs.Steps.{ready}
 use Rattle.zeb_engine.proofs.Commanding.{ready_met}

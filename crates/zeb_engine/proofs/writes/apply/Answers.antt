@@ -2,7 +2,7 @@ use Rattle.std.proofs.Common.{[], IsTrue}
 use Rattle.sqlite.specs.Held.{state}
 use Rattle.zeb_register.specs.Store.{IsStore}
 use Rattle.zeb_change.specs.Conditions.{Conditions}
-use Rattle.zeb_engine.specs.Image.{IsImage}
+use Rattle.zeb_image.specs.Image.{IsImage}
 use Rattle.zeb_engine.specs.Steps.{holding}
 use Rattle.zeb_engine.specs.PrivateWriting.{AreOf}
 use Rattle.zeb_engine.proofs.WriteSteps.{init_works, begun_so, nothing_so}
@@ -34,3 +34,19 @@ returns-in-Create-clause-begun g c clean inside = rw c.in-Create.is (nothing_so 
 
 pub returns-in-Drop-clause-begun : goal.returns-in-Drop-clause-begun
 returns-in-Drop-clause-begun g c clean inside = rw c.in-Drop.is (nothing_so c.take.result)
+
+pub returns-in-Reindex-clause-works : goal.returns-in-Reindex-clause-works
+returns-in-Reindex-clause-works g c clean inside k reached =
+    let opened : IsTrue (state g.S.Store c.args.tx.now.conn.now).is_open = rw c.in-Reindex.is at reached in
+    rw c.in-Reindex.is (c.reindex.ensures.works clean inside opened k)
+
+pub returns-in-Upgrade-clause-works : goal.returns-in-Upgrade-clause-works
+returns-in-Upgrade-clause-works g c clean inside k reached =
+    let opened : IsTrue (state g.S.Store c.args.tx.now.conn.now).is_open = rw c.in-Upgrade.is at reached in
+    rw c.in-Upgrade.is (c.upgrade.ensures.works clean inside opened k)
+
+pub returns-in-Reindex-clause-begun : goal.returns-in-Reindex-clause-begun
+returns-in-Reindex-clause-begun g c clean inside = rw c.in-Reindex.is (nothing_so c.reindex.result)
+
+pub returns-in-Upgrade-clause-begun : goal.returns-in-Upgrade-clause-begun
+returns-in-Upgrade-clause-begun g c clean inside = rw c.in-Upgrade.is (nothing_so c.upgrade.result)

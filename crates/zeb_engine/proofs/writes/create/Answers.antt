@@ -2,7 +2,7 @@ use Rattle.std.proofs.Common.{pos, subst}
 use Rattle.sqlite.specs.Held.{state}
 use Rattle.zeb_register.specs.Catalog.{PutsDatabase}
 use Rattle.zeb_register.specs.Store.{Changes, databases_tree}
-use Rattle.zeb_engine.specs.NameOf.{name_bytes}
+use Rattle.zeb_image.specs.NameOf.{name_bytes}
 use Rattle.zeb_engine.proofs.WriteSteps.{create_leads}
 use Rattle.zeb_engine.proofs.writes.create.Goals as goal
 

@@ -6,7 +6,7 @@ use Rattle.zeb_register.specs.declared.RegFault.TheVariants as register
 use Rattle.zeb_register.specs.declared.catalog.Database.{Database}
 use Rattle.zeb_register.specs.Catalog.{IsDatabaseOf}
 use Rattle.zeb_change.specs.declared.refusals.Refusal.TheVariants.{Exists}
-use Rattle.zeb_engine.specs.NameOf.{name_bytes}
+use Rattle.zeb_image.specs.NameOf.{name_bytes}
 use Rattle.zeb_change.specs.Outcomes.{register_refusal}
 use Rattle.zeb_engine.specs.Steps.{turned, created}
 use Rattle.zeb_engine.specs.Works.{IsReady, Serves}

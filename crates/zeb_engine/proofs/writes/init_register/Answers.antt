@@ -6,7 +6,7 @@ use Rattle.sqlite.specs.Held.{state}
 use Rattle.zeb_register.specs.Store.{IsStore}
 use Rattle.zeb_change.specs.declared.settings.Limits.{Limits}
 use Rattle.zeb_change.specs.Conditions.{Conditions, conditions}
-use Rattle.zeb_engine.specs.Image.{IsImage}
+use Rattle.zeb_image.specs.Image.{IsImage}
 use Rattle.zeb_engine.specs.Steps.{holding}
 use Rattle.zeb_engine.specs.PrivateWriting.{AreOf}
 use Rattle.zeb_engine.proofs.Crashing.{survives_as}

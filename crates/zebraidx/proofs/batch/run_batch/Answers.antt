@@ -2,7 +2,7 @@ use Rattle.std.proofs.Common.{ap, inl, inr, refl}
 use Rattle.std.specs.Prelude.{codes}
 use Rattle.sqlite.specs.State.{HasCleanDisk}
 use Rattle.sqlite.specs.Files.{file_state}
-use Rattle.zeb_engine.specs.Holdings.{nothing_yet}
+use Rattle.zeb_image.specs.Holdings.{nothing_yet}
 use Rattle.zeb_change.specs.Conditions.{conditions}
 use Rattle.zeb_change.specs.declared.refusals.Refusal.TheVariants.{Store}
 use Rattle.zebraidx.proofs.MemoryLemmas.{always_clean}

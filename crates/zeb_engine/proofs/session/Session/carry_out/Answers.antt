@@ -6,9 +6,9 @@ use Rattle.zeb_change.specs.declared.settings.Limits.{Limits}
 use Rattle.zeb_engine.specs.Alone.{Alone, StatSays}
 use Rattle.zeb_change.specs.Conditions.{conditions}
 use Rattle.zeb_engine.specs.Crashes.{Commits, CommitsBy}
-use Rattle.zeb_engine.specs.Image.{IsImage}
-use Rattle.zeb_engine.specs.NameOf.{name_bytes}
-use Rattle.zeb_engine.specs.Steps.{OnlyAsks, turned, TakesFiles, created, dropped, dumped_by, holding, waited, Step, initialised, ready, CountedFrom}
+use Rattle.zeb_image.specs.Image.{IsImage}
+use Rattle.zeb_image.specs.NameOf.{name_bytes}
+use Rattle.zeb_engine.specs.Steps.{OnlyAsks, turned, TakesFiles, created, dropped, dumped_by, holding, checked, Step, initialised, reindexed, upgraded, ready, CountedFrom}
 use Rattle.zeb_engine.specs.Readiness.{LooksFirst}
 use Rattle.zeb_engine.specs.Works.{Always, Asks, Serves, ServesBy}
 use Rattle.zeb_engine.proofs.Commanding.{analysis_answers, analysis_serves, asks_serve, ends_serve, find_alone, find_serves, scan_alone, scan_serves}
@@ -76,7 +76,19 @@ returns-in-Find-clause-serves g c clean =
 pub returns-in-Check-clause-serves : goal.returns-in-Check-clause-serves
 returns-in-Check-clause-serves g c clean =
     let k = conditions (version_of g.L.Layout.format) c.args.self.now.profile c.args.self.now.limits in
-    rw c.in-Check.is (ends_serve (waited k) (state g.S.Store c.args.self.now.connection) (state g.S.Store c.wait.new.self.connection) c.wait.result (c.wait.ensures.serves clean))
+    rw c.in-Check.is (ends_serve (checked k) (state g.S.Store c.args.self.now.connection) (state g.S.Store c.check.new.self.connection) c.check.result (c.check.ensures.serves clean))
+
+pub returns-in-Upgrade-clause-serves : goal.returns-in-Upgrade-clause-serves
+returns-in-Upgrade-clause-serves g c clean =
+    let limits = c.args.self.now.limits in
+    let k = conditions (version_of g.L.Layout.format) c.args.self.now.profile limits in
+    rw c.in-Upgrade.is (ends_serve (upgraded k) (state g.S.Store c.args.self.now.connection) (state g.S.Store c.upgrade.new.connection) c.upgrade.result (c.upgrade.ensures.serves clean limits))
+
+pub returns-in-Reindex-clause-serves : goal.returns-in-Reindex-clause-serves
+returns-in-Reindex-clause-serves g c clean =
+    let limits = c.args.self.now.limits in
+    let k = conditions (version_of g.L.Layout.format) c.args.self.now.profile limits in
+    rw c.in-Reindex.is (ends_serve (reindexed k) (state g.S.Store c.args.self.now.connection) (state g.S.Store c.reindex.new.connection) c.reindex.result (c.reindex.ensures.serves clean limits))
 
 pub returns-in-Stat-clause-serves : goal.returns-in-Stat-clause-serves
 returns-in-Stat-clause-serves g c clean =
@@ -161,6 +173,12 @@ returns-in-Change-clause-alone g c clean = rw c.in-Change.is tt
 pub returns-in-Check-clause-alone : goal.returns-in-Check-clause-alone
 returns-in-Check-clause-alone g c clean = rw c.in-Check.is tt
 
+pub returns-in-Upgrade-clause-alone : goal.returns-in-Upgrade-clause-alone
+returns-in-Upgrade-clause-alone g c clean = rw c.in-Upgrade.is tt
+
+pub returns-in-Reindex-clause-alone : goal.returns-in-Reindex-clause-alone
+returns-in-Reindex-clause-alone g c clean = rw c.in-Reindex.is tt
+
 pub returns-in-Stat-clause-alone : goal.returns-in-Stat-clause-alone
 returns-in-Stat-clause-alone g c clean =
     let old = state g.S.Store c.args.self.now.connection in
@@ -226,6 +244,12 @@ returns-in-Drop-clause-reads g c clean asks = absurd (subst OnlyAsks c.in-Drop.i
 pub returns-in-Change-clause-reads : goal.returns-in-Change-clause-reads
 returns-in-Change-clause-reads g c clean asks = absurd (subst OnlyAsks c.in-Change.is asks)
 
+pub returns-in-Upgrade-clause-reads : goal.returns-in-Upgrade-clause-reads
+returns-in-Upgrade-clause-reads g c clean asks = absurd (subst OnlyAsks c.in-Upgrade.is asks)
+
+pub returns-in-Reindex-clause-reads : goal.returns-in-Reindex-clause-reads
+returns-in-Reindex-clause-reads g c clean asks = absurd (subst OnlyAsks c.in-Reindex.is asks)
+
 pub returns-in-Find-clause-survives : goal.returns-in-Find-clause-survives
 returns-in-Find-clause-survives g c =
     let k = conditions (version_of g.L.Layout.format) c.args.self.now.profile c.args.self.now.limits in
@@ -234,7 +258,23 @@ returns-in-Find-clause-survives g c =
 pub returns-in-Check-clause-survives : goal.returns-in-Check-clause-survives
 returns-in-Check-clause-survives g c =
     let k = conditions (version_of g.L.Layout.format) c.args.self.now.profile c.args.self.now.limits in
-    none_commits (Step k c.args.command.now) (state g.S.Store c.args.self.now.connection) (state g.S.Store c.wait.new.self.connection) c.wait.ensures.survives
+    none_commits (Step k c.args.command.now) (state g.S.Store c.args.self.now.connection) (state g.S.Store c.check.new.self.connection) c.check.ensures.survives
+
+pub returns-in-Upgrade-clause-survives : goal.returns-in-Upgrade-clause-survives
+returns-in-Upgrade-clause-survives g c =
+    let limits = c.args.self.now.limits in
+    let k = conditions (version_of g.L.Layout.format) c.args.self.now.profile limits in
+    let old = state g.S.Store c.args.self.now.connection in
+    let new = state g.S.Store c.upgrade.new.connection in
+    rw c.in-Upgrade.is (ends_commit (upgraded k) old new (survives_as old new _ _ (λ clean db made. made limits) c.upgrade.ensures.survives))
+
+pub returns-in-Reindex-clause-survives : goal.returns-in-Reindex-clause-survives
+returns-in-Reindex-clause-survives g c =
+    let limits = c.args.self.now.limits in
+    let k = conditions (version_of g.L.Layout.format) c.args.self.now.profile limits in
+    let old = state g.S.Store c.args.self.now.connection in
+    let new = state g.S.Store c.reindex.new.connection in
+    rw c.in-Reindex.is (ends_commit (reindexed k) old new (survives_as old new _ _ (λ clean db made. made limits) c.reindex.ensures.survives))
 
 pub returns-in-Stat-clause-survives : goal.returns-in-Stat-clause-survives
 returns-in-Stat-clause-survives g c =
@@ -276,6 +316,12 @@ returns-in-Init-clause-ready g c clean looks = absurd (subst LooksFirst c.in-Ini
 pub returns-in-Analyse-clause-ready : goal.returns-in-Analyse-clause-ready
 returns-in-Analyse-clause-ready g c clean looks = absurd (subst LooksFirst c.in-Analyse.is looks)
 
+pub returns-in-Upgrade-clause-ready : goal.returns-in-Upgrade-clause-ready
+returns-in-Upgrade-clause-ready g c clean looks = absurd (subst LooksFirst c.in-Upgrade.is looks)
+
+pub returns-in-Reindex-clause-ready : goal.returns-in-Reindex-clause-ready
+returns-in-Reindex-clause-ready g c clean looks = absurd (subst LooksFirst c.in-Reindex.is looks)
+
 pub returns-in-Init-clause-analysed : goal.returns-in-Init-clause-analysed
 returns-in-Init-clause-analysed g c = rw c.in-Init.is tt
 
@@ -293,6 +339,12 @@ returns-in-Find-clause-analysed g c = rw c.in-Find.is tt
 
 pub returns-in-Check-clause-analysed : goal.returns-in-Check-clause-analysed
 returns-in-Check-clause-analysed g c = rw c.in-Check.is tt
+
+pub returns-in-Upgrade-clause-analysed : goal.returns-in-Upgrade-clause-analysed
+returns-in-Upgrade-clause-analysed g c = rw c.in-Upgrade.is tt
+
+pub returns-in-Reindex-clause-analysed : goal.returns-in-Reindex-clause-analysed
+returns-in-Reindex-clause-analysed g c = rw c.in-Reindex.is tt
 
 pub returns-in-Stat-clause-analysed : goal.returns-in-Stat-clause-analysed
 returns-in-Stat-clause-analysed g c = rw c.in-Stat.is tt
@@ -319,7 +371,13 @@ pub returns-in-Find-clause-call : goal.returns-in-Find-clause-call
 returns-in-Find-clause-call g c = rw c.in-Find.is c.find.ensures.call
 
 pub returns-in-Check-clause-call : goal.returns-in-Check-clause-call
-returns-in-Check-clause-call g c = rw c.in-Check.is c.wait.ensures.call
+returns-in-Check-clause-call g c = rw c.in-Check.is c.check.ensures.call
+
+pub returns-in-Upgrade-clause-call : goal.returns-in-Upgrade-clause-call
+returns-in-Upgrade-clause-call g c = rw c.in-Upgrade.is c.upgrade.ensures.call
+
+pub returns-in-Reindex-clause-call : goal.returns-in-Reindex-clause-call
+returns-in-Reindex-clause-call g c = rw c.in-Reindex.is c.reindex.ensures.call
 
 pub returns-in-Scan-clause-call : goal.returns-in-Scan-clause-call
 returns-in-Scan-clause-call g c = rw c.in-Scan.is c.scan.ensures.call

@@ -3,7 +3,7 @@ use Rattle.sqlite.specs.Held.{state}
 use Rattle.sqlite.specs.State.{HasCleanDisk}
 use Rattle.zeb_change.specs.Conditions.{conditions}
 use Rattle.zeb_change.specs.Base.{Base}
-use Rattle.zeb_engine.specs.NameOf.{name_bytes}
+use Rattle.zeb_image.specs.NameOf.{name_bytes}
 use Rattle.zeb_engine.specs.Readiness.{IsRefusedOver}
 use Rattle.zeb_change.specs.Reading.{NamesFailed}
 use Rattle.zeb_engine.specs.Steps.{TakesFiles, changed_by_files, ready, turned}

@@ -11,7 +11,7 @@ use Rattle.std.proofs.lemmas.Slice.Eq.{bytes_eq-Decides}
 use Rattle.sqlite_rules.specs.Lists.{Has}
 use Rattle.sqlite_rules.proofs.ListLemmas.{all_has, all_from, has_found, has_filtered, has_kept}
 use Rattle.zeb_change.specs.Base.{Base}
-use Rattle.zeb_engine.specs.Holdings.{base_named, base_placed, with_base, without_base}
+use Rattle.zeb_image.specs.Holdings.{base_named, base_placed, with_base, without_base}
 
 abbrev pub name_order : Base → Base → Ordering
 name_order a b = slice_cmp nat_cmp a.name b.name

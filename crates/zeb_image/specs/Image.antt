@@ -13,9 +13,9 @@ use Rattle.zeb_profile.specs.Canonical.{canonical_text, pattern_text}
 use Rattle.zeb_profile.specs.Laws.{IsProfile}
 use Rattle.zeb_register.specs.Sql.{HasRow}
 use Rattle.zeb_register.specs.Store.{IsStore, HasDatabase, LacksLists, LacksRegisters, entry, meta_tree}
-use Rattle.zeb_engine.specs.Names.{IsDatabaseName}
+use Rattle.zeb_image.specs.Names.{IsDatabaseName}
 use Rattle.zeb_change.specs.Stored.{IsBase, AreStored}
-use Rattle.zeb_engine.specs.Holdings.{Holdings, nothing_yet, under}
+use Rattle.zeb_image.specs.Holdings.{Holdings, nothing_yet, under}
 use Rattle.zeb_change.specs.Base.{Base, Kept}
 use Rattle.zeb_register.specs.Formats.{Format, version_of}
 

@@ -1,7 +1,7 @@
 //! Names of databases.
 
 ghost use Rattle.std.specs.Prelude.{◌≡◌, ◌↔◌, IsSome, IfSome, IsTrue};
-ghost use Rattle.zeb_engine.specs.Names.{IsDatabaseName, is_name_byte};
+ghost use Rattle.zeb_image.specs.Names.{IsDatabaseName, is_name_byte};
 
 use arrayvec::ArrayString;
 
@@ -20,7 +20,7 @@ fn may_stand_in_a_name(byte: u8) -> bool
 }
 
 impl DbName {
-    ghost use Rattle.zeb_engine.specs.NameOf.{name_bytes};
+    ghost use Rattle.zeb_image.specs.NameOf.{name_bytes};
 
     /// The name that the text spells, or `None` where it spells none. Takes no memory.
     pub fn read(text: &str) -> Option<DbName>

@@ -1,6 +1,6 @@
 -- The text of a database's name.
 use Rattle.std.specs.Prelude.{ℕ, List}
-use Rattle.zeb_engine.specs.declared.names.DbName.{DbName}
+use Rattle.zeb_image.specs.declared.names.DbName.{DbName}
 
 abbrev pub name_bytes : DbName → List ℕ
 name_bytes name = name.text.bytes

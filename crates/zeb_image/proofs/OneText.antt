@@ -17,7 +17,7 @@ use Rattle.zeb_register.specs.Content.{Content}
 use Rattle.zeb_change.specs.Occurs.{OccursIn}
 use Rattle.zeb_change.specs.Folding.{ident_in}
 use Rattle.zeb_change.specs.Base.{Base, Kept}
-use Rattle.zeb_engine.specs.Image.{AreBases, IsImageOf, IsImageUnder}
+use Rattle.zeb_image.specs.Image.{AreBases, IsImageOf, IsImageUnder}
 use Rattle.zeb_change.specs.Stored.{ArePosted, AreStored, IsBase, IsKept}
 use Rattle.zeb_register.specs.Formats.{Format}
 

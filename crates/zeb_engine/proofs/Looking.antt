@@ -1,0 +1,207 @@
+-- What looks at texts come to, one after the other.
+use Rattle.std.proofs.Common.{◌≡◌, ◌⊎◌, ◌∙◌, ℕ, Bool, true, false, List, codes, Option, Some, None, Result, Ok, Err, MatchResult, OnOk, IfErr, IsTrue, String, string_bytes, refl, sym, subst, inl, inr}
+use Rattle.std.specs.declared.alloc.Global.{Global}
+use Rattle.std.specs.Str.{bytes_eq}
+use Rattle.std.proofs.lemmas.Slice.Eq.{bytes_eq-Decides}
+use Rattle.std.specs.Option.{option_map}
+use Rattle.sqlite.specs.Effect.{Database}
+use Rattle.sqlite.specs.Tree.{Trees}
+use Rattle.sqlite.specs.State.{State}
+use Rattle.zeb_profile.specs.declared.directives.Directive.{Directive}
+use Rattle.zeb_profile.specs.Canonical.{canonical_text, pattern_text}
+use Rattle.zeb_profile.specs.Indexes.{identifier_pattern}
+use Rattle.zeb_register.specs.Formats.{plain_rows, version_of}
+use Rattle.zeb_register.specs.declared.RegFault.{RegFault}
+use Rattle.zeb_register.specs.declared.RegFault.TheVariants as register
+use Rattle.zeb_register.specs.Calls.{ChangesNothing}
+use Rattle.zeb_register.specs.Store.{IsStore, IsValueOf, AreReadableTexts}
+use Rattle.zeb_register.proofs.Calls.{nothing_then, store_same}
+use Rattle.zeb_register.proofs.RowsAreLists.{one_text}
+use Rattle.zeb_change.specs.declared.refusals.Refusal.{Refusal}
+use Rattle.zeb_change.specs.declared.refusals.Refusal.TheVariants as refusal
+use Rattle.zeb_change.specs.Outcomes.{register_refusal}
+use Rattle.zeb_change.specs.Refused.{why_of}
+use Rattle.zeb_engine.specs.declared.looks.Standing.{Standing}
+use Rattle.zeb_engine.specs.declared.looks.Standing.TheVariants as standing
+use Rattle.zeb_engine.specs.Adopting.{StaysOpen}
+use Rattle.zeb_engine.specs.Answers.{IsFailure, refused}
+use Rattle.zeb_engine.specs.PrivateLooking.{FindsStanding, IsLook, RefusesLayout, RefusesRule, RefusesText, RefusesVersion, TellsStanding, TellsText}
+use Rattle.zeb_engine.specs.Readiness.{IsReadyToReindex, KeepsRule, KeepsText, KeepsUpgradable}
+use Rattle.zeb_engine.proofs.ReadyTexts.{text_found, text_missing}
+
+any_ok : {A E : Type 0} (r : Result A E) (P : Type 0) → P → OnOk r P
+any_ok (Ok x) P p = p
+any_ok (Err e) P p = tt
+
+any_err : {A : Type 0} (r : Result A Refusal) (P : Type 0) → P → IfErr r (λ why. IsFailure (refused (why_of why)) ⊎ P)
+any_err (Ok x) P p = tt
+any_err (Err e) P p = inr p
+
+-- ---- a look at one text
+
+module _ {T : Type 0} (Finds : Trees → T → Type 0) (Refuses : Trees → Refusal → Type 0) (name : List ℕ) (old new : State) (nothing : ChangesNothing old new) where
+  -- a text that can't be told
+  pub look_failed : (fault : RegFault) → (fault ≡ register.Damaged → IsTrue old.is_open) → (fault ≡ register.Damaged → IsStore old → ¬ AreReadableTexts old.now.trees name)
+      → ((¬ AreReadableTexts old.now.trees name) → Refuses old.now.trees refusal.Damaged) → Refuses old.now.trees refusal.Store → Refuses old.now.trees refusal.Memory
+      → IsLook Finds Refuses old new (Err (register_refusal fault))
+  look_failed register.Damaged opened unreadable damaged store memory =
+      record { same = nothing; found = tt; seen = inr (opened refl); told = λ is_store. damaged (unreadable refl is_store) }
+  look_failed register.Store opened unreadable damaged store memory = record { same = nothing; found = tt; seen = inl (inl refl); told = λ is_store. store }
+  look_failed register.Memory opened unreadable damaged store memory = record { same = nothing; found = tt; seen = inl (inr refl); told = λ is_store. memory }
+
+  -- a text that was told, on an open connection
+  pub look_told : (result : Result T Refusal) → StaysOpen old new → (IsStore old → MatchResult result (Finds old.now.trees) (Refuses old.now.trees)) → IsLook Finds Refuses old new result
+  look_told result opened told = record { same = nothing; found = any_ok result _ opened; seen = any_err result _ opened.0; told = told }
+
+-- a test of the text that is kept
+pub tells_found : (s : State) → IsStore s → (name text : List ℕ) (o : Option (String Global)) (found : String Global) → o ≡ Some found → IsValueOf s.now.trees name o
+    → (it : Bool) → it ≡ bytes_eq (string_bytes found) text → TellsText name text s.now.trees it
+tells_found s store name text o found is value it tested =
+    let kept = text_found s.now.trees name o found is value in (
+      λ same. subst (KeepsText s.now.trees name) ((bytes_eq-Decides (string_bytes found) text).0 (sym tested ∙ same)) kept,
+      λ there. tested ∙ (bytes_eq-Decides (string_bytes found) text).1 (one_text s store name (string_bytes found) text kept there),
+    )
+
+pub tells_missing : (trees : Trees) (name text : List ℕ) (o : Option (String Global)) → o ≡ None → IsValueOf trees name o → TellsText name text trees false
+tells_missing trees name text o is value = (λ same. absurd cc, λ there. absurd (text_missing trees name o is value text there))
+
+-- ---- one look after another
+
+module _ {T X : Type 0} (F : Trees → T → Type 0) (G : Trees → X → Type 0) (R Q : Trees → Refusal → Type 0) (old mid : State) where
+  -- refused
+  pub look_ends : (why : Refusal) → (R old.now.trees why → Q old.now.trees why) → IsLook F R old mid (Err why) → IsLook G Q old mid (Err why)
+  look_ends why so it = record { same = it.same; found = tt; seen = it.seen; told = λ store. so (it.told store) }
+
+  -- accepted, and nothing else was looked at
+  pub look_settles : (x : T) → IsLook F R old mid (Ok x) → (result : Result X Refusal) → (IsStore old → F old.now.trees x → MatchResult result (G old.now.trees) (Q old.now.trees)) → IsLook G Q old mid result
+  look_settles x it result so = record { same = it.same; found = any_ok result _ it.found; seen = any_err result _ it.found.0; told = λ store. so store (it.told store) }
+
+module _ {T : Type 0} (F : Trees → T → Type 0) (R : Trees → Refusal → Type 0) (old mid : State) (x : T) (first : IsLook F R old mid (Ok x)) where
+  pub same_then : mid.now ≡ old.now
+  same_then = (first.same first.found.1).1
+
+  pub store_then : IsStore old → IsStore mid
+  store_then store = store_same old mid same_then store
+
+  module _ {X Y : Type 0} (G : Trees → X → Type 0) (H : Trees → Y → Type 0) (Q P : Trees → Refusal → Type 0) (new : State) where
+    pub then_ends : (why : Refusal) → (IsStore old → F old.now.trees x → Q old.now.trees why → P old.now.trees why) → IsLook G Q mid new (Err why) → IsLook H P old new (Err why)
+    then_ends why so it = record {
+      same = nothing_then old mid new first.same it.same;
+      found = tt;
+      seen = inr first.found.0;
+      told = λ store. so store (first.told store) (subst (λ (d : Database). Q d.trees why) same_then (it.told (store_then store)));
+    }
+
+    pub then_settles : (y : X) → IsLook G Q mid new (Ok y) → (result : Result Y Refusal) → (IsStore old → F old.now.trees x → G old.now.trees y → MatchResult result (H old.now.trees) (P old.now.trees))
+        → IsLook H P old new result
+    then_settles y it result so = record {
+      same = nothing_then old mid new first.same it.same;
+      found = any_ok result _ (first.found.0, it.found.1);
+      seen = any_err result _ first.found.0;
+      told = λ store. so store (first.told store) (subst (λ (d : Database). G d.trees y) same_then (it.told (store_then store)));
+    }
+
+-- ---- the looks before a reindex and an upgrade
+
+module _ (version : List ℕ) (profile : List Directive) (trees : Trees) where
+  pub version_as_rule : (why : Refusal) → RefusesVersion trees why → RefusesRule version profile trees why
+  version_as_rule refusal.NotInitialised is = is
+  version_as_rule refusal.Damaged is = λ readable other. is readable
+  version_as_rule refusal.Store is = tt
+  version_as_rule refusal.Memory is = tt
+  version_as_rule refusal.OldFormat is = absurd is
+  version_as_rule refusal.ProfileChanged is = absurd is
+  version_as_rule refusal.IdentifierRuleChanged is = absurd is
+  version_as_rule (refusal.Diagnostic number place addinfo) is = absurd is
+  version_as_rule refusal.Exists is = absurd is
+  version_as_rule (refusal.Record file nth fault) is = absurd is
+  version_as_rule (refusal.Unknown file nth) is = absurd is
+  version_as_rule refusal.DatabaseFull is = absurd is
+  version_as_rule refusal.TooManyRecords is = absurd is
+  version_as_rule (refusal.ReadFault file) is = absurd is
+
+  pub pattern_as_rule : (why : Refusal) → RefusesText (codes "identifier") trees why → RefusesRule version profile trees why
+  pattern_as_rule refusal.Damaged is = λ other readable. is readable
+  pattern_as_rule refusal.Store is = tt
+  pattern_as_rule refusal.Memory is = tt
+  pattern_as_rule refusal.NotInitialised is = absurd is
+  pattern_as_rule refusal.OldFormat is = absurd is
+  pattern_as_rule refusal.ProfileChanged is = absurd is
+  pattern_as_rule refusal.IdentifierRuleChanged is = absurd is
+  pattern_as_rule (refusal.Diagnostic number place addinfo) is = absurd is
+  pattern_as_rule refusal.Exists is = absurd is
+  pattern_as_rule (refusal.Record file nth fault) is = absurd is
+  pattern_as_rule (refusal.Unknown file nth) is = absurd is
+  pattern_as_rule refusal.DatabaseFull is = absurd is
+  pattern_as_rule refusal.TooManyRecords is = absurd is
+  pattern_as_rule (refusal.ReadFault file) is = absurd is
+
+  pub version_as_layout : (why : Refusal) → RefusesVersion trees why → RefusesLayout version profile trees why
+  version_as_layout refusal.NotInitialised is = is
+  version_as_layout refusal.Damaged is = λ readable other. is readable
+  version_as_layout refusal.Store is = tt
+  version_as_layout refusal.Memory is = tt
+  version_as_layout refusal.OldFormat is = absurd is
+  version_as_layout refusal.ProfileChanged is = absurd is
+  version_as_layout refusal.IdentifierRuleChanged is = absurd is
+  version_as_layout (refusal.Diagnostic number place addinfo) is = absurd is
+  version_as_layout refusal.Exists is = absurd is
+  version_as_layout (refusal.Record file nth fault) is = absurd is
+  version_as_layout (refusal.Unknown file nth) is = absurd is
+  version_as_layout refusal.DatabaseFull is = absurd is
+  version_as_layout refusal.TooManyRecords is = absurd is
+  version_as_layout (refusal.ReadFault file) is = absurd is
+
+  pub profile_as_layout : (why : Refusal) → RefusesText (codes "profile") trees why → RefusesLayout version profile trees why
+  profile_as_layout refusal.Damaged is = λ other readable. is readable
+  profile_as_layout refusal.Store is = tt
+  profile_as_layout refusal.Memory is = tt
+  profile_as_layout refusal.NotInitialised is = absurd is
+  profile_as_layout refusal.OldFormat is = absurd is
+  profile_as_layout refusal.ProfileChanged is = absurd is
+  profile_as_layout refusal.IdentifierRuleChanged is = absurd is
+  profile_as_layout (refusal.Diagnostic number place addinfo) is = absurd is
+  profile_as_layout refusal.Exists is = absurd is
+  profile_as_layout (refusal.Record file nth fault) is = absurd is
+  profile_as_layout (refusal.Unknown file nth) is = absurd is
+  profile_as_layout refusal.DatabaseFull is = absurd is
+  profile_as_layout refusal.TooManyRecords is = absurd is
+  profile_as_layout (refusal.ReadFault file) is = absurd is
+
+  module _ (pattern : List ℕ) (pattern_is : option_map pattern_text (identifier_pattern profile) ≡ Some pattern) (kept : KeepsText trees (codes "version") version) where
+    pub rule_kept : TellsText (codes "identifier") pattern trees true → IsReadyToReindex version profile trees
+    rule_kept tells = record { has_version = kept; has_rule = (pattern, pattern_is, tells.0 refl) }
+
+    pub rule_differs : TellsText (codes "identifier") pattern trees false → KeepsText trees (codes "version") version × ¬ KeepsRule profile trees
+    rule_differs tells = (
+      kept,
+      λ it. let e : Some it.0 ≡ Some pattern = sym it.1 ∙ pattern_is in
+          let same : it.0 ≡ pattern = cc in
+          let no : false ≡ true = tells.1 (subst (KeepsText trees (codes "identifier")) same it.2) in cc,
+    )
+
+  -- a register of this version
+  module _ (found : List ℕ) (kept : KeepsText trees (codes "version") found) where
+    pub standing_none : (s : State) → IsStore s → s.now.trees ≡ trees → TellsStanding version found None → ((text : List ℕ) × KeepsText trees (codes "version") text) × ¬ KeepsUpgradable version trees
+    standing_none s store same none = (
+      (found, kept),
+      λ it. elim it [
+        | inl own ↦ none.1 (subst (λ (t : Trees). KeepsText t (codes "version") found → KeepsText t (codes "version") version → found ≡ version) same (one_text s store (codes "version") found version) kept own)
+        | inr first ↦ none.0 (subst (λ (t : Trees). KeepsText t (codes "version") found → KeepsText t (codes "version") (version_of plain_rows) → found ≡ version_of plain_rows) same (one_text s store (codes "version") found (version_of plain_rows)) kept first)
+      ],
+    )
+
+    pub standing_found : (standing : Standing) → TellsStanding version found (Some standing) → TellsText (codes "profile") (canonical_text profile) trees true → FindsStanding version profile trees standing
+    standing_found standing.Upgraded is tells = record { has_version = subst (KeepsText trees (codes "version")) is kept; has_profile = tells.0 refl }
+    standing_found standing.First is tells = (
+      record { has_version = subst (KeepsText trees (codes "version")) is.0 kept; has_profile = tells.0 refl },
+      λ same. is.1 (is.0 ∙ sym same),
+    )
+
+    upgradable_so : (standing : Standing) → TellsStanding version found (Some standing) → KeepsUpgradable version trees
+    upgradable_so standing.Upgraded is = inl (subst (KeepsText trees (codes "version")) is kept)
+    upgradable_so standing.First is = inr (subst (KeepsText trees (codes "version")) is.0 kept)
+
+    pub standing_changed : (standing : Standing) → TellsStanding version found (Some standing) → TellsText (codes "profile") (canonical_text profile) trees false
+        → KeepsUpgradable version trees × ¬ KeepsText trees (codes "profile") (canonical_text profile)
+    standing_changed standing is tells = (upgradable_so standing is, λ there. let no : false ≡ true = tells.1 there in cc)

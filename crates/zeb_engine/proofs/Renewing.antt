@@ -1,0 +1,131 @@
+-- What work comes to inside a transaction that makes the registers anew.
+use Rattle.std.proofs.Common.{◌≡◌, ◌∙◌, ℕ, List, codes, Ok, Err, IsTrue, IsUtf8, refl, sym, ap, subst, inl, arith}
+use Rattle.std.specs.Option.{option_map}
+use Rattle.sqlite.specs.Tree.{Trees}
+use Rattle.sqlite.specs.State.{State, KeepsCommit}
+use Rattle.zeb_profile.specs.declared.directives.Directive.{Directive}
+use Rattle.zeb_profile.specs.Canonical.{canonical_text, pattern_text}
+use Rattle.zeb_profile.specs.Laws.{IsProfile}
+use Rattle.zeb_register.specs.declared.RegFault.{RegFault}
+use Rattle.zeb_register.specs.declared.RegFault.TheVariants as register
+use Rattle.zeb_register.specs.Calls.{GoesOn}
+use Rattle.zeb_register.specs.Formats.{Format, version_of}
+use Rattle.zeb_register.specs.Sql.{Replaces}
+use Rattle.zeb_register.specs.Calls.{Alters}
+use Rattle.zeb_register.specs.Store.{Changes, IsEntryOf, IsStore, KeepsLists, KeepsRegisters, entry, meta_tree}
+use Rattle.zeb_register.proofs.Calls.{goes_keeps, goes_then}
+use Rattle.zeb_change.specs.Base.{Base}
+use Rattle.zeb_change.specs.Conditions.{Conditions, AreSessions}
+use Rattle.zeb_change.specs.Outcomes.{register_refusal}
+use Rattle.zeb_image.specs.Holdings.{Holdings}
+use Rattle.zeb_image.specs.Image.{AreBases, HasTexts, IsImage, IsImageOf}
+use Rattle.zeb_engine.specs.declared.replies.Reply.TheVariants.{Done}
+use Rattle.zeb_engine.specs.PrivateWriting.{AreUnder, IsRuled, IsUpgradable}
+use Rattle.zeb_engine.specs.Steps.{Outcome, reindexed, upgraded}
+use Rattle.zeb_engine.specs.Works.{Works}
+use Rattle.zeb_engine.proofs.Beginning.{texts_still}
+use Rattle.zeb_engine.proofs.ListedDatabases.{fault_fails}
+use Rattle.zeb_engine.proofs.Rebuilt.{WasImage, image_rows, profile_put, renewed_image, ruled_image, upgradable_image, version_put, was_bases}
+use Rattle.zeb_engine.proofs.RenewalSteps.{reindex_done, upgrade_done}
+use Rattle.zeb_engine.proofs.WriteSteps.{Leads}
+
+pub session_of : (format : Format) (profile : List Directive) (c : Conditions) → AreUnder (version_of format) profile c → AreSessions format c
+session_of format profile c these = record { version_is = these.version_is; sound = subst (λ (p : List Directive). ∥ IsProfile p ∥₁) (sym these.profile_is) these.sound }
+
+-- what was held that fits, under the session's profile
+pub found_ruled : (format : Format) (profile : List Directive) (c : Conditions) (trees : Trees) (before : Holdings) → IsRuled (version_of format) profile c before → IsImage trees before
+    → (bases : List Base) × (was : WasImage c trees bases) × (c.profile ≡ profile)
+found_ruled format profile c trees before fits image =
+    let was = ruled_image format c (session_of format profile c fits.0) trees before fits.1.0 image fits.1.1 in (fits.1.0, was.0, fits.0.profile_is)
+
+pub found_upgradable : (format : Format) (profile : List Directive) (c : Conditions) (trees : Trees) (before : Holdings) → IsUpgradable (version_of format) profile c before → IsImage trees before
+    → (bases : List Base) × (was : WasImage c trees bases) × (c.profile ≡ profile)
+found_upgradable format profile c trees before fits image =
+    let was = upgradable_image format c (session_of format profile c fits.0) trees before fits.1.0 image fits.1.1 in (fits.1.0, was.0, fits.0.profile_is)
+
+-- ---- refused
+
+module _ (profile : List Directive) (c : Conditions) (Fits : Holdings → Type 0) (outcome : Holdings → Outcome) (old mid : State) (was_open : IsTrue old.is_open)
+    (found : (before : Holdings) → Fits before → IsImage old.now.trees before → (bases : List Base) × (was : WasImage c old.now.trees bases) × (c.profile ≡ profile)) where
+  -- no record of what is held is a faulty one
+  pub rebuild_fails : (fault : RegFault) → KeepsCommit old mid
+      → (fault ≡ register.Damaged → IsStore old → (format : Format) (told : List Directive) (bases : List Base) → IsImageOf format told old.now.trees bases → ¬ AreBases profile bases)
+      → Works (λ _ before. Fits before) outcome old mid (Err (register_refusal fault))
+  rebuild_fails fault keeps honest = (
+    keeps,
+    λ before fits sees. inl (fault_fails fault (λ is.
+        let at = sees was_open in
+        let it = found before (fits was_open) at.1 in
+        honest is at.0 it.1.it.format it.1.told it.0 it.1.it.image (subst (λ p. AreBases p it.0) it.2 (was_bases c old.now.trees it.0 it.1)))),
+  )
+
+  pub put_fails : (new : State) (fault : RegFault) → (fault ≡ register.Damaged → ⊥) → GoesOn old mid → KeepsCommit mid new → Works (λ _ before. Fits before) outcome old new (Err (register_refusal fault))
+  put_fails new fault whole first keeps = (goes_keeps old mid new first keeps, λ before fits sees. inl (fault_fails fault whole))
+
+-- ---- done
+
+module _ (format : Format) (profile : List Directive) (c : Conditions) (old mid new : State) (first : GoesOn old mid)
+    (rebuilt : IsStore old → IsStore mid × KeepsLists old.now.trees mid.now.trees
+    × ((format' : Format) (told : List Directive) (bases : List Base) → IsImageOf format' told old.now.trees bases → AreBases profile bases → IsImageOf format profile mid.now.trees bases)) where
+  -- `put` is the text that was put
+  module _ (name put : List ℕ) (alters : Alters meta_tree (Replaces (IsEntryOf name) (entry name put)) mid new) where
+    module _ (store : IsStore old) where
+      rows : Changes meta_tree (Replaces (IsEntryOf name) (entry name put)) mid new
+      rows = alters.rows (rebuilt store).0
+
+      registers : KeepsRegisters mid.now.trees new.now.trees
+      registers = (
+        rows.others.1.1.1.0 (λ e. absurd (omega (arith, e))),
+        rows.others.1.1.1.1.0 (λ e. absurd (omega (arith, e))),
+        rows.others.1.1.1.1.1.0 (λ e. absurd (omega (arith, e))),
+      )
+
+      image_then : (bases : List Base) (was : WasImage c old.now.trees bases) → c.profile ≡ profile → IsImageOf format c.profile new.now.trees bases
+      image_then bases was same =
+          let are = subst (λ p. AreBases p bases) same (was_bases c old.now.trees bases was) in
+          let built = (rebuilt store).2 was.it.format was.told bases was.it.image are in
+          image_rows format c.profile mid.now.trees new.now.trees bases (rows.others.1.0 (λ e. absurd (omega (arith, e)))) (rows.others.1.1.0 (λ e. absurd (omega (arith, e)))) registers
+          (subst (λ p. IsImageOf format p mid.now.trees bases) (sym same) built)
+
+      texts_mid : (bases : List Base) (was : WasImage c old.now.trees bases) → HasTexts mid.now.trees was.version was.text was.it.pattern
+      texts_mid bases was = texts_still old.now.trees mid.now.trees was.version was.text was.it.pattern (rebuilt store).1.0 was.it.texts
+
+  pub reindex_works : IsUtf8 (canonical_text profile) → Alters meta_tree (Replaces (IsEntryOf (codes "profile")) (entry (codes "profile") (canonical_text profile))) mid new
+      → Works (λ _ before. IsRuled (version_of format) profile c before) (reindexed c) old new (Ok Done)
+  reindex_works readable alters = (
+    goes_then old mid new first alters.on,
+    λ before fits store image.
+        let name = codes "profile" in
+        let put = canonical_text profile in
+        let session = session_of format profile c fits.0 in
+        let bases = fits.1.0 in
+        let at = ruled_image format c session old.now.trees before bases image fits.1.1 in
+        let was = at.0 in
+        let changed = rows name put alters store in
+        let texts = profile_put mid.now.trees new.now.trees was.version was.text was.it.pattern (texts_mid name put alters store bases was) put readable changed.rows in
+        let said = subst (λ v. HasTexts new.now.trees v put was.it.pattern) at.1 texts in
+        let own = subst (λ p. HasTexts new.now.trees c.version (canonical_text p) was.it.pattern) (sym fits.0.profile_is) said in
+        let pattern_is = ap (option_map pattern_text) (sym was.rule) ∙ was.it.pattern_is in
+        let left = renewed_image format c session new.now.trees bases was.it.pattern pattern_is own (was_bases c old.now.trees bases was) (image_then name put alters store bases was fits.0.profile_is) in
+        subst (Leads new Done) (sym (reindex_done c before bases fits.1.1)) (refl, changed.layout, left),
+  )
+
+  pub upgrade_works : IsUtf8 (version_of format) → Alters meta_tree (Replaces (IsEntryOf (codes "version")) (entry (codes "version") (version_of format))) mid new
+      → Works (λ _ before. IsUpgradable (version_of format) profile c before) (upgraded c) old new (Ok Done)
+  upgrade_works readable alters = (
+    goes_then old mid new first alters.on,
+    λ before fits store image.
+        let name = codes "version" in
+        let put = version_of format in
+        let session = session_of format profile c fits.0 in
+        let bases = fits.1.0 in
+        let at = upgradable_image format c session old.now.trees before bases image fits.1.1 in
+        let was = at.0 in
+        let changed = rows name put alters store in
+        let texts = version_put mid.now.trees new.now.trees was.version was.text was.it.pattern (texts_mid name put alters store bases was) put readable changed.rows in
+        let said = subst (λ v. HasTexts new.now.trees v was.text was.it.pattern) (sym fits.0.version_is) texts in
+        let own = subst (λ t. HasTexts new.now.trees c.version t was.it.pattern) at.1 said in
+        let pattern_is = ap (option_map pattern_text) (sym was.rule) ∙ was.it.pattern_is in
+        let left = renewed_image format c session new.now.trees bases was.it.pattern pattern_is own (was_bases c old.now.trees bases was) (image_then name put alters store bases was fits.0.profile_is) in
+        subst (Leads new Done) (sym (upgrade_done c before bases fits.1.1)) (refl, changed.layout, left),
+  )

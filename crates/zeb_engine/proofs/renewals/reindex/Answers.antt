@@ -1,0 +1,51 @@
+use Rattle.std.proofs.Common.{◌≡◌, Err, refl, rules, ap, arith}
+use Rattle.std.specs.Option.{option_map}
+use Rattle.sqlite.specs.Held.{state}
+use Rattle.sqlite.specs.State.{HasCleanDisk}
+use Rattle.zeb_profile.specs.Canonical.{pattern_text}
+use Rattle.zeb_register.specs.Formats.{version_of}
+use Rattle.zeb_change.specs.Conditions.{conditions}
+use Rattle.zeb_engine.proofs.Crashing.{survives_after}
+use Rattle.zeb_engine.proofs.RenewalAnswers.{reindex_texts, rule_as_reindex, rule_met, rule_unserved}
+use Rattle.zeb_engine.proofs.Serving.{keeps_still}
+use Rattle.zeb_engine.proofs.renewals.reindex.Goals as goal
+
+pub returns-in_err-check_rule-clause-serves : goal.returns-in_err-check_rule-clause-serves
+returns-in_err-check_rule-clause-serves g c clean limits =
+    let k = conditions (version_of g.L.Layout.format) c.args.profile.now limits in
+    let why = c.in_err-check_rule.field-0.0 in
+    let told : c.from_residual.result ≡ Err why = search rules in
+    rw told (rule_unserved k c.is_of_some_text.ensures (pattern_text c.identifier_rule-rule.result.now) (ap (option_map pattern_text) c.identifier_rule-rule.ensures) (state g.S.Store c.args.connection.now) (state g.S.Store c.check_rule.new.connection) why (c.in_err-check_rule.ensures.look clean))
+
+pub returns-in_err-check_rule-clause-texts : goal.returns-in_err-check_rule-clause-texts
+returns-in_err-check_rule-clause-texts g c clean store =
+    let why = c.in_err-check_rule.field-0.0 in
+    let told : c.from_residual.result ≡ Err why = search rules in
+    rw told (rule_as_reindex (version_of g.L.Layout.format) c.args.profile.now (state g.S.Store c.args.connection.now).now.trees why ((c.in_err-check_rule.ensures.look clean).told store))
+
+pub returns-clause-serves : goal.returns-clause-serves
+returns-clause-serves g c clean limits before fits keeps =
+    let k = conditions (version_of g.L.Layout.format) c.args.profile.now limits in
+    let old = state g.S.Store c.args.connection.now in
+    let mid = state g.S.Store c.check_rule.new.connection in
+    let first : HasCleanDisk mid = omega (arith, c.transact.ensures.survives.clean) in
+    let look = c.in_ok-check_rule.ensures.look first in
+    let met = rule_met k c.is_of_some_text.ensures (pattern_text c.identifier_rule-rule.result.now) (ap (option_map pattern_text) c.identifier_rule-rule.ensures) old mid look before keeps in
+    c.transact.ensures.serves clean k look.found.1 before (λ _. (record { version_is = refl; profile_is = refl; sound = c.is_of_some_text.ensures }, met)) (keeps_still before old mid look.same keeps)
+
+pub returns-clause-survives : goal.returns-clause-survives
+returns-clause-survives g c =
+    let old = state g.S.Store c.args.connection.now in
+    let mid = state g.S.Store c.check_rule.new.connection in
+    let new = state g.S.Store c.transact.new.connection in
+    survives_after old mid new _ _ c.check_rule.ensures.crash c.transact.ensures.survives (λ clean db made limits before fits keeps.
+    let k = conditions (version_of g.L.Layout.format) c.args.profile.now limits in
+    let first : HasCleanDisk mid = omega (arith, c.transact.ensures.survives.clean) in
+    let look = c.in_ok-check_rule.ensures.look first in
+    let met = rule_met k c.is_of_some_text.ensures (pattern_text c.identifier_rule-rule.result.now) (ap (option_map pattern_text) c.identifier_rule-rule.ensures) old mid look before keeps in
+    made k look.found.1 before (λ _. (record { version_is = refl; profile_is = refl; sound = c.is_of_some_text.ensures }, met)) (keeps_still before old mid look.same keeps))
+
+pub returns-clause-texts : goal.returns-clause-texts
+returns-clause-texts g c clean store =
+    let first : HasCleanDisk (state g.S.Store c.check_rule.new.connection) = omega (arith, c.transact.ensures.survives.clean) in
+    reindex_texts (version_of g.L.Layout.format) c.args.profile.now (state g.S.Store c.args.connection.now).now.trees ((c.in_ok-check_rule.ensures.look first).told store) c.transact.result c.transact.ensures.ready c.transact.ensures.ruled

@@ -1,0 +1,74 @@
+use Rattle.std.proofs.Common.{◌≡◌, false, List, Err, IsTrue, rules, arith, sym, subst}
+use Rattle.sqlite.specs.Held.{state}
+use Rattle.sqlite.specs.State.{HasCleanDisk}
+use Rattle.zeb_register.specs.Formats.{version_of}
+use Rattle.zeb_register.proofs.Calls.{store_same}
+use Rattle.zeb_change.specs.Base.{Base}
+use Rattle.zeb_change.specs.Conditions.{conditions}
+use Rattle.zeb_engine.specs.Steps.{checked, ready}
+use Rattle.zeb_engine.specs.Works.{Always, Serves}
+use Rattle.zeb_engine.proofs.Checks.{damage_serves, tells_none, tells_some, unready_tells}
+use Rattle.zeb_engine.proofs.Commanding.{ready_met, unready_checks}
+use Rattle.zeb_engine.proofs.session.Session.check.Goals as goal
+
+pub returns-in_err-check_ready-clause-serves : goal.returns-in_err-check_ready-clause-serves
+returns-in_err-check_ready-clause-serves g c clean =
+    let limits = c.args.self.now.limits in
+    let k = conditions (version_of g.L.Layout.format) c.args.self.now.profile limits in
+    let old = state g.S.Store c.args.self.now.connection in
+    let new = state g.S.Store c.check_ready.new.connection in
+    let refusal = c.in_err-check_ready.field-0.0 in
+    let told : c.from_residual.result ≡ Err refusal = search rules in
+    subst (Serves Always (checked k) old new) (sym told)
+    (unready_checks g.L.Layout.format k old new refusal (c.check_ready.ensures.same clean) (λ before keeps. c.in_err-check_ready.ensures.ready clean limits before keeps))
+
+pub returns-in_err-check_ready-clause-ready : goal.returns-in_err-check_ready-clause-ready
+returns-in_err-check_ready-clause-ready g c clean =
+    let told : c.from_residual.result ≡ Err c.in_err-check_ready.field-0.0 = search rules in
+    rw told (c.in_err-check_ready.ensures.texts clean)
+
+pub returns-in_err-check_ready-clause-checked : goal.returns-in_err-check_ready-clause-checked
+returns-in_err-check_ready-clause-checked g c clean store texts =
+    let limits = c.args.self.now.limits in
+    let k = conditions (version_of g.L.Layout.format) c.args.self.now.profile limits in
+    let old = state g.S.Store c.args.self.now.connection in
+    let mid = state g.S.Store c.check_ready.new.connection in
+    let refusal = c.in_err-check_ready.field-0.0 in
+    let idle : IsTrue c.is_autocommit-settled.result = search rules in
+    let told : c.from_residual.result ≡ Err refusal = search rules in
+    rw told (unready_tells k old store texts (λ is_open. sym (c.is_autocommit-settled.ensures.settled idle is_open)) {X = Unit {0}} (λ (bases : List Base) x. IsTrue old.is_open × IsTrue mid.is_open) refusal
+    (λ before keeps. c.in_err-check_ready.ensures.ready clean limits before keeps) c.in_err-check_ready.ensures.few (c.in_err-check_ready.ensures.texts clean store))
+
+pub returns-then-branch-clause-checked : goal.returns-then-branch-clause-checked
+returns-then-branch-clause-checked g c clean store texts =
+    let own = version_of g.L.Layout.format in
+    let k = conditions own c.args.self.now.profile c.args.self.now.limits in
+    let old = state g.S.Store c.args.self.now.connection in
+    let mid = state g.S.Store c.check_ready.new.connection in
+    let first : HasCleanDisk mid = omega (arith, c.is_image.ensures.call.crash.clean) in
+    let still = (c.check_ready.ensures.same first (c.in_ok-is_image.ensures.call.ok clean).0.was_open).1 in
+    let yes : IsTrue c.in_ok-is_image.field-0 = search rules in
+    tells_some k own old mid still c.in_ok-is_image.field-0 (c.in_ok-is_image.ensures.value clean (store_same old mid still store)) yes
+
+pub returns-else-branch-clause-serves : goal.returns-else-branch-clause-serves
+returns-else-branch-clause-serves g c clean =
+    let limits = c.args.self.now.limits in
+    let k = conditions (version_of g.L.Layout.format) c.args.self.now.profile limits in
+    let old = state g.S.Store c.args.self.now.connection in
+    let mid = state g.S.Store c.check_ready.new.connection in
+    let new = state g.S.Store c.is_image.new.connection in
+    let first : HasCleanDisk mid = omega (arith, c.is_image.ensures.call.crash.clean) in
+    let no : c.in_ok-is_image.field-0 ≡ false = search rules in
+    damage_serves k old mid new (λ before keeps. ready_met {X = Unit {0}} (λ (bases : List Base) x. IsTrue old.is_open × IsTrue mid.is_open) (ready k before) tt (c.in_ok-check_ready.ensures.ready first limits before keeps))
+    (c.check_ready.ensures.same first) c.in_ok-is_image.field-0 (c.in_ok-is_image.ensures.value clean) no
+
+pub returns-else-branch-clause-checked : goal.returns-else-branch-clause-checked
+returns-else-branch-clause-checked g c clean store texts =
+    let own = version_of g.L.Layout.format in
+    let k = conditions own c.args.self.now.profile c.args.self.now.limits in
+    let old = state g.S.Store c.args.self.now.connection in
+    let mid = state g.S.Store c.check_ready.new.connection in
+    let first : HasCleanDisk mid = omega (arith, c.is_image.ensures.call.crash.clean) in
+    let still = (c.check_ready.ensures.same first (c.in_ok-is_image.ensures.call.ok clean).0.was_open).1 in
+    let no : c.in_ok-is_image.field-0 ≡ false = search rules in
+    tells_none k own old mid still c.in_ok-is_image.field-0 (c.in_ok-is_image.ensures.value clean (store_same old mid still store)) texts no

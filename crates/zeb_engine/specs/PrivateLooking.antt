@@ -1,0 +1,84 @@
+-- What only the contracts of private functions speak of; no public clause reaches it.
+-- A look at texts of a store, before a command makes the registers anew.
+use Rattle.std.specs.Prelude.{◌≡◌, ◌≢◌, ◌⊎◌, ◌↔◌, ℕ, Bool, List, MatchResult, Option, Some, None, Result, OnOk, IfErr, IsTrue, codes}
+use Rattle.sqlite.specs.Tree.{Trees}
+use Rattle.sqlite.specs.State.{State}
+use Rattle.zeb_profile.specs.declared.directives.Directive.{Directive}
+use Rattle.zeb_register.specs.Calls.{ChangesNothing}
+use Rattle.zeb_register.specs.Formats.{plain_rows, version_of}
+use Rattle.zeb_register.specs.Store.{IsStore, AreReadableTexts}
+use Rattle.zeb_change.specs.declared.refusals.Refusal.{Refusal}
+use Rattle.zeb_change.specs.declared.refusals.Refusal.TheVariants.{NotInitialised, OldFormat, ProfileChanged, IdentifierRuleChanged, Damaged, Store, Memory}
+use Rattle.zeb_change.specs.Refused.{why_of}
+use Rattle.zeb_engine.specs.declared.looks.Standing.{Standing}
+use Rattle.zeb_engine.specs.declared.looks.Standing.TheVariants.{Upgraded, First}
+use Rattle.zeb_engine.specs.Adopting.{StaysOpen}
+use Rattle.zeb_engine.specs.Answers.{IsFailure, refused}
+use Rattle.zeb_engine.specs.Readiness.{IsReadyFor, KeepsText, RefusesReindex, RefusesUpgrade}
+
+-- what a look did to the connection, and what it found on the tables of a store
+pub record IsLook {T : Type 0} (Finds : Trees → T → Type 0) (Refuses : Trees → Refusal → Type 0) (old new : State) (result : Result T Refusal) : Type 0 where
+  pub same : ChangesNothing old new
+  pub found : OnOk result (StaysOpen old new)
+  pub seen : IfErr result (λ refusal. IsFailure (refused (why_of refusal)) ⊎ IsTrue old.is_open)
+  pub told : IsStore old → MatchResult result (Finds old.now.trees) (Refuses old.now.trees)
+
+-- whether this text is kept under this name
+abbrev pub TellsText : List ℕ → List ℕ → Trees → Bool → Type 0
+TellsText name text trees it = IsTrue it ↔ KeepsText trees name text
+
+-- over which tables a text of this name isn't told
+abbrev pub RefusesText : List ℕ → Trees → Refusal → Type 0
+RefusesText name trees Damaged = ¬ AreReadableTexts trees name
+RefusesText name trees Store = Unit {0}
+RefusesText name trees Memory = Unit {0}
+RefusesText name trees other = ⊥
+
+-- over which tables the version isn't told
+abbrev pub RefusesVersion : Trees → Refusal → Type 0
+RefusesVersion trees NotInitialised = (text : List ℕ) → ¬ KeepsText trees (codes "version") text
+RefusesVersion trees Damaged = ¬ AreReadableTexts trees (codes "version")
+RefusesVersion trees Store = Unit {0}
+RefusesVersion trees Memory = Unit {0}
+RefusesVersion trees other = ⊥
+
+-- as a reindex is refused before it begins; damage tells of its two texts
+abbrev pub RefusesRule : List ℕ → List Directive → Trees → Refusal → Type 0
+RefusesRule version profile trees NotInitialised = RefusesReindex version profile trees NotInitialised
+RefusesRule version profile trees OldFormat = RefusesReindex version profile trees OldFormat
+RefusesRule version profile trees IdentifierRuleChanged = RefusesReindex version profile trees IdentifierRuleChanged
+RefusesRule version profile trees Damaged = AreReadableTexts trees (codes "version") → ¬ AreReadableTexts trees (codes "identifier")
+RefusesRule version profile trees Store = Unit {0}
+RefusesRule version profile trees Memory = Unit {0}
+RefusesRule version profile trees other = ⊥
+
+-- as an upgrade is refused before it begins; damage tells of its two texts
+abbrev pub RefusesLayout : List ℕ → List Directive → Trees → Refusal → Type 0
+RefusesLayout version profile trees NotInitialised = RefusesUpgrade version profile trees NotInitialised
+RefusesLayout version profile trees OldFormat = RefusesUpgrade version profile trees OldFormat
+RefusesLayout version profile trees ProfileChanged = RefusesUpgrade version profile trees ProfileChanged
+RefusesLayout version profile trees Damaged = AreReadableTexts trees (codes "version") → ¬ AreReadableTexts trees (codes "profile")
+RefusesLayout version profile trees Store = Unit {0}
+RefusesLayout version profile trees Memory = Unit {0}
+RefusesLayout version profile trees other = ⊥
+
+-- where a register of this version stands, or none
+abbrev pub TellsStanding : List ℕ → List ℕ → Option Standing → Type 0
+TellsStanding own version (Some Upgraded) = version ≡ own
+TellsStanding own version (Some First) = (version ≡ version_of plain_rows) × (version ≢ own)
+TellsStanding own version None = (version ≢ version_of plain_rows) × (version ≢ own)
+
+-- where a register stands that may be upgraded
+abbrev pub FindsStanding : List ℕ → List Directive → Trees → Standing → Type 0
+FindsStanding version profile trees Upgraded = IsReadyFor version profile trees
+FindsStanding version profile trees First = IsReadyFor (version_of plain_rows) profile trees × (version ≢ version_of plain_rows)
+
+-- a look whether a register is ready refuses nothing else
+abbrev pub IsUnready : Refusal → Type 0
+IsUnready NotInitialised = Unit {0}
+IsUnready OldFormat = Unit {0}
+IsUnready ProfileChanged = Unit {0}
+IsUnready Damaged = Unit {0}
+IsUnready Store = Unit {0}
+IsUnready Memory = Unit {0}
+IsUnready other = ⊥

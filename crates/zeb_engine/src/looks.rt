@@ -1,0 +1,124 @@
+//! Looks at the texts of a store, before a command makes its registers anew.
+
+ghost use Rattle.std.specs.Prelude.{◌≡◌, false, codes, string_bytes};
+ghost use Rattle.sqlite.specs.Held.{state};
+ghost use Rattle.sqlite.specs.State.{HasCleanDisk, Survives};
+ghost use Rattle.zeb_register.specs.Formats.{version_of};
+ghost use Rattle.zeb_change.specs.Reading.{NoReadFault};
+ghost use Rattle.zeb_engine.specs.PrivateLooking.{FindsStanding, IsLook, RefusesLayout, RefusesRule, RefusesText, RefusesVersion, TellsStanding, TellsText};
+ghost use Rattle.zeb_engine.specs.Readiness.{IsReadyToReindex, KeepsText};
+
+use crate::readiness::{IDENTIFIER, PROFILE, VERSION};
+use sqlite::{Alter, Connection};
+use std::alloc::Global;
+use zeb_change::Refusal;
+use zeb_profile::Profile;
+use zeb_register::{Layout, Rows, meta_of};
+
+/// Where a register stands that an upgrade takes.
+#[derive(Clone, Copy)]
+pub(crate) enum Standing {
+    /// It has the session's layout already.
+    Upgraded,
+    /// It has the first layout, and the session another one.
+    First,
+}
+
+/// The version of the tables' layout. `NotInitialised` where none is kept.
+fn kept_version<S: Alter>(connection: &mut Connection<S>) -> Result<String, Refusal>
+    requires idle { connection.old.in_transaction ≡ false }
+    ensures idle { connection.new.in_transaction ≡ false }
+    ensures look { HasCleanDisk (state S.Store connection.new)
+        → IsLook (λ trees version. KeepsText trees (codes "version") (string_bytes version)) RefusesVersion (state S.Store connection.old)
+        (state S.Store connection.new) result }
+    ensures unread { NoReadFault result }
+    ensures crash { Survives (state S.Store connection.old) (state S.Store connection.new) (λ _. ⊥) }
+{
+    match meta_of(connection, VERSION)? {
+        Some(version) => Ok(version),
+        None => Err(Refusal::NotInitialised),
+    }
+}
+
+/// Whether this text is kept under this name.
+fn keeps_text<S: Alter>(
+    connection: &mut Connection<S>,
+    name: &str,
+    text: &str,
+) -> Result<bool, Refusal>
+    requires idle { connection.old.in_transaction ≡ false }
+    ensures idle { connection.new.in_transaction ≡ false }
+    ensures look { HasCleanDisk (state S.Store connection.new)
+        → IsLook (TellsText name.now text.now) (RefusesText name.now) (state S.Store connection.old) (state S.Store connection.new) result }
+    ensures unread { NoReadFault result }
+    ensures crash { Survives (state S.Store connection.old) (state S.Store connection.new) (λ _. ⊥) }
+{
+    match meta_of(connection, name)? {
+        Some(found) => Ok(found.as_str() == text),
+        None => Ok(false),
+    }
+}
+
+/// Refuses a register that was never initialised, has another layout, or was initialised under another rule for identifiers.
+pub(crate) fn check_rule<S: Alter, L: Layout>(
+    alloc: Global,
+    connection: &mut Connection<S>,
+    profile: &Profile,
+) -> Result<(), Refusal>
+    requires idle { connection.old.in_transaction ≡ false }
+    ensures idle { connection.new.in_transaction ≡ false }
+    ensures look { HasCleanDisk (state S.Store connection.new)
+        → IsLook (λ trees _. IsReadyToReindex (version_of L.format) profile.now trees) (RefusesRule (version_of L.format) profile.now)
+        (state S.Store connection.old) (state S.Store connection.new) result }
+    ensures unread { NoReadFault result }
+    ensures crash { Survives (state S.Store connection.old) (state S.Store connection.new) (λ _. ⊥) }
+{
+    let version = kept_version(connection)?;
+    if version.as_str() != L::version() {
+        return Err(Refusal::OldFormat);
+    }
+    let pattern = profile.identifier_rule().to_string(alloc)?;
+    if keeps_text(connection, IDENTIFIER, pattern.as_str())? {
+        Ok(())
+    } else {
+        Err(Refusal::IdentifierRuleChanged)
+    }
+}
+
+/// Where a register of this version stands, or `None` where an upgrade doesn't take it.
+fn standing_of<L: Layout>(version: &str) -> Option<Standing>
+    ensures { TellsStanding (version_of L.format) version.now result }
+{
+    if version == L::version() {
+        Some(Standing::Upgraded)
+    } else if version == Rows::version() {
+        Some(Standing::First)
+    } else {
+        None
+    }
+}
+
+/// Where a register stands. Refuses one that was never initialised, has another layout than the session's and the first, or was
+/// initialised under another profile.
+pub(crate) fn check_layout<S: Alter, L: Layout>(
+    connection: &mut Connection<S>,
+    profile: &Profile,
+) -> Result<Standing, Refusal>
+    requires idle { connection.old.in_transaction ≡ false }
+    ensures idle { connection.new.in_transaction ≡ false }
+    ensures look { HasCleanDisk (state S.Store connection.new)
+        → IsLook (FindsStanding (version_of L.format) profile.now) (RefusesLayout (version_of L.format) profile.now)
+        (state S.Store connection.old) (state S.Store connection.new) result }
+    ensures unread { NoReadFault result }
+    ensures crash { Survives (state S.Store connection.old) (state S.Store connection.new) (λ _. ⊥) }
+{
+    let version = kept_version(connection)?;
+    let Some(standing) = standing_of::<L>(version.as_str()) else {
+        return Err(Refusal::OldFormat);
+    };
+    if keeps_text(connection, PROFILE, profile.text())? {
+        Ok(standing)
+    } else {
+        Err(Refusal::ProfileChanged)
+    }
+}

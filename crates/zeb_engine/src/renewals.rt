@@ -1,0 +1,89 @@
+//! The commands that make the registers anew from the kept records, each in one transaction.
+
+ghost use Rattle.std.specs.Prelude.{◌≡◌, false};
+ghost use Rattle.sqlite.specs.Held.{state};
+ghost use Rattle.sqlite.specs.State.{HasCleanDisk, Survives};
+ghost use Rattle.zeb_register.specs.Formats.{version_of};
+ghost use Rattle.zeb_change.specs.declared.settings.Limits.{Limits};
+ghost use Rattle.zeb_change.specs.Conditions.{conditions};
+ghost use Rattle.zeb_change.specs.Reading.{NoReadFault};
+ghost use Rattle.zeb_engine.specs.Checking.{UpgradesTables};
+ghost use Rattle.zeb_engine.specs.Crashes.{Commits};
+ghost use Rattle.zeb_engine.specs.Readiness.{ReindexesByTexts, UpgradesByTexts};
+ghost use Rattle.zeb_engine.specs.Steps.{reindexed, upgraded};
+ghost use Rattle.zeb_engine.specs.Transactions.{Commanded};
+ghost use Rattle.zeb_engine.specs.Works.{Always, Serves};
+
+use crate::looks::{Standing, check_layout, check_rule};
+use crate::replies::Reply;
+use crate::writes::{Write, transact};
+use sqlite::{Alter, Connection};
+use std::alloc::Global;
+use zeb_change::Refusal;
+use zeb_image::is_image;
+use zeb_profile::Profile;
+use zeb_register::{Layout, Rows};
+
+/// Puts the session's profile in the place of the register's, and makes the registers anew by it. `IdentifierRuleChanged` where the
+/// profiles have other rules for identifiers; `Damaged` where a kept record isn't one, or hasn't its identifier.
+pub(crate) fn reindex<S: Alter, L: Layout>(
+    alloc: Global,
+    connection: &mut Connection<S>,
+    profile: &Profile,
+) -> Result<Reply, Refusal>
+    requires idle { connection.old.in_transaction ≡ false }
+    ensures idle { connection.new.in_transaction ≡ false }
+    ensures call { Commanded (state S.Store connection.old) (state S.Store connection.new) result }
+    ensures survives { Survives (state S.Store connection.old) (state S.Store connection.new) (λ db. (limits : Limits)
+        → Commits Always (reindexed (conditions (version_of L.format) profile.now limits)) (state S.Store connection.old) db) }
+    ensures serves { HasCleanDisk (state S.Store connection.new) → (limits : Limits)
+        → Serves Always (reindexed (conditions (version_of L.format) profile.now limits)) (state S.Store connection.old)
+        (state S.Store connection.new) result }
+    ensures texts { HasCleanDisk (state S.Store connection.new)
+        → ReindexesByTexts (version_of L.format) profile.now (state S.Store connection.old) result }
+    ensures unread { NoReadFault result }
+{
+    // Its profile is some text's, and has a rule for identifiers.
+    profile.is_of_some_text();
+    let _rule = profile.identifier_rule();
+    check_rule::<S, L>(alloc, connection, profile)?;
+    transact::<S, L>(connection, &Write::Reindex { alloc, profile })
+}
+
+/// Makes the registers of the first layout anew in this one. Where the register has this one already, nothing changes. `Damaged` where the
+/// tables of the first layout aren't the image of what is held; they are as before then.
+pub(crate) fn upgrade<S: Alter, L: Layout>(
+    alloc: Global,
+    connection: &mut Connection<S>,
+    profile: &Profile,
+) -> Result<Reply, Refusal>
+    requires idle { connection.old.in_transaction ≡ false }
+    ensures idle { connection.new.in_transaction ≡ false }
+    ensures call { Commanded (state S.Store connection.old) (state S.Store connection.new) result }
+    ensures survives { Survives (state S.Store connection.old) (state S.Store connection.new) (λ db. (limits : Limits)
+        → Commits Always (upgraded (conditions (version_of L.format) profile.now limits)) (state S.Store connection.old) db) }
+    ensures serves { HasCleanDisk (state S.Store connection.new) → (limits : Limits)
+        → Serves Always (upgraded (conditions (version_of L.format) profile.now limits)) (state S.Store connection.old)
+        (state S.Store connection.new) result }
+    ensures texts { HasCleanDisk (state S.Store connection.new)
+        → UpgradesByTexts (version_of L.format) profile.now (state S.Store connection.old) result }
+    ensures told { HasCleanDisk (state S.Store connection.new)
+        → UpgradesTables (version_of L.format) profile.now (state S.Store connection.old) result }
+    ensures unread { NoReadFault result }
+{
+    // What is shown is what was committed.
+    let _settled = connection.is_autocommit();
+    // Its profile is some text's.
+    profile.is_of_some_text();
+    let standing = check_layout::<S, L>(connection, profile)?;
+    match standing {
+        Standing::Upgraded => Ok(Reply::Done),
+        Standing::First => {
+            if is_image::<S, Rows>(alloc, connection, profile)? {
+                transact::<S, L>(connection, &Write::Upgrade { alloc, profile })
+            } else {
+                Err(Refusal::Damaged)
+            }
+        }
+    }
+}

@@ -1,0 +1,4 @@
+pub mod Names
+pub mod NameOf
+pub mod Holdings
+pub mod Image

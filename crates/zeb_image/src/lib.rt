@@ -1,0 +1,10 @@
+//! What a register holds, and the tables that are its image: told of whole tables, and made anew from the kept records.
+#![tactic(auto)]
+
+mod checking;
+mod names;
+mod rebuilding;
+
+pub use checking::is_image;
+pub use names::DbName;
+pub use rebuilding::rebuild;
