@@ -20,7 +20,7 @@ use crate::packed::counted;
 use crate::packed_changes::{block_list, block_write, dict_write, key_records};
 use crate::packed_parts::{Held, check_changes};
 use crate::registers::{Place, RecordChange, Work};
-use crate::statements::postings::nothing_inside;
+use crate::statements::inside::nothing_inside;
 use crate::{DatabaseId, RegFault};
 use sqlite::{Alter, Transaction};
 use zeb_extract::Key;

@@ -16,7 +16,8 @@ ghost use Rattle.zeb_register.specs.Store.{IsStore, KeepsLists, postings_tree};
 
 use crate::plain::code_of;
 use crate::registers::{Place, RecordChange};
-use crate::statements::postings::{nothing_inside, place_rows, places_lift, posting_put};
+use crate::statements::inside::nothing_inside;
+use crate::statements::postings::{place_rows, places_lift, posting_put};
 use crate::values::{read, stored};
 use crate::{DatabaseId, RegFault};
 use sqlite::{Alter, Row, Transaction};
