@@ -2,10 +2,14 @@
 use Rattle.std.proofs.Common.{◌≡◌, ℕ, ◌<◌, ◌≤◌, Bool, true, false, cond, List, Option, Some, None, inl, inr, length, refl, ap, sym, subst, ◌∙◌, arith}
 use Rattle.std.specs.Prelude.{nat_lt, chars}
 use Rattle.std.proofs.lemmas.Bool.Decides.{nat_tests}
-use Rattle.zeb_query.specs.Words.{Word, AreWords, words_at}
+use Rattle.zeb_query.specs.Words.{Word, AreWords}
+use Rattle.zeb_query.specs.FirstFault.{words_at, Start, fault, query_fault}
 use Rattle.zeb_query.specs.Queries.{QueryValue}
-use Rattle.zeb_query.specs.Grammar.{IsQuery}
-use Rattle.zeb_query.specs.Reading.{IsUnspelled, Start, fault, SpellsQuery, IsReadable, IsFaulty, is_long, is_unspelled, is_crowded, query_fault}
+use Rattle.zeb_query.specs.Grammar.{IsQuery, SpellsQuery}
+use Rattle.zeb_query.specs.declared.faults.QueryFault.{QueryFault}
+use Rattle.zeb_query.specs.declared.faults.QueryFault.TheVariants.{Diagnostic, Memory}
+use Rattle.zeb_query.specs.Faults.{IsFault}
+use Rattle.zeb_query.specs.Places.{IsFaultOf, IsUnspelled, IsReadable, IsFaulty, is_long, is_unspelled, is_crowded}
 use Rattle.zeb_query.proofs.WordStretches.{words_read_are, words_are_read}
 use Rattle.zeb_query.proofs.GrammarOnce.{same_query}
 use Rattle.zeb_query.proofs.GrammarLaws.{over_query}
@@ -84,3 +88,9 @@ readable text e = at (nat_lt 65535 (length text)) refl e
 
 pub faultless : (text : List ℕ) → IsReadable text → query_fault text ≡ None
 faultless text r = of_words text r.spelled.words None r.short r.spelled.are_words (over_query r.spelled.spelled (length text) 100 r.room)
+
+-- ---- the fault of a call
+
+pub fault_of_text : (text : List ℕ) (e : QueryFault) → IsFault e (query_fault text) → IsFaultOf e text
+fault_of_text text Memory is = tt
+fault_of_text text (Diagnostic number place addinfo) is = (stands text number place is.0, is.1)
