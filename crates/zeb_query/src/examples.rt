@@ -50,6 +50,10 @@ pub fn diagnostics_at_examples()
     ensures local_number { PlansAs (codes "@attr 4=107 x") (refused 126 12 (codes "x")) }
     ensures inner { PlansAs (codes "@attr 1=4 @attr 1=9999 moby") (refused 114 23 (codes "9999")) }
     ensures attribute_set { PlansAs (codes "@attrset x moby") (refused 121 11 (codes "x")) }
+    ensures leftmost_kind { PlansAs (codes "@attr 7=1 @attr 8=1 x") (refused 113 20 (codes "7")) }
+    ensures number_truncated { PlansAs (codes "@attr 1=31 @attr 4=109 @attr 5=1 1851") (refused 123 33 []) }
+    ensures list_order { PlansAs (codes "@attr 4=105 @attr 2=1 x") (refused 123 22 []) }
+    ensures asked_default { PlansUnder titles_alone (codes "@attr 1=1016 x") (refused 114 13 (codes "1016")) }
     ensures no_default { PlansUnder titles_alone (codes "whale") (refused 116 0 []) }
     ensures left { PlansAs (codes "@and @attr 2=6 x @attr 1=9999 y") (refused 117 15 (codes "6")) }
 {}
@@ -126,6 +130,7 @@ pub fn proximity_at_examples()
     ensures relation { PlansAs (codes "@prox 0 1 0 7 k 2 a b") (refused 110 0 (codes "7")) }
     ensures operand { PlansAs (codes "@prox 0 1 0 2 k 2 a @and b c") (refused 110 0 (codes "@prox")) }
     ensures attributes { PlansAs (codes "@prox 0 1 0 2 k 2 @attr 6=3 a b") (refused 123 28 []) }
+    ensures words { PlansAs (codes "@prox 0 1 0 2 k 2 a " ++ 34 ∷ (codes "b c" ++ 34 ∷ [])) (refused 123 20 []) }
     ensures indexes { PlansAs (codes "@prox 0 1 0 2 k 2 @attr 1=4 moby dick") (refused 123 0 []) }
     ensures near { PlansAs (codes "@prox 0 1 1 2 known 2 Dick moby") (Ok (NearOf 2
         (literal (codes "dick")) (literal (codes "moby"))
@@ -160,6 +165,7 @@ pub fn scans_at_examples()
     ensures free_form { ScansAs (codes "@attr 4=105 a") (refused 123 12 []) }
     ensures local_number { ScansAs (codes "@attr 4=107 1") (refused 123 12 []) }
     ensures operator { ScansAs (codes "@or a b") (refused 110 0 (codes "@or")) }
+    ensures proximity { ScansAs (codes "@prox 1 1 0 2 k 2 a b") (refused 110 0 (codes "@prox")) }
     ensures named { ScansAs (codes "@set r") (refused 18 0 (codes "r")) }
     ensures use_attribute { ScansAs (codes "@attr 1=9999 a") (refused 114 13 (codes "9999")) }
     ensures no_number { ScansAs (codes "@attr 1=31 @attr 4=109 a") (refused 126 23 (codes "a")) }
