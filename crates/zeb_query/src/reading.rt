@@ -26,15 +26,6 @@ pub fn read_pqf(alloc: Global, text: &str) -> Result<Query, QueryFault>
     ensures sound { OnOk result (query_fault text.now ≡ None) }
     ensures fault { IfErr result (λ e. IsFault e (query_fault text.now)) }
 {
-    query_of(alloc, text)
-}
-
-/// The same, said by the fault that is found from the left, word by word.
-fn query_of(alloc: Global, text: &str) -> Result<Query, QueryFault>
-    ensures spelled { IfOk result (λ query. SpellsQuery text.now (query_value query)) }
-    ensures sound { OnOk result (query_fault text.now ≡ None) }
-    ensures fault { IfErr result (λ e. IsFault e (query_fault text.now)) }
-{
     if text.len() > MOST_BYTES {
         return Err(QueryFault::diagnostic(alloc, 11, 0));
     }
