@@ -13,7 +13,7 @@ ghost use Rattle.zeb_query.specs.Plans.{PlanValue, held_in, looked_into, AllLook
 ghost use Rattle.zeb_query.specs.Scan.{scan_of, scan_query_checks};
 
 /// A text has one list of words that stand in it one after the other, with the blanks before, between and after them; and
-/// these words, with their places, are those that [`read_pqf`](crate::read_pqf) reads.
+/// these words, with their places, are those that are found from the left, one character after another.
 pub fn a_text_has_one_list_of_words()
     ensures are { (text : List ℕ) (words : List Word) → (AreWords text words) ↔ (words ≡ words_at 0 text) }
     ensures once { (text : List ℕ) (x y : List Word) → AreWords text x → AreWords text y → x ≡ y }
