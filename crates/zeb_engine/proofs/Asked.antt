@@ -5,7 +5,7 @@ use Rattle.sqlite.specs.State.{State}
 use Rattle.zeb_query.specs.declared.faults.QueryFault.{QueryFault}
 use Rattle.zeb_query.specs.declared.faults.QueryFault.TheVariants.{Diagnostic, Memory}
 use Rattle.zeb_query.specs.Faults.{IsFault}
-use Rattle.zeb_query.specs.Reading.{query_fault}
+use Rattle.zeb_query.specs.FirstFault.{query_fault}
 use Rattle.zeb_register.specs.Calls.{ChangesNothing}
 use Rattle.zeb_register.specs.Formats.{Format, holds_in}
 use Rattle.zeb_register.proofs.Calls.{store_same}

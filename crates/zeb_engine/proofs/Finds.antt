@@ -9,7 +9,8 @@ use Rattle.zeb_query.specs.declared.faults.QueryFault.{QueryFault}
 use Rattle.zeb_query.specs.declared.faults.QueryFault.TheVariants.{Diagnostic, Memory}
 use Rattle.zeb_query.specs.Faults.{Fails, Refusal as PlanRefusal}
 use Rattle.zeb_query.specs.Queries.{QueryValue}
-use Rattle.zeb_query.specs.Reading.{SpellsQuery, query_fault}
+use Rattle.zeb_query.specs.Grammar.{SpellsQuery}
+use Rattle.zeb_query.specs.FirstFault.{query_fault}
 use Rattle.zeb_query.specs.Plans.{PlanValue, plan_of}
 use Rattle.zeb_extract.specs.declared.keys.Occurrence.{Occurrence}
 use Rattle.zeb_register.specs.Content.{posted}

@@ -5,8 +5,9 @@ use Rattle.sqlite_rules.specs.Lists.{Has}
 use Rattle.zeb_profile.specs.declared.directives.Directive.{Directive}
 use Rattle.zeb_query.specs.Faults.{Refusal}
 use Rattle.zeb_query.specs.Queries.{QueryValue}
-use Rattle.zeb_query.specs.Plans.{PlanValue, plan_of, ScanValue, scan_of}
-use Rattle.zeb_query.specs.Reading.{query_fault}
+use Rattle.zeb_query.specs.Plans.{PlanValue, plan_of}
+use Rattle.zeb_query.specs.Scan.{ScanValue, scan_of}
+use Rattle.zeb_query.specs.FirstFault.{query_fault}
 use Rattle.zeb_query.proofs.TextFaults.{one_query}
 use Rattle.zeb_extract.specs.declared.keys.Occurrence.{Occurrence}
 use Rattle.zeb_analysis.proofs.ToldOnce.{told_once as analyses_once}

@@ -6,8 +6,9 @@ use Rattle.zeb_query.specs.declared.faults.QueryFault.{QueryFault}
 use Rattle.zeb_query.specs.declared.faults.QueryFault.TheVariants.{Diagnostic, Memory}
 use Rattle.zeb_query.specs.Faults.{Fails, Refusal}
 use Rattle.zeb_query.specs.Queries.{QueryValue}
-use Rattle.zeb_query.specs.Reading.{SpellsQuery, query_fault}
-use Rattle.zeb_query.specs.Plans.{ScanValue, scan_of}
+use Rattle.zeb_query.specs.Grammar.{SpellsQuery}
+use Rattle.zeb_query.specs.FirstFault.{query_fault}
+use Rattle.zeb_query.specs.Scan.{ScanValue, scan_of}
 use Rattle.zeb_extract.specs.declared.keys.Occurrence.{Occurrence}
 use Rattle.zeb_register.specs.declared.registers.TermCount.{TermCount}
 use Rattle.zeb_register.specs.Content.{posted}

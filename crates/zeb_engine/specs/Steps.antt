@@ -5,7 +5,7 @@ use Rattle.std.specs.List.{flat_map}
 use Rattle.std.specs.Str.{bytes_eq}
 use Rattle.zeb_profile.specs.declared.directives.Directive.{Directive}
 use Rattle.zeb_profile.specs.Canonical.{canonical_text}
-use Rattle.zeb_query.specs.Reading.{query_fault}
+use Rattle.zeb_query.specs.FirstFault.{query_fault}
 use Rattle.zeb_marc.specs.Splits.{Split}
 use Rattle.zeb_register.specs.Formats.{plain_rows, version_of}
 use Rattle.zeb_engine.specs.declared.commands.Command.{Command}

@@ -5,13 +5,15 @@ use Rattle.std.specs.List.{list_all}
 use Rattle.zeb_query.specs.declared.words.Spelling.TheVariants.{Plain, Quoted}
 use Rattle.zeb_query.specs.declared.keywords.Keyword.TheVariants.{Operator}
 use Rattle.zeb_query.specs.declared.queries.Connective.{Connective}
-use Rattle.zeb_query.specs.Words.{Word, AreWords, words_at}
+use Rattle.zeb_profile.specs.declared.directives.Directive.{Directive}
+use Rattle.zeb_query.specs.Words.{Word, AreWords}
+use Rattle.zeb_query.specs.FirstFault.{words_at}
 use Rattle.zeb_query.specs.Queries.{TreeValue, TermValue, NamedValue, PairValue, QueryValue}
-use Rattle.zeb_query.specs.Grammar.{IsStructure, is_term, is_named, is_attribute, is_attribute_of_set, is_typed, is_pair, IsQuery, keyword_spelled, kind_and_value, has_equals, is_good, text_of, parameter_count, under, with_attribute, with_type, no_head}
-use Rattle.zeb_query.specs.Reading.{SpellsQuery}
-use Rattle.zeb_query.specs.Plans.{PlanValue, ScanValue, plan_of, scan_of}
+use Rattle.zeb_query.specs.Grammar.{IsStructure, is_term, is_named, is_attribute, is_attribute_of_set, is_typed, is_pair, IsQuery, is_structure_of_set, keyword_spelled, kind_and_value, has_equals, is_good, text_of, parameter_count, under, with_attribute, with_type, no_head, SpellsQuery}
+use Rattle.zeb_query.specs.Plans.{PlanValue, plan_of}
+use Rattle.zeb_query.specs.Scan.{ScanValue, scan_of}
 use Rattle.zeb_query.specs.Faults.{Refusal}
-use Rattle.zeb_query.specs.Sample.{sample_profile, PlansAs, ScansAs}
+use Rattle.zeb_query.specs.Worked.{sample_profile, PlansUnder, PlansAs, ScansAs}
 use Rattle.zeb_query.proofs.WordStretches.{words_are_read}
 
 abbrev pub plain : ℕ → List ℕ → Word
@@ -50,6 +52,15 @@ pair_at {left} {right} {x} {y} place name connective parameters key count good s
 -- a text that spells a query
 spells : (text : List ℕ) (words : List Word) (query : QueryValue) → IsQuery words query → words_at 0 (chars text) ≡ words → SpellsQuery text query
 spells text words query is read = record { words = words; are_words = subst (AreWords (chars text)) read (words_are_read (chars text)); spelled = is }
+
+-- a query whose attribute set is named
+pub of_set : {words : List Word} {tree : TreeValue} (place at : ℕ) (set : List ℕ) → IsStructure words tree
+    → IsQuery (plain place (codes "@attrset") ∷ plain at set ∷ words) (record { attribute_set = Some set; tree = tree })
+of_set {words} {tree} place at set s = is_structure_of_set (plain place (codes "@attrset")) (plain at set) words tree refl refl s
+
+pub planned_under : {profile : List Directive} {text : List ℕ} {words : List Word} {query : QueryValue} {result : Result PlanValue Refusal} → IsQuery words query
+    → words_at 0 (chars text) ≡ words → plan_of profile query ≡ result → PlansUnder profile text result
+planned_under {profile} {text} {words} {query} {result} is read plans = record { query = query; spelled = spells text words query is read; planned = plans }
 
 pub planned : {text : List ℕ} {words : List Word} {query : QueryValue} {result : Result PlanValue Refusal} → IsQuery words query
     → words_at 0 (chars text) ≡ words → plan_of sample_profile query ≡ result → PlansAs text result

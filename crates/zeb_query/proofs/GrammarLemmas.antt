@@ -16,7 +16,7 @@ use Rattle.zeb_query.specs.Grammar.{number_of, keyword_of, keyword_by, kind_and_
 use Rattle.zeb_query.specs.Words.{Word}
 use Rattle.zeb_query.specs.PrivateReading.{word_of, left, fault_of, first_keyword, IsAfterFirst, ReadsFirst, ReadsWord, SpellsSpec, SpellsAttribute, SpellsHead, SpellsParameters, SpellsOperator, SpellsSet, Spells, first_place}
 use Rattle.zeb_query.specs.Queries.{AttributeValue, HeadValue, TreeValue, TermValue, NamedValue, PairValue}
-use Rattle.zeb_query.specs.Reading.{Due, Start, Structures, SetOrSpec, Spec, MoreWords, words_then, fault, Step, Allowed, Refused, step, structure_step, operator_step, start_step}
+use Rattle.zeb_query.specs.FirstFault.{Due, Start, Structures, SetOrSpec, Spec, MoreWords, words_then, fault, Step, Allowed, Refused, step, structure_step, operator_step, start_step}
 use Rattle.zeb_query.specs.Faults.{IsFault}
 
 -- the type and value of a word without `=`, and of one with it

@@ -18,11 +18,12 @@ use Rattle.zeb_query.specs.declared.attributes.Structure.TheVariants.{Phrase, Wo
 use Rattle.zeb_query.specs.declared.terms.Values.{Values}
 use Rattle.zeb_query.specs.Queries.{HeadValue}
 use Rattle.zeb_query.specs.Grammar.{is_number, number_of}
-use Rattle.zeb_query.specs.Holding.{HoldingValue, holding_of}
-use Rattle.zeb_query.specs.TermChecks.{Check, check, first_that_applies, one_of, index_held, patterns_held, clash_checks, near_clash_checks, register_checks, number_checks, near_checks, Operand, kept_text, orderings, distance_relations, parameter_checks, separation_of, operand_checks, operand_pattern, operands_checks, proximity_checks, separation_asked, word_near}
+use Rattle.zeb_query.specs.Attributes.{HoldingValue, holding_of}
+use Rattle.zeb_query.specs.Checks.{Check, check, first_that_applies, one_of, clash_checks, near_clash_checks, register_checks, number_checks, near_checks, Operand, kept_text, orderings, distance_relations, parameter_checks, separation_of, operand_checks, operands_checks, proximity_checks}
+use Rattle.zeb_query.specs.Terms.{index_held, patterns_held}
+use Rattle.zeb_query.specs.Plans.{operand_pattern, separation_asked, word_near, PlanValue, NearOf, near_plan, operands_plan}
 use Rattle.zeb_query.specs.PrivatePlanning.{is_equal, is_phrase, is_local, register_of, kept_or, term_of}
 use Rattle.zeb_query.proofs.NearSteps.{parameter_kept, separation_read, found_near, term_near}
-use Rattle.zeb_query.specs.Plans.{PlanValue, NearOf, near_plan, operands_plan}
 use Rattle.zeb_query.specs.Faults.{Refusal, ◌>>=◌, refused, answered}
 use Rattle.zeb_query.proofs.CheckLemmas.{checked_by, then_checks, kept_by}
 use Rattle.zeb_query.proofs.TermCheckLemmas.{values_held, patterns_if, AreHeld, reading_checks, term_stage, term_held}

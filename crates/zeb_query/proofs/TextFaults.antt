@@ -1,11 +1,17 @@
 -- What a text is: the query that it spells, or its fault.
 use Rattle.std.proofs.Common.{◌≡◌, ℕ, ◌<◌, ◌≤◌, Bool, true, false, cond, List, Option, Some, None, inl, inr, length, refl, ap, sym, subst, ◌∙◌, arith}
-use Rattle.std.specs.Prelude.{nat_lt, chars}
+use Rattle.std.specs.Prelude.{nat_lt, chars, [], Result, Ok, Err}
+use Rattle.std.specs.Result.{OnOk, IfOk, IfErr}
 use Rattle.std.proofs.lemmas.Bool.Decides.{nat_tests}
-use Rattle.zeb_query.specs.Words.{Word, AreWords, words_at}
+use Rattle.zeb_query.specs.Words.{Word, AreWords}
+use Rattle.zeb_query.specs.FirstFault.{words_at, Start, fault, query_fault}
 use Rattle.zeb_query.specs.Queries.{QueryValue}
-use Rattle.zeb_query.specs.Grammar.{IsQuery}
-use Rattle.zeb_query.specs.Reading.{IsUnspelled, Start, fault, SpellsQuery, IsReadable, IsFaulty, is_long, is_unspelled, is_crowded, query_fault}
+use Rattle.zeb_query.specs.Grammar.{IsQuery, SpellsQuery}
+use Rattle.zeb_query.specs.declared.faults.QueryFault.{QueryFault}
+use Rattle.zeb_query.specs.declared.faults.QueryFault.TheVariants.{Diagnostic, Memory}
+use Rattle.zeb_query.specs.Faults.{IsFault}
+use Rattle.zeb_query.specs.PrivateReading.{IsDiagnostic}
+use Rattle.zeb_query.specs.Places.{IsFaultOf, IsUnspelled, IsReadable, IsFaulty, is_long, is_unspelled, is_crowded}
 use Rattle.zeb_query.proofs.WordStretches.{words_read_are, words_are_read}
 use Rattle.zeb_query.proofs.GrammarOnce.{same_query}
 use Rattle.zeb_query.proofs.GrammarLaws.{over_query}
@@ -84,3 +90,27 @@ readable text e = at (nat_lt 65535 (length text)) refl e
 
 pub faultless : (text : List ℕ) → IsReadable text → query_fault text ≡ None
 faultless text r = of_words text r.spelled.words None r.short r.spelled.are_words (over_query r.spelled.spelled (length text) 100 r.room)
+
+-- ---- the fault of a call
+
+pub fault_of_text : (text : List ℕ) (e : QueryFault) → IsFault e (query_fault text) → IsFaultOf e text
+fault_of_text text Memory is = tt
+fault_of_text text (Diagnostic number place addinfo) is = (stands text number place is.0, is.1)
+
+pub too_long : (text : List ℕ) (e : QueryFault) → 65535 < length text → IsDiagnostic e 11 0 [] → IsFaultOf e text
+too_long text Memory long is = tt
+too_long text (Diagnostic number place addinfo) long is =
+    (subst (λ n. IsFaulty text n place) (sym is.0) (subst (λ p. IsFaulty text 11 p) (sym is.1) (is_long long)), is.2)
+
+-- ---- what is said of a result by the words that were read
+
+pub read_whole : {X : Type 0} (text : List ℕ) (words : List Word) (r : Result X QueryFault) → length text ≤ 65535 → words ≡ words_at 0 (chars text)
+    → IfOk r (λ _. fault (length text) 100 Start words ≡ None) → OnOk r (IsReadable text)
+read_whole text words (Ok x) short are e = readable text (of_words text words None short (subst (AreWords (chars text)) (sym are) (words_are_read (chars text))) e)
+read_whole text words (Err e) short are is = tt
+
+pub read_faulty : {X : Type 0} (text : List ℕ) (words : List Word) (r : Result X QueryFault) → length text ≤ 65535 → words ≡ words_at 0 (chars text)
+    → IfErr r (λ e. IsFault e (fault (length text) 100 Start words)) → IfErr r (λ e. IsFaultOf e text)
+read_faulty text words (Ok x) short are is = tt
+read_faulty text words (Err e) short are is =
+    fault_of_text text e (subst (IsFault e) (sym (of_words text words _ short (subst (AreWords (chars text)) (sym are) (words_are_read (chars text))) refl)) is)

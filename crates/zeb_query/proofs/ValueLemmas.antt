@@ -15,10 +15,9 @@ use Rattle.zeb_query.specs.declared.attributes.Position.TheVariants.{Any}
 use Rattle.zeb_query.specs.declared.attributes.Structure.{Structure}
 use Rattle.zeb_query.specs.declared.attributes.Structure.TheVariants.{Phrase, WordList, FreeForm, LocalNumber, Numeric}
 use Rattle.zeb_query.specs.declared.attributes.Completeness.TheVariants.{Incomplete}
-use Rattle.zeb_query.specs.PrivatePlanning.{relations, positions, structures, completenesses, is_first, is_complete, is_truncated, is_ordered, is_equal, is_always, is_local, is_numeric, is_list, is_phrase, spread_of, order_of}
-use Rattle.zeb_query.specs.Holding.{truncations, kept}
-use Rattle.zeb_query.specs.TermChecks.{is_among}
-use Rattle.zeb_query.specs.Plans.{comparisons, orders}
+use Rattle.zeb_query.specs.PrivatePlanning.{relations, positions, structures, completenesses, is_first, is_complete, is_truncated, is_ordered, is_equal, is_always, is_local, is_numeric, is_list, is_phrase, spread_of}
+use Rattle.zeb_query.specs.Terms.{order_of}
+use Rattle.zeb_query.specs.Attributes.{truncations, kept, is_among, comparisons}
 use Rattle.zeb_query.proofs.CheckLemmas.{unkept, by_value}
 
 -- what a table has for a number, or else a default
@@ -38,7 +37,7 @@ pub record RelationIs (m : Option ℕ) (asked : Asked) : Type 0 where
   pub ordered : is_among (1 ∷ 2 ∷ 4 ∷ 5 ∷ []) m ≡ is_ordered asked
   pub always : is_among (103 ∷ []) m ≡ is_always asked
   pub compared : kept_in comparisons Equal m ≡ compared_by asked
-  pub in_order : kept_in orders in_order.Less m ≡ ordered_by asked
+  pub in_order : unwrap_or (order_of (kept_in comparisons Equal m)) in_order.Less ≡ ordered_by asked
 
 pub relation_value : (m : Option ℕ) → is_among (1 ∷ 2 ∷ 3 ∷ 4 ∷ 5 ∷ 103 ∷ []) m ≡ true → RelationIs m (kept_in relations (Compared Equal) m)
 relation_value m e = by_value (λ k. RelationIs k (kept_in relations (Compared Equal) k)) m (1 ∷ 2 ∷ 3 ∷ 4 ∷ 5 ∷ 103 ∷ []) e (

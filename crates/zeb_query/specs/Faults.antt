@@ -1,6 +1,6 @@
--- The diagnostics by which a query is refused (ANSI/NISO Z39.50-2003, Appendix ERR, the list Bib-1), as values, and what
--- it means that a call gives what a definition says. Which fault has which number and place is this project's own choice.
-use Rattle.std.specs.Prelude.{◌≡◌, ℕ, List, Option, Some, None, Result, Ok, Err, string_bytes, []}
+-- The diagnostics by which a query is refused, as values (ANSI/NISO Z39.50-2003, Appendix ERR, the list Bib-1), and what
+-- it means that a call gives what a definition says. Which fault has which number, and its place, are this project's own rules.
+use Rattle.std.specs.Prelude.{Err, List, None, Ok, Option, Result, Some, [], string_bytes, ℕ, ◌≡◌}
 use Rattle.zeb_query.specs.declared.faults.QueryFault.{QueryFault}
 use Rattle.zeb_query.specs.declared.faults.QueryFault.TheVariants.{Diagnostic, Memory}
 

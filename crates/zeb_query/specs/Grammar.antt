@@ -1,25 +1,26 @@
--- The grammar of the Prefix Query Format (YAZ manual):
+-- The grammar of queries (YAZ manual, Prefix Query Format):
 --     query     = [ @attrset SET ] structure
 --     structure = @attr [ SET ] SPEC structure | @term TYPE structure
 --               | @and structure structure | @or structure structure | @not structure structure
 --               | @prox W W W W W W structure structure | @set NAME | TERM
 -- SET, TYPE, NAME and W are any words but bad ones; after @attr a word without `=` is the SET. SPEC is 1 to 9 digits, the
 -- type, then `=`, then a value of at least one character. TERM is a word that is no keyword. @attr and @term hold for all
--- of the structure that follows; of several types the innermost holds. That a type and a number have at most nine digits, and
--- that an unquoted word which begins with @ and is no keyword is a TERM, are this project's own choices.
-use Rattle.std.specs.Prelude.{ℕ, Bool, List, length, Option, Some, None, nat_lt, nat_le, ◌&&◌, if◌then◌else◌, codes, ◌≡◌, ◌==◌, true, false, [], ◌∷◌, ◌++◌, map, option_and_then}
-use Rattle.std.specs.List.{list_all, list_any, before_first, after_first, position_or_len}
+-- of the structure that follows; of several types the innermost holds.
+-- Own rules of this project: that a type and a number have at most nine digits; that keywords are in lower case and unquoted; and that
+-- an unquoted word which begins with @ and is no keyword is a TERM.
 use Rattle.std.specs.Char.{is_ascii_digit}
-use Rattle.std.specs.Str.Parse.{digits_value}
+use Rattle.std.specs.List.{after_first, before_first, list_all, list_any, position_or_len}
+use Rattle.std.specs.Prelude.{Bool, List, None, Option, Some, [], chars, codes, false, if◌then◌else◌, length, map, nat_le, nat_lt, option_and_then, true, ℕ, ◌&&◌, ◌++◌, ◌==◌, ◌∷◌, ◌≡◌}
 use Rattle.std.specs.Str.{bytes_eq}
-use Rattle.zeb_query.specs.declared.queries.Connective.TheVariants.{And, Or, Not, Proximity}
-use Rattle.zeb_query.specs.declared.words.Spelling.{Spelling}
-use Rattle.zeb_query.specs.declared.words.Spelling.TheVariants.{Plain, Quoted, Bad}
+use Rattle.std.specs.Str.Parse.{digits_value}
 use Rattle.zeb_query.specs.declared.keywords.Keyword.{Keyword}
-use Rattle.zeb_query.specs.declared.keywords.Keyword.TheVariants.{AttributeSet, Attribute, TermType, ResultSet, Operator}
+use Rattle.zeb_query.specs.declared.keywords.Keyword.TheVariants.{Attribute, AttributeSet, Operator, ResultSet, TermType}
 use Rattle.zeb_query.specs.declared.queries.Connective.{Connective}
-use Rattle.zeb_query.specs.Words.{Word}
-use Rattle.zeb_query.specs.Queries.{HeadValue, TreeValue, TermValue, NamedValue, PairValue, QueryValue}
+use Rattle.zeb_query.specs.declared.queries.Connective.TheVariants.{And, Not, Or, Proximity}
+use Rattle.zeb_query.specs.declared.words.Spelling.{Spelling}
+use Rattle.zeb_query.specs.declared.words.Spelling.TheVariants.{Bad, Plain, Quoted}
+use Rattle.zeb_query.specs.Words.{AreWords, Word}
+use Rattle.zeb_query.specs.Queries.{HeadValue, NamedValue, PairValue, QueryValue, TermValue, TreeValue}
 
 -- ---- numbers
 
@@ -54,6 +55,13 @@ keyword_by Bad text = None
 
 abbrev pub keyword_of : Word → Option Keyword
 keyword_of word = keyword_by word.spelling word.text
+
+-- the word of an operator
+abbrev pub operator_word : Connective → List ℕ
+operator_word And = codes "@and"
+operator_word Or = codes "@or"
+operator_word Not = codes "@not"
+operator_word Proximity = codes "@prox"
 
 -- ---- structures and queries
 
@@ -151,3 +159,11 @@ pub data IsQuery : List Word → QueryValue → Type 0 where
   is_structure_of_set : (keyword set : Word) (words : List Word) (tree : TreeValue)
       → keyword_of keyword ≡ Some AttributeSet → is_good set ≡ true → IsStructure words tree
       → IsQuery (keyword ∷ set ∷ words) (record { attribute_set = Some set.text; tree = tree })
+
+-- ---- texts
+
+-- the text's words are words of the query
+pub record SpellsQuery (text : List ℕ) (query : QueryValue) : Type 0 where
+  pub words : List Word
+  pub are_words : AreWords (chars text) words
+  pub spelled : IsQuery words query

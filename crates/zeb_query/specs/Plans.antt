@@ -1,37 +1,34 @@
 -- What a query asks for over a profile (ANSI/NISO Z39.50-2003, attribute set Bib-1): its plan, or its first diagnostic. The
 -- query is walked from left to right, an operator before its operands. A term is refused by the first of its checks that
--- applies; where none does, its plan follows from the attributes that hold over it. That 1 and 2 are one for the position and
--- the structure, and 2 and 3 for the completeness, is this project's own choice, and so is that a scan takes a term alone.
-use Rattle.std.specs.Prelude.{◌≡◌, ℕ, ◌<◌, ◌^◌, ◌==◌, true, false, not, List, [], ◌∷◌, ◌++◌, Option, Some, None, Bool, Result, Ok, map, chars, string_bytes, encode_utf8_all, if◌then◌else◌, codes}
-use Rattle.std.specs.Option.{unwrap_or, option_map}
-use Rattle.std.specs.List.{join_with_byte}
+-- applies; where none does, its plan follows from the attributes that hold over it.
+-- Bib-1 says what a relation, a position, a structure and a completeness ask for. The order of the walk is this project's own rule, and
+-- so is what a plan has where Bib-1 leaves it open: the words of a term, the register, and system numbers for structure 107.
+use Rattle.std.specs.Option.{option_map, unwrap_or}
+use Rattle.std.specs.Prelude.{Bool, List, None, Ok, Option, Result, Some, [], codes, false, if◌then◌else◌, not, string_bytes, true, ℕ, ◌++◌, ◌<◌, ◌==◌, ◌^◌, ◌∷◌, ◌≡◌}
 use Rattle.std.specs.Str.Parse.{digits_value}
-use Rattle.zeb_profile.specs.declared.Register.{Register}
-use Rattle.zeb_profile.specs.declared.Register.TheVariants as register
-use Rattle.zeb_profile.specs.declared.Profile.{Profile}
 use Rattle.zeb_profile.specs.Indexes.{has_pair}
+use Rattle.zeb_profile.specs.declared.Profile.{Profile}
+use Rattle.zeb_profile.specs.declared.Register.{Register}
 use Rattle.zeb_text.specs.Symbols.{Symbol}
-use Rattle.zeb_text.specs.Words.{words_of}
-use Rattle.zeb_text.specs.Numbers.{number_key}
-use Rattle.zeb_text.specs.Truncation.{joined_patterns}
 use Rattle.zeb_query.specs.declared.plans.Operator.{Operator}
-use Rattle.zeb_query.specs.declared.plans.Operator.TheVariants as operator
-use Rattle.zeb_query.specs.declared.plans.Relation.{Relation}
-use Rattle.zeb_query.specs.declared.plans.Relation.TheVariants.{Less, LessOrEqual, Equal, GreaterOrEqual, Greater}
 use Rattle.zeb_query.specs.declared.plans.Order.{Order}
-use Rattle.zeb_query.specs.declared.plans.Order.TheVariants as in_order
-use Rattle.zeb_query.specs.declared.plans.TermPlan.{TermPlan}
-use Rattle.zeb_query.specs.declared.plans.TermPlan.TheVariants as term
+use Rattle.zeb_query.specs.declared.plans.Plan.{Near, Pair', Plan, Term}
+use Rattle.zeb_query.specs.declared.plans.Relation.{Relation}
 use Rattle.zeb_query.specs.declared.plans.Separation.{Separation}
-use Rattle.zeb_query.specs.declared.plans.Plan.{Plan, Term, Pair', Near}
-use Rattle.zeb_query.specs.declared.plans.ScanPlan.{ScanPlan}
+use Rattle.zeb_query.specs.declared.plans.TermPlan.{TermPlan}
 use Rattle.zeb_query.specs.declared.queries.Connective.{Connective}
-use Rattle.zeb_query.specs.declared.queries.Connective.TheVariants.{And, Or, Not, Proximity}
-use Rattle.zeb_query.specs.Holding.{value_of, HoldingValue, holding_of}
-use Rattle.zeb_query.specs.Queries.{HeadValue, TreeValue, TermValue, NamedValue, PairValue, QueryValue}
+use Rattle.zeb_query.specs.declared.queries.Connective.TheVariants.{And, Not, Or, Proximity}
+use Rattle.zeb_profile.specs.declared.Register.TheVariants as register
+use Rattle.zeb_query.specs.declared.plans.Operator.TheVariants as operator
+use Rattle.zeb_query.specs.declared.plans.TermPlan.TheVariants as term
+use Rattle.zeb_query.specs.Queries.{HeadValue, NamedValue, PairValue, QueryValue, TermValue, TreeValue}
 use Rattle.zeb_query.specs.Grammar.{heads, no_head}
-use Rattle.zeb_query.specs.TermChecks.{first_that_applies, relation_is, position_is, structure_is, completeness_is, index_held, register_searched, patterns_held, find_checks, scan_checks, Check, check, Operand, operand_of, separation_asked, word_near, proximity_checks}
-use Rattle.zeb_query.specs.Faults.{Refusal, ◌>>=◌, refused, answered}
+use Rattle.zeb_query.specs.Faults.{Refusal, answered, refused, ◌>>=◌}
+use Rattle.zeb_query.specs.Attributes.{HoldingValue, always_matches, completeness_is, equality, first_positions, free_forms, holding_of, local_numbers, numeric_strings, position_is, relation_is, structure_is, whole_texts, word_lists}
+use Rattle.zeb_query.specs.Terms.{index_held, joined_if_any, joined_words_if_any, order_held, patterns_held, register_searched, relation_held}
+use Rattle.zeb_query.specs.Checks.{Operand, find_checks, first_that_applies, one_of, operand_checks, operand_of, parameter_checks, separation_of}
+
+-- ---- plans as values
 
 -- what a term asks for, without where texts and lists lie in memory
 pub data TermPlanValue : Type 0 where
@@ -49,11 +46,6 @@ pub data PlanValue : Type 0 where
   PairOf : Operator → PlanValue → PlanValue → PlanValue
   NearOf : ℕ → List Symbol → List Symbol → Separation → PlanValue
 
-pub record ScanValue : Type 0 where
-  pub index : ℕ
-  pub register : Register
-  pub start : List ℕ
-
 abbrev pub term_plan_value : TermPlan → TermPlanValue
 term_plan_value (term.RecordNumber number) = RecordNumberOf number
 term_plan_value (term.Always index register) = AlwaysOf index register
@@ -69,84 +61,40 @@ plan_value (Term plan) = TermOf (term_plan_value plan)
 plan_value (Pair' p op left right) = PairOf op (plan_value left) (plan_value right)
 plan_value (Near plan) = NearOf plan.index plan.left plan.right plan.separation
 
--- the index and the register in which a term's plan looks; a record's own number is looked up in none
-abbrev pub plan_register : TermPlanValue → Option (ℕ × Register)
-plan_register (RecordNumberOf number) = None
-plan_register (AlwaysOf index r) = Some (index, r)
-plan_register (NumberOf index relation number) = Some (index, register.Number)
-plan_register (OrderedOf index r order start) = Some (index, r)
-plan_register (CompleteOf index pattern) = Some (index, register.Phrase)
-plan_register (PhraseOf index patterns first) = Some (index, register.Word)
-plan_register (AllWordsOf index patterns) = Some (index, register.Word)
-plan_register (AnyWordOf index patterns) = Some (index, register.Word)
-
-abbrev pub scan_value : ScanPlan → ScanValue
-scan_value plan = record { index = plan.index; register = plan.register; start = string_bytes plan.start }
-
--- the term's words with a space between
-abbrev pub joined_words : List ℕ → List ℕ
-joined_words text = join_with_byte 32 (map encode_utf8_all (words_of (chars text)))
-
--- the same, where the term has a word
-abbrev pub words_if_any : List (List ℕ) → Option (List ℕ)
-words_if_any [] = None
-words_if_any (word ∷ words) = Some (join_with_byte 32 (word ∷ words))
-
-abbrev pub joined_words_if_any : List ℕ → Option (List ℕ)
-joined_words_if_any text = words_if_any (map encode_utf8_all (words_of (chars text)))
-
-abbrev pub joined_if_any : List (List Symbol) → Option (List Symbol)
-joined_if_any [] = None
-joined_if_any (pattern ∷ patterns) = Some (joined_patterns (pattern ∷ patterns))
-
--- the relations that compare
-abbrev pub comparisons : List (ℕ × Relation)
-comparisons = (1, Less) ∷ (2, LessOrEqual) ∷ (3, Equal) ∷ (4, GreaterOrEqual) ∷ (5, Greater) ∷ []
-
--- the relation and the order that hold; where there is none, a check applies, or another relation holds
-abbrev pub relation_held : HoldingValue → Relation
-relation_held h = unwrap_or (value_of comparisons 3 h.relation) Equal
-
--- the relations of order
-abbrev pub orders : List (ℕ × Order)
-orders = (1, in_order.Less) ∷ (2, in_order.LessOrEqual) ∷ (4, in_order.GreaterOrEqual) ∷ (5, in_order.Greater) ∷ []
-
-abbrev pub order_held : HoldingValue → Order
-order_held h = unwrap_or (value_of orders 3 h.relation) in_order.Less
+-- ---- terms
 
 -- what a term asks for, where none of its checks applies
 unfoldable pub plan_asked : Profile → HoldingValue → List ℕ → TermPlanValue
 plan_asked profile h text =
     let index = index_held profile h in
     let patterns = patterns_held h text in
-    if structure_is h (107 ∷ []) then RecordNumberOf (digits_value 10 text) else (
-    if relation_is h (103 ∷ []) then AlwaysOf index (register_searched h) else (
-    if structure_is h (109 ∷ []) then NumberOf index (relation_held h) (digits_value 10 text) else (
-    if not (relation_is h (3 ∷ [])) then OrderedOf index (register_searched h) (order_held h) (joined_words_if_any text) else (
-    if completeness_is h (2 ∷ 3 ∷ []) then CompleteOf index (joined_if_any patterns) else (
-    if structure_is h (6 ∷ []) then AllWordsOf index patterns else (
-    if structure_is h (105 ∷ []) then AnyWordOf index patterns else
-    PhraseOf index patterns (position_is h (1 ∷ 2 ∷ []))))))))
-
--- a plan looks into the register that the attributes ask for, at an index that has a target with it; with structure 107 into
--- none
-pub record LooksInto (profile : Profile) (h : HoldingValue) (looked : Option (ℕ × Register)) : Type 0 where
-  pub none : structure_is h (107 ∷ []) ≡ true → looked ≡ None
-  pub one : structure_is h (107 ∷ []) ≡ false → looked ≡ Some (index_held profile h, register_searched h)
-  pub found : structure_is h (107 ∷ []) ≡ false → has_pair profile (index_held profile h, register_searched h) ≡ true
-
--- the operators on sets of records; proximity is none
-abbrev pub operator_of : Connective → Option Operator
-operator_of And = Some operator.And
-operator_of Or = Some operator.Or
-operator_of Not = Some operator.Not
-operator_of Proximity = None
+    if structure_is h local_numbers then RecordNumberOf (digits_value 10 text) else (
+    if relation_is h always_matches then AlwaysOf index (register_searched h) else (
+    if structure_is h numeric_strings then NumberOf index (relation_held h) (digits_value 10 text) else (
+    if not (relation_is h equality) then OrderedOf index (register_searched h) (order_held h) (joined_words_if_any text) else (
+    if completeness_is h whole_texts then CompleteOf index (joined_if_any patterns) else (
+    if structure_is h word_lists then AllWordsOf index patterns else (
+    if structure_is h free_forms then AnyWordOf index patterns else
+    PhraseOf index patterns (position_is h first_positions)))))))
 
 -- a term over which the set is named and the head stands
 unfoldable pub leaf_plan : Profile → Option (List ℕ) → HeadValue → ℕ → List ℕ → Result TermPlanValue Refusal
 leaf_plan profile set head place text =
     let h = holding_of set head in
     answered (first_that_applies (find_checks profile place h text)) (plan_asked profile h text)
+
+-- ---- proximity
+
+abbrev pub separation_asked : ℕ → List (List ℕ) → Result Separation Refusal
+separation_asked place parameters = answered (first_that_applies (parameter_checks place parameters)) (separation_of parameters)
+
+-- the pattern of the one word
+abbrev pub operand_pattern : Operand → List Symbol
+operand_pattern o = unwrap_or (one_of (patterns_held o.held o.text)) []
+
+-- an operand's index, and the pattern of its word
+unfoldable pub word_near : Profile → Operand → Result (ℕ × List Symbol) Refusal
+word_near profile o = answered (first_that_applies (operand_checks profile o)) (index_held profile o.held, operand_pattern o)
 
 -- the plan of `@prox`: its parameters, its operands from the left, and then their indexes, which have to be one
 abbrev pub operands_plan : Profile → ℕ → Separation → Option Operand → Option Operand → Result PlanValue Refusal
@@ -160,6 +108,15 @@ operands_plan profile place separation None other = refused 110 place (codes "@p
 abbrev pub near_plan : Profile → ℕ → List (List ℕ) → Option Operand → Option Operand → Result PlanValue Refusal
 near_plan profile place parameters left right =
     separation_asked place parameters >>= λ separation. operands_plan profile place separation left right
+
+-- ---- queries
+
+-- the operators on sets of records; proximity is none
+abbrev pub operator_of : Connective → Option Operator
+operator_of And = Some operator.And
+operator_of Or = Some operator.Or
+operator_of Not = Some operator.Not
+operator_of Proximity = None
 
 -- the plan of an operator by those of its operands, or of what stands for it where it is none on sets of records
 abbrev pub pair_plan : Option Operator → Result PlanValue Refusal → Result PlanValue Refusal → Result PlanValue Refusal → Result PlanValue Refusal
@@ -178,13 +135,6 @@ tree_plan profile set outer (PairValue place head connective parameters left rig
 abbrev pub plan_of : Profile → QueryValue → Result PlanValue Refusal
 plan_of profile query = tree_plan profile query.attribute_set no_head query.tree
 
--- the word of an operator
-abbrev pub operator_word : Connective → List ℕ
-operator_word And = codes "@and"
-operator_word Or = codes "@or"
-operator_word Not = codes "@not"
-operator_word Proximity = codes "@prox"
-
 -- ---- what every plan says of its numbers
 
 -- a record's own number and a distance are below 10^9, and another number below 10^18
@@ -198,11 +148,25 @@ HasSmallNumbers (TermOf plan) = HasSmallNumber plan
 HasSmallNumbers (PairOf op left right) = HasSmallNumbers left × HasSmallNumbers right
 HasSmallNumbers (NearOf index left right separation) = separation.distance < 10 ^ 9
 
--- in the register of numbers a scan begins at the key of a number below 10^18
-abbrev pub BeginsAtKey : ScanValue → Type 0
-BeginsAtKey scan = scan.register ≡ register.Number → (number : ℕ) × (number < 10 ^ 18) × (scan.start ≡ number_key number)
-
 -- ---- in which registers a plan looks
+
+-- the index and the register in which a term's plan looks; a record's own number is looked up in none
+abbrev pub plan_register : TermPlanValue → Option (ℕ × Register)
+plan_register (RecordNumberOf number) = None
+plan_register (AlwaysOf index r) = Some (index, r)
+plan_register (NumberOf index relation number) = Some (index, register.Number)
+plan_register (OrderedOf index r order start) = Some (index, r)
+plan_register (CompleteOf index pattern) = Some (index, register.Phrase)
+plan_register (PhraseOf index patterns first) = Some (index, register.Word)
+plan_register (AllWordsOf index patterns) = Some (index, register.Word)
+plan_register (AnyWordOf index patterns) = Some (index, register.Word)
+
+-- a plan looks into the register that the attributes ask for, at an index that has a target with it; with structure 107 into
+-- none
+pub record LooksInto (profile : Profile) (h : HoldingValue) (looked : Option (ℕ × Register)) : Type 0 where
+  pub none : structure_is h local_numbers ≡ true → looked ≡ None
+  pub one : structure_is h local_numbers ≡ false → looked ≡ Some (index_held profile h, register_searched h)
+  pub found : structure_is h local_numbers ≡ false → has_pair profile (index_held profile h, register_searched h) ≡ true
 
 -- the attributes that hold over each term of a structure, from the left
 abbrev pub held_in : Option (List ℕ) → HeadValue → TreeValue → List HoldingValue
@@ -223,56 +187,3 @@ AllLookInto profile [] [] = Unit {0}
 AllLookInto profile (h ∷ held) (looked ∷ others) = LooksInto profile h looked × AllLookInto profile held others
 AllLookInto profile [] (looked ∷ others) = ⊥
 AllLookInto profile (h ∷ held) [] = ⊥
-
--- ---- scans
-
--- where a scan begins, where none of the term's checks applies: at the key of a number, or at the words
-unfoldable pub scan_asked : Profile → HoldingValue → List ℕ → ScanValue
-scan_asked profile h text = record {
-  index = index_held profile h;
-  register = register_searched h;
-  start = if structure_is h (109 ∷ []) then number_key (digits_value 10 text) else joined_words text;
-}
-
-unfoldable pub leaf_scan : Profile → Option (List ℕ) → HeadValue → ℕ → List ℕ → Result ScanValue Refusal
-leaf_scan profile set head place text =
-    let h = holding_of set head in
-    answered (first_that_applies (scan_checks profile place h text)) (scan_asked profile h text)
-
-abbrev pub tree_scan : Profile → Option (List ℕ) → TreeValue → Result ScanValue Refusal
-tree_scan profile set (TermValue place head text) = leaf_scan profile set (heads no_head head) place text
-tree_scan profile set (NamedValue place head name) = refused 18 place name
-tree_scan profile set (PairValue place head connective parameters left right) = refused 110 place (operator_word connective)
-
-abbrev pub scan_of : Profile → QueryValue → Result ScanValue Refusal
-scan_of profile query = tree_scan profile query.attribute_set query.tree
-
--- ---- the checks of a whole query
-
-abbrev pub is_proximity : Connective → Bool
-is_proximity And = false
-is_proximity Or = false
-is_proximity Not = false
-is_proximity Proximity = true
-
--- the checks of a structure, over which the set is named and the head stands
-abbrev pub checks_in : Profile → Option (List ℕ) → HeadValue → TreeValue → List Check
-checks_in profile set outer (TermValue place head text) = find_checks profile place (holding_of set (heads outer head)) text
-checks_in profile set outer (NamedValue place head name) = check place 18 name true ∷ []
-checks_in profile set outer (PairValue place head connective parameters left right) =
-    if is_proximity connective
-    then proximity_checks profile place parameters (operand_of set (heads outer head) left) (operand_of set (heads outer head) right)
-    else (checks_in profile set (heads outer head) left ++ checks_in profile set (heads outer head) right)
-
-abbrev pub query_checks : Profile → QueryValue → List Check
-query_checks profile query = checks_in profile query.attribute_set no_head query.tree
-
--- the checks of a scan, which takes a term alone
-abbrev pub scan_checks_in : Profile → Option (List ℕ) → TreeValue → List Check
-scan_checks_in profile set (TermValue place head text) = scan_checks profile place (holding_of set (heads no_head head)) text
-scan_checks_in profile set (NamedValue place head name) = check place 18 name true ∷ []
-scan_checks_in profile set (PairValue place head connective parameters left right) =
-    check place 110 (operator_word connective) true ∷ []
-
-abbrev pub scan_query_checks : Profile → QueryValue → List Check
-scan_query_checks profile query = scan_checks_in profile query.attribute_set query.tree

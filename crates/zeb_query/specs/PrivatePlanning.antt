@@ -1,7 +1,7 @@
 -- What the private functions below `plan` and `plan_scan` give, step by step: how a term is read, by values that are kept as enums,
 -- and its plan. No public clause reaches this file: it stands in specs/ since the contracts of private functions can cite nothing
 -- else. Which diagnostic a term has is said by the table of its checks, and proved to be the same.
-use Rattle.std.specs.Prelude.{ℕ, List, [], ◌∷◌, Option, Some, None, if◌then◌else◌, ◌||◌, ◌&&◌, Bool, true, false, not, Result, Ok, length, nat_lt, chars}
+use Rattle.std.specs.Prelude.{ℕ, List, [], ◌∷◌, Option, Some, None, if◌then◌else◌, ◌||◌, ◌&&◌, Bool, true, false, not, Result, Ok, length, nat_lt, chars, map, ◌++◌}
 use Rattle.std.specs.Fmt.{decimal}
 use Rattle.zeb_profile.specs.declared.Register.{Register}
 use Rattle.zeb_profile.specs.declared.Register.TheVariants as register
@@ -26,20 +26,18 @@ use Rattle.zeb_query.specs.declared.attributes.Completeness.TheVariants.{Incompl
 use Rattle.zeb_query.specs.declared.terms.Values.{Values}
 use Rattle.zeb_query.specs.declared.plans.Relation.{Relation}
 use Rattle.zeb_query.specs.declared.plans.Order.{Order}
-use Rattle.zeb_query.specs.declared.plans.Order.TheVariants as in_order
 use Rattle.zeb_query.specs.Grammar.{number_of}
-use Rattle.zeb_query.specs.Holding.{truncations, value_of, HoldingValue}
-use Rattle.zeb_query.specs.TermChecks.{written, is_known_type, index_named}
+use Rattle.zeb_query.specs.Attributes.{comparisons, truncations, value_of, HoldingValue}
+use Rattle.zeb_query.specs.Checks.{written, is_known_type}
+use Rattle.zeb_query.specs.Terms.{index_named, order_of, joined_words, joined_words_if_any, joined_if_any}
 use Rattle.zeb_query.specs.Faults.{Refusal, ◌>>=◌, refused}
-use Rattle.zeb_query.specs.Plans.{TermPlanValue, NumberOf, OrderedOf, CompleteOf, PhraseOf, AllWordsOf, AnyWordOf, joined_words, joined_words_if_any, joined_if_any}
+use Rattle.zeb_query.specs.Plans.{TermPlanValue, NumberOf, OrderedOf, CompleteOf, PhraseOf, AllWordsOf, AnyWordOf}
 
 -- ---- the values of attribute types 2, 3, 4 and 6
 
 -- type 2, relation
 abbrev pub relations : List (ℕ × Asked)
-relations =
-    (1, Compared Less) ∷ (2, Compared LessOrEqual) ∷ (3, Compared Equal) ∷ (4, Compared GreaterOrEqual)
-    ∷ (5, Compared Greater) ∷ (103, Always) ∷ []
+relations = map (λ row. (row.0, Compared row.1)) comparisons ++ (103, Always) ∷ []
 
 -- type 3, position
 abbrev pub positions : List (ℕ × Position)
@@ -234,14 +232,6 @@ list_plan v index patterns FreeForm = AnyWordOf index patterns
 list_plan v index patterns Phrase = PhraseOf index patterns (is_first v.position)
 list_plan v index patterns LocalNumber = PhraseOf index patterns (is_first v.position)
 list_plan v index patterns Numeric = PhraseOf index patterns (is_first v.position)
-
--- the order that a relation is, but for equality
-abbrev pub order_of : Relation → Option Order
-order_of Less = Some in_order.Less
-order_of LessOrEqual = Some in_order.LessOrEqual
-order_of Equal = None
-order_of GreaterOrEqual = Some in_order.GreaterOrEqual
-order_of Greater = Some in_order.Greater
 
 abbrev pub ordered_plan : List ℕ → Values → ℕ → List (List Symbol) → Option Order → TermPlanValue
 ordered_plan text v index patterns (Some order) = OrderedOf index (register_of v) order (joined_words_if_any text)

@@ -15,11 +15,11 @@ use Rattle.zeb_query.specs.declared.queries.Connective.{Connective}
 use Rattle.zeb_query.specs.declared.keywords.Keyword.{Keyword}
 use Rattle.zeb_query.specs.declared.keywords.Keyword.TheVariants.{Attribute, Operator}
 use Rattle.zeb_query.specs.declared.holding.Holding.{Holding}
-use Rattle.zeb_query.specs.Words.{Word, words_at, in_word, in_quotes, escaped, plain_word, quoted_word, with_front}
+use Rattle.zeb_query.specs.Words.{Word}
+use Rattle.zeb_query.specs.FirstFault.{words_at, in_word, in_quotes, escaped, plain_word, quoted_word, with_front, Due, fault}
 use Rattle.zeb_query.specs.Grammar.{keyword_of, IsStructure, IsQuery, under, is_good, text_of, kind_and_value, parameter_count}
 use Rattle.zeb_query.specs.Queries.{AttributeValue, HeadValue, TreeValue}
-use Rattle.zeb_query.specs.Reading.{Due, fault}
-use Rattle.zeb_query.specs.Holding.{HoldingValue, is_bib1, is_other_kind, or_else}
+use Rattle.zeb_query.specs.Attributes.{HoldingValue, is_bib1, is_other_kind, or_else}
 
 -- ---- faults
 

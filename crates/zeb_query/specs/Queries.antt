@@ -1,12 +1,12 @@
--- A query in the Prefix Query Format as a value (YAZ manual): what it says, without where it lies in memory. Texts are
--- in UTF-8.
-use Rattle.std.specs.Prelude.{ℕ, List, Option, map, string_bytes}
+-- A query in the Prefix Query Format as a value (YAZ manual, Prefix Query Format): what it says, without where it lies in memory.
+-- Texts are in UTF-8. That a node has the place of its word is this project's own.
 use Rattle.std.specs.Option.{option_map}
+use Rattle.std.specs.Prelude.{List, Option, map, string_bytes, ℕ}
 use Rattle.zeb_query.specs.declared.queries.Attribute.{Attribute}
-use Rattle.zeb_query.specs.declared.queries.Head.{Head}
 use Rattle.zeb_query.specs.declared.queries.Connective.{Connective}
+use Rattle.zeb_query.specs.declared.queries.Head.{Head}
 use Rattle.zeb_query.specs.declared.queries.Query.{Query}
-use Rattle.zeb_query.specs.declared.queries.Tree.{Tree, Term, Named, Pair'}
+use Rattle.zeb_query.specs.declared.queries.Tree.{Named, Pair', Term, Tree}
 
 -- an attribute: its set, if one is named, its type and its value as written
 pub record AttributeValue : Type 0 where

@@ -1,13 +1,13 @@
--- The words of a query's text, said of the whole text (YAZ manual, Prefix Query Format): blanks and words stand in it in
+-- The words of a query's text (YAZ manual, Prefix Query Format), said of the whole text: blanks and words stand in it in
 -- turn. A word's place is the number of bytes of UTF-8 that stand before it. Texts are lists of code points, and the text
--- of a word is in UTF-8. What is blank, how words are quoted and escaped, and that a word which begins with `{` or a quoted
--- one without end is bad, are rules of this project's own, which the manual leaves open.
-use Rattle.std.specs.Prelude.{ℕ, ◌+◌, Bool, true, false, ◌==◌, ◌||◌, if◌then◌else◌, List, [], ◌∷◌, ◌++◌, encode_utf8, ◌≡◌, ◌≢◌, not, ◌⊎◌, length, map, encode_utf8_all, ⊤}
-use Rattle.std.specs.Char.{len_utf8}
+-- of a word is in UTF-8.
+-- Own rules of this project, which the manual leaves open or has otherwise: what is blank, how words are quoted and escaped, where a
+-- quoted word ends, and that a word which begins with `{`, by which the manual quotes, is bad, as is a quoted one without end.
 use Rattle.std.specs.List.{AllPass, flat_map}
+use Rattle.std.specs.Prelude.{Bool, List, [], encode_utf8_all, length, map, not, true, ℕ, ⊤, ◌++◌, ◌==◌, ◌∷◌, ◌≡◌, ◌≢◌, ◌⊎◌, ◌||◌}
 use Rattle.std.specs.Str.{NonePass}
 use Rattle.zeb_query.specs.declared.words.Spelling.{Spelling}
-use Rattle.zeb_query.specs.declared.words.Spelling.TheVariants.{Plain, Quoted, Bad}
+use Rattle.zeb_query.specs.declared.words.Spelling.TheVariants.{Bad, Plain, Quoted}
 
 -- a word of a text, with its place
 pub record Word : Type 0 where
@@ -85,53 +85,3 @@ pub record AreWords (text : List ℕ) (words : List Word) : Type 0 where
   pub blank : AllPass is_blank blanks
   pub each : (before after : List Stretch) (stretch : Stretch) → stretches ≡ before ++ stretch ∷ after
       → IsStretch (flat_map stretch_text before) stretch (flat_map stretch_text after ++ blanks)
-
--- ---- how the words are found, one character after another
-
--- how an unquoted word of this text is spelled; 123 is `{`
-abbrev pub unquoted : List ℕ → Spelling
-unquoted [] = Plain
-unquoted (b ∷ bs) = if b == 123 then Bad else Plain
-
--- the rest of a word that has begun, whether a quote ends it, and the words after it
-pub record Begun : Type 0 where
-  pub text : List ℕ
-  pub ended : Bool
-  pub words : List Word
-
-abbrev pub plain_word : ℕ → Begun → List Word
-plain_word place word = record { place = place; spelling = unquoted word.text; text = word.text } ∷ word.words
-
-abbrev pub quoted_word : ℕ → Begun → List Word
-quoted_word place word = record { place = place; spelling = if word.ended then Quoted else Bad; text = word.text } ∷ word.words
-
--- a word with more text in front
-abbrev pub with_front : List ℕ → Begun → Begun
-with_front front word = record word { text = front ++ word.text }
-
--- 34 is the double quote, 92 the backslash
-abbrev mutual
-  -- the words of a text that begins at a place
-  pub words_at : ℕ → List ℕ → List Word
-  words_at at [] = []
-  words_at at (c ∷ cs) =
-      if is_blank c then words_at (at + len_utf8 c) cs else (
-      if c == 34 then quoted_word at (in_quotes (at + len_utf8 c) cs) else
-      plain_word at (with_front (encode_utf8 c) (in_word (at + len_utf8 c) cs)))
-
-  pub in_word : ℕ → List ℕ → Begun
-  in_word at [] = record { text = []; ended = false; words = [] }
-  in_word at (c ∷ cs) =
-      if is_blank c then record { text = []; ended = false; words = words_at (at + len_utf8 c) cs } else
-      with_front (encode_utf8 c) (in_word (at + len_utf8 c) cs)
-
-  pub in_quotes : ℕ → List ℕ → Begun
-  in_quotes at [] = record { text = []; ended = false; words = [] }
-  in_quotes at (c ∷ cs) =
-      if c == 34 then record { text = []; ended = true; words = words_at (at + len_utf8 c) cs } else (
-      if c == 92 then escaped (at + len_utf8 c) cs else
-      with_front (encode_utf8 c) (in_quotes (at + len_utf8 c) cs))
-
-  pub escaped : ℕ → List ℕ → Begun
-  escaped at [] = record { text = []; ended = false; words = [] }
-  escaped at (c ∷ cs) = with_front (encode_utf8 c) (in_quotes (at + len_utf8 c) cs)

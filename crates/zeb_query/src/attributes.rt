@@ -1,7 +1,7 @@
 ghost use Rattle.std.specs.Prelude.{◌≡◌, IfSome, ◌<◌, ◌^◌};
 ghost use Rattle.std.specs.Option.{option_map};
 ghost use Rattle.zeb_query.specs.PrivatePlanning.{relations, positions, structures, completenesses};
-ghost use Rattle.zeb_query.specs.Holding.{truncations, number_or, value_of};
+ghost use Rattle.zeb_query.specs.Attributes.{truncations, number_or, value_of};
 
 use crate::digits::number_of;
 use crate::{Order, Relation};
@@ -18,7 +18,7 @@ pub(crate) enum Asked {
 
 impl Relation {
     ghost use Rattle.std.specs.Prelude.{◌≡◌};
-    ghost use Rattle.zeb_query.specs.PrivatePlanning.{order_of};
+    ghost use Rattle.zeb_query.specs.Terms.{order_of};
 
     /// The order that it is, if it isn't equality.
     pub(crate) fn order(self) -> Option<Order>

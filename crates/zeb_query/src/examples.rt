@@ -1,15 +1,16 @@
 //! Worked examples of the definitions: what texts and queries come to, as a reader would work them out.
-ghost use Rattle.std.specs.Prelude.{◌≡◌, [], ◌∷◌, ◌++◌, false, true, Some, None, Ok, codes};
+ghost use Rattle.std.specs.Prelude.{◌≡◌, ◌<◌, ℕ, List, length, [], ◌∷◌, ◌++◌, false, true, Some, None, Ok, codes};
 ghost use Rattle.zeb_text.specs.Symbols.{Star, literal};
 ghost use Rattle.zeb_profile.specs.declared.registers.Register.TheVariants.{Word, Phrase, Number};
-ghost use Rattle.zeb_query.specs.Reading.{query_fault};
+ghost use Rattle.zeb_query.specs.FirstFault.{query_fault};
 ghost use Rattle.zeb_query.specs.Plans.{TermOf, PairOf, NearOf, RecordNumberOf, AlwaysOf, NumberOf, OrderedOf, CompleteOf, PhraseOf, AllWordsOf, AnyWordOf};
 ghost use Rattle.zeb_query.specs.Faults.{refused};
-ghost use Rattle.zeb_query.specs.Sample.{PlansAs, ScansAs};
+ghost use Rattle.zeb_query.specs.Worked.{PlansAs, PlansUnder, ScansAs, titles_alone, times};
 
 use crate::{DistanceRelation, Operator, Order, Relation};
 
-/// Texts and their faults: where a query goes on no more, or isn't at its end, with places in bytes.
+/// Texts and their faults: where a query goes on no more, or isn't at its end, with places in bytes; the 101st operator; and
+/// each text of more than 65,535 bytes.
 pub fn faults_at_examples()
     ensures unfinished { query_fault (codes "@and x") ≡ Some (108, 6) }
     ensures empty { query_fault [] ≡ Some (108, 0) }
@@ -21,9 +22,12 @@ pub fn faults_at_examples()
     ensures no_value { query_fault (codes "@attr 1= x") ≡ Some (108, 6) }
     ensures bytes { query_fault (195 ∷ 169 ∷ codes " {") ≡ Some (108, 3) }
     ensures at_sign { query_fault (codes "@foo") ≡ None }
+    ensures operators { query_fault (times 101 (codes "@and ")) ≡ Some (6, 500) }
+    ensures long { (text : List ℕ) → 65535 < length text → query_fault text ≡ Some (11, 0) }
 {}
 
-/// Queries under a small profile and their first diagnostics: number, place and additional information.
+/// Queries under a small profile, and one under a profile that has no index for 1016, with their first diagnostics: number, place
+/// and additional information.
 pub fn diagnostics_at_examples()
     ensures use_attribute { PlansAs (codes "@attr 1=9999 x") (refused 114 13 (codes "9999")) }
     ensures relation { PlansAs (codes "@attr 2=6 x") (refused 117 10 (codes "6")) }
@@ -44,6 +48,13 @@ pub fn diagnostics_at_examples()
     ensures list_complete { PlansAs (codes "@attr 4=6 @attr 6=2 x") (refused 123 20 []) }
     ensures order_truncated { PlansAs (codes "@attr 2=4 @attr 5=1 x") (refused 123 20 []) }
     ensures local_number { PlansAs (codes "@attr 4=107 x") (refused 126 12 (codes "x")) }
+    ensures inner { PlansAs (codes "@attr 1=4 @attr 1=9999 moby") (refused 114 23 (codes "9999")) }
+    ensures attribute_set { PlansAs (codes "@attrset x moby") (refused 121 11 (codes "x")) }
+    ensures leftmost_kind { PlansAs (codes "@attr 7=1 @attr 8=1 x") (refused 113 20 (codes "7")) }
+    ensures number_truncated { PlansAs (codes "@attr 1=31 @attr 4=109 @attr 5=1 1851") (refused 123 33 []) }
+    ensures list_order { PlansAs (codes "@attr 4=105 @attr 2=1 x") (refused 123 22 []) }
+    ensures asked_default { PlansUnder titles_alone (codes "@attr 1=1016 x") (refused 114 13 (codes "1016")) }
+    ensures no_default { PlansUnder titles_alone (codes "whale") (refused 116 0 []) }
     ensures left { PlansAs (codes "@and @attr 2=6 x @attr 1=9999 y") (refused 117 15 (codes "6")) }
 {}
 
@@ -53,6 +64,16 @@ pub fn plans_at_examples()
     ensures complete { PlansAs (codes "@attr 1=4 @attr 6=3 moby") (Ok (TermOf (CompleteOf 0 (Some (literal (codes "moby")))))) }
     ensures order { PlansAs (codes "@attr 1=4 @attr 2=1 Dick") (Ok (TermOf (OrderedOf 0 Word Order.Less (Some (codes "dick"))))) }
     ensures number { PlansAs (codes "@attr 1=31 @attr 4=109 @attr 2=4 951") (Ok (TermOf (NumberOf 1 Relation.GreaterOrEqual 951))) }
+    ensures inner { PlansAs (codes "@attr 1=9999 @attr 1=4 moby")
+        (Ok (TermOf (PhraseOf 0 (literal (codes "moby") ∷ []) false))) }
+    ensures attribute_set { PlansAs (codes "@attrset BIB-1 @attr 1=4 moby")
+        (Ok (TermOf (PhraseOf 0 (literal (codes "moby") ∷ []) false))) }
+    ensures index_name { PlansAs (codes "@attr 1=TITLE whale") (Ok (TermOf (PhraseOf 0 (literal (codes "whale") ∷ []) false))) }
+    ensures quoted_keyword { PlansAs (codes "@attr 1=4 " ++ 34 ∷ (codes "@and" ++ 34 ∷ []))
+        (Ok (TermOf (PhraseOf 0 (literal (codes "and") ∷ []) false))) }
+    ensures at_sign { PlansAs (codes "@foo") (Ok (TermOf (PhraseOf 2 (literal (codes "foo") ∷ []) false))) }
+    ensures accent { PlansAs (codes "@attr 1=4 CAF" ++ 195 ∷ 137 ∷ [])
+        (Ok (TermOf (PhraseOf 0 (literal (codes "cafe") ∷ []) false))) }
     ensures record_number { PlansAs (codes "@attr 4=107 007") (Ok (TermOf (RecordNumberOf 7))) }
     ensures always { PlansAs (codes "@attr 2=103 x") (Ok (TermOf (AlwaysOf 2 Word))) }
     ensures operator { PlansAs (codes "@not a b") (Ok (PairOf Operator.Not
@@ -109,6 +130,7 @@ pub fn proximity_at_examples()
     ensures relation { PlansAs (codes "@prox 0 1 0 7 k 2 a b") (refused 110 0 (codes "7")) }
     ensures operand { PlansAs (codes "@prox 0 1 0 2 k 2 a @and b c") (refused 110 0 (codes "@prox")) }
     ensures attributes { PlansAs (codes "@prox 0 1 0 2 k 2 @attr 6=3 a b") (refused 123 28 []) }
+    ensures words { PlansAs (codes "@prox 0 1 0 2 k 2 a " ++ 34 ∷ (codes "b c" ++ 34 ∷ [])) (refused 123 20 []) }
     ensures indexes { PlansAs (codes "@prox 0 1 0 2 k 2 @attr 1=4 moby dick") (refused 123 0 []) }
     ensures near { PlansAs (codes "@prox 0 1 1 2 known 2 Dick moby") (Ok (NearOf 2
         (literal (codes "dick")) (literal (codes "moby"))
@@ -143,4 +165,8 @@ pub fn scans_at_examples()
     ensures free_form { ScansAs (codes "@attr 4=105 a") (refused 123 12 []) }
     ensures local_number { ScansAs (codes "@attr 4=107 1") (refused 123 12 []) }
     ensures operator { ScansAs (codes "@or a b") (refused 110 0 (codes "@or")) }
+    ensures proximity { ScansAs (codes "@prox 1 1 0 2 k 2 a b") (refused 110 0 (codes "@prox")) }
+    ensures named { ScansAs (codes "@set r") (refused 18 0 (codes "r")) }
+    ensures use_attribute { ScansAs (codes "@attr 1=9999 a") (refused 114 13 (codes "9999")) }
+    ensures no_number { ScansAs (codes "@attr 1=31 @attr 4=109 a") (refused 126 23 (codes "a")) }
 {}

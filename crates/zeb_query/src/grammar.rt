@@ -4,7 +4,7 @@ ghost use Rattle.std.specs.Option.{option_map};
 ghost use Rattle.zeb_query.specs.PrivateReading.{word_of, left, first_keyword, fault_of, pair_value, SpellsSpec, SpellsAttribute, SpellsHead, SpellsParameters, SpellsOperator, SpellsSet, Spells};
 ghost use Rattle.zeb_query.specs.Queries.{attribute_value, head_value, tree_value, query_value, PairValue};
 ghost use Rattle.zeb_query.specs.Grammar.{IsQuery, kind_and_value, has_equals, heads, parameter_count};
-ghost use Rattle.zeb_query.specs.Reading.{Start, Structures, SetOrSpec, Spec, fault, words_then};
+ghost use Rattle.zeb_query.specs.FirstFault.{Start, Structures, SetOrSpec, Spec, fault, words_then};
 ghost use Rattle.zeb_query.specs.Faults.{IsFault};
 
 use crate::digits::number_of;
@@ -30,7 +30,7 @@ impl<'a> Rest<'a> {
     ghost use Rattle.std.specs.Prelude.{◌≡◌, ◌≢◌, ◌<◌, ℕ, ◌∷◌, [], Some, length, IfOk, IfErr, IfSome, IfNone, true, string_bytes};
     ghost use Rattle.zeb_query.specs.PrivateReading.{word_of, left, first_place, first_keyword, fault_of, ReadsWord, ReadsFirst};
     ghost use Rattle.zeb_query.specs.Grammar.{keyword_of, is_good};
-    ghost use Rattle.zeb_query.specs.Reading.{Due, fault_at_end};
+    ghost use Rattle.zeb_query.specs.FirstFault.{Due, fault_at_end};
     ghost use Rattle.zeb_query.specs.Faults.{IsFault};
 
     /// The fault that the first of these words is one that no query has here, or that there is none.

@@ -1,5 +1,5 @@
 ghost use Rattle.std.specs.Prelude.{◌≡◌};
-ghost use Rattle.zeb_query.specs.Holding.{is_bib1};
+ghost use Rattle.zeb_query.specs.Attributes.{is_bib1};
 
 use crate::{Attribute, Head, Query};
 
@@ -30,7 +30,7 @@ impl<'a> Holding<'a> {
     ghost use Rattle.zeb_query.specs.Queries.{attribute_value, head_value, query_value, HeadValue};
     ghost use Rattle.zeb_query.specs.Grammar.{heads, no_head};
     ghost use Rattle.zeb_query.specs.PrivateReading.{holding_value, held_with, first_set};
-    ghost use Rattle.zeb_query.specs.Holding.{holding_of};
+    ghost use Rattle.zeb_query.specs.Attributes.{holding_of};
 
     /// What holds over the whole of a query.
     pub(crate) fn over(query: &'a Query) -> Holding<'a>

@@ -3,10 +3,11 @@ ghost use Rattle.std.specs.Option.{option_map};
 ghost use Rattle.zeb_query.specs.Queries.{HeadValue, tree_value, query_value, head_value};
 ghost use Rattle.zeb_query.specs.Grammar.{heads};
 ghost use Rattle.zeb_query.specs.Faults.{Gives};
-ghost use Rattle.zeb_query.specs.Holding.{holding_of};
+ghost use Rattle.zeb_query.specs.Attributes.{holding_of};
 ghost use Rattle.zeb_query.specs.PrivateReading.{holding_value};
 ghost use Rattle.zeb_query.specs.PrivatePlanning.{term_of};
 ghost use Rattle.zeb_query.specs.Plans as plans;
+ghost use Rattle.zeb_query.specs.Terms as term_words;
 ghost use Rattle.zeb_query.specs.PrivatePlanning as steps;
 
 use crate::attributes::{Asked, Completeness, Position, Structure};
@@ -149,14 +150,14 @@ pub(crate) fn number_in(alloc: Global, leaf: &Leaf, most: usize) -> Result<u64, 
 
 /// The term's words with a space between.
 pub(crate) fn joined_words(alloc: Global, leaf: &Leaf) -> Result<String, AllocError>
-    ensures { IfOk result (λ joined. string_bytes joined ≡ plans.joined_words (string_bytes leaf.now.text)) }
+    ensures { IfOk result (λ joined. string_bytes joined ≡ term_words.joined_words (string_bytes leaf.now.text)) }
 {
     join(alloc, &words(alloc, leaf.text.as_str())?)
 }
 
 /// The same, if the term has a word.
 fn joined_words_if_any(alloc: Global, leaf: &Leaf) -> Result<Option<String>, AllocError>
-    ensures { IfOk result (λ joined. option_map string_bytes joined ≡ plans.joined_words_if_any (string_bytes leaf.now.text)) }
+    ensures { IfOk result (λ joined. option_map string_bytes joined ≡ term_words.joined_words_if_any (string_bytes leaf.now.text)) }
 {
     let words = words(alloc, leaf.text.as_str())?;
     if words.is_empty() {
@@ -205,7 +206,7 @@ fn compared(
 
 /// The pattern of all words, if there is a word.
 fn joined_if_any(alloc: Global, patterns: &[Pattern]) -> Result<Option<Pattern>, AllocError>
-    ensures { IfOk result (λ pattern. pattern ≡ plans.joined_if_any patterns.now) }
+    ensures { IfOk result (λ pattern. pattern ≡ term_words.joined_if_any patterns.now) }
 {
     if patterns.is_empty() {
         Ok(None)

@@ -40,7 +40,8 @@ pub enum Order {
     Greater,
 }
 
-/// What a term asks for, with indexes by their number in the profile.
+/// What a term asks for, with indexes by their number in the profile. `zeb_search` says on which records it holds, and is proved
+/// to find just these.
 #[derive(Debug, Drop)]
 pub enum TermPlan {
     /// The record with this system number, 0 to 999,999,999: what this project takes a local number for.

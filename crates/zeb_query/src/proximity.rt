@@ -3,10 +3,10 @@ ghost use Rattle.zeb_text.specs.Symbols.{Symbol};
 ghost use Rattle.zeb_query.specs.Queries.{HeadValue, tree_value, head_value};
 ghost use Rattle.zeb_query.specs.Grammar.{heads};
 ghost use Rattle.zeb_query.specs.Faults.{Gives, refused};
-ghost use Rattle.zeb_query.specs.Holding.{holding_of};
+ghost use Rattle.zeb_query.specs.Attributes.{holding_of};
 ghost use Rattle.zeb_query.specs.PrivateReading.{holding_value};
-ghost use Rattle.zeb_query.specs.TermChecks.{one_of, operand_of, separation_asked, word_near, kept_text, orderings, distance_relations};
-ghost use Rattle.zeb_query.specs.Plans.{plan_value, near_plan};
+ghost use Rattle.zeb_query.specs.Checks.{one_of, operand_of, kept_text, orderings, distance_relations};
+ghost use Rattle.zeb_query.specs.Plans.{separation_asked, word_near, plan_value, near_plan};
 
 use crate::digits::number_of;
 use crate::holding::Holding;

@@ -1,7 +1,9 @@
 ghost use Rattle.std.specs.Prelude.{◌≡◌, None, IfOk, OnOk, IfErr};
 ghost use Rattle.zeb_query.specs.Queries.{query_value};
 ghost use Rattle.zeb_query.specs.Faults.{IsFault};
-ghost use Rattle.zeb_query.specs.Reading.{SpellsQuery, query_fault};
+ghost use Rattle.zeb_query.specs.Grammar.{SpellsQuery};
+ghost use Rattle.zeb_query.specs.Places.{IsReadable, IsFaultOf};
+ghost use Rattle.zeb_query.specs.FirstFault.{query_fault};
 
 use crate::grammar::query;
 use crate::words::words_of;
@@ -19,6 +21,8 @@ const MOST_BYTES: usize = 65_535;
 /// has an addinfo. These numbers, places and limits are this project's own.
 pub fn read_pqf(alloc: Global, text: &str) -> Result<Query, QueryFault>
     ensures spelled { IfOk result (λ query. SpellsQuery text.now (query_value query)) }
+    ensures readable { OnOk result (IsReadable text.now) }
+    ensures faulty { IfErr result (λ e. IsFaultOf e text.now) }
     ensures sound { OnOk result (query_fault text.now ≡ None) }
     ensures fault { IfErr result (λ e. IsFault e (query_fault text.now)) }
 {

@@ -1,8 +1,8 @@
 ghost use Rattle.std.specs.Prelude.{◌≡◌, IfOk, string_bytes};
 ghost use Rattle.zeb_query.specs.Queries.{query_value, head_value};
-ghost use Rattle.zeb_query.specs.Grammar.{heads, no_head};
+ghost use Rattle.zeb_query.specs.Grammar.{heads, no_head, operator_word};
 ghost use Rattle.zeb_query.specs.Faults.{Gives};
-ghost use Rattle.zeb_query.specs.Plans as plans;
+ghost use Rattle.zeb_query.specs.Scan as scans;
 ghost use Rattle.zeb_query.specs.PrivatePlanning as steps;
 
 use crate::holding::Holding;
@@ -20,8 +20,8 @@ use zeb_text::key_of_number;
 /// numeric string. The start is the term's words joined by one space, or the key of its number. What a scan takes is this
 /// project's own rule.
 pub fn plan_scan(alloc: Global, query: &Query, profile: &Profile) -> Result<ScanPlan, QueryFault>
-    ensures planned { Gives plans.scan_value result (plans.scan_of profile.now (query_value query.now)) }
-    ensures number { IfOk result (λ plan. plans.BeginsAtKey (plans.scan_value plan)) }
+    ensures planned { Gives scans.scan_value result (scans.scan_of profile.now (query_value query.now)) }
+    ensures number { IfOk result (λ plan. scans.BeginsAtKey (scans.scan_value plan)) }
 {
     match &query.tree {
         Tree::Term(leaf) => scan_leaf(alloc, leaf, query, profile),
@@ -41,7 +41,7 @@ fn scan_leaf(
     query: &Query,
     profile: &Profile,
 ) -> Result<ScanPlan, QueryFault>
-    ensures { Gives plans.scan_value result (plans.leaf_scan profile.now (query_value query.now).attribute_set
+    ensures { Gives scans.scan_value result (scans.leaf_scan profile.now (query_value query.now).attribute_set
         (heads no_head (head_value leaf.now.head)) leaf.now.place (string_bytes leaf.now.text)) }
 {
     let holding = Holding::over(query).within(&leaf.head);
@@ -80,7 +80,7 @@ fn start_of(alloc: Global, leaf: &Leaf, values: &Values) -> Result<String, Query
 
 /// The word of an operator.
 fn word_of(connective: Connective) -> &'static str
-    ensures { result.now ≡ plans.operator_word connective }
+    ensures { result.now ≡ operator_word connective }
 {
     match connective {
         Connective::And => "@and",

@@ -10,10 +10,10 @@ use Rattle.zeb_text.specs.Truncation.{truncated}
 use Rattle.zeb_text.specs.Numbers.{number_key}
 use Rattle.zeb_query.specs.declared.queries.Connective.TheVariants.{And}
 use Rattle.zeb_query.specs.Grammar.{kind_and_value, is_structure}
-use Rattle.zeb_query.specs.Holding.{holding_of}
-use Rattle.zeb_query.specs.TermChecks.{word_near}
-use Rattle.zeb_query.specs.Plans.{leaf_plan, leaf_scan, plan_asked, scan_asked}
-use Rattle.zeb_query.proofs.ExampleLemmas.{planned, term_at, under_at, set_at, typed_at, named_at, pair_at, quoted_at}
+use Rattle.zeb_query.specs.Attributes.{holding_of}
+use Rattle.zeb_query.specs.Plans.{word_near, leaf_plan, plan_asked}
+use Rattle.zeb_query.specs.Scan.{leaf_scan, scan_asked}
+use Rattle.zeb_query.proofs.ExampleLemmas.{planned, planned_under, of_set, term_at, under_at, set_at, typed_at, named_at, pair_at, quoted_at}
 use Rattle.zeb_query.proofs.examples.diagnostics_at_examples.Goals as goal
 
 pub returns-clause-use_attribute : goal.returns-clause-use_attribute
@@ -91,3 +91,31 @@ returns-clause-order_truncated c = planned (is_structure _ _ (under_at 0 6 (code
 pub returns-clause-local_number : goal.returns-clause-local_number
 unfolding chars is_utf8 encode kind_and_value leaf_plan leaf_scan plan_asked scan_asked word_near holding_of caseless ucd_category folded is_word_character runs_of truncated number_key digits
 returns-clause-local_number c = planned (is_structure _ _ (under_at 0 6 (codes "4=107") (4, codes "107") refl (term_at 12 (codes "x") refl))) refl refl
+
+pub returns-clause-inner : goal.returns-clause-inner
+unfolding chars is_utf8 encode kind_and_value leaf_plan leaf_scan plan_asked scan_asked word_near holding_of caseless ucd_category folded is_word_character runs_of truncated number_key digits
+returns-clause-inner c = planned (is_structure _ _ (under_at 0 6 (codes "1=4") (1, codes "4") refl (under_at 10 16 (codes "1=9999") (1, codes "9999") refl (term_at 23 (codes "moby") refl)))) refl refl
+
+pub returns-clause-attribute_set : goal.returns-clause-attribute_set
+unfolding chars is_utf8 encode kind_and_value leaf_plan leaf_scan plan_asked scan_asked word_near holding_of caseless ucd_category folded is_word_character runs_of truncated number_key digits
+returns-clause-attribute_set c = planned (of_set 0 9 (codes "x") (term_at 11 (codes "moby") refl)) refl refl
+
+pub returns-clause-no_default : goal.returns-clause-no_default
+unfolding chars is_utf8 encode kind_and_value leaf_plan leaf_scan plan_asked scan_asked word_near holding_of caseless ucd_category folded is_word_character runs_of truncated number_key digits
+returns-clause-no_default c = planned_under (is_structure _ _ (term_at 0 (codes "whale") refl)) refl refl
+
+pub returns-clause-leftmost_kind : goal.returns-clause-leftmost_kind
+unfolding chars is_utf8 encode kind_and_value leaf_plan leaf_scan plan_asked scan_asked word_near holding_of caseless ucd_category folded is_word_character runs_of truncated number_key digits
+returns-clause-leftmost_kind c = planned (is_structure _ _ (under_at 0 6 (codes "7=1") (7, codes "1") refl (under_at 10 16 (codes "8=1") (8, codes "1") refl (term_at 20 (codes "x") refl)))) refl refl
+
+pub returns-clause-number_truncated : goal.returns-clause-number_truncated
+unfolding chars is_utf8 encode kind_and_value leaf_plan leaf_scan plan_asked scan_asked word_near holding_of caseless ucd_category folded is_word_character runs_of truncated number_key digits
+returns-clause-number_truncated c = planned (is_structure _ _ (under_at 0 6 (codes "1=31") (1, codes "31") refl (under_at 11 17 (codes "4=109") (4, codes "109") refl (under_at 23 29 (codes "5=1") (5, codes "1") refl (term_at 33 (codes "1851") refl))))) refl refl
+
+pub returns-clause-list_order : goal.returns-clause-list_order
+unfolding chars is_utf8 encode kind_and_value leaf_plan leaf_scan plan_asked scan_asked word_near holding_of caseless ucd_category folded is_word_character runs_of truncated number_key digits
+returns-clause-list_order c = planned (is_structure _ _ (under_at 0 6 (codes "4=105") (4, codes "105") refl (under_at 12 18 (codes "2=1") (2, codes "1") refl (term_at 22 (codes "x") refl)))) refl refl
+
+pub returns-clause-asked_default : goal.returns-clause-asked_default
+unfolding chars is_utf8 encode kind_and_value leaf_plan leaf_scan plan_asked scan_asked word_near holding_of caseless ucd_category folded is_word_character runs_of truncated number_key digits
+returns-clause-asked_default c = planned_under (is_structure _ _ (under_at 0 6 (codes "1=1016") (1, codes "1016") refl (term_at 13 (codes "x") refl))) refl refl

@@ -2,6 +2,8 @@ use Rattle.std.proofs.Common.{refl}
 use Rattle.std.specs.Str.{chars, is_utf8}
 use lib.Utf8.{encode}
 use Rattle.zeb_query.specs.Grammar.{kind_and_value}
+use Rattle.zeb_query.specs.Places.{is_long}
+use Rattle.zeb_query.proofs.TextFaults.{found}
 use Rattle.zeb_query.proofs.examples.faults_at_examples.Goals as goal
 
 pub returns-clause-unfinished : goal.returns-clause-unfinished
@@ -43,3 +45,10 @@ returns-clause-bytes c = refl
 pub returns-clause-at_sign : goal.returns-clause-at_sign
 unfolding chars is_utf8 encode kind_and_value
 returns-clause-at_sign c = refl
+
+pub returns-clause-operators : goal.returns-clause-operators
+unfolding chars is_utf8 encode kind_and_value
+returns-clause-operators c = refl
+
+pub returns-clause-long : goal.returns-clause-long
+returns-clause-long c = λ text long. found text 11 0 (is_long long)

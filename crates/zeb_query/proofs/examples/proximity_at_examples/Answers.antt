@@ -10,10 +10,10 @@ use Rattle.zeb_text.specs.Truncation.{truncated}
 use Rattle.zeb_text.specs.Numbers.{number_key}
 use Rattle.zeb_query.specs.declared.queries.Connective.TheVariants.{And, Proximity}
 use Rattle.zeb_query.specs.Grammar.{kind_and_value, is_structure}
-use Rattle.zeb_query.specs.Holding.{holding_of}
-use Rattle.zeb_query.specs.TermChecks.{word_near}
-use Rattle.zeb_query.specs.Plans.{leaf_plan, leaf_scan, plan_asked, scan_asked}
-use Rattle.zeb_query.proofs.ExampleLemmas.{plain, planned, term_at, under_at, pair_at}
+use Rattle.zeb_query.specs.Attributes.{holding_of}
+use Rattle.zeb_query.specs.Plans.{word_near, leaf_plan, plan_asked}
+use Rattle.zeb_query.specs.Scan.{leaf_scan, scan_asked}
+use Rattle.zeb_query.proofs.ExampleLemmas.{plain, planned, term_at, quoted_at, under_at, pair_at}
 use Rattle.zeb_query.proofs.examples.proximity_at_examples.Goals as goal
 
 pub returns-clause-exclusion : goal.returns-clause-exclusion
@@ -59,3 +59,7 @@ returns-clause-greater c = planned (is_structure _ _ (pair_at 0 (codes "@prox") 
 pub returns-clause-not_equal : goal.returns-clause-not_equal
 unfolding chars is_utf8 encode kind_and_value leaf_plan leaf_scan plan_asked scan_asked word_near holding_of caseless ucd_category folded is_word_character runs_of truncated number_key digits
 returns-clause-not_equal c = planned (is_structure _ _ (pair_at 0 (codes "@prox") Proximity (plain 6 (codes "0") ∷ plain 8 (codes "1") ∷ plain 10 (codes "0") ∷ plain 12 (codes "6") ∷ plain 14 (codes "k") ∷ plain 16 (codes "2") ∷ []) refl refl refl (term_at 18 (codes "a") refl) (term_at 20 (codes "b") refl))) refl refl
+
+pub returns-clause-words : goal.returns-clause-words
+unfolding chars is_utf8 encode kind_and_value leaf_plan leaf_scan plan_asked scan_asked word_near holding_of caseless ucd_category folded is_word_character runs_of truncated number_key digits
+returns-clause-words c = planned (is_structure _ _ (pair_at 0 (codes "@prox") Proximity (plain 6 (codes "0") ∷ plain 8 (codes "1") ∷ plain 10 (codes "0") ∷ plain 12 (codes "2") ∷ plain 14 (codes "k") ∷ plain 16 (codes "2") ∷ []) refl refl refl (term_at 18 (codes "a") refl) (quoted_at 20 (codes "b c")))) refl refl

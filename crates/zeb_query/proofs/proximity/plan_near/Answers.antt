@@ -3,8 +3,8 @@ use Rattle.std.specs.Prelude.{string_bytes}
 use Rattle.zeb_query.specs.declared.queries.Tree.{Term}
 use Rattle.zeb_query.specs.Queries.{tree_value, head_value}
 use Rattle.zeb_query.specs.Grammar.{heads}
-use Rattle.zeb_query.specs.Holding.{holding_of}
-use Rattle.zeb_query.specs.TermChecks.{operand_of}
+use Rattle.zeb_query.specs.Attributes.{holding_of}
+use Rattle.zeb_query.specs.Checks.{operand_of}
 use Rattle.zeb_query.specs.Plans.{near_plan}
 use Rattle.zeb_query.proofs.NearLemmas.{near_read}
 use Rattle.zeb_query.proofs.proximity.plan_near.Goals as goal

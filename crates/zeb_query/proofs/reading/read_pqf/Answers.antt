@@ -3,9 +3,10 @@ use Rattle.std.specs.Prelude.{chars}
 use Rattle.std.proofs.lemmas.Result.{IfOk-weaker}
 use Rattle.zeb_query.specs.Queries.{query_value}
 use Rattle.zeb_query.specs.Grammar.{IsQuery}
-use Rattle.zeb_query.specs.Words.{words_at}
+use Rattle.zeb_query.specs.FirstFault.{words_at}
 use Rattle.zeb_query.specs.PrivateReading.{word_of}
 use Rattle.zeb_query.proofs.WordStretches.{words_are_read}
+use Rattle.zeb_query.proofs.TextFaults.{too_long, read_whole, read_faulty}
 use Rattle.zeb_query.proofs.reading.read_pqf.Goals as goal
 
 pub returns-clause-spelled : goal.returns-clause-spelled
@@ -16,3 +17,14 @@ returns-clause-spelled c =
       are_words = words_are_read (chars text);
       spelled = subst (λ words. IsQuery words (query_value query)) (ap (λ items. map word_of items) c.deref.ensures.value ∙ c.in_ok-words.ensures) spelled;
     }) c.query.ensures.spelled
+
+pub returns-clause-readable : goal.returns-clause-readable
+returns-clause-readable c =
+    read_whole c.args.text.now _ c.query.result c.if-text-gt-MOST_BYTES.false (ap (λ items. map word_of items) c.deref.ensures.value ∙ c.in_ok-words.ensures) c.query.ensures.none
+
+pub returns-clause-faulty : goal.returns-clause-faulty
+returns-clause-faulty c =
+    read_faulty c.args.text.now _ c.query.result c.if-text-gt-MOST_BYTES.false (ap (λ items. map word_of items) c.deref.ensures.value ∙ c.in_ok-words.ensures) c.query.ensures.fails
+
+pub returns-then-text-gt-MOST_BYTES-clause-faulty : goal.returns-then-text-gt-MOST_BYTES-clause-faulty
+returns-then-text-gt-MOST_BYTES-clause-faulty c = too_long c.args.text.now c.diagnostic.result c.if-text-gt-MOST_BYTES.true c.diagnostic.ensures

@@ -2,7 +2,7 @@ use Rattle.std.proofs.Common.{sym, ap, ◌∙◌, Some}
 use Rattle.std.specs.Option.{option_map}
 use Rattle.std.specs.Prelude.{string_bytes}
 use Rattle.zeb_query.specs.Grammar.{no_head}
-use Rattle.zeb_query.specs.Holding.{holding_of}
+use Rattle.zeb_query.specs.Attributes.{holding_of}
 use Rattle.zeb_query.proofs.HoldingLemmas.{holding_of-nothing, holding_of-set}
 use Rattle.zeb_query.proofs.holding.Holding.over.Goals as goal
 

@@ -1,37 +1,31 @@
--- The diagnostics of a term, and of `@prox`, as tables (ANSI/NISO Z39.50-2003, attribute set Bib-1, and the list of diagnostics Bib-1). Each
--- check has a diagnostic's number and addinfo, and says by the attributes that hold over the term, by its text and by the
--- profile where it applies. They are in the order in which they are asked, and the first that applies refuses the term, at
--- its place. Attributes are spoken of by their types and values: 1 use, 2 relation, 3 position, 4 structure, 5 truncation,
--- 6 completeness.
--- The diagnostics and the values are Bib-1's. This project's own choices are: the order of the checks; that other values than
--- these are refused; that 107, a local number, is the record's system number; that a term has at most 64 words (5) and a number
--- at most 9 or 18 digits (126); and which values aren't taken together (123).
+-- The diagnostics of a term, of `@prox` and of a query, as tables (ANSI/NISO Z39.50-2003, attribute set Bib-1, and Appendix ERR, the
+-- list of diagnostics Bib-1). Each check has a diagnostic's number and addinfo, and says by the attributes that hold over the term, by
+-- its text and by the profile where it applies. They are in the order in which they are asked, and the first that applies refuses
+-- the term, at its place.
+-- The numbers of diagnostics are Bib-1's. Own rules of this project: which fault has which number, and its place and addinfo; the order
+-- of the checks; that other values than the kept ones are refused; that a term has at most 64 words (5), and a number at most 9 or 18
+-- digits (126); and which values aren't taken together (123).
 -- Proximity (YAZ manual, Prefix Query Format: `@prox`; ANSI/NISO Z39.50-2003, the proximity operator) is of two words in one unit.
--- The six parameters are exclusion, distance, ordered, relation, which-code and unit-code. Which of their values are kept,
--- that others are refused by 110, and which attributes the two terms may have, is this project's own choice.
-use Rattle.std.specs.Prelude.{ℕ, ◌==◌, ◌||◌, ◌&&◌, Bool, false, not, List, [], ◌∷◌, ◌++◌, Option, Some, None, length, nat_lt, chars, if◌then◌else◌, codes, true, Result}
-use Rattle.std.specs.Option.{is_some, is_none, unwrap_or}
-use Rattle.std.specs.List.{list_any}
-use Rattle.std.specs.Str.{bytes_eq}
+-- The six parameters are exclusion, distance, ordered, relation, which-code and unit-code. Which of their values are kept, that
+-- others are refused by 110, and which attributes the two terms may have, are own rules too.
 use Rattle.std.specs.Fmt.{decimal}
-use Rattle.zeb_profile.specs.declared.Register.{Register}
-use Rattle.zeb_profile.specs.declared.Register.TheVariants as register
-use Rattle.zeb_profile.specs.declared.Profile.{Profile}
-use Rattle.zeb_profile.specs.Indexes.{index_by_use, index_by_name, has_pair}
-use Rattle.zeb_text.specs.declared.Cut.{Cut}
-use Rattle.zeb_text.specs.declared.Cut.TheVariants as cut
-use Rattle.zeb_text.specs.declared.Spread.{Spread}
-use Rattle.zeb_text.specs.declared.Spread.TheVariants.{Ends, Each}
-use Rattle.zeb_text.specs.Symbols.{Symbol}
-use Rattle.zeb_text.specs.Truncation.{patterns_of}
-use Rattle.zeb_query.specs.Grammar.{is_number, number_of, heads}
-use Rattle.zeb_query.specs.Holding.{truncations, number_or, value_of, HoldingValue, holding_of}
-use Rattle.zeb_query.specs.Faults.{Refusal, answered}
+use Rattle.std.specs.Option.{is_none, is_some, unwrap_or}
+use Rattle.std.specs.Prelude.{Bool, List, None, Option, Some, [], codes, false, if◌then◌else◌, length, nat_lt, not, true, ℕ, ◌&&◌, ◌++◌, ◌==◌, ◌∷◌, ◌||◌}
+use Rattle.std.specs.Str.{bytes_eq}
 use Rattle.std.specs.Str.Parse.{digits_value}
+use Rattle.zeb_profile.specs.Indexes.{has_pair, index_by_use}
+use Rattle.zeb_profile.specs.declared.Profile.{Profile}
+use Rattle.zeb_profile.specs.declared.Register.{Register}
 use Rattle.zeb_query.specs.declared.plans.DistanceRelation.{DistanceRelation}
-use Rattle.zeb_query.specs.declared.plans.DistanceRelation.TheVariants.{Less, LessOrEqual, Equal, GreaterOrEqual, Greater, NotEqual}
+use Rattle.zeb_query.specs.declared.plans.DistanceRelation.TheVariants.{Equal, Greater, GreaterOrEqual, Less, LessOrEqual, NotEqual}
 use Rattle.zeb_query.specs.declared.plans.Separation.{Separation}
-use Rattle.zeb_query.specs.Queries.{HeadValue, TreeValue, TermValue, NamedValue, PairValue}
+use Rattle.zeb_query.specs.declared.queries.Connective.{Connective}
+use Rattle.zeb_query.specs.declared.queries.Connective.TheVariants.{And, Not, Or, Proximity}
+use Rattle.zeb_query.specs.Queries.{HeadValue, NamedValue, PairValue, QueryValue, TermValue, TreeValue}
+use Rattle.zeb_query.specs.Grammar.{heads, is_number, no_head}
+use Rattle.zeb_query.specs.Faults.{Refusal}
+use Rattle.zeb_query.specs.Attributes.{HoldingValue, always_matches, completeness_is, equality, first_positions, holding_of, kept_completenesses, kept_positions, kept_relations, kept_structures, kept_truncations, lists, local_numbers, no_truncation, numeric_strings, one_number, ordered_relations, phrases, position_is, relation_is, structure_is, truncation_is, whole_texts}
+use Rattle.zeb_query.specs.Terms.{index_held, index_used, patterns_held, register_searched}
 
 -- ---- checks
 
@@ -48,57 +42,6 @@ check place number addinfo applies =
 abbrev pub first_that_applies : List Check → Option Refusal
 first_that_applies [] = None
 first_that_applies (c ∷ checks) = if c.applies then Some c.refusal else first_that_applies checks
-
--- ---- the attributes that hold over a term
-
--- the attribute's number is one of these
-abbrev pub is_among : List ℕ → Option ℕ → Bool
-is_among values None = false
-is_among values (Some number) = list_any (λ value. number == value) values
-
--- the value that holds, or the default where there is no attribute of the type, is one of these
-abbrev pub relation_is : HoldingValue → List ℕ → Bool
-relation_is h values = is_among values (number_or 3 h.relation)
-
-abbrev pub position_is : HoldingValue → List ℕ → Bool
-position_is h values = is_among values (number_or 3 h.position)
-
-abbrev pub structure_is : HoldingValue → List ℕ → Bool
-structure_is h values = is_among values (number_or 1 h.structure)
-
-abbrev pub truncation_is : HoldingValue → List ℕ → Bool
-truncation_is h values = is_among values (number_or 100 h.truncation)
-
-abbrev pub completeness_is : HoldingValue → List ℕ → Bool
-completeness_is h values = is_among values (number_or 1 h.completeness)
-
--- the index of a use attribute, by its number, or by its name where it is none; that of 1016 where there is no attribute
-abbrev pub index_named : Profile → List ℕ → Option ℕ → Option ℕ
-index_named profile name (Some number) = index_by_use profile number
-index_named profile name None = index_by_name profile name
-
-abbrev pub index_used : Profile → Option (List ℕ) → Option ℕ
-index_used profile None = index_by_use profile 1016
-index_used profile (Some text) = index_named profile text (number_of 9 text)
-
-abbrev pub index_held : Profile → HoldingValue → ℕ
-index_held profile h = unwrap_or (index_used profile h.use_attribute) 0
-
--- the register that is searched: numbers for structure 109, whole texts for completeness 2 and 3, else words
-abbrev pub register_searched : HoldingValue → Register
-register_searched h =
-    if structure_is h (109 ∷ []) then register.Number else (
-    if completeness_is h (2 ∷ 3 ∷ []) then register.Phrase else register.Word)
-
--- the words of the term as patterns: the truncation puts stars on each word for structures 6 and 105, else at the ends
-abbrev pub cut_of : HoldingValue → Cut
-cut_of h = unwrap_or (value_of truncations 100 h.truncation) cut.None
-
-abbrev pub stars_of : HoldingValue → Spread
-stars_of h = if structure_is h (6 ∷ 105 ∷ []) then Each else Ends
-
-abbrev pub patterns_held : HoldingValue → List ℕ → List (List Symbol)
-patterns_held h text = patterns_of (cut_of h) (stars_of h) (chars text)
 
 -- ---- what the conditions say
 
@@ -138,44 +81,44 @@ head_checks place h =
 abbrev pub value_checks : Profile → ℕ → HoldingValue → List Check
 value_checks profile place h =
     check place 114 (written h.use_attribute)
-    (not (structure_is h (107 ∷ [])) && (is_some h.use_attribute && is_none (index_used profile h.use_attribute)))
+    (not (structure_is h local_numbers) && (is_some h.use_attribute && is_none (index_used profile h.use_attribute)))
     ∷ check place 116 []
-    (not (structure_is h (107 ∷ [])) && (is_none h.use_attribute && is_none (index_by_use profile 1016)))
-    ∷ check place 117 (written h.relation) (not (relation_is h (1 ∷ 2 ∷ 3 ∷ 4 ∷ 5 ∷ 103 ∷ [])))
-    ∷ check place 119 (written h.position) (not (position_is h (1 ∷ 2 ∷ 3 ∷ [])))
-    ∷ check place 118 (written h.structure) (not (structure_is h (1 ∷ 2 ∷ 6 ∷ 105 ∷ 107 ∷ 109 ∷ [])))
-    ∷ check place 120 (written h.truncation) (not (truncation_is h (1 ∷ 2 ∷ 3 ∷ 100 ∷ 101 ∷ [])))
-    ∷ check place 122 (written h.completeness) (not (completeness_is h (1 ∷ 2 ∷ 3 ∷ [])))
+    (not (structure_is h local_numbers) && (is_none h.use_attribute && is_none (index_by_use profile 1016)))
+    ∷ check place 117 (written h.relation) (not (relation_is h kept_relations))
+    ∷ check place 119 (written h.position) (not (position_is h kept_positions))
+    ∷ check place 118 (written h.structure) (not (structure_is h kept_structures))
+    ∷ check place 120 (written h.truncation) (not (truncation_is h kept_truncations))
+    ∷ check place 122 (written h.completeness) (not (completeness_is h kept_completenesses))
     ∷ []
 
 -- the number of words, where words are compared
 abbrev pub words_checks : ℕ → HoldingValue → List ℕ → List Check
 words_checks place h text =
     check place 5 []
-    (not (structure_is h (107 ∷ 109 ∷ [])) && (not (relation_is h (103 ∷ [])) && nat_lt 64 (length (patterns_held h text))))
+    (not (structure_is h one_number) && (not (relation_is h always_matches) && nat_lt 64 (length (patterns_held h text))))
     ∷ []
 
 -- values that aren't taken together
 abbrev pub clash_checks : ℕ → HoldingValue → List Check
 clash_checks place h =
     check place 123 []
-    (structure_is h (107 ∷ 109 ∷ [])
-    && (position_is h (1 ∷ 2 ∷ []) || (not (truncation_is h (100 ∷ [])) || completeness_is h (2 ∷ 3 ∷ []))))
-    ∷ check place 123 [] (structure_is h (107 ∷ []) && not (relation_is h (3 ∷ [])))
+    (structure_is h one_number
+    && (position_is h first_positions || (not (truncation_is h no_truncation) || completeness_is h whole_texts)))
+    ∷ check place 123 [] (structure_is h local_numbers && not (relation_is h equality))
     ∷ check place 123 []
-    (structure_is h (6 ∷ 105 ∷ [])
-    && (position_is h (1 ∷ 2 ∷ []) || (completeness_is h (2 ∷ 3 ∷ []) || relation_is h (1 ∷ 2 ∷ 4 ∷ 5 ∷ []))))
+    (structure_is h lists
+    && (position_is h first_positions || (completeness_is h whole_texts || relation_is h ordered_relations)))
     ∷ check place 123 []
-    (relation_is h (1 ∷ 2 ∷ 4 ∷ 5 ∷ []) && (position_is h (1 ∷ 2 ∷ []) || not (truncation_is h (100 ∷ []))))
+    (relation_is h ordered_relations && (position_is h first_positions || not (truncation_is h no_truncation)))
     ∷ []
 
 -- values that a scan doesn't take
 abbrev pub scan_clash_checks : ℕ → HoldingValue → List Check
 scan_clash_checks place h =
-    check place 123 [] (not (relation_is h (3 ∷ [])))
-    ∷ check place 123 [] (position_is h (1 ∷ 2 ∷ []))
-    ∷ check place 123 [] (not (truncation_is h (100 ∷ [])))
-    ∷ check place 123 [] (structure_is h (6 ∷ 105 ∷ 107 ∷ []))
+    check place 123 [] (not (relation_is h equality))
+    ∷ check place 123 [] (position_is h first_positions)
+    ∷ check place 123 [] (not (truncation_is h no_truncation))
+    ∷ check place 123 [] (structure_is h (lists ++ local_numbers))
     ∷ []
 
 -- the one element of a list, if it has just one
@@ -187,10 +130,10 @@ one_of (x ∷ y ∷ others) = None
 -- values that a word near another doesn't take, and another number of words than one
 abbrev pub near_clash_checks : ℕ → HoldingValue → List ℕ → List Check
 near_clash_checks place h text =
-    check place 123 [] (not (relation_is h (3 ∷ [])))
-    ∷ check place 123 [] (position_is h (1 ∷ 2 ∷ []))
-    ∷ check place 123 [] (not (structure_is h (1 ∷ 2 ∷ [])))
-    ∷ check place 123 [] (completeness_is h (2 ∷ 3 ∷ []))
+    check place 123 [] (not (relation_is h equality))
+    ∷ check place 123 [] (position_is h first_positions)
+    ∷ check place 123 [] (not (structure_is h phrases))
+    ∷ check place 123 [] (completeness_is h whole_texts)
     ∷ check place 123 [] (is_none (one_of (patterns_held h text)))
     ∷ []
 
@@ -198,15 +141,15 @@ near_clash_checks place h text =
 abbrev pub register_checks : Profile → ℕ → HoldingValue → List Check
 register_checks profile place h =
     check place 123 []
-    (not (structure_is h (107 ∷ []))
+    (not (structure_is h local_numbers)
     && not (has_target profile (index_used profile h.use_attribute) (register_searched h)))
     ∷ []
 
 -- a term that has to be a number
 abbrev pub number_checks : ℕ → HoldingValue → List ℕ → List Check
 number_checks place h text =
-    check place 126 text (structure_is h (107 ∷ []) && not (is_number 9 text))
-    ∷ check place 126 text (structure_is h (109 ∷ []) && (not (relation_is h (103 ∷ [])) && not (is_number 18 text)))
+    check place 126 text (structure_is h local_numbers && not (is_number 9 text))
+    ∷ check place 126 text (structure_is h numeric_strings && (not (relation_is h always_matches) && not (is_number 18 text)))
     ∷ []
 
 -- the checks of a term, with those of further values that aren't taken
@@ -268,7 +211,7 @@ separation_of (exclusion ∷ distance ∷ ordered ∷ relation ∷ which_code �
 }
 separation_of other = record { distance = 0; ordered = false; relation = Equal }
 
--- ---- proximity: the operands
+-- ---- proximity: the operands, the left one first
 
 -- a term, and what holds over it
 pub record Operand : Type 0 where
@@ -285,12 +228,6 @@ operand_of set outer (PairValue place head connective parameters left right) = N
 abbrev pub operand_checks : Profile → Operand → List Check
 operand_checks profile o = near_checks profile o.place o.held o.text
 
--- the pattern of the one word
-abbrev pub operand_pattern : Operand → List Symbol
-operand_pattern o = unwrap_or (one_of (patterns_held o.held o.text)) []
-
--- ---- all checks of `@prox` and its two operands, the left one first
-
 abbrev pub operands_checks : Profile → ℕ → Option Operand → Option Operand → List Check
 operands_checks profile place (Some left) (Some right) =
     operand_checks profile left
@@ -302,11 +239,22 @@ operands_checks profile place None right = check place 110 (codes "@prox") true 
 abbrev pub proximity_checks : Profile → ℕ → List (List ℕ) → Option Operand → Option Operand → List Check
 proximity_checks profile place parameters left right = parameter_checks place parameters ++ operands_checks profile place left right
 
--- ---- what is read of `@prox` and its operands, or the first diagnostic
+-- ---- a whole query
 
-abbrev pub separation_asked : ℕ → List (List ℕ) → Result Separation Refusal
-separation_asked place parameters = answered (first_that_applies (parameter_checks place parameters)) (separation_of parameters)
+abbrev pub is_proximity : Connective → Bool
+is_proximity And = false
+is_proximity Or = false
+is_proximity Not = false
+is_proximity Proximity = true
 
--- an operand's index, and the pattern of its word
-unfoldable pub word_near : Profile → Operand → Result (ℕ × List Symbol) Refusal
-word_near profile o = answered (first_that_applies (operand_checks profile o)) (index_held profile o.held, operand_pattern o)
+-- the checks of a structure, over which the set is named and the head stands
+abbrev pub checks_in : Profile → Option (List ℕ) → HeadValue → TreeValue → List Check
+checks_in profile set outer (TermValue place head text) = find_checks profile place (holding_of set (heads outer head)) text
+checks_in profile set outer (NamedValue place head name) = check place 18 name true ∷ []
+checks_in profile set outer (PairValue place head connective parameters left right) =
+    if is_proximity connective
+    then proximity_checks profile place parameters (operand_of set (heads outer head) left) (operand_of set (heads outer head) right)
+    else (checks_in profile set (heads outer head) left ++ checks_in profile set (heads outer head) right)
+
+abbrev pub query_checks : Profile → QueryValue → List Check
+query_checks profile query = checks_in profile query.attribute_set no_head query.tree

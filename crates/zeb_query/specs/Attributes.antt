@@ -1,0 +1,186 @@
+-- The attributes that hold for a term (YAZ manual, Prefix Query Format), and what their values mean (ANSI/NISO Z39.50-2003, attribute
+-- set Bib-1): types 1 use, 2 relation, 3 position, 4 structure, 5 truncation, 6 completeness. For each type the innermost attribute
+-- holds. The numbers of types and of values are Bib-1's.
+-- Own rules of this project: that all attributes over a term count for two faults, a set other than Bib-1 and a type outside 1 to 6,
+-- of which the leftmost is told; that a value of more than nine digits is no number; which values are kept; what holds where there
+-- is no attribute of a type; that 1 and 2 are one for the position and the structure, and 2 and 3 for the completeness; and that
+-- structure 107, a local number, is the record's system number.
+use Rattle.std.specs.Char.{to_ascii_lowercase}
+use Rattle.std.specs.List.{find, list_any}
+use Rattle.std.specs.Option.{option_to_list}
+use Rattle.std.specs.Prelude.{Bool, List, None, Option, Some, [], codes, false, if◌then◌else◌, map, nat_lt, not, option_and_then, ℕ, ◌&&◌, ◌++◌, ◌==◌, ◌∷◌, ◌||◌}
+use Rattle.std.specs.Str.{bytes_eq}
+use Rattle.zeb_text.specs.declared.Cut.{Cut}
+use Rattle.zeb_query.specs.declared.plans.Relation.{Relation}
+use Rattle.zeb_query.specs.declared.plans.Relation.TheVariants.{Equal, Greater, GreaterOrEqual, Less, LessOrEqual}
+use Rattle.zeb_text.specs.declared.Cut.TheVariants as cut
+use Rattle.zeb_query.specs.Queries.{AttributeValue, HeadValue}
+use Rattle.zeb_query.specs.Grammar.{number_of}
+
+-- ---- the attributes over a term
+
+-- the attribute set Bib-1, by its name or its object identifier
+abbrev pub is_bib1 : List ℕ → Bool
+is_bib1 set = bytes_eq (map to_ascii_lowercase set) (codes "bib-1") || bytes_eq set (codes "1.2.840.10003.3.1")
+
+abbrev pub is_other_set : List ℕ → Bool
+is_other_set set = not (is_bib1 set)
+
+abbrev pub is_other_kind : ℕ → Bool
+is_other_kind kind = not (nat_lt 0 kind && nat_lt kind 7)
+
+-- the names of sets in attributes, from the left
+abbrev pub sets_in : List AttributeValue → List (List ℕ)
+sets_in [] = []
+sets_in (attribute ∷ attributes) = option_to_list attribute.set ++ sets_in attributes
+
+abbrev pub kind_of : AttributeValue → ℕ
+kind_of attribute = attribute.kind
+
+abbrev pub or_else : {A : Type 0} → Option A → Option A → Option A
+or_else (Some x) other = Some x
+or_else None other = other
+
+-- the value of the innermost attribute of a type
+abbrev pub value_held : ℕ → List AttributeValue → Option (List ℕ)
+value_held kind [] = None
+value_held kind (attribute ∷ attributes) =
+    or_else (value_held kind attributes) (if attribute.kind == kind then Some attribute.value else None)
+
+pub record HoldingValue : Type 0 where
+  pub other_set : Option (List ℕ)
+  pub other_kind : Option ℕ
+  pub term_type : Option (List ℕ)
+  pub use_attribute : Option (List ℕ)
+  pub relation : Option (List ℕ)
+  pub position : Option (List ℕ)
+  pub structure : Option (List ℕ)
+  pub truncation : Option (List ℕ)
+  pub completeness : Option (List ℕ)
+
+-- what holds where a query names this set and the head stands over a term
+unfoldable pub holding_of : Option (List ℕ) → HeadValue → HoldingValue
+holding_of set head = record {
+  other_set = find is_other_set (option_to_list set ++ sets_in head.attributes);
+  other_kind = find is_other_kind (map kind_of head.attributes);
+  term_type = head.term_type;
+  use_attribute = value_held 1 head.attributes;
+  relation = value_held 2 head.attributes;
+  position = value_held 3 head.attributes;
+  structure = value_held 4 head.attributes;
+  truncation = value_held 5 head.attributes;
+  completeness = value_held 6 head.attributes;
+}
+
+-- ---- the values that are kept
+
+-- type 2, relation: those that compare
+abbrev pub comparisons : List (ℕ × Relation)
+comparisons = (1, Less) ∷ (2, LessOrEqual) ∷ (3, Equal) ∷ (4, GreaterOrEqual) ∷ (5, Greater) ∷ []
+
+abbrev pub equality : List ℕ
+equality = 3 ∷ []
+
+-- the relations of order
+abbrev pub ordered_relations : List ℕ
+ordered_relations = 1 ∷ 2 ∷ 4 ∷ 5 ∷ []
+
+abbrev pub always_matches : List ℕ
+always_matches = 103 ∷ []
+
+-- the numbers of a table
+abbrev pub numbers_in : {A : Type 0} → List (ℕ × A) → List ℕ
+numbers_in [] = []
+numbers_in (row ∷ rows) = row.0 ∷ numbers_in rows
+
+abbrev pub kept_relations : List ℕ
+kept_relations = numbers_in comparisons ++ always_matches
+
+-- type 3, position: first in field and first in subfield; 3 is any position
+abbrev pub first_positions : List ℕ
+first_positions = 1 ∷ 2 ∷ []
+
+abbrev pub kept_positions : List ℕ
+kept_positions = first_positions ++ 3 ∷ []
+
+-- type 4, structure: phrase and word
+abbrev pub phrases : List ℕ
+phrases = 1 ∷ 2 ∷ []
+
+abbrev pub word_lists : List ℕ
+word_lists = 6 ∷ []
+
+-- free-form text
+abbrev pub free_forms : List ℕ
+free_forms = 105 ∷ []
+
+abbrev pub local_numbers : List ℕ
+local_numbers = 107 ∷ []
+
+abbrev pub numeric_strings : List ℕ
+numeric_strings = 109 ∷ []
+
+-- the structures of words without an order
+abbrev pub lists : List ℕ
+lists = word_lists ++ free_forms
+
+-- the structures of a term that is a number
+abbrev pub one_number : List ℕ
+one_number = local_numbers ++ numeric_strings
+
+abbrev pub kept_structures : List ℕ
+kept_structures = phrases ++ (lists ++ one_number)
+
+-- type 5, truncation
+abbrev pub truncations : List (ℕ × Cut)
+truncations = (1, cut.Right) ∷ (2, cut.Left) ∷ (3, cut.Both) ∷ (100, cut.None) ∷ (101, cut.Hash) ∷ []
+
+abbrev pub no_truncation : List ℕ
+no_truncation = 100 ∷ []
+
+abbrev pub kept_truncations : List ℕ
+kept_truncations = numbers_in truncations
+
+-- type 6, completeness: complete subfield and complete field; 1 is an incomplete subfield
+abbrev pub whole_texts : List ℕ
+whole_texts = 2 ∷ 3 ∷ []
+
+abbrev pub kept_completenesses : List ℕ
+kept_completenesses = 1 ∷ whole_texts
+
+-- ---- the value that holds
+
+-- what a number stands for in a table
+abbrev pub kept : {A : Type 0} → List (ℕ × A) → ℕ → Option A
+kept [] number = None
+kept (row ∷ rows) number = if number == row.0 then Some row.1 else kept rows number
+
+-- the number of an attribute's value, or the default where there is no attribute
+abbrev pub number_or : ℕ → Option (List ℕ) → Option ℕ
+number_or default None = Some default
+number_or default (Some text) = number_of 9 text
+
+-- what a value stands for, if it is kept
+abbrev pub value_of : {A : Type 0} → List (ℕ × A) → ℕ → Option (List ℕ) → Option A
+value_of table default value = option_and_then (kept table) (number_or default value)
+
+-- the attribute's number is one of these
+abbrev pub is_among : List ℕ → Option ℕ → Bool
+is_among values None = false
+is_among values (Some number) = list_any (λ value. number == value) values
+
+-- the value that holds, or the default where there is no attribute of the type, is one of these
+abbrev pub relation_is : HoldingValue → List ℕ → Bool
+relation_is h values = is_among values (number_or 3 h.relation)
+
+abbrev pub position_is : HoldingValue → List ℕ → Bool
+position_is h values = is_among values (number_or 3 h.position)
+
+abbrev pub structure_is : HoldingValue → List ℕ → Bool
+structure_is h values = is_among values (number_or 1 h.structure)
+
+abbrev pub truncation_is : HoldingValue → List ℕ → Bool
+truncation_is h values = is_among values (number_or 100 h.truncation)
+
+abbrev pub completeness_is : HoldingValue → List ℕ → Bool
+completeness_is h values = is_among values (number_or 1 h.completeness)

@@ -1,0 +1,45 @@
+-- Worked examples: two small profiles of this project's own, and what the texts of queries come to under them.
+use Rattle.std.specs.Prelude.{List, None, Result, Some, [], codes, zero, suc, ℕ, ◌++◌, ◌∷◌, ◌≡◌}
+use Rattle.zeb_profile.specs.declared.directives.Directive.{Directive}
+use Rattle.zeb_profile.specs.declared.directives.Directive.TheVariants.{All, Att, Melm}
+use Rattle.zeb_profile.specs.declared.registers.Register.TheVariants.{Number, Phrase, Word}
+use Rattle.zeb_query.specs.Queries.{QueryValue}
+use Rattle.zeb_query.specs.Grammar.{SpellsQuery}
+use Rattle.zeb_query.specs.Faults.{Refusal}
+use Rattle.zeb_query.specs.Plans.{PlanValue, plan_of}
+use Rattle.zeb_query.specs.Scan.{ScanValue, scan_of}
+
+-- words and phrases of titles, numbers of dates, and any words: the indexes Title (0), Date (1) and Any (2)
+abbrev pub sample_profile : List Directive
+sample_profile =
+    Att 4 (codes "Title")
+    ∷ Att 31 (codes "Date")
+    ∷ Att 1016 (codes "Any")
+    ∷ Melm (record { tag = codes "245"; code = None })
+    (record { name = codes "Title"; register = Word } ∷ record { name = codes "Title"; register = Phrase } ∷ [])
+    ∷ Melm (record { tag = codes "260"; code = Some 99 }) (record { name = codes "Date"; register = Number } ∷ [])
+    ∷ All (record { name = codes "Any"; register = Word } ∷ [])
+    ∷ []
+
+-- words of titles alone, and no index for the use attribute that holds where none is given
+abbrev pub titles_alone : List Directive
+titles_alone = Att 4 (codes "Title") ∷ Melm (record { tag = codes "245"; code = None }) (record { name = codes "Title"; register = Word } ∷ []) ∷ []
+
+-- the text spells a query, of which this is the plan or the first diagnostic under the profile
+pub record PlansUnder (profile : List Directive) (text : List ℕ) (result : Result PlanValue Refusal) : Type 0 where
+  pub query : QueryValue
+  pub spelled : SpellsQuery text query
+  pub planned : plan_of profile query ≡ result
+
+abbrev pub PlansAs : List ℕ → Result PlanValue Refusal → Type 0
+PlansAs text result = PlansUnder sample_profile text result
+
+pub record ScansAs (text : List ℕ) (result : Result ScanValue Refusal) : Type 0 where
+  pub query : QueryValue
+  pub spelled : SpellsQuery text query
+  pub planned : scan_of sample_profile query ≡ result
+
+-- the text, so many times
+abbrev pub times : ℕ → List ℕ → List ℕ
+times zero text = []
+times (suc n) text = text ++ times n text
