@@ -14,6 +14,7 @@ use zeb_register::{Blocks, Layout, Rows};
 mod analyses;
 mod beside_slow;
 mod changes;
+mod checks;
 mod databases;
 mod failing_disk;
 mod finds;
@@ -21,8 +22,10 @@ mod limits;
 mod packed;
 mod reads;
 mod refused_memory;
+mod renewals;
 mod scans;
 mod steps;
+mod stories;
 mod streams;
 mod together;
 mod versions;
@@ -42,6 +45,8 @@ pub type File<'a> = &'a [&'a [u8]];
 pub enum Step<'a> {
     Init,
     Check,
+    Reindex,
+    Upgrade,
     Create(&'a str),
     Drop(&'a str),
     Update(&'a [File<'a>]),
@@ -64,7 +69,7 @@ pub type Row<'a> = (Step<'a>, &'a str);
 pub type Script = &'static [(&'static str, &'static [Row<'static>])];
 
 fn name(text: &str) -> Result<DbName, Refusal> {
-    DbName::read(text).ok_or(Refusal::Unsupported)
+    DbName::read(text).ok_or(Refusal::Memory)
 }
 
 fn file_of(alloc: Global, slices: File<'_>) -> Result<Vec<u8>, AllocError> {
@@ -119,6 +124,8 @@ fn command_of(alloc: Global, step: &Step<'_>) -> Result<Command, Refusal> {
     match step {
         Step::Init => Ok(Command::Init),
         Step::Check => Ok(Command::Check),
+        Step::Reindex => Ok(Command::Reindex),
+        Step::Upgrade => Ok(Command::Upgrade),
         Step::Create(text) => Ok(Command::Create(name(text)?)),
         Step::Drop(text) => Ok(Command::Drop(name(text)?)),
         Step::Update(all) => change(alloc, Kind::Update, all),
@@ -262,6 +269,11 @@ fn whole_databases_are_read(rt: HostRuntime) -> Result<(), Fail> {
 #[test]
 fn each_attribute_is_answered(rt: HostRuntime) -> Result<(), Fail> {
     run_each(&rt, &finds::SCRIPTS)
+}
+
+#[test]
+fn registers_are_checked_and_made_anew(rt: HostRuntime) -> Result<(), Fail> {
+    run_each(&rt, &renewals::SCRIPTS)
 }
 
 #[test]

@@ -21,7 +21,7 @@ const MADE: Script = &[(
         (Step::Create("Default"), "zebraidx: database exists"),
         (Step::Create("Y"), "ok\n"),
         (Step::Create("Y"), "zebraidx: database exists"),
-        (Step::Check, "zebraidx: not supported"),
+        (Step::Check, "ok\n"),
     ],
 )];
 

@@ -56,16 +56,17 @@ fn is_answered<D: Disk + Drop>(
 }
 
 /// Carries the steps out until one is refused for the disk, and says how many were answered.
-fn run<D: Disk + Drop>(
+pub fn answered<D: Disk + Drop>(
     rt: &(impl Abort + AllocGlobal),
     session: &mut OnDisk<D>,
+    rows: &[Row<'_>],
 ) -> Result<usize, Fail> {
-    for (place, row) in STEPS.iter().enumerate() {
+    for (place, row) in rows.iter().enumerate() {
         if !is_answered(rt, session, row, place)? {
             return Ok(place);
         }
     }
-    Ok(STEPS.len())
+    Ok(rows.len())
 }
 
 /// What a session finds on the disk that a crash leaves, where it can be opened.
@@ -77,8 +78,8 @@ fn left<D: Crash + Drop>(alloc: Global, mut files: Files<D>) -> Option<Hits> {
 }
 
 /// Whether these are the numbers of hits after so many answers, or after one more.
-fn is_possible(answered: usize, kept: Hits) -> bool {
-    for hits in KEPT.iter().skip(answered).take(2) {
+fn is_possible(count: usize, kept: Hits) -> bool {
+    for hits in KEPT.iter().skip(count).take(2) {
         if *hits == kept {
             return true;
         }
@@ -88,18 +89,18 @@ fn is_possible(answered: usize, kept: Hits) -> bool {
 
 /// Runs the steps over the files, and then looks at what a crash leaves; says whether all steps were answered.
 fn stops<D: Crash + Drop>(rt: &(impl Abort + AllocGlobal), files: Files<D>) -> Result<bool, Fail> {
-    let (answered, files) = match opened(rt.alloc(), files) {
+    let (count, files) = match opened(rt.alloc(), files) {
         Ok(mut session) => {
-            let answered = run(rt, &mut session)?;
-            (answered, session.release().into_store().close())
+            let count = answered(rt, &mut session, &STEPS)?;
+            (count, session.release().into_store().close())
         }
         Err(files) => (0, files),
     };
     let Some(kept) = left(rt.alloc(), files) else {
         return Err(Fail::new("a crash leaves a disk that is refused"));
     };
-    assert!(rt; is_possible(answered, kept));
-    Ok(answered == STEPS.len())
+    assert!(rt; is_possible(count, kept));
+    Ok(count == STEPS.len())
 }
 
 fn file(alloc: Global, calls: u64) -> Fuse<Memory> {

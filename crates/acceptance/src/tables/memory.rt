@@ -1,7 +1,7 @@
 //! Requests for memory that are refused: to be run with each refused in turn (tests/each_allocation.py of the repository).
 
 use super::calls::{At, Call, Under};
-use super::queries::rows;
+use super::queries::all_rows;
 use super::readings::{In, Read};
 use super::{Row, Step, answer};
 use crate::texts::is_text;
@@ -11,23 +11,6 @@ use std::process::Abort;
 use std::test::Fail;
 use zeb_profile::Register;
 use zeb_register::{DatabaseId, RegFault};
-
-const TABLES: [&str; 6] = [
-    "SELECT * FROM meta ORDER BY name",
-    "SELECT * FROM databases ORDER BY id",
-    "SELECT * FROM records ORDER BY db, sysno",
-    "SELECT * FROM postings ORDER BY db, idx, reg, term, sysno, seq, pos",
-    "SELECT * FROM blocks ORDER BY db, idx, reg, term, block",
-    "SELECT * FROM dict ORDER BY db, idx, reg, term",
-];
-
-fn all_rows<S: Alter>(alloc: Global, conn: &mut Connection<S>) -> Result<String, RegFault> {
-    let mut text = String::new(alloc);
-    for sql in &TABLES {
-        rows(conn, sql, &mut text)?;
-    }
-    Ok(text)
-}
 
 /// All rows. At most one request for memory is refused in a run, so a second reading isn't.
 fn state<S: Alter>(alloc: Global, conn: &mut Connection<S>) -> Result<String, RegFault> {

@@ -2,6 +2,7 @@
 
 use sqlite::types::ValueRef;
 use sqlite::{Alter, Connection, Error, Row};
+use std::alloc::Global;
 use std::fmt::Write;
 use std::str;
 use zeb_register::RegFault;
@@ -9,6 +10,16 @@ use zeb_register::RegFault;
 /// The postings, with the database's name for its number.
 pub const POSTINGS: &str =
     "SELECT name, idx, reg, term, sysno, seq, pos FROM postings JOIN databases ON id = db ORDER BY name, idx, reg, term, sysno, seq, pos";
+
+/// All rows of each table, in the order of its key.
+const TABLES: [&str; 6] = [
+    "SELECT * FROM meta ORDER BY name",
+    "SELECT * FROM databases ORDER BY id",
+    "SELECT * FROM records ORDER BY db, sysno",
+    "SELECT * FROM postings ORDER BY db, idx, reg, term, sysno, seq, pos",
+    "SELECT * FROM blocks ORDER BY db, idx, reg, term, block",
+    "SELECT * FROM dict ORDER BY db, idx, reg, term",
+];
 
 /// A value of a row, a text as it is and bytes in hexadecimal.
 fn show_value(value: ValueRef<'_>, text: &mut String) -> Result<(), RegFault> {
@@ -55,6 +66,15 @@ pub fn rows<S: Alter>(
         show_row(&row, text)?;
     }
     Ok(())
+}
+
+/// All rows of all tables.
+pub fn all_rows<S: Alter>(alloc: Global, conn: &mut Connection<S>) -> Result<String, RegFault> {
+    let mut text = String::new(alloc);
+    for sql in &TABLES {
+        rows(conn, sql, &mut text)?;
+    }
+    Ok(text)
 }
 
 /// How many rows a statement changes.

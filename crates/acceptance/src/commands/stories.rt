@@ -1,0 +1,51 @@
+//! Registers over one layout and then the other, whose rows change between commands.
+
+use super::{Row, run};
+use crate::tables::{Row as TableRow, answers as tables_answer};
+use sqlite::{Alter, Connection};
+use std::alloc::AllocGlobal;
+use std::process::Abort;
+use std::test::Fail;
+use zeb_engine::Limits;
+use zeb_register::{Blocks, Rows};
+
+/// What is done with a store.
+#[derive(Drop)]
+pub enum Part<'a> {
+    /// Commands under a profile, over a row for each posting.
+    Plain(&'a str, &'a [Row<'a>]),
+    /// Commands under a profile, over packed tables.
+    Packed(&'a str, &'a [Row<'a>]),
+    /// Rows are looked at, or changed.
+    Tables(&'a [TableRow<'a>]),
+}
+
+/// Parts, each after the one before.
+pub type Story = &'static [Part<'static>];
+
+/// Does a part with a connection, which is given back.
+pub fn done<S: Alter + Drop>(
+    rt: &(impl Abort + AllocGlobal),
+    connection: Connection<S>,
+    part: &Part<'_>,
+) -> Result<Connection<S>, Fail> {
+    let all = Limits::GREATEST;
+    match part {
+        Part::Plain(profile, rows) => run::<S, Rows>(rt, connection, all, profile, rows),
+        Part::Packed(profile, rows) => run::<S, Blocks>(rt, connection, all, profile, rows),
+        Part::Tables(rows) => {
+            let mut connection = connection;
+            tables_answer(rt, &mut connection, &mut None, rows)?;
+            Ok(connection)
+        }
+    }
+}
+
+/// Goes through a story over a new store in memory.
+pub fn told(rt: &(impl Abort + AllocGlobal), story: Story) -> Result<(), Fail> {
+    let mut connection = Connection::open_in_memory(rt.alloc())?;
+    for part in story {
+        connection = done(rt, connection, part)?;
+    }
+    Ok(())
+}
