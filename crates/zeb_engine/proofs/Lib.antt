@@ -61,3 +61,4 @@ pub mod EveryAnswerTerms
 pub mod EveryAnswerAnalyses
 pub mod EveryAnswer
 pub mod CheckFollows
+pub mod ScanReads

@@ -23,3 +23,4 @@ pub mod Adopting
 pub mod Worked
 pub mod Crashes
 pub mod Lasting
+pub mod Reads

@@ -20,6 +20,7 @@ ghost use Rattle.zeb_image.specs.Image.{Keeps};
 ghost use Rattle.zeb_image.specs.NameOf.{name_bytes};
 ghost use Rattle.zeb_change.specs.Reading.{NoReadFault};
 ghost use Rattle.zeb_engine.specs.Alone.{Alone, ScanSays};
+ghost use Rattle.zeb_engine.specs.Reads.{ScanReads};
 ghost use Rattle.zeb_engine.specs.Scanning.{AreAround};
 ghost use Rattle.zeb_engine.specs.Steps.{ready, AskedAmong, ScanAnswers};
 
@@ -76,6 +77,9 @@ fn terms_around<S: Alter, L: Layout>(
     ensures crash { Survives (state S.Store connection.old) (state S.Store connection.new) (λ _. ⊥) }
     ensures unread { NoReadFault result }
     ensures ready { NeverUnready result }
+    ensures work { HasCleanDisk (state S.Store connection.new)
+        → OnOk result (ScanReads L.format L.row_work around.now.number around.now.position (state S.Store connection.old)
+        work.old work.new) }
 {
     let below = (around.position as u64).saturating_sub(1);
     let from = (around.number as u64 + 1).saturating_sub(around.position as u64);
@@ -118,6 +122,10 @@ pub(crate) fn scan<S: Alter, L: Layout>(
     ensures alone { HasCleanDisk (state S.Store connection.new)
         → Alone L.format (ScanSays profile.now around.entry.query.now around.entry.number around.entry.position) (name_bytes name.now)
         (state S.Store connection.old) result }
+    // The terms that are asked for are read, one more at most, and nothing else.
+    ensures work { HasCleanDisk (state S.Store connection.new)
+        → OnOk result (ScanReads L.format L.row_work around.entry.number around.entry.position (state S.Store connection.old)
+        work.old work.new) }
 {
     // Its profile is some text's.
     profile.is_of_some_text();

@@ -6,6 +6,7 @@ ghost use Rattle.std.specs.Result.{IsErr};
 ghost use Rattle.sqlite.specs.Held.{state};
 ghost use Rattle.sqlite.specs.State.{HasCleanDisk, IsLive, Opens, Survives};
 ghost use Rattle.zeb_engine.specs.Costs.{CommandCosts, CostsAlone};
+ghost use Rattle.zeb_engine.specs.Reads.{CommandReads};
 ghost use Rattle.zeb_engine.specs.Alone.{AnswersAlone};
 ghost use Rattle.zeb_engine.specs.Analysed.{AnswersAnalysis};
 ghost use Rattle.zeb_engine.specs.Answers.{IsFailure, answer_of, refused};
@@ -218,6 +219,9 @@ impl<S: Alter, L: Layout> Session<S, L> {
         ensures work { HasCleanDisk (state S.Store self.new.connection)
             → CommandCosts L.row_work (conditions (version_of L.format) self.old.profile self.old.limits) command.now
             (state S.Store self.old.connection) result self.new.work }
+        // An answered scan has read the terms that it was asked for, one more at most, and nothing else.
+        ensures scan_work { HasCleanDisk (state S.Store self.new.connection)
+            → CommandReads L.format L.row_work command.now (state S.Store self.old.connection) result self.new.work }
     {
         let answer = self.carry_out(command);
         // What is shown is what was committed.
@@ -261,6 +265,8 @@ impl<S: Alter, L: Layout> Session<S, L> {
         ensures work { HasCleanDisk (state S.Store self.new.connection)
             → CommandCosts L.row_work (conditions (version_of L.format) self.old.profile self.old.limits) command.now
             (state S.Store self.old.connection) result self.new.work }
+        ensures scan_work { HasCleanDisk (state S.Store self.new.connection)
+            → CommandReads L.format L.row_work command.now (state S.Store self.old.connection) result self.new.work }
     {
         self.work = Work::default();
         match command {

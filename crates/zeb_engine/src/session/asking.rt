@@ -1,6 +1,6 @@
 //! What a session is asked, and answers without a change.
 
-ghost use Rattle.std.specs.Prelude.{◌≡◌};
+ghost use Rattle.std.specs.Prelude.{◌≡◌, OnOk};
 ghost use Rattle.sqlite.specs.Held.{state};
 ghost use Rattle.sqlite.specs.State.{HasCleanDisk, Survives};
 ghost use Rattle.zeb_register.specs.Calls.{ChangesNothing};
@@ -10,6 +10,7 @@ ghost use Rattle.zeb_change.specs.Conditions.{conditions};
 ghost use Rattle.zeb_image.specs.NameOf.{name_bytes};
 ghost use Rattle.zeb_engine.specs.Checking.{ChecksTables};
 ghost use Rattle.zeb_engine.specs.Readiness.{GoesByTexts};
+ghost use Rattle.zeb_engine.specs.Reads.{ScanReads};
 ghost use Rattle.zeb_change.specs.Reading.{NoReadFault};
 ghost use Rattle.zeb_engine.specs.Transactions.{Commanded};
 ghost use Rattle.zeb_engine.specs.Steps.{checked};
@@ -76,6 +77,9 @@ impl<S: Alter, L: Layout> Session<S, L> {
         ensures alone { HasCleanDisk (state S.Store self.new.connection)
             → Alone L.format (ScanSays self.old.profile around.entry.query.now around.entry.number around.entry.position)
             (name_bytes database.now) (state S.Store self.old.connection) result }
+        ensures work { HasCleanDisk (state S.Store self.new.connection)
+            → OnOk result (ScanReads L.format L.row_work around.entry.number around.entry.position
+            (state S.Store self.old.connection) self.old.work self.new.work) }
     {
         check_ready::<S, L>(&mut self.connection, &self.profile)?;
         scan::<S, L>(

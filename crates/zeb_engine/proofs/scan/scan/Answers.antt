@@ -109,3 +109,11 @@ returns-clause-alone g c clean store content format =
         terms_answered (posted content database.id.0) c.args.profile.now value number position plan c.in_ok-plan.ensures.planned c.in_ok-entries.entries.items (c.in_ok-entries.ensures.around clean there.0 content has),
       ),
     )
+
+pub returns-clause-work : goal.returns-clause-work
+returns-clause-work g c clean store content format =
+    let s0 = state g.S.Store c.args.connection.now in
+    let s1 = state g.S.Store c.existing_database.new.connection in
+    let clean1 : HasCleanDisk s1 = omega (arith, c.terms_around.ensures.crash.clean) in
+    let there = still_shows s0 s1 s0.now.trees (c.existing_database.ensures.same clean1) (λ _. (store, refl)) (c.in_ok-entries.ensures.«open» clean).0 in
+    c.in_ok-entries.ensures.work clean there.0 content (subst (λ db. holds_in g.L.Layout.format db content) (sym there.1) format)

@@ -7,6 +7,7 @@ use Rattle.zeb_register.specs.Content.{posted}
 use Rattle.zeb_register.proofs.Calls.{store_same}
 use Rattle.zeb_change.specs.Outcomes.{register_refusal}
 use Rattle.zeb_engine.proofs.ListedDatabases.{fault_fails}
+use Rattle.zeb_engine.proofs.ScanReads.{around_reads}
 use Rattle.zeb_engine.proofs.Scans.{around_lists}
 use Rattle.zeb_engine.proofs.scan.terms_around.Goals as goal
 use Rattle.zeb_register.specs.Formats.{holds_in}
@@ -39,3 +40,18 @@ returns-clause-around g c clean store content format =
     let back = c.in_ok-rest.ensures.value clean there content held in
     around_lists (posted content c.args.database.0) (scan_value c.args.plan.now) number position c.as_str-start.result.now c.saturating_sub-below.result c.saturating_sub-from.result
     c.in_ok-first.first.items c.in_ok-rest.rest.items c.in_ok-joined.field-0.items c.as_str-start.ensures.value below from front back c.in_ok-joined.ensures
+
+pub returns-clause-work : goal.returns-clause-work
+returns-clause-work g c clean store content format least most =
+    let old = state g.S.Store c.args.connection.now in
+    let mid = state g.S.Store c.terms_before.new.conn in
+    let clean1 : HasCleanDisk mid = omega (arith, c.terms_from.ensures.call.crash.clean) in
+    let same = c.terms_before.ensures.call.same clean1 c.requires.idle (c.in_ok-first.ensures.call.ok clean1).0.is_open in
+    let there = store_same old mid same.1 store in
+    let held = subst (λ (d : Database). holds_in g.L.Layout.format d.trees content) (sym same.1) format in
+    let number = c.args.around.now.number in
+    let position = c.args.around.now.position in
+    let below : c.saturating_sub-below.result ≡ position - 1 = search rules in
+    let from : c.saturating_sub-from.result ≡ number + 1 - position = search rules in
+    around_reads g.L.Layout.row_work number position c.saturating_sub-below.result c.saturating_sub-from.result c.args.work.now c.terms_before.new.work c.terms_from.new.work below from least most
+    (c.in_ok-first.ensures.work clean1 store content format) (c.in_ok-rest.ensures.work clean there content held)

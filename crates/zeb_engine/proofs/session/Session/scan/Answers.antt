@@ -13,6 +13,7 @@ use Rattle.zeb_engine.specs.Steps.{ready}
 use Rattle.zeb_engine.specs.Works.{ScansFrom}
 use Rattle.zeb_engine.proofs.Commanding.{ready_met}
 use Rattle.zeb_engine.proofs.Asked.{alone_after, ready_asked, unready_asked}
+use Rattle.zeb_engine.proofs.ScanReads.{reads_after}
 use Rattle.zeb_engine.proofs.Serving.{keeps_still}
 use Rattle.zeb_engine.proofs.session.Session.scan.Goals as goal
 use Rattle.zeb_register.specs.Formats.{version_of}
@@ -73,3 +74,12 @@ pub returns-clause-ready : goal.returns-clause-ready
 returns-clause-ready g c clean =
     let first : HasCleanDisk (state g.S.Store c.check_ready.new.connection) = omega (arith, c.scan.ensures.crash.clean) in
     ready_then (version_of g.L.Layout.format) c.args.self.now.profile {X = Unit {0}} (state g.S.Store c.args.self.now.connection) tt (c.in_ok-check_ready.ensures.texts first) c.scan.result c.scan.ensures.ready
+
+pub returns-clause-work : goal.returns-clause-work
+returns-clause-work g c clean =
+    let old = state g.S.Store c.args.self.now.connection in
+    let mid = state g.S.Store c.check_ready.new.connection in
+    let new = state g.S.Store c.scan.new.connection in
+    let clean1 : HasCleanDisk mid = omega (arith, c.scan.ensures.crash.clean) in
+    reads_after g.L.Layout.format g.L.Layout.row_work c.args.around.number c.args.around.position old mid new c.scan.result c.args.self.now.work c.scan.new.work
+    (c.check_ready.ensures.same clean1) (c.scan.ensures.«open» clean) (c.scan.ensures.work clean)
