@@ -55,3 +55,4 @@ pub mod Expecting
 pub mod ExpectingRows
 pub mod PackedBeside
 pub mod ExpectingBlocks
+pub mod KeyCounts
