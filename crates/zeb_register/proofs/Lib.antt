@@ -56,3 +56,4 @@ pub mod Expecting
 pub mod ExpectingRows
 pub mod PackedBeside
 pub mod ExpectingBlocks
+pub mod KeyCounts

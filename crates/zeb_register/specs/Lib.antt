@@ -18,3 +18,4 @@ pub mod PackedChanges
 pub mod Formats
 pub mod Expected
 pub mod RowExpected
+pub mod RowKeys

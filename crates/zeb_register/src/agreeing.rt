@@ -17,7 +17,7 @@ ghost use Rattle.zeb_register.specs.Store.{IsStore};
 
 use crate::catalog::databases_in;
 use crate::expected::{are_named, are_postings, are_records, are_texts};
-use crate::packed_agreeing::blocks_agree;
+use crate::packed_agreeing::{blocks_agree, keys_agree};
 use crate::statements::databases::listed_rows;
 use crate::statements::owners::{blocks_owners, dict_owners, postings_owners, records_owners};
 use crate::statements::postings::{database_postings, nothing_of};
@@ -208,8 +208,7 @@ fn database_agrees<S: Alter>(
         Table::Records => records_agree(conn, db, database),
         Table::Postings => postings_agree(conn, db, database),
         Table::Blocks => blocks_agree(conn, db, database),
-        // The numbers of a key's records can't be compared yet.
-        Table::Dict => Err(RegFault::Memory),
+        Table::Dict => keys_agree(conn, db, database),
     }
 }
 

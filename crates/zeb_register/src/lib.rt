@@ -13,6 +13,7 @@ mod dropping;
 mod expected;
 mod faults;
 mod kept;
+mod key_counts;
 mod lists;
 mod meta;
 mod occurring;

@@ -13,7 +13,8 @@ ghost use Rattle.zeb_register.specs.Store.{IsStore};
 
 use crate::agreeing::{Table, belongs, table_agrees};
 use crate::expected::is_key;
-use crate::statements::packed::database_blocks;
+use crate::key_counts::{are_counts, key_counts};
+use crate::statements::packed::{database_blocks, database_keys};
 use crate::{DatabaseId, ExpectedDatabase, KeyPosting, ListedDatabase, RegFault};
 use sqlite::types::ValueRef;
 use sqlite::{Alter, Connection, Row};
@@ -70,6 +71,22 @@ pub(crate) fn blocks_agree<S: Alter>(
 {
     let rows = database_blocks(conn, db.column())?;
     Ok(are_blocks(&rows, &database.postings))
+}
+
+/// Whether the rows of `dict` of a database are just the expected ones.
+pub(crate) fn keys_agree<S: Alter>(
+    conn: &mut Connection<S>,
+    db: DatabaseId,
+    database: &ExpectedDatabase,
+) -> Result<bool, RegFault>
+    ensures call { Reading (state S.Store conn.old) (state S.Store conn.new) result (λ _. IsUnchanged) }
+    ensures value { HasCleanDisk (state S.Store conn.new) → IsStore (state S.Store conn.old) → IsInOrder database.now
+        → IfOk result (λ agree. IsTrue agree ↔ AsExpected Table.Dict db.0 database.now (state S.Store conn.old).now.trees) }
+    ensures honest { result ≢ Err RegFault.Damaged }
+{
+    let rows = database_keys(conn, db.column())?;
+    let counts = key_counts(*database.postings.allocator(), &database.postings)?;
+    Ok(are_counts(&rows, &counts))
 }
 
 /// Whether the rows spell just these postings, one block behind the other.
