@@ -22,6 +22,7 @@ mod limits;
 mod packed;
 mod reads;
 mod refused_memory;
+mod refused_renewals;
 mod renewals;
 mod scans;
 mod steps;
