@@ -16,6 +16,7 @@ mod beside_slow;
 mod changes;
 mod checks;
 mod databases;
+mod drawn;
 mod failing_disk;
 mod finds;
 mod limits;
