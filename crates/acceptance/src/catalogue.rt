@@ -45,9 +45,14 @@ impl Draw {
         (self.state >> 16) as usize
     }
 
+    /// A number below `count`, or 0 where there is none.
+    pub fn below(&mut self, count: usize) -> usize {
+        self.next().checked_rem(count).unwrap_or(0)
+    }
+
     /// One of the texts, or the empty text where there is none.
-    fn one_of<'a>(&mut self, texts: &[&'a str]) -> &'a str {
-        let place = self.next().checked_rem(texts.len()).unwrap_or(0);
+    pub fn one_of<'a>(&mut self, texts: &[&'a str]) -> &'a str {
+        let place = self.below(texts.len());
         texts.get(place).copied().unwrap_or("")
     }
 }

@@ -1,7 +1,7 @@
 //! Rows that are changed by hand: what a check says of them, what a reindex makes of them, and that an upgrade is refused just where
 //! the check is.
 
-use super::stories::{Part, done};
+use super::stories::{Kept, Part, done};
 use super::{BOOKS, Row, Step};
 use crate::samples::MOBY;
 use crate::tables::queries::{all_rows, execute};
@@ -265,13 +265,6 @@ const BEGUN: &[Row<'static>] = &[
     (Step::Update(&[&[MOBY]]), "inserted 1 updated 0 deleted 0\n"),
     (Step::Check, "ok\n"),
 ];
-
-/// Of which layout the rows are.
-#[derive(Clone, Copy)]
-enum Kept {
-    Plain,
-    Packed,
-}
 
 fn part<'a>(kept: Kept, rows: &'a [Row<'a>]) -> Part<'a> {
     match kept {

@@ -42,7 +42,7 @@ pub fn lacks_memory(answer: &Result<Reply, Refusal>) -> bool {
 }
 
 /// The command of a step, made again where memory was refused for it.
-fn made(alloc: Global, step: &Step<'_>) -> Result<Command, Refusal> {
+pub fn made(alloc: Global, step: &Step<'_>) -> Result<Command, Refusal> {
     match command_of(alloc, step) {
         Ok(command) => Ok(command),
         Err(_) => command_of(alloc, step),
@@ -50,7 +50,7 @@ fn made(alloc: Global, step: &Step<'_>) -> Result<Command, Refusal> {
 }
 
 /// What is printed for an answer, asked again where memory was refused for it.
-fn printed(alloc: Global, answer: &Result<Reply, Refusal>) -> Result<String, AllocError> {
+pub fn printed(alloc: Global, answer: &Result<Reply, Refusal>) -> Result<String, AllocError> {
     match told(alloc, answer) {
         Ok(text) => Ok(text),
         Err(_) => told(alloc, answer),

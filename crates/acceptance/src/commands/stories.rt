@@ -9,6 +9,13 @@ use std::test::Fail;
 use zeb_engine::Limits;
 use zeb_register::{Blocks, Rows};
 
+/// Of which layout the rows are.
+#[derive(Clone, Copy)]
+pub enum Kept {
+    Plain,
+    Packed,
+}
+
 /// What is done with a store.
 #[derive(Drop)]
 pub enum Part<'a> {

@@ -1,7 +1,7 @@
 //! Requests for memory that are refused: to be run with each refused in turn (tests/each_allocation.py of the repository).
 
 use super::calls::{At, Call, Under};
-use super::queries::all_rows;
+use super::queries::state;
 use super::readings::{In, Read};
 use super::{Row, Step, answer};
 use crate::texts::is_text;
@@ -11,14 +11,6 @@ use std::process::Abort;
 use std::test::Fail;
 use zeb_profile::Register;
 use zeb_register::{DatabaseId, RegFault};
-
-/// All rows. At most one request for memory is refused in a run, so a second reading isn't.
-fn state<S: Alter>(alloc: Global, conn: &mut Connection<S>) -> Result<String, RegFault> {
-    match all_rows(alloc, conn) {
-        Ok(text) => Ok(text),
-        Err(_) => all_rows(alloc, conn),
-    }
-}
 
 fn answered<S: Alter>(
     alloc: Global,

@@ -77,6 +77,14 @@ pub fn all_rows<S: Alter>(alloc: Global, conn: &mut Connection<S>) -> Result<Str
     Ok(text)
 }
 
+/// All rows. At most one request for memory is refused in a run, so a second reading isn't.
+pub fn state<S: Alter>(alloc: Global, conn: &mut Connection<S>) -> Result<String, RegFault> {
+    match all_rows(alloc, conn) {
+        Ok(text) => Ok(text),
+        Err(_) => all_rows(alloc, conn),
+    }
+}
+
 /// How many rows a statement changes.
 pub fn execute<S: Alter>(
     conn: &mut Connection<S>,
