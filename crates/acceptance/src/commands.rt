@@ -15,6 +15,7 @@ mod analyses;
 mod beside_slow;
 mod changes;
 mod checks;
+mod crashes;
 mod databases;
 mod drawn;
 mod failing_disk;
