@@ -1,5 +1,7 @@
 //! A batch and a shell, over paths and a store in memory.
 
+ghost use Rattle.std.specs.Prelude.{◌≡◌, false};
+
 use super::fakes::{Brittle, Torn};
 use super::records::with_records;
 use super::words::{contents, expect, loaded, run_words, shelved};
