@@ -3,9 +3,10 @@
 # make quick      the daily check: layout, edits, names, pages, and the proofs of the crates that changed
 # make check      the gate: every proof, every test and the edits of must-fail/, from nothing; some hours of processor time
 # make words      runs the built program by words over a folder of files, and compares what it writes
+# make hostile    runs the built program on the greatest inputs, and on scripts drawn by lot: SECONDS=3600 for more than a minute
 # make edits      tries the wrong bodies of edits/ too: CRATE=zeb_marc for one crate, EDIT=crates/zeb_marc/edits/no_units.edit for one
 # make cost       the gate, with the processor minutes of each crate written into docs/TESTING.md
-# make bench      times of the register's calls on files, and how the work of an update grows: RECORDS=1000 for fewer than 10,000
+# make bench      times of the register's calls and of an update's statements, and how commands grow: RECORDS=1000 for fewer than 10,000
 # make bench-zebra  this program beside Zebra, in times and in hits; installs Debian's idzebra-2.0: RECORDS=10000 for more than 2,000
 # make man        the manual pages in bin/man, from docs/MANUAL.md; installs Debian's lowdown where it isn't there
 # make install    PREFIX=/usr/local: the program, its manual and pages, examples, completions of bash and zsh; make uninstall takes them away
@@ -13,7 +14,7 @@
 PREFIX ?= /usr/local
 SOURCES := crates.txt $(wildcard crates/*/src/*.rt crates/*/src/*/*.rt crates/*/specs/*.antt crates/*/specs/*/*.antt)
 
-.PHONY: all help run quick check words edits cost bench bench-zebra man install uninstall clean
+.PHONY: all help run quick check words hostile edits cost bench bench-zebra man install uninstall clean
 all: bin/zebraidx
 
 help:
@@ -38,6 +39,10 @@ words: bin/zebraidx
 	@tests/words/run
 	@tests/words/faults
 
+hostile: bin/zebraidx
+	@tests/hostile/greatest
+	@tests/hostile/drawn --seconds $(or $(SECONDS),60)
+
 edits:
 	@tools/edits $(CRATE) $(EDIT)
 
@@ -46,6 +51,7 @@ cost:
 
 bench: bin/zebraidx
 	bench/registers
+	bench/statements
 	bench/growth $(RECORDS)
 
 bench-zebra: bin/zebraidx

@@ -21,6 +21,7 @@ mod drawn;
 mod failing_disk;
 mod finds;
 mod limits;
+mod other_stores;
 mod packed;
 mod reads;
 mod refused_memory;

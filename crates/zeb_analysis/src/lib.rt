@@ -14,6 +14,3 @@ pub use laws::{
     the_first_refusal_counts,
 };
 pub use printing::analysis_lines;
-
-#[cfg(test)]
-mod tests;

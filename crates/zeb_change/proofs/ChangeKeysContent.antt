@@ -23,7 +23,8 @@ use Rattle.zeb_change.specs.Outcomes.{register_refusal}
 use Rattle.zeb_register.proofs.RisingLists.{never_itself, told_by}
 use Rattle.zeb_register.proofs.ContentChanges.{changed_at, change_is, same_content}
 use Rattle.zeb_change.specs.declared.changed_keys.ChangedKey.{ChangedKey}
-use Rattle.zeb_change.specs.PrivateChangedKeys.{AreChangedKeys, ArePostingsOf, IsReposted, key_in, occurrence_at}
+use Rattle.zeb_change.specs.Reposted.{ArePostingsOf, IsReposted, occurrence_at}
+use Rattle.zeb_change.specs.PrivateChangedKeys.{AreChangedKeys, key_in}
 
 pub moved : ℤ → ℕ → List ChangedKey → Content → Content
 moved db sysno [] content = content

@@ -21,10 +21,11 @@ use Rattle.zeb_change.specs.Costs.{IsRecordCost, IsWorkFor, bytes_of, newer_of, 
 use Rattle.zeb_change.specs.declared.settings.Kind.{Kind}
 use Rattle.zeb_change.specs.Folding.{ident_in}
 use Rattle.zeb_change.specs.declared.pending.Pending.{Pending}
-use Rattle.zeb_change.specs.PrivatePending.{IsDueFor, IsNothingNoted, noted_count}
-use Rattle.zeb_change.proofs.Noting.{nothing_count}
+use Rattle.zeb_change.specs.Noted.{IsDueFor, IsNothingNoted, noted_count}
+use Rattle.zeb_change.proofs.NotedChanges.{nothing_count}
 use Rattle.zeb_change.specs.PrivateTallies.{AreInRange}
-use Rattle.zeb_change.specs.PrivateChangedKeys.{AreChangedKeys, key_in, occurrence_at}
+use Rattle.zeb_change.specs.Reposted.{occurrence_at}
+use Rattle.zeb_change.specs.PrivateChangedKeys.{AreChangedKeys, key_in}
 use Rattle.zeb_change.proofs.ChangeKeysContent.{told_key}
 use Rattle.zeb_change.proofs.Idle.{place_total}
 
@@ -144,10 +145,10 @@ module _ (profile : List Directive) where
       → IsRecordCost (Contains old) (Contains []) n → IsRecordCost (occurs_by profile (Some elder)) (occurs_by profile None) n
   old_cost elder old n one = cost_as (Contains old) (Contains []) _ _ n (occurs_as elder old one) none_occurs
 
-  -- no record costs nothing
-  pub none_cost : IsRecordCost (occurs_by profile None) (occurs_by profile None) 0
+  -- a record in its own place costs nothing, and no record in the place of none
+  pub same_cost : (bytes : Option (List ℕ)) → IsRecordCost (occurs_by profile bytes) (occurs_by profile bytes) 0
   unfolding IsStrictlySortedBy
-  none_cost = record {
+  same_cost bytes = record {
     keys = [];
     once = tt;
     each = λ key. (λ there. absurd (has_contained [] key there), λ differ. absurd (differ (λ seq pos. (λ h. h, λ h. h))));

@@ -8,7 +8,7 @@ use Rattle.zeb_change.specs.Conditions.{Conditions}
 use Rattle.zeb_change.specs.Costs.{IsCostIn, IsFilesCost, IsSlicesCost}
 use Rattle.zeb_change.specs.Folding.{Progress, folded, file_folded, splits_of}
 use Rattle.zeb_change.specs.declared.pending.Pending.{Pending}
-use Rattle.zeb_change.specs.PrivatePending.{IsDueFor}
+use Rattle.zeb_change.specs.Noted.{IsDueFor}
 use Rattle.zeb_change.specs.PrivateTallies.{AreInRange}
 use Rattle.zeb_change.proofs.CostLemmas.{due_noted, due_then}
 use Rattle.zeb_change.proofs.FoldAll.{drop_all}

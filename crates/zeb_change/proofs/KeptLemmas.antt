@@ -18,7 +18,7 @@ has_same ident kept h = sym ((bytes_eq-Decides ident kept.ident).0 h)
 pub same_has : (ident : List ℕ) (kept : Kept) → kept.ident ≡ ident → has_ident ident kept ≡ true
 same_has ident kept same = (bytes_eq-Decides ident kept.ident).1 (sym same)
 
-tests : (b : Bool) → (b ≡ true) ⊎ (b ≡ false)
+pub tests : (b : Bool) → (b ≡ true) ⊎ (b ≡ false)
 tests true = inl refl
 tests false = inr refl
 

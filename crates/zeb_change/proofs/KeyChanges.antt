@@ -14,7 +14,8 @@ use Rattle.zeb_register.specs.declared.registers.Place.{Place}
 use Rattle.zeb_register.specs.Content.{place_cmp}
 use Rattle.zeb_register.proofs.RisingLists.{never_itself}
 use Rattle.zeb_change.specs.declared.changed_keys.ChangedKey.{ChangedKey}
-use Rattle.zeb_change.specs.PrivateChangedKeys.{AreChangedKeys, IsNoted, key_in, occurrence_at, place_in}
+use Rattle.zeb_change.specs.Reposted.{occurrence_at}
+use Rattle.zeb_change.specs.PrivateChangedKeys.{AreChangedKeys, IsNoted, key_in, place_in}
 use Rattle.zeb_change.specs.PrivateKeyRuns.{AreOfKey, BeginsWithKey, Stops, IsNotAbove}
 
 -- all of one key

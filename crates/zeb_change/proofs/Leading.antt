@@ -7,14 +7,16 @@ use Rattle.sqlite.specs.Tree.{Trees}
 use Rattle.zeb_extract.specs.declared.keys.Key.{Key}
 use Rattle.zeb_extract.proofs.Rising.{key_total, keys_apart}
 use Rattle.zeb_register.specs.declared.registers.RecordChange.{RecordChange}
-use Rattle.zeb_register.specs.Content.{AreChangedAt, AreListChanges, ArePlacesOf, Content, IsChangedAt, IsListChanged, IsRising, IsStorable, IsStorablePosting, Posting, place_cmp}
+use Rattle.zeb_register.specs.Content.{AreChangedAt, AreListChanges, ArePlacesOf, Content, IsChangedAt, IsListChanged, IsRising, IsStorable, IsStorablePosting, Posting, place_cmp, posting_cmp}
 use Rattle.zeb_register.specs.Formats.{Format, holds_in}
-use Rattle.zeb_register.proofs.ContentChanges.{posting_total, told_spot}
+use Rattle.zeb_register.proofs.ContentChanges.{posting_total, told_spot, with_list, with_list_here, with_list_there}
+use Rattle.zeb_register.proofs.FormatLemmas.{registers_rise}
 use Rattle.zeb_register.proofs.RisingLists.{same_list, told_by}
 use Rattle.zeb_change.specs.declared.pending.KeyChange.{KeyChange}
 use Rattle.zeb_change.specs.declared.pending.Pending.{Pending}
-use Rattle.zeb_change.specs.PrivatePending.{AreGivenAs, ArePutAt, AreTurns, IsNothingNoted, IsNotedAlso, IsTakenOut, LeadsTo, WillHold, noted_at}
-use Rattle.zeb_change.proofs.Noting.{nothing_at}
+use Rattle.zeb_change.specs.Noted.{AreTurns, IsNothingNoted, LeadsTo, WillHold, noted_at}
+use Rattle.zeb_change.specs.PrivatePending.{AreGivenAs, ArePutAt, IsNotedAlso, IsTakenOut}
+use Rattle.zeb_change.proofs.NotedChanges.{nothing_at}
 use Rattle.zeb_change.proofs.StoredLemmas.{told_id}
 
 -- ---- changes of one list
@@ -96,56 +98,43 @@ leads_more db key change old new behind before after leads up noted rising stood
 
 -- ---- a key's changes are written
 
-choose : {A B : Type 0} → A ⊎ B → List Posting → List Posting → List Posting
-choose (inl here) new old = new
-choose (inr other) new old = old
-
--- the content with one list of the other's
-put_list : ℤ → Key → Content → Content → Content
-put_list db key ahead behind d k = choose (told_spot d db k key) (ahead d k) (behind d k)
-
 module _ (db : ℤ) (key : Key) (behind ahead : Content) where
-  put_here : (d : ℤ) (k : Key) → (d ≡ db) × (k ≡ key) → put_list db key ahead behind d k ≡ ahead d k
-  unfolding put_list choose
-  put_here d k same = by (told_spot d db k key)
-    where
-      by : (at : ((d ≡ db) × (k ≡ key)) ⊎ ¬ ((d ≡ db) × (k ≡ key))) → choose at (ahead d k) (behind d k) ≡ ahead d k
-      by (inl here) = refl
-      by (inr other) = absurd (other same)
+  -- the content behind with this one list of the content ahead
+  abbrev pub put : Content
+  put = with_list db key (ahead db key) behind
 
-  put_there : (d : ℤ) (k : Key) → ¬ ((d ≡ db) × (k ≡ key)) → put_list db key ahead behind d k ≡ behind d k
-  unfolding put_list choose
-  put_there d k differs = by (told_spot d db k key)
-    where
-      by : (at : ((d ≡ db) × (k ≡ key)) ⊎ ¬ ((d ≡ db) × (k ≡ key))) → choose at (ahead d k) (behind d k) ≡ behind d k
-      by (inl here) = absurd (differs here)
-      by (inr other) = refl
+  put_here : put db key ≡ ahead db key
+  put_here = with_list_here db key (ahead db key) behind
 
-  put_storable : IsStorable behind → IsStorable ahead → IsStorable (put_list db key ahead behind)
+  put_there : (d : ℤ) (k : Key) → ¬ ((d ≡ db) × (k ≡ key)) → put d k ≡ behind d k
+  put_there = with_list_there db key (ahead db key) behind
+
+  put_storable : IsStorable behind → IsStorable ahead → IsStorable put
   put_storable one two d k p there = by (told_spot d db k key)
     where
       by : ((d ≡ db) × (k ≡ key)) ⊎ ¬ ((d ≡ db) × (k ≡ key)) → IsStorablePosting k p
-      by (inl here) = two d k p (subst (λ (l : List Posting). Has l p) (put_here d k here) there)
+      by (inl here) =
+          two d k p (subst₂ (λ (x : ℤ) (z : Key). Has (put x z) p → Has (ahead x z) p) (sym here.0) (sym here.1) (subst (λ (l : List Posting). Has l p) put_here) there)
       by (inr other) = one d k p (subst (λ (l : List Posting). Has l p) (put_there d k other) there)
 
   module _ (old new : Pending) (changes : List KeyChange) (leads : LeadsTo db old behind ahead) (out : IsTakenOut key changes old new) where
-    put_is : ArePutAt db key changes behind (put_list db key ahead behind)
+    put_is : ArePutAt db key changes behind put
     put_is = record {
-      list = subst₂ (λ (cs : List KeyChange) (l : List Posting). AreTurns cs (behind db key) l) out.here (sym (put_here db key (refl, refl))) (leads.each key);
-      others = λ d k other. put_there d k other;
+      list = subst₂ (λ (cs : List KeyChange) (l : List Posting). AreTurns cs (behind db key) l) out.here (sym put_here) (leads.each key);
+      others = put_there;
     }
 
-    put_leads : LeadsTo db new (put_list db key ahead behind) ahead
+    put_leads : LeadsTo db new put ahead
     put_leads = record {
       each = λ k. each k (told_by key_total keys_apart k key);
       others = λ d k other. leads.others d k other ∙ sym (put_there d k (λ h. other h.0));
     }
       where
-        at_key : AreTurns (noted_at new key) (put_list db key ahead behind db key) (ahead db key)
-        at_key = subst (λ (cs : List KeyChange). AreTurns cs (put_list db key ahead behind db key) (ahead db key)) (sym out.gone) (sym (put_here db key (refl, refl)))
+        at_key : AreTurns (noted_at new key) (put db key) (ahead db key)
+        at_key = subst (λ (cs : List KeyChange). AreTurns cs (put db key) (ahead db key)) (sym out.gone) (sym put_here)
 
-        each : (k : Key) → (k ≡ key) ⊎ (k ≢ key) → AreTurns (noted_at new k) (put_list db key ahead behind db k) (ahead db k)
-        each k (inl same) = subst (λ (z : Key). AreTurns (noted_at new z) (put_list db key ahead behind db z) (ahead db z)) (sym same) at_key
+        each : (k : Key) → (k ≡ key) ⊎ (k ≢ key) → AreTurns (noted_at new k) (put db k) (ahead db k)
+        each k (inl same) = subst (λ (z : Key). AreTurns (noted_at new z) (put db z) (ahead db z)) (sym same) at_key
         each k (inr other) = subst₂ (λ (cs : List KeyChange) (l : List Posting). AreTurns cs l (ahead db k)) (sym (out.others k other))
             (sym (put_there db k (λ h. other h.1))) (leads.each k)
 
@@ -154,8 +143,8 @@ pub held_then : (format : Format) (now next : Trees) (db : ℤ) (key : Key) (cha
     → ((before after : Content) → holds_in format now before → ArePutAt db key changes before after → holds_in format next after)
     → WillHold format now db old ahead → WillHold format next db new ahead
 held_then format now next db key changes old new ahead storable out written holds = record {
-  behind = put_list db key ahead holds.behind;
-  held = written holds.behind (put_list db key ahead holds.behind) holds.held (put_is db key holds.behind ahead old new changes holds.leads out);
+  behind = put db key holds.behind ahead;
+  held = written holds.behind (put db key holds.behind ahead) holds.held (put_is db key holds.behind ahead old new changes holds.leads out);
   storable = put_storable db key holds.behind ahead holds.storable storable;
   leads = put_leads db key holds.behind ahead old new changes holds.leads out;
 }
@@ -163,15 +152,37 @@ held_then format now next db key changes old new ahead storable out written hold
 -- the content that a key's changes make
 pub put_one : (format : Format) (now : Trees) (db : ℤ) (key : Key) (changes : List KeyChange) (old new : Pending) (ahead : Content) → IsTakenOut key changes old new
     → (holds : WillHold format now db old ahead) → (after : Content) × ArePutAt db key changes holds.behind after
-put_one format now db key changes old new ahead out holds = (put_list db key ahead holds.behind, put_is db key holds.behind ahead old new changes holds.leads out)
+put_one format now db key changes old new ahead out holds = (put db key holds.behind ahead, put_is db key holds.behind ahead old new changes holds.leads out)
+
+-- ---- a content ahead
+
+turns_lead_up : (changes : List KeyChange) (old new : List Posting) → IsStrictlySortedBy posting_cmp old → AreTurns changes old new → IsStrictlySortedBy posting_cmp new
+turns_lead_up [] old new up are = subst (IsStrictlySortedBy posting_cmp) (sym are) up
+turns_lead_up (change ∷ changes) old new up are = turns_lead_up changes are.0 new are.3.rising are.4
+
+-- each list that the registers will hold rises
+pub will_rise : (format : Format) (trees : Trees) (db : ℤ) (pending : Pending) (ahead : Content) → WillHold format trees db pending ahead → IsRising ahead
+will_rise format trees db pending ahead will d key = from (told_id d db)
+  where
+    up : IsRising will.behind
+    up = registers_rise format trees will.behind will.held
+
+    from : (d ≡ db) ⊎ (d ≢ db) → IsStrictlySortedBy posting_cmp (ahead d key)
+    from (inl same) = subst (λ (x : ℤ). IsStrictlySortedBy posting_cmp (ahead x key)) (sym same)
+        (turns_lead_up (noted_at pending key) (will.behind db key) (ahead db key) (up db key) (will.leads.each key))
+    from (inr other) = subst (IsStrictlySortedBy posting_cmp) (sym (will.leads.others d key other)) (up d key)
 
 -- ---- nothing is noted
 
-pub nothing_leads : (db : ℤ) (pending : Pending) (content : Content) → IsNothingNoted pending → LeadsTo db pending content content
+nothing_leads : (db : ℤ) (pending : Pending) (content : Content) → IsNothingNoted pending → LeadsTo db pending content content
 nothing_leads db pending content none = record {
   each = λ key. subst (λ (cs : List KeyChange). AreTurns cs (content db key) (content db key)) (sym (nothing_at pending none key)) refl;
   others = λ d key other. refl;
 }
+
+pub will_begin : (format : Format) (trees : Trees) (db : ℤ) (pending : Pending) (content : Content) → IsNothingNoted pending → holds_in format trees content → IsStorable content
+    → WillHold format trees db pending content
+will_begin format trees db pending content none held storable = record { behind = content; held = held; storable = storable; leads = nothing_leads db pending content none }
 
 led_by_nothing : (db : ℤ) (pending : Pending) (behind ahead : Content) → IsNothingNoted pending → LeadsTo db pending behind ahead → ahead ≡ behind
 led_by_nothing db pending behind ahead none leads = λ i d key. at d key (told_id d db) i

@@ -5,7 +5,7 @@ pub mod BaseLemmas
 pub mod StoredLemmas
 pub mod PostedLemmas
 pub mod Reposted
-pub mod Noting
+pub mod NotedChanges
 pub mod Leading
 pub mod UnderWay
 pub mod TakenLemmas

@@ -9,7 +9,7 @@ use Rattle.zeb_extract.specs.declared.keys.Key.{Key}
 use Rattle.zeb_extract.specs.declared.keys.Occurrence.{Occurrence}
 use Rattle.zeb_register.specs.declared.registers.Place.{Place}
 use Rattle.zeb_register.specs.Content.{Content, posting_at, Posting}
-use Rattle.zeb_change.specs.PrivateChangedKeys.{occurrence_at, ArePostingsOf, IsReposted}
+use Rattle.zeb_change.specs.Reposted.{occurrence_at, ArePostingsOf, IsReposted}
 use Rattle.zeb_change.specs.Occurs.{OccursIn, occurs}
 use Rattle.zeb_change.specs.Base.{Kept}
 use Rattle.zeb_change.specs.Stored.{ArePosted}

@@ -11,7 +11,7 @@ use Rattle.zeb_register.specs.declared.registers.Place.{Place}
 use Rattle.zeb_register.specs.Content.{Content, IsRising, posting_at, posting_cmp, IsChangedAt, Posting}
 use Rattle.zeb_register.proofs.RisingLists.{told_by}
 use Rattle.zeb_register.proofs.ContentChanges.{changed_at, change_is}
-use Rattle.zeb_change.specs.PrivateChangedKeys.{occurrence_at, IsReposted}
+use Rattle.zeb_change.specs.Reposted.{occurrence_at, IsReposted}
 use Rattle.zeb_change.proofs.StoredLemmas.{told_id}
 
 place_of : Occurrence → Place

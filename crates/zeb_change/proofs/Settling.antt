@@ -1,32 +1,40 @@
 -- A change on its way whose noted changes are written, and one that begins and ends with nothing noted.
-use Rattle.std.proofs.Common.{◌≡◌, ◌⊎◌, ◌∙◌, ℕ, ℤ, List, Result, Ok, Err, inl, inr, ap}
-use Rattle.sqlite.specs.State.{State}
+use Rattle.std.proofs.Common.{◌≡◌, ◌≢◌, ◌∙◌, ℕ, ℤ, List, IsTrue, Result, Ok, Err, ap, arith, refl, sym}
+use Rattle.sqlite.specs.State.{HasCleanDisk, State}
 use Rattle.zeb_profile.specs.declared.directives.Directive.{Directive}
+use Rattle.zeb_register.specs.declared.faults.RegFault.{RegFault}
+use Rattle.zeb_register.specs.declared.faults.RegFault.TheVariants as register
 use Rattle.zeb_register.specs.declared.registers.Work.{Work}
-use Rattle.zeb_register.specs.Content.{Content, IsStorable}
+use Rattle.zeb_register.specs.Content.{IsStorable}
 use Rattle.zeb_register.specs.Formats.{Format}
-use Rattle.zeb_register.specs.Store.{IsStore, KeepsLists}
+use Rattle.zeb_register.specs.Store.{IsStore}
 use Rattle.zeb_change.specs.declared.files.Fold.{Fold}
 use Rattle.zeb_change.specs.declared.pending.Pending.{Pending}
 use Rattle.zeb_change.specs.declared.refusals.Refusal.{Refusal}
 use Rattle.zeb_change.specs.declared.refusals.Refusal.TheVariants.{Damaged}
 use Rattle.zeb_change.specs.Base.{Base, Kept}
 use Rattle.zeb_change.specs.Folding.{Progress}
-use Rattle.zeb_change.specs.PrivatePending.{IsDueFor, IsNothingNoted, WillHold}
+use Rattle.zeb_change.specs.Noted.{IsDueFor, IsNothingNoted, IsSettled, Settles}
+use Rattle.zeb_change.specs.Outcomes.{register_refusal}
 use Rattle.zeb_change.specs.PrivateStanding.{WillBe, WillBeFolded, standing}
-use Rattle.zeb_change.specs.Refused.{IsFailing, Meets, Why, why_of}
+use Rattle.zeb_change.specs.Refused.{Meets, Why}
 use Rattle.zeb_change.specs.UnderWay.{IsFolded, IsUnderWay, KeepsNames, with_records}
 use Rattle.zeb_change.proofs.BaseLemmas.{with_numbered}
+use Rattle.zeb_change.proofs.ChangeKeysContent.{only_damaged}
+use Rattle.zeb_change.proofs.CostLemmas.{due_noted}
 use Rattle.zeb_change.proofs.FoldFiles.{names_then}
-use Rattle.zeb_change.proofs.Leading.{held_whole, nothing_leads}
+use Rattle.zeb_change.proofs.Leading.{held_whole, will_begin}
 use Rattle.zeb_change.proofs.TermTexts.{posted_storable}
-use Rattle.zeb_change.proofs.UnderWay.{same_kept}
+use Rattle.zeb_change.proofs.TurnLemmas.{passed_on}
+use Rattle.zeb_change.proofs.UnderWay.{fault_fails, same_kept}
 
--- noted changes are written, as the call says it
-abbrev pub IsSettled : (format : Format) → ℕ → ℤ → State → State → Pending → Pending → Work → Work → Type 0
-IsSettled format row_work id mid new pending pending' old now =
-    IsStore new × KeepsLists mid.now.trees new.now.trees
-    × ((ahead : Content) → IsStorable ahead → WillHold format mid.now.trees id pending ahead → WillHold format new.now.trees id pending' ahead × IsDueFor row_work 0 old now pending pending')
+-- what is left as it is
+pub still_settled : (format : Format) (row_work : ℕ) (db : ℤ) (s : State) (pending : Pending) (work : Work) → IsStore s → IsSettled format row_work db s s pending pending work work
+still_settled format row_work db s pending work store = (store, (refl, refl, refl), λ ahead storable holds. (holds, due_noted row_work 0 work pending pending (omega arith)))
+
+-- the fold once some of what is noted is written, with the work of that
+abbrev pub worked : Fold → Work → Fold
+worked fold work = record { progress = record { database = fold.progress.database; last = fold.progress.last; work = work }; tally = fold.tally }
 
 module _ (format : Format) (profile : List Directive) (id : ℤ) (records_of : ℤ → List Kept) where
   -- what the registers will hold can be stored
@@ -70,17 +78,18 @@ module _ (format : Format) (profile : List Directive) (id : ℤ) (records_of : �
     }
     settled_fold first noted before after (Err why) counts last met = absurd met
 
-  -- damage is told only of registers that will hold no content
-  pub no_damage : (s : State) (pending : Pending) (base : Base) → ((ahead : Content) → IsStorable ahead → ¬ WillHold format s.now.trees id pending ahead) → WillBe format profile id records_of (standing s pending) base → ⊥
-  no_damage s pending base told under = told under.1.content (will_storable s pending base under) under.1.held
+  -- registers that will hold a content are never told to be damaged, so a write that isn't done failed
+  module _ (mid new : State) (pending pending' : Pending) (row_work : ℕ) (old now : Work) (result : Result (Unit {0}) RegFault)
+      (does : Settles format row_work id mid new pending pending' old now result) (clean : HasCleanDisk new) (mode : IsTrue mid.in_transaction)
+      (base : Base) (under : WillBe format profile id records_of (standing mid pending) base) (failed : RegFault) (was : result ≡ Err failed) where
+    write_sound : failed ≢ register.Damaged
+    write_sound is = does.honest clean mode under.0 (was ∙ ap Err is) under.1.content (will_storable mid pending base under) under.1.held
 
-  -- so a write that isn't done failed
-  pub settled_fails : (s : State) (pending : Pending) (base : Base) (refusal : Refusal) → WillBe format profile id records_of (standing s pending) base → (refusal ≡ Damaged) ⊎ IsFailing (why_of refusal)
-      → (refusal ≡ Damaged → (ahead : Content) → IsStorable ahead → ¬ WillHold format s.now.trees id pending ahead) → IsFailing (why_of refusal)
-  settled_fails s pending base refusal under fails told = elim fails [
-    | inl damaged ↦ absurd (no_damage s pending base (told damaged) under)
-    | inr failed ↦ failed
-  ]
+    pub write_honest : {X : Type 0} (r : Result X Refusal) → r ≡ Err (register_refusal failed) → r ≢ Err Damaged
+    write_honest r told is = let both = sym told ∙ is in write_sound (only_damaged failed (cc))
+
+    pub write_refused : {A X : Type 0} (Good : A → X → Type 0) (said : Result A Why) (r : Result X Refusal) → r ≡ Err (register_refusal failed) → Meets Good said r
+    write_refused Good said r told = passed_on Good said r (register_refusal failed) told (fault_fails failed write_sound)
 
   -- ---- nothing is noted
 
@@ -91,12 +100,8 @@ module _ (format : Format) (profile : List Directive) (id : ℤ) (records_of : �
       record {
         kept = under.1.kept;
         content = under.1.content;
-        held = record {
-          behind = under.1.content;
-          held = under.1.held;
-          storable = posted_storable profile (with_records id base.records records_of) (with_numbered profile id records_of base under.2 under.3) under.1.content under.1.posted;
-          leads = nothing_leads id pending under.1.content none;
-        };
+        held = will_begin format s.now.trees id pending under.1.content none under.1.held
+            (posted_storable profile (with_records id base.records records_of) (with_numbered profile id records_of base under.2 under.3) under.1.content under.1.posted);
         posted = under.1.posted;
       },
       under.2,

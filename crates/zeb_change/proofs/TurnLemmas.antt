@@ -1,5 +1,5 @@
 -- What becomes of one record, as the calls on the tables say it.
-use Rattle.std.proofs.Common.{◌≡◌, ◌∙◌, ℕ, ℤ, pos, ◌+◌, ◌≤◌, ◌<◌, false, List, [], Some, None, Option, Result, Ok, Err, refl, sym, ap, subst, arith, nat_le}
+use Rattle.std.proofs.Common.{◌≡◌, ◌∙◌, ℕ, ℤ, pos, ◌+◌, ◌≤◌, ◌<◌, false, List, [], Some, None, Option, Result, Ok, Err, IsUtf8, refl, sym, ap, subst, arith, nat_le}
 use Rattle.std.specs.List.Sorted.{IsStrictlySortedBy}
 use Rattle.std.proofs.lemmas.Bool.Decides.{nat_tests}
 use Rattle.sqlite.specs.Tree.{Trees}
@@ -18,9 +18,9 @@ use Rattle.zeb_change.specs.declared.tally.Fate.{Fate}
 use Rattle.zeb_change.specs.declared.tally.Fate.TheVariants.{Inserted, Updated, Deleted}
 use Rattle.zeb_change.specs.Refused.{Why, why_of, Meets, IsFailing}
 use Rattle.zeb_change.specs.Conditions.{Conditions}
-use Rattle.zeb_change.specs.Folding.{Changed, updated, deleted}
+use Rattle.zeb_change.specs.Folding.{Changed, updated, deleted, ident_in}
 use Rattle.zeb_change.specs.Base.{Base, Kept, kept_as, with_new, with_bytes, without_ident}
-use Rattle.zeb_change.specs.Stored.{IsBase}
+use Rattle.zeb_change.specs.Stored.{IsBase, IsKept}
 use Rattle.zeb_change.specs.PrivateRecords.{AreOccurrencesOf, IsNewer, IsElderAs}
 use Rattle.zeb_change.specs.declared.pending.Pending.{Pending}
 use Rattle.zeb_change.specs.PrivateStanding.{Standing, WillBe, WillBeTaken, standing}
@@ -55,10 +55,17 @@ none_rise = tt
 not_full : (numbers last : ℕ) → last < numbers → nat_le numbers last ≡ false
 not_full numbers last = grind (arith, nat_tests)
 
--- the record that the database keeps is a record
-pub elder_whole : (profile : List Directive) (ident : List ℕ) (base : Base) (elder : Elder) → IsBase profile base → IsElderAs ident base (Some elder) → first_fault elder.bytes.items ≡ None
-elder_whole profile ident base elder is there =
-    subst (λ (bytes : List ℕ). first_fault bytes ≡ None) there.3 (is.sound there.0 (contains_had base.records there.0 (kept_found ident base there.0 there.1).0)).whole
+-- the record that the database keeps is one, under this identifier
+pub elder_kept : (profile : List Directive) (ident : List ℕ) (base : Base) (elder : Elder) → IsBase profile base → IsElderAs ident base (Some elder)
+    → IsKept profile (record { sysno = 0; ident = ident; bytes = elder.bytes.items })
+elder_kept profile ident base elder is there =
+    let found = kept_found ident base there.0 there.1 in
+    let sound = is.sound there.0 (contains_had base.records there.0 found.0) in
+    record {
+      whole = subst (λ (bytes : List ℕ). first_fault bytes ≡ None) there.3 sound.whole;
+      named = subst (λ (bytes : List ℕ). ident_in profile bytes ≡ Ok ident) there.3 (sound.named ∙ ap Ok found.1);
+      text = subst IsUtf8 found.1 sound.text;
+    }
 
 module _ (format : Format) (stays : (old new : Trees) (content : Content) → KeepsRegisters old new → holds_in format old content → holds_in format new content)
     (profile : List Directive) (id : ℤ) (records_of : ℤ → List Kept) (old mid : State) (pending pending' : Pending) (base : Base) (under : WillBe format profile id records_of (standing old pending) base) (ident : List ℕ) where

@@ -15,11 +15,11 @@ use Rattle.zeb_register.proofs.Calls.{store_same}
 use Rattle.zeb_change.specs.declared.refusals.Refusal.{Refusal}
 use Rattle.zeb_change.specs.declared.tally.Fate.{Fate}
 use Rattle.zeb_change.specs.Refused.{Why, why_of, Meets, IsFailing}
-use Rattle.zeb_change.specs.PrivateChangedKeys.{ArePostingsOf, IsReposted}
+use Rattle.zeb_change.specs.Reposted.{ArePostingsOf, IsReposted}
 use Rattle.zeb_change.specs.Folding.{Changed}
 use Rattle.zeb_change.specs.Base.{Base, Kept}
 use Rattle.zeb_change.specs.declared.pending.Pending.{Pending}
-use Rattle.zeb_change.specs.PrivatePending.{LeadsTo, WillHold}
+use Rattle.zeb_change.specs.Noted.{LeadsTo, WillHold}
 use Rattle.zeb_change.specs.PrivateStanding.{Standing, WillBe, WillBeTaken, standing}
 use Rattle.zeb_change.specs.Stored.{IsBase, AreKept}
 use Rattle.zeb_change.specs.Outcomes.{register_refusal}

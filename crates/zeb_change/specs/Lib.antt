@@ -11,6 +11,8 @@ pub mod Inside
 pub mod Reading
 pub mod UnderWay
 pub mod Holding
+pub mod Reposted
+pub mod Noted
 pub mod PrivateKeyRuns
 pub mod PrivateChangedKeys
 pub mod PrivateTallies

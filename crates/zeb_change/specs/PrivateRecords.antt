@@ -21,7 +21,7 @@ use Rattle.zeb_change.specs.Base.{Base, Kept, kept_as}
 use Rattle.zeb_register.specs.Formats.{Format}
 use Rattle.zeb_change.specs.declared.pending.Pending.{Pending}
 use Rattle.zeb_change.specs.Costs.{IsRecordCost, occurs_by}
-use Rattle.zeb_change.specs.PrivatePending.{noted_count}
+use Rattle.zeb_change.specs.Noted.{noted_count}
 use Rattle.zeb_change.specs.PrivateStanding.{Standing, WillBe, WillBeTaken}
 
 -- the occurrences of the record with these bytes, rising

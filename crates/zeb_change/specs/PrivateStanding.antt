@@ -13,7 +13,7 @@ use Rattle.zeb_change.specs.Base.{Base, Kept}
 use Rattle.zeb_change.specs.Folding.{Changed, Progress}
 use Rattle.zeb_change.specs.Stored.{AreKept, ArePosted, IsBase}
 use Rattle.zeb_change.specs.UnderWay.{AreNumbered, KeepsNames, StandsFor, with_records}
-use Rattle.zeb_change.specs.PrivatePending.{WillHold}
+use Rattle.zeb_change.specs.Noted.{WillHold}
 
 -- the tables, and the changes of keys that are noted beside them
 pub record Standing : Type 1 where

@@ -1,5 +1,5 @@
 -- How the records of a file are read, one after the other.
-use Rattle.std.specs.Prelude.{◌≡◌, ◌≢◌, ◌+◌, ◌<◌, ℕ, Bool, true, false, List, length, slice_index_or, Option, Some, Result, Ok, Err}
+use Rattle.std.specs.Prelude.{◌≡◌, ◌≢◌, ◌+◌, ◌<◌, ◌≤◌, ℕ, Bool, true, false, List, length, slice_index_or, Option, Some, Result, Ok, Err}
 use Rattle.std.specs.List.{AllByRecursion}
 use Rattle.zeb_marc.specs.Splits.{Next, at_end, a_slice, a_fault}
 use Rattle.zeb_change.specs.declared.refusals.Refusal.{Refusal}
@@ -25,9 +25,10 @@ pub record HasFailedAt {R : Type 0} (has_failed : R → Bool) (readers : List R)
   pub numbered : file ≡ index + 1
   pub failed : has_failed reader ≡ true
 
--- this refusal names the file of a reader that has failed
+-- this refusal names the file of the first reader that has failed
 abbrev pub NamesFailed : {R : Type 0} → (R → Bool) → List R → Refusal → Type 0
-NamesFailed has_failed readers refusal = (file : ℕ) × HasFailedAt has_failed readers file × (refusal ≡ ReadFault file)
+NamesFailed has_failed readers refusal =
+    (file : ℕ) × HasFailedAt has_failed readers file × ((other : ℕ) → HasFailedAt has_failed readers other → file ≤ other) × (refusal ≡ ReadFault file)
 
 -- this is no refusal for a reader that failed
 abbrev pub NoReadFault : {T : Type 0} → Result T Refusal → Type 0

@@ -12,7 +12,7 @@ use zeb_register::Place;
 
 /// A key with its places in the elder record and in the newer one. Either list rises.
 #[derive(Drop)]
-pub struct ChangedKey<'a> {
+pub(crate) struct ChangedKey<'a> {
     pub key: &'a Key,
     pub old: Vec<Place>,
     pub new: Vec<Place>,
@@ -82,7 +82,7 @@ fn note<'a>(
 /// The keys, in their order, whose places differ between two rising lists of occurrences, each once, with its places in either.
 ///
 /// Where there is no elder record, these are the newer one's keys with all their places. An error is want of memory.
-pub fn changed_keys<'a>(
+pub(crate) fn changed_keys<'a>(
     alloc: Global,
     elder: &'a [Occurrence],
     newer: &'a [Occurrence],

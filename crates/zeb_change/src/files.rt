@@ -13,7 +13,7 @@ ghost use Rattle.zeb_change.specs.Reading.{HasFailedAt, NamesFailed, NoneFailed,
 ghost use Rattle.zeb_change.specs.Inside.{Stays};
 ghost use Rattle.zeb_change.specs.Holding.{HoldsSome};
 ghost use Rattle.zeb_change.specs.UnderWay.{IsFolded, IsUnderWay, StandsFor, conditions_of};
-ghost use Rattle.zeb_change.specs.PrivatePending.{IsDueFor, noted_count};
+ghost use Rattle.zeb_change.specs.Noted.{IsDueFor, noted_count};
 ghost use Rattle.zeb_change.specs.PrivateStanding.{WillBe, WillBeFolded, WillHoldSome, standing};
 
 use crate::counts::counts_are_numbers;
@@ -158,7 +158,14 @@ fn take_record<S: Alter, L: Layout>(
         × IsDueFor L.row_work n fold.old.progress.work fold.new.progress.work pending.old pending.new) }
 {
     note_record(tx, setting, fold, pending, incoming)?;
-    write_where_full::<S, L>(tx, setting.alloc, &mut fold.progress, pending)?;
+    let database = fold.progress.database;
+    write_where_full::<S, L>(
+        tx,
+        setting.alloc,
+        &mut fold.progress.work,
+        database,
+        pending,
+    )?;
     Ok(())
 }
 
@@ -313,7 +320,14 @@ pub fn fold_files<S: Alter, L: Layout, R: Source>(
 {
     let mut pending = Pending::new(setting.alloc);
     fold_readers::<S, L, R>(tx, setting, fold, &mut pending, buffer, readers)?;
-    write_pending::<S, L>(tx, setting.alloc, &mut fold.progress, &mut pending)?;
+    let database = fold.progress.database;
+    write_pending::<S, L>(
+        tx,
+        setting.alloc,
+        &mut fold.progress.work,
+        database,
+        &mut pending,
+    )?;
     counts_are_numbers(&fold.progress.work);
     Ok(())
 }

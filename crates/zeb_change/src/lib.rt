@@ -1,10 +1,12 @@
 //! One database changed inside a transaction: the records of files are folded into it, one by one.
 #![tactic(auto)]
 
-pub mod changed_keys;
+mod changed_keys;
 mod counts;
 mod faults;
 mod files;
+mod kept;
+mod noting;
 mod pending;
 mod records;
 mod refusals;
@@ -14,7 +16,11 @@ mod writing;
 
 pub use faults::RecordFault;
 pub use files::{Fold, check_readers, fold_files};
+pub use kept::kept_occurrences;
+pub use noting::note_keys;
+pub use pending::Pending;
 pub use records::Progress;
 pub use refusals::Refusal;
 pub use settings::{Kind, Limits, Setting};
 pub use tally::{Fate, Tally};
+pub use writing::{write_pending, write_where_full};

@@ -1,7 +1,8 @@
-//! The changes of keys that a command has noted and not yet written.
+//! The changes of keys that were noted and are not written yet.
 
 ghost use Rattle.std.specs.Prelude.{◌+◌, ◌≤◌, ◌↔◌, length, vec_len, IsTrue, OnOk, IfNone, IfSome};
-ghost use Rattle.zeb_change.specs.PrivatePending.{IsNotNoted, IsNothingNoted, IsNotedAlso, IsTakenOut};
+ghost use Rattle.zeb_change.specs.Noted.{IsNothingNoted};
+ghost use Rattle.zeb_change.specs.PrivatePending.{IsNotNoted, IsNotedAlso, IsTakenOut};
 
 use std::alloc::{AllocError, Global};
 use std::collections::BTreeMap;
@@ -17,7 +18,7 @@ const CHANGE_WEIGHT: usize = 16;
 
 /// What becomes of one key's places in one record: those that stood there, and those that stand there then. Both lists rise.
 #[derive(Drop)]
-pub(crate) struct KeyChange {
+pub struct KeyChange {
     pub sysno: u64,
     pub old: Vec<Place>,
     pub new: Vec<Place>,
@@ -35,9 +36,10 @@ impl KeyChange {
     }
 }
 
-/// The changes that were noted and are not written yet: for each key those of its records, in the order in which they were noted.
+/// The changes of a database's registers that were noted and are not written yet: for each key those of its records, in the order in
+/// which they were noted.
 #[derive(Drop)]
-pub(crate) struct Pending {
+pub struct Pending {
     alloc: Global,
     changes: BTreeMap<Key, Vec<KeyChange>>,
     /// How much memory they take, in units of 16 bytes.
@@ -57,14 +59,14 @@ impl Pending {
     }
 
     /// Whether so much is noted that it is to be written.
-    pub fn is_full(&self) -> bool
+    pub(crate) fn is_full(&self) -> bool
         ensures { IsTrue result ↔ (MOST_WEIGHT ≤ self.now.weight) }
     {
         self.weight >= MOST_WEIGHT
     }
 
     /// Notes one more change of a key, behind those that are noted of it.
-    pub fn note(&mut self, key: &Key, change: KeyChange) -> Result<(), AllocError>
+    pub(crate) fn note(&mut self, key: &Key, change: KeyChange) -> Result<(), AllocError>
         ensures { OnOk result (IsNotedAlso key.now change self.old self.new) }
     {
         order_is_by_parts();
@@ -90,7 +92,7 @@ impl Pending {
     }
 
     /// Takes out the least key with its changes; none where nothing is noted.
-    pub fn take_first(&mut self) -> Option<(Key, Vec<KeyChange>)>
+    pub(crate) fn take_first(&mut self) -> Option<(Key, Vec<KeyChange>)>
         ensures taken { IfSome result (λ first. IsTakenOut first.0 first.1.items self.old self.new) }
         ensures none { IfNone result (IsNothingNoted self.old × IsNothingNoted self.new) }
     {

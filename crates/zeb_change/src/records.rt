@@ -1,33 +1,30 @@
 //! One record of a change: it is added, replaces a kept one, or takes it away.
 
-ghost use Rattle.std.specs.Prelude.{◌≡◌, ◌⊎◌, ◌+◌, ℕ, ℤ, List, Some, None, Result, Ok, Err, string_bytes, IsTrue, OnOk, IfOk, IfErr};
+ghost use Rattle.std.specs.Prelude.{◌≡◌, ◌⊎◌, ◌↔◌, ◌+◌, ℕ, ℤ, List, Some, None, Result, Ok, Err, string_bytes, IsTrue, OnOk, IfOk, IfErr};
 ghost use Rattle.std.specs.List.{Contains};
 ghost use Rattle.sqlite.specs.Held.{state};
 ghost use Rattle.sqlite.specs.State.{HasCleanDisk, Survives};
-ghost use Rattle.zeb_marc.specs.Records.{first_fault, IsRecord};
-ghost use Rattle.zeb_extract.specs.Order.{IsRising as AreRising};
-ghost use Rattle.zeb_register.specs.Content.{Content, IsRising};
+ghost use Rattle.zeb_marc.specs.Records.{IsRecord};
 ghost use Rattle.zeb_register.specs.Formats.{Format};
-ghost use Rattle.zeb_register.specs.Store.{IsStore};
-ghost use Rattle.zeb_change.specs.PrivateChangedKeys.{ArePostingsOf, AreTheSame, IsReposted};
-ghost use Rattle.zeb_change.specs.PrivatePending.{LeadsTo, noted_count};
+ghost use Rattle.zeb_change.specs.Noted.{noted_count};
 ghost use Rattle.zeb_change.specs.PrivateStanding.{WillBe, WillBeTaken, standing};
 ghost use Rattle.zeb_change.specs.Refused.{Why, why_of, IsFailing, NeverUnready, Meets};
 ghost use Rattle.zeb_change.specs.Folding.{Changed, changed_record, updated, deleted, ident_in};
 ghost use Rattle.zeb_change.specs.Base.{Base, Kept, kept_as};
 ghost use Rattle.zeb_change.specs.Reading.{NoReadFault};
 ghost use Rattle.zeb_change.specs.PrivateRecords.{AreOccurrencesOf, IsElderAs, IsIdle, IsNewer, NotesAs, Takes, elder_bytes};
-ghost use Rattle.zeb_change.specs.Costs.{IsCostIn, IsRecordCost};
+ghost use Rattle.zeb_change.specs.Costs.{IsCostIn};
 ghost use Rattle.zeb_change.specs.Inside.{Stays};
+ghost use Rattle.zeb_change.specs.Stored.{IsKept};
 ghost use Rattle.zeb_change.specs.UnderWay.{conditions_of};
 
-use crate::changed_keys::changed_keys;
-use crate::pending::{KeyChange, Pending};
+use crate::kept::kept_occurrences;
+use crate::noting::note_keys;
+use crate::pending::Pending;
 use crate::refusals::Refusal;
 use crate::settings::{Kind, Setting};
 use crate::tally::Fate;
 use sqlite::{Alter, Transaction};
-use std::alloc::{AllocError, Global};
 use zeb_extract::{Occurrence, identifier, occurrences};
 use zeb_marc::Marc;
 use zeb_profile::Profile;
@@ -58,47 +55,20 @@ struct Newer<'a> {
     occurrences: Vec<Occurrence>,
 }
 
-/// Notes what becomes of just those keys whose places changed, in the record with this number.
-fn note_keys(
-    alloc: Global,
-    pending: &mut Pending,
-    sysno: u64,
-    elder: &[Occurrence],
-    newer: &[Occurrence],
-) -> Result<(), AllocError>
-    ensures moved { AreRising elder.now → AreRising newer.now
-        → OnOk result ((db : ℤ) (behind before after : Content) → LeadsTo db pending.old behind before → IsRising before
-        → ArePostingsOf sysno elder.now (before db) → IsReposted db sysno newer.now before after
-        → LeadsTo db pending.new behind after) }
-    ensures idle { AreRising elder.now → AreRising newer.now → AreTheSame elder.now newer.now
-        → OnOk result (pending.new ≡ pending.old) }
-    ensures cost { AreRising elder.now → AreRising newer.now
-        → OnOk result ((n : ℕ) × IsRecordCost (Contains elder.now) (Contains newer.now) n
-        × (noted_count pending.new ≡ noted_count pending.old + n)) }
-{
-    let changed_keys = changed_keys(alloc, elder, newer)?;
-    for changed in changed_keys {
-        let change = KeyChange {
-            sysno,
-            old: changed.old,
-            new: changed.new,
-        };
-        pending.note(changed.key, change)?;
-    }
-    Ok(())
-}
-
-/// The occurrences of a kept record, computed again from its bytes.
-fn kept_occurrences(setting: &Setting<'_>, elder: &Elder) -> Result<Vec<Occurrence>, Refusal>
+/// The occurrences of the elder, which is kept under this identifier.
+fn elder_occurrences(
+    setting: &Setting<'_>,
+    ident: &str,
+    elder: &Elder,
+) -> Result<Vec<Occurrence>, Refusal>
     ensures found { IfOk result (λ found. AreOccurrencesOf setting.now.profile.now elder.now.bytes.items found.items) }
-    ensures fails { IfErr result (λ refusal. first_fault elder.now.bytes.items ≡ None → refusal ≡ Refusal.Memory) }
+    ensures sound { IfOk result (λ _. IsKept setting.now.profile.now (record { sysno = 0; ident = ident.now; bytes = elder.now.bytes.items })) }
+    ensures fails { IfErr result (λ refusal. IsKept setting.now.profile.now
+        (record { sysno = 0; ident = ident.now; bytes = elder.now.bytes.items }) → refusal ≡ Refusal.Memory) }
     ensures unread { NoReadFault result }
     ensures ready { NeverUnready result }
 {
-    match Marc::read(&elder.bytes) {
-        Ok(record) => Ok(occurrences(setting.alloc, &record, setting.profile)?),
-        Err(_) => Err(Refusal::Damaged),
-    }
+    Ok(kept_occurrences(setting.alloc, setting.profile, ident, &elder.bytes)?)
 }
 
 /// The record is kept under the number after the last; `DatabaseFull` where the limits leave none.
@@ -157,16 +127,10 @@ fn replace<S: Alter>(
     ensures unread { NoReadFault result }
     ensures ready { NeverUnready result }
     ensures crash { Survives (state S.Store tx.old.conn.now) (state S.Store tx.new.conn.now) (λ _. ⊥) }
-    ensures idle { HasCleanDisk (state S.Store tx.new.conn.now) → IsTrue (state S.Store tx.old.conn.now).in_transaction
-        → IsStore (state S.Store tx.old.conn.now)
-        → IsNewer setting.now.profile.now newer.now.ident.now newer.now.bytes.now newer.now.occurrences.items
-        → elder.now.bytes.items ≡ newer.now.bytes.now
-        → IfOk result (λ fate. IsIdle (state S.Store tx.old.conn.now) (state S.Store tx.new.conn.now) fate
-        × (pending.new ≡ pending.old)) }
     ensures cost { IsNewer setting.now.profile.now newer.now.ident.now newer.now.bytes.now newer.now.occurrences.items
         → OnOk result (NotesAs setting.now.profile.now (Some elder.now.bytes.items) (Some newer.now.bytes.now) pending.old pending.new) }
 {
-    let old = kept_occurrences(setting, elder)?;
+    let old = elder_occurrences(setting, newer.ident, elder)?;
     let sysno = elder.sysno;
     record_put(tx, progress.database, sysno, newer.ident, newer.bytes)?;
     note_keys(setting.alloc, pending, sysno, &old, &newer.occurrences)?;
@@ -179,26 +143,37 @@ fn withdraw<S: Alter>(
     setting: &Setting<'_>,
     progress: &Progress,
     pending: &mut Pending,
+    ident: &str,
     elder: &Elder,
 ) -> Result<Fate, Refusal>
     ensures same { tx.new.conn.ghost_name ≡ tx.old.conn.ghost_name }
     ensures stays { HasCleanDisk (state S.Store tx.new.conn.now) → IsTrue (state S.Store tx.old.conn.now).in_transaction
         → Stays (state S.Store tx.old.conn.now) (state S.Store tx.new.conn.now) result }
     ensures taken { HasCleanDisk (state S.Store tx.new.conn.now) → IsTrue (state S.Store tx.old.conn.now).in_transaction
-        → (ident : List ℕ) (absent : Result Changed Why)
+        → (absent : Result Changed Why)
         → Takes setting.now.profile.now progress.now.database.0 (standing (state S.Store tx.old.conn.now) pending.old)
         (standing (state S.Store tx.new.conn.now) pending.new) progress.now.last progress.now.last
-        (λ base. IsElderAs ident base (Some elder.now)) (λ base. deleted absent ident base (kept_as ident base)) result }
+        (λ base. IsElderAs ident.now base (Some elder.now)) (λ base. deleted absent ident.now base (kept_as ident.now base)) result }
     ensures unread { NoReadFault result }
     ensures ready { NeverUnready result }
     ensures crash { Survives (state S.Store tx.old.conn.now) (state S.Store tx.new.conn.now) (λ _. ⊥) }
     ensures cost { OnOk result (NotesAs setting.now.profile.now (Some elder.now.bytes.items) None pending.old pending.new) }
 {
-    let old = kept_occurrences(setting, elder)?;
+    let old = elder_occurrences(setting, ident, elder)?;
     let sysno = elder.sysno;
     record_take(tx, progress.database, sysno)?;
     note_keys(setting.alloc, pending, sysno, &old, &[])?;
     Ok(Fate::Deleted)
+}
+
+/// Whether there is an elder, and it has these bytes: then its postings are those of the bytes too, and nothing is to be changed.
+fn has_bytes(elder: &Option<Elder>, bytes: &[u8]) -> bool
+    ensures { IsTrue result ↔ (elder_bytes elder.now ≡ Some bytes.now) }
+{
+    match elder {
+        Some(elder) => elder.bytes.as_slice() == bytes,
+        None => false,
+    }
 }
 
 /// Keeps a record: in its elder's place where there is one.
@@ -223,12 +198,6 @@ fn keep<S: Alter>(
     ensures unread { NoReadFault result }
     ensures ready { NeverUnready result }
     ensures crash { Survives (state S.Store tx.old.conn.now) (state S.Store tx.new.conn.now) (λ _. ⊥) }
-    ensures idle { HasCleanDisk (state S.Store tx.new.conn.now) → IsTrue (state S.Store tx.old.conn.now).in_transaction
-        → IsStore (state S.Store tx.old.conn.now)
-        → IsNewer setting.now.profile.now newer.now.ident.now newer.now.bytes.now newer.now.occurrences.items
-        → (same : Elder) → elder ≡ Some same → same.bytes.items ≡ newer.now.bytes.now
-        → IfOk result (λ fate. IsIdle (state S.Store tx.old.conn.now) (state S.Store tx.new.conn.now) fate
-        × (progress.new ≡ progress.old) × (pending.new ≡ pending.old)) }
     ensures cost { IsNewer setting.now.profile.now newer.now.ident.now newer.now.bytes.now newer.now.occurrences.items
         → OnOk result (NotesAs setting.now.profile.now (elder_bytes elder) (Some newer.now.bytes.now) pending.old pending.new) }
 {
@@ -302,19 +271,23 @@ pub(crate) fn change_record<S: Alter>(
         × (noted_count pending.new ≡ noted_count pending.old + n)) }
 {
     let Incoming { bytes, file, nth } = incoming;
-    let (record, ident) = sound_record(setting, incoming)?;
-    let elder = record_of_ident(tx, progress.database, ident.as_str())?;
+    let (record, named) = sound_record(setting, incoming)?;
+    let ident = named.as_str();
+    let elder = record_of_ident(tx, progress.database, ident)?;
     match (setting.kind, elder) {
         (Kind::Update, elder) => {
+            if has_bytes(&elder, bytes) {
+                return Ok(Fate::Updated);
+            }
             let newer = Newer {
-                ident: ident.as_str(),
+                ident,
                 bytes,
                 occurrences: occurrences(setting.alloc, &record, setting.profile)?,
             };
             keep(tx, setting, progress, pending, elder, &newer)
         }
-        (Kind::Delete, Some(elder)) => withdraw(tx, setting, progress, pending, &elder),
-        (Kind::Adelete, Some(elder)) => withdraw(tx, setting, progress, pending, &elder),
+        (Kind::Delete, Some(elder)) => withdraw(tx, setting, progress, pending, ident, &elder),
+        (Kind::Adelete, Some(elder)) => withdraw(tx, setting, progress, pending, ident, &elder),
         (Kind::Delete, None) => Err(Refusal::Unknown { file, nth }),
         (Kind::Adelete, None) => Ok(Fate::PassedOver),
     }

@@ -1,24 +1,22 @@
 //! Noted changes of keys, written into the registers key by key.
 
-ghost use Rattle.std.specs.Prelude.{◌≡◌, ◌≢◌, ◌⊎◌, ◌+◌, ℕ, ℤ, List, Ok, Err, IsTrue, OnOk, IfOk, IfErr, length};
+ghost use Rattle.std.specs.Prelude.{◌≡◌, Err, IsTrue, OnOk, IfOk, length};
 ghost use Rattle.sqlite.specs.Held.{state};
-ghost use Rattle.sqlite.specs.State.{HasCleanDisk, Survives};
+ghost use Rattle.sqlite.specs.State.{HasCleanDisk};
+ghost use Rattle.zeb_register.specs.Calls.{GoesOn, Inside};
 ghost use Rattle.zeb_register.specs.Content.{Content, IsStorable};
 ghost use Rattle.zeb_register.specs.Formats.{holds_in};
 ghost use Rattle.zeb_register.specs.Store.{IsStore, KeepsLists};
 ghost use Rattle.zeb_change.specs.Costs.{IsWorkFor};
-ghost use Rattle.zeb_change.specs.Inside.{Stays};
-ghost use Rattle.zeb_change.specs.Refused.{IsFailing, why_of};
-ghost use Rattle.zeb_change.specs.PrivatePending.{AreGivenAs, ArePutAt, IsDueFor, IsNothingNoted, WillHold};
+ghost use Rattle.zeb_change.specs.Noted.{IsNothingNoted, Settles};
+ghost use Rattle.zeb_change.specs.PrivatePending.{AreGivenAs, ArePutAt};
 
 use crate::counts::counts_are_numbers;
 use crate::pending::{KeyChange, Pending};
-use crate::records::Progress;
-use crate::refusals::Refusal;
 use sqlite::{Alter, Transaction};
 use std::alloc::{AllocError, Global};
 use zeb_extract::Key;
-use zeb_register::{Layout, RecordChange};
+use zeb_register::{DatabaseId, Layout, RecordChange, RegFault, Work};
 
 /// The changes of a key as a layout takes them.
 fn given<'a>(alloc: Global, changes: &'a [KeyChange]) -> Result<Vec<RecordChange<'a>>, AllocError>
@@ -39,102 +37,72 @@ fn given<'a>(alloc: Global, changes: &'a [KeyChange]) -> Result<Vec<RecordChange
 fn write_key<S: Alter, L: Layout>(
     tx: &mut Transaction<'_, S>,
     alloc: Global,
-    progress: &mut Progress,
+    work: &mut Work,
+    db: DatabaseId,
     key: &Key,
     changes: &[KeyChange],
-) -> Result<(), Refusal>
+) -> Result<(), RegFault>
     ensures same { tx.new.conn.ghost_name ≡ tx.old.conn.ghost_name }
-    ensures stays { HasCleanDisk (state S.Store tx.new.conn.now) → IsTrue (state S.Store tx.old.conn.now).in_transaction
-        → Stays (state S.Store tx.old.conn.now) (state S.Store tx.new.conn.now) result }
-    ensures place { (progress.new.database ≡ progress.old.database) × (progress.new.last ≡ progress.old.last) }
+    ensures call { Inside (state S.Store tx.old.conn.now) (state S.Store tx.new.conn.now) result (λ _. GoesOn) }
     ensures written { HasCleanDisk (state S.Store tx.new.conn.now) → IsTrue (state S.Store tx.old.conn.now).in_transaction
         → IsStore (state S.Store tx.old.conn.now)
         → OnOk result (IsStore (state S.Store tx.new.conn.now)
         × KeepsLists (state S.Store tx.old.conn.now).now.trees (state S.Store tx.new.conn.now).now.trees
         × ((before after : Content) → holds_in L.format (state S.Store tx.old.conn.now).now.trees before
-        → ArePutAt progress.old.database.0 key.now changes.now before after
-        → holds_in L.format (state S.Store tx.new.conn.now).now.trees after)) }
-    ensures fails { IfErr result (λ refusal. (refusal ≡ Refusal.Damaged) ⊎ IsFailing (why_of refusal)) }
+        → ArePutAt db.0 key.now changes.now before after → holds_in L.format (state S.Store tx.new.conn.now).now.trees after)) }
     ensures honest { HasCleanDisk (state S.Store tx.new.conn.now) → IsTrue (state S.Store tx.old.conn.now).in_transaction
         → IsStore (state S.Store tx.old.conn.now)
-        → result ≡ Err Refusal.Damaged
+        → result ≡ Err RegFault.Damaged
         → (before after : Content) → IsStorable before → holds_in L.format (state S.Store tx.old.conn.now).now.trees before
-        → ¬ ArePutAt progress.old.database.0 key.now changes.now before after }
-    ensures crash { Survives (state S.Store tx.old.conn.now) (state S.Store tx.new.conn.now) (λ _. ⊥) }
+        → ¬ ArePutAt db.0 key.now changes.now before after }
     ensures work { HasCleanDisk (state S.Store tx.new.conn.now) → IsTrue (state S.Store tx.old.conn.now).in_transaction
         → IsStore (state S.Store tx.old.conn.now)
         → OnOk result ((content : Content) → holds_in L.format (state S.Store tx.old.conn.now).now.trees content
-        → IsWorkFor L.row_work (length changes.now) progress.old.work progress.new.work) }
+        → IsWorkFor L.row_work (length changes.now) work.old work.new) }
 {
     let given = given(alloc, changes)?;
-    L::key_changes(tx, &mut progress.work, progress.database, key, &given)?;
+    L::key_changes(tx, work, db, key, &given)?;
     Ok(())
 }
 
-/// Writes all noted changes, key by key in the order of keys. Nothing is noted then.
-pub(crate) fn write_pending<S: Alter, L: Layout>(
+/// Writes all noted changes into the registers of a database, key by key in the order of keys. Nothing is noted then, and the registers
+/// hold what they would have held had each change been written as it was noted.
+///
+/// `Damaged` where other places stand in the registers than the changes say. The transaction is to be given up then, and where the store or
+/// the memory fails.
+pub fn write_pending<S: Alter, L: Layout>(
     tx: &mut Transaction<'_, S>,
     alloc: Global,
-    progress: &mut Progress,
+    work: &mut Work,
+    db: DatabaseId,
     pending: &mut Pending,
-) -> Result<(), Refusal>
+) -> Result<(), RegFault>
     ensures same { tx.new.conn.ghost_name ≡ tx.old.conn.ghost_name }
-    ensures stays { HasCleanDisk (state S.Store tx.new.conn.now) → IsTrue (state S.Store tx.old.conn.now).in_transaction
-        → Stays (state S.Store tx.old.conn.now) (state S.Store tx.new.conn.now) result }
-    ensures place { (progress.new.database ≡ progress.old.database) × (progress.new.last ≡ progress.old.last) }
-    ensures written { HasCleanDisk (state S.Store tx.new.conn.now) → IsTrue (state S.Store tx.old.conn.now).in_transaction
-        → IsStore (state S.Store tx.old.conn.now)
-        → OnOk result (IsStore (state S.Store tx.new.conn.now)
-        × KeepsLists (state S.Store tx.old.conn.now).now.trees (state S.Store tx.new.conn.now).now.trees
-        × ((ahead : Content) → IsStorable ahead
-        → WillHold L.format (state S.Store tx.old.conn.now).now.trees progress.old.database.0 pending.old ahead
-        → WillHold L.format (state S.Store tx.new.conn.now).now.trees progress.old.database.0 pending.new ahead
-        × IsDueFor L.row_work 0 progress.old.work progress.new.work pending.old pending.new)) }
-    ensures fails { IfErr result (λ refusal. (refusal ≡ Refusal.Damaged) ⊎ IsFailing (why_of refusal)) }
-    ensures honest { HasCleanDisk (state S.Store tx.new.conn.now) → IsTrue (state S.Store tx.old.conn.now).in_transaction
-        → IsStore (state S.Store tx.old.conn.now)
-        → result ≡ Err Refusal.Damaged
-        → (ahead : Content) → IsStorable ahead
-        → ¬ WillHold L.format (state S.Store tx.old.conn.now).now.trees progress.old.database.0 pending.old ahead }
-    ensures crash { Survives (state S.Store tx.old.conn.now) (state S.Store tx.new.conn.now) (λ _. ⊥) }
+    ensures call { Settles L.format L.row_work db.0 (state S.Store tx.old.conn.now) (state S.Store tx.new.conn.now) pending.old pending.new
+        work.old work.new result }
     ensures all { OnOk result (IsNothingNoted pending.new) }
 {
     while let Some((key, changes)) = pending.take_first() {
-        write_key::<S, L>(tx, alloc, progress, &key, &changes)?;
-        counts_are_numbers(&progress.work);
+        write_key::<S, L>(tx, alloc, work, db, &key, &changes)?;
+        counts_are_numbers(work);
     }
     Ok(())
 }
 
-/// Writes all noted changes where so much is noted that it is to be written.
-pub(crate) fn write_where_full<S: Alter, L: Layout>(
+/// Writes all noted changes, as `write_pending` does, where they take some 64 MB of memory, and else does nothing.
+pub fn write_where_full<S: Alter, L: Layout>(
     tx: &mut Transaction<'_, S>,
     alloc: Global,
-    progress: &mut Progress,
+    work: &mut Work,
+    db: DatabaseId,
     pending: &mut Pending,
-) -> Result<(), Refusal>
+) -> Result<(), RegFault>
     ensures same { tx.new.conn.ghost_name ≡ tx.old.conn.ghost_name }
-    ensures stays { HasCleanDisk (state S.Store tx.new.conn.now) → IsTrue (state S.Store tx.old.conn.now).in_transaction
-        → Stays (state S.Store tx.old.conn.now) (state S.Store tx.new.conn.now) result }
-    ensures place { (progress.new.database ≡ progress.old.database) × (progress.new.last ≡ progress.old.last) }
-    ensures written { HasCleanDisk (state S.Store tx.new.conn.now) → IsTrue (state S.Store tx.old.conn.now).in_transaction
-        → IsStore (state S.Store tx.old.conn.now)
-        → OnOk result (IsStore (state S.Store tx.new.conn.now)
-        × KeepsLists (state S.Store tx.old.conn.now).now.trees (state S.Store tx.new.conn.now).now.trees
-        × ((ahead : Content) → IsStorable ahead
-        → WillHold L.format (state S.Store tx.old.conn.now).now.trees progress.old.database.0 pending.old ahead
-        → WillHold L.format (state S.Store tx.new.conn.now).now.trees progress.old.database.0 pending.new ahead
-        × IsDueFor L.row_work 0 progress.old.work progress.new.work pending.old pending.new)) }
-    ensures fails { IfErr result (λ refusal. (refusal ≡ Refusal.Damaged) ⊎ IsFailing (why_of refusal)) }
-    ensures honest { HasCleanDisk (state S.Store tx.new.conn.now) → IsTrue (state S.Store tx.old.conn.now).in_transaction
-        → IsStore (state S.Store tx.old.conn.now)
-        → result ≡ Err Refusal.Damaged
-        → (ahead : Content) → IsStorable ahead
-        → ¬ WillHold L.format (state S.Store tx.old.conn.now).now.trees progress.old.database.0 pending.old ahead }
-    ensures crash { Survives (state S.Store tx.old.conn.now) (state S.Store tx.new.conn.now) (λ _. ⊥) }
+    ensures call { Settles L.format L.row_work db.0 (state S.Store tx.old.conn.now) (state S.Store tx.new.conn.now) pending.old pending.new
+        work.old work.new result }
 {
     if pending.is_full() {
-        return write_pending::<S, L>(tx, alloc, progress, pending);
+        return write_pending::<S, L>(tx, alloc, work, db, pending);
     }
     Ok(())
 }

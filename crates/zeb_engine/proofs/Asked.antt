@@ -31,6 +31,10 @@ module _ (Says : Base → Answer → Type 0) (name query : List ℕ) (bases : Li
   abbrev pub Ends : Answer → Type 0
   Ends answer = AskedAmong Says name bases (query_fault query) answer ⊎ IsFailure answer
 
+  -- what is answered is a refusal
+  pub refused_ends : (result : Result Reply Refusal) (refusal : Refusal) → result ≡ Err refusal → Ends (refused (why_of refusal)) → Ends (answer_of result)
+  refused_ends result refusal is ends = subst (λ (r : Result Reply Refusal). Ends (answer_of r)) (sym is) ends
+
   pub query_ends : (e : QueryFault) → IsFault e (query_fault query) → Ends (refused (why_of (query_refusal e)))
   query_ends Memory is = inr (inr refl)
   query_ends (Diagnostic number place addinfo) is =

@@ -1,30 +1,45 @@
 -- What the tables know of a name, and the database that a change begins with.
-use Rattle.std.proofs.Common.{◌≡◌, ◌⊎◌, ◌∙◌, ℕ, pos, List, Option, Some, None, Result, Ok, Err, refl, sym, subst, inl, inr}
+use Rattle.std.proofs.Common.{◌≡◌, ◌⊎◌, ◌∙◌, ℕ, pos, List, Option, Some, None, Result, Ok, Err, IsTrue, refl, sym, subst, inl, inr}
+use Rattle.sqlite.specs.Effect.{Database as Contents}
 use Rattle.sqlite.specs.State.{State}
 use Rattle.zeb_marc.specs.Splits.{Split}
 use Rattle.zeb_register.specs.declared.catalog.Database.{Database}
+use Rattle.zeb_register.specs.Calls.{ChangesNothing}
 use Rattle.zeb_register.specs.Catalog.{IsDatabaseOf}
 use Rattle.zeb_register.specs.Store.{HasDatabase}
 use Rattle.zeb_change.specs.declared.settings.Kind.{Kind}
 use Rattle.zeb_change.specs.declared.settings.Kind.TheVariants.{Update}
+use Rattle.zeb_change.specs.declared.settings.Setting.{Setting}
 use Rattle.zeb_change.specs.declared.refusals.Refusal.{Refusal}
 use Rattle.zeb_change.specs.Refused.{Why, why_of, Meets}
 use Rattle.zeb_engine.specs.Answers.{refused, IsFailure}
-use Rattle.zeb_engine.specs.PrivateChanging.{BeginsWith}
+use Rattle.zeb_engine.specs.PrivateChanging.{BeginsWith, MayBegin}
 use Rattle.zeb_change.specs.Conditions.{Conditions}
 use Rattle.zeb_image.specs.Holdings.{Holdings, base_named}
 use Rattle.zeb_change.specs.Base.{Base}
-use Rattle.zeb_image.specs.Image.{IsImage}
+use Rattle.zeb_image.specs.Image.{IsImage, Keeps}
 use Rattle.zeb_engine.specs.Steps.{changed_by_files, ready, start_of, turned}
 use Rattle.zeb_engine.proofs.ListedDatabases.{none_named, row_named}
+use Rattle.zeb_engine.proofs.Serving.{keeps_still}
 use Rattle.zeb_engine.proofs.Turns.{step_unbegun}
 use Rattle.zeb_engine.proofs.ReadyImages.{image_some}
 use Rattle.zeb_register.specs.Formats.{Format}
 
 -- a call that gave what it was to give
-pub start_met : {A X : Type 0} (Good : A → X → Type 0) (said : Result A Why) (x : X) → Meets Good said (Ok x) → (a : A) × Good a x
+start_met : {A X : Type 0} (Good : A → X → Type 0) (said : Result A Why) (x : X) → Meets Good said (Ok x) → (a : A) × Good a x
 start_met Good (Ok a) x met = (a, met)
 start_met Good (Err why) x met = absurd met
+
+-- what is known of the name is known still after a look at it, on an open connection
+pub begins_still : (version : List ℕ) (setting : Setting) (name : List ℕ) (found : Option Database) (old mid : State) (before : Holdings) (bases : List Base)
+    → Meets {A = Base} {X = Option Database} (λ base it. MayBegin version setting name it old.now.trees before × IsTrue mid.is_open) (start_of setting.kind name (base_named name bases)) (Ok found) → ChangesNothing old mid → Keeps old before
+    → IsTrue mid.is_open × MayBegin version setting name found mid.now.trees before × Keeps mid before
+begins_still version setting name found old mid before bases met nothing keeps =
+    let known = start_met {A = Base} {X = Option Database} (λ base it. MayBegin version setting name it old.now.trees before × IsTrue mid.is_open) (start_of setting.kind name (base_named name bases)) found met in (
+      known.1.1,
+      subst (λ (d : Contents). MayBegin version setting name found d.trees before) (sym (nothing known.1.1).1) known.1.0,
+      keeps_still before old mid nothing keeps,
+    )
 
 -- there is no database to begin with
 pub start_refused : {X : Type 0} (Good : Base → X → Type 0) (c : Conditions) (before : Holdings) (name : List ℕ) (bases : List Base) → ready c before ≡ Ok bases → (kind : Kind) (files : List Split) (refusal : Refusal)

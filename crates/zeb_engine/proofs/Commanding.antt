@@ -1,5 +1,5 @@
 -- What a session's commands come to after a look at whether the register is ready.
-use Rattle.std.proofs.Common.{◌≡◌, ◌⊎◌, ℕ, List, Result, Ok, Err, String, Vec, map, string_bytes, inl, inr, refl, sym, ap, subst, subst₂}
+use Rattle.std.proofs.Common.{◌≡◌, ◌⊎◌, ℕ, List, Result, Ok, Err, IsTrue, String, Vec, map, string_bytes, inl, inr, refl, sym, ap, subst, subst₂}
 use Rattle.std.specs.declared.alloc.Global.{Global}
 use Rattle.sqlite.specs.State.{State}
 use Rattle.zeb_profile.specs.declared.directives.Directive.{Directive}
@@ -21,13 +21,19 @@ use Rattle.zeb_change.specs.Base.{Base}
 use Rattle.zeb_image.specs.Image.{Keeps}
 use Rattle.zeb_engine.specs.Steps.{Turn, Outcome, Ends, OnlyAnswers, FoundFrom, ScannedFrom, ready, turned, checked, checked_from}
 use Rattle.zeb_engine.specs.Works.{Always, Asks, Finds, ScansFrom, Serves, ServesBy, ServesCommand}
-use Rattle.zeb_engine.proofs.Serving.{early_serves}
+use Rattle.zeb_engine.proofs.Serving.{early_serves, keeps_still}
 use Rattle.zeb_engine.proofs.Turns.{turn_refused}
 use Rattle.zeb_register.specs.Formats.{Format}
 
 pub ready_met : {X : Type 0} (Good : List Base → X → Type 0) (said : Result (List Base) Why) (x : X) → Meets Good said (Ok x) → (bases : List Base) × (said ≡ Ok bases) × Good bases x
 ready_met Good (Ok bases) x met = (bases, refl, met)
 ready_met Good (Err why) x met = absurd met
+
+-- a register that is ready: its databases, an open connection, and what is held still after the look
+pub ready_kept : (c : Conditions) (old mid : State) (before : Holdings) → Meets {A = List Base} {X = Unit {0}} (λ bases x. IsTrue old.is_open × IsTrue mid.is_open) (ready c before) (Ok tt)
+    → ChangesNothing old mid → Keeps old before → (bases : List Base) × (ready c before ≡ Ok bases) × (IsTrue old.is_open × IsTrue mid.is_open) × Keeps mid before
+ready_kept c old mid before met nothing keeps =
+    let it = ready_met {X = Unit {0}} (λ (bases : List Base) x. IsTrue old.is_open × IsTrue mid.is_open) (ready c before) tt met in (it.0, it.1, it.2, keeps_still before old mid nothing keeps)
 
 module _ (format : Format) (c : Conditions) (old new : State) (refusal : Refusal) (nothing : ChangesNothing old new)
     (told : (before : Holdings) → Keeps old before → IsFailure (refused (why_of refusal)) ⊎ (ready c before ≡ Err (why_of refusal))) where

@@ -29,10 +29,12 @@ pub mod Crashing
 pub mod FoldNames
 pub mod DatabaseInPlace
 pub mod ChangeSteps
+pub mod ChangeWay
 pub mod ChangeBegins
 pub mod Held
 pub mod Showing
 pub mod Finds
+pub mod Lookups
 pub mod Scans
 pub mod Dumps
 pub mod Stats
@@ -61,4 +63,4 @@ pub mod EveryAnswerTerms
 pub mod EveryAnswerAnalyses
 pub mod EveryAnswer
 pub mod CheckFollows
-pub mod ScanReads
+pub mod AskedReads

@@ -1,8 +1,9 @@
 -- What looks at texts come to, one after the other.
-use Rattle.std.proofs.Common.{◌≡◌, ◌⊎◌, ◌∙◌, ℕ, Bool, true, false, List, codes, Option, Some, None, Result, Ok, Err, MatchResult, OnOk, IfErr, IsTrue, String, string_bytes, refl, sym, subst, inl, inr}
+use Rattle.std.proofs.Common.{◌≡◌, ◌⊎◌, ◌↔◌, ◌∙◌, ℕ, Bool, true, false, List, codes, Option, Some, None, Result, Ok, Err, MatchResult, OnOk, IfErr, IsTrue, IsUtf8, String, string_bytes, refl, sym, subst, inl, inr}
 use Rattle.std.specs.declared.alloc.Global.{Global}
 use Rattle.std.specs.Str.{bytes_eq}
 use Rattle.std.proofs.lemmas.Slice.Eq.{bytes_eq-Decides}
+use Rattle.std.proofs.lemmas.Str.{IsUtf8-string_bytes}
 use Rattle.std.specs.Option.{option_map}
 use Rattle.sqlite.specs.Effect.{Database}
 use Rattle.sqlite.specs.Tree.{Trees}
@@ -25,8 +26,8 @@ use Rattle.zeb_engine.specs.declared.looks.Standing.{Standing}
 use Rattle.zeb_engine.specs.declared.looks.Standing.TheVariants as standing
 use Rattle.zeb_engine.specs.Adopting.{StaysOpen}
 use Rattle.zeb_engine.specs.Answers.{IsFailure, refused}
-use Rattle.zeb_engine.specs.PrivateLooking.{FindsStanding, IsLook, RefusesLayout, RefusesRule, RefusesText, RefusesVersion, TellsStanding, TellsText}
-use Rattle.zeb_engine.specs.Readiness.{IsReadyToReindex, KeepsRule, KeepsText, KeepsUpgradable}
+use Rattle.zeb_engine.specs.PrivateLooking.{FindsStanding, IsLook, RefusesText, RefusesVersion, TellsStanding, TellsText}
+use Rattle.zeb_engine.specs.Readiness.{IsReadyToReindex, KeepsText, KeepsUpgradable, RefusesReindex, RefusesUpgrade}
 use Rattle.zeb_engine.proofs.ReadyTexts.{text_found, text_missing}
 
 any_ok : {A E : Type 0} (r : Result A E) (P : Type 0) → P → OnOk r P
@@ -53,17 +54,27 @@ module _ {T : Type 0} (Finds : Trees → T → Type 0) (Refuses : Trees → Refu
   pub look_told : (result : Result T Refusal) → StaysOpen old new → (IsStore old → MatchResult result (Finds old.now.trees) (Refuses old.now.trees)) → IsLook Finds Refuses old new result
   look_told result opened told = record { same = nothing; found = any_ok result _ opened; seen = any_err result _ opened.0; told = told }
 
+-- a name has one text, so where that can be read, every one can be
+pub kept_readable : (s : State) → IsStore s → (name kept : List ℕ) → IsUtf8 kept → KeepsText s.now.trees name kept → AreReadableTexts s.now.trees name
+kept_readable s store name kept utf8 is value there = subst IsUtf8 (one_text s store name kept value is there) utf8
+
+pub one_readable : (s : State) → IsStore s → (name : List ℕ) → (found : String Global) → KeepsText s.now.trees name (string_bytes found) → AreReadableTexts s.now.trees name
+one_readable s store name found kept = kept_readable s store name (string_bytes found) (IsUtf8-string_bytes found) kept
+
 -- a test of the text that is kept
 pub tells_found : (s : State) → IsStore s → (name text : List ℕ) (o : Option (String Global)) (found : String Global) → o ≡ Some found → IsValueOf s.now.trees name o
     → (it : Bool) → it ≡ bytes_eq (string_bytes found) text → TellsText name text s.now.trees it
 tells_found s store name text o found is value it tested =
-    let kept = text_found s.now.trees name o found is value in (
+    let kept = text_found s.now.trees name o found is value in
+    let told : IsTrue it ↔ KeepsText s.now.trees name text = (
       λ same. subst (KeepsText s.now.trees name) ((bytes_eq-Decides (string_bytes found) text).0 (sym tested ∙ same)) kept,
       λ there. tested ∙ (bytes_eq-Decides (string_bytes found) text).1 (one_text s store name (string_bytes found) text kept there),
-    )
+    ) in (told, one_readable s store name found kept)
 
 pub tells_missing : (trees : Trees) (name text : List ℕ) (o : Option (String Global)) → o ≡ None → IsValueOf trees name o → TellsText name text trees false
-tells_missing trees name text o is value = (λ same. absurd cc, λ there. absurd (text_missing trees name o is value text there))
+tells_missing trees name text o is value =
+    let none = text_missing trees name o is value in
+    ((λ same. absurd cc, λ there. absurd (none text there)), λ found there. absurd (none found there))
 
 -- ---- one look after another
 
@@ -103,105 +114,90 @@ module _ {T : Type 0} (F : Trees → T → Type 0) (R : Trees → Refusal → Ty
 
 -- ---- the looks before a reindex and an upgrade
 
+-- what is so of each refusal over these texts
+module _ (trees : Trees) (P : Refusal → Type 0) (store : P refusal.Store) (memory : P refusal.Memory) where
+  pub text_refused : (name : List ℕ) → ((¬ AreReadableTexts trees name) → P refusal.Damaged) → (why : Refusal) → RefusesText name trees why → P why
+  text_refused name damaged refusal.Damaged is = damaged is
+  text_refused name damaged refusal.Store is = store
+  text_refused name damaged refusal.Memory is = memory
+  text_refused name damaged refusal.NotInitialised is = absurd is
+  text_refused name damaged refusal.OldFormat is = absurd is
+  text_refused name damaged refusal.ProfileChanged is = absurd is
+  text_refused name damaged refusal.IdentifierRuleChanged is = absurd is
+  text_refused name damaged (refusal.Diagnostic number place addinfo) is = absurd is
+  text_refused name damaged refusal.Exists is = absurd is
+  text_refused name damaged (refusal.Record file nth fault) is = absurd is
+  text_refused name damaged (refusal.Unknown file nth) is = absurd is
+  text_refused name damaged refusal.DatabaseFull is = absurd is
+  text_refused name damaged refusal.TooManyRecords is = absurd is
+  text_refused name damaged (refusal.ReadFault file) is = absurd is
+
+  pub version_refused : (((text : List ℕ) → ¬ KeepsText trees (codes "version") text) → P refusal.NotInitialised) → ((¬ AreReadableTexts trees (codes "version")) → P refusal.Damaged)
+      → (why : Refusal) → RefusesVersion trees why → P why
+  version_refused none damaged refusal.NotInitialised is = none is
+  version_refused none damaged refusal.Damaged is = damaged is
+  version_refused none damaged refusal.Store is = store
+  version_refused none damaged refusal.Memory is = memory
+  version_refused none damaged refusal.OldFormat is = absurd is
+  version_refused none damaged refusal.ProfileChanged is = absurd is
+  version_refused none damaged refusal.IdentifierRuleChanged is = absurd is
+  version_refused none damaged (refusal.Diagnostic number place addinfo) is = absurd is
+  version_refused none damaged refusal.Exists is = absurd is
+  version_refused none damaged (refusal.Record file nth fault) is = absurd is
+  version_refused none damaged (refusal.Unknown file nth) is = absurd is
+  version_refused none damaged refusal.DatabaseFull is = absurd is
+  version_refused none damaged refusal.TooManyRecords is = absurd is
+  version_refused none damaged (refusal.ReadFault file) is = absurd is
+
 module _ (version : List ℕ) (profile : List Directive) (trees : Trees) where
-  pub version_as_rule : (why : Refusal) → RefusesVersion trees why → RefusesRule version profile trees why
-  version_as_rule refusal.NotInitialised is = is
-  version_as_rule refusal.Damaged is = λ readable other. is readable
-  version_as_rule refusal.Store is = tt
-  version_as_rule refusal.Memory is = tt
-  version_as_rule refusal.OldFormat is = absurd is
-  version_as_rule refusal.ProfileChanged is = absurd is
-  version_as_rule refusal.IdentifierRuleChanged is = absurd is
-  version_as_rule (refusal.Diagnostic number place addinfo) is = absurd is
-  version_as_rule refusal.Exists is = absurd is
-  version_as_rule (refusal.Record file nth fault) is = absurd is
-  version_as_rule (refusal.Unknown file nth) is = absurd is
-  version_as_rule refusal.DatabaseFull is = absurd is
-  version_as_rule refusal.TooManyRecords is = absurd is
-  version_as_rule (refusal.ReadFault file) is = absurd is
+  pub version_as_rule : (why : Refusal) → RefusesVersion trees why → RefusesReindex version profile trees why
+  version_as_rule = version_refused trees (RefusesReindex version profile trees) tt tt (λ none. none) (λ hard. inl hard)
 
-  pub pattern_as_rule : (why : Refusal) → RefusesText (codes "identifier") trees why → RefusesRule version profile trees why
-  pattern_as_rule refusal.Damaged is = λ other readable. is readable
-  pattern_as_rule refusal.Store is = tt
-  pattern_as_rule refusal.Memory is = tt
-  pattern_as_rule refusal.NotInitialised is = absurd is
-  pattern_as_rule refusal.OldFormat is = absurd is
-  pattern_as_rule refusal.ProfileChanged is = absurd is
-  pattern_as_rule refusal.IdentifierRuleChanged is = absurd is
-  pattern_as_rule (refusal.Diagnostic number place addinfo) is = absurd is
-  pattern_as_rule refusal.Exists is = absurd is
-  pattern_as_rule (refusal.Record file nth fault) is = absurd is
-  pattern_as_rule (refusal.Unknown file nth) is = absurd is
-  pattern_as_rule refusal.DatabaseFull is = absurd is
-  pattern_as_rule refusal.TooManyRecords is = absurd is
-  pattern_as_rule (refusal.ReadFault file) is = absurd is
+  pub pattern_as_rule : KeepsText trees (codes "version") version → (why : Refusal) → RefusesText (codes "identifier") trees why → RefusesReindex version profile trees why
+  pattern_as_rule kept = text_refused trees (RefusesReindex version profile trees) tt tt (codes "identifier") (λ hard. inr (kept, hard))
 
-  pub version_as_layout : (why : Refusal) → RefusesVersion trees why → RefusesLayout version profile trees why
-  version_as_layout refusal.NotInitialised is = is
-  version_as_layout refusal.Damaged is = λ readable other. is readable
-  version_as_layout refusal.Store is = tt
-  version_as_layout refusal.Memory is = tt
-  version_as_layout refusal.OldFormat is = absurd is
-  version_as_layout refusal.ProfileChanged is = absurd is
-  version_as_layout refusal.IdentifierRuleChanged is = absurd is
-  version_as_layout (refusal.Diagnostic number place addinfo) is = absurd is
-  version_as_layout refusal.Exists is = absurd is
-  version_as_layout (refusal.Record file nth fault) is = absurd is
-  version_as_layout (refusal.Unknown file nth) is = absurd is
-  version_as_layout refusal.DatabaseFull is = absurd is
-  version_as_layout refusal.TooManyRecords is = absurd is
-  version_as_layout (refusal.ReadFault file) is = absurd is
+  pub version_as_layout : (why : Refusal) → RefusesVersion trees why → RefusesUpgrade version profile trees why
+  version_as_layout = version_refused trees (RefusesUpgrade version profile trees) tt tt (λ none. none) (λ hard. inl hard)
 
-  pub profile_as_layout : (why : Refusal) → RefusesText (codes "profile") trees why → RefusesLayout version profile trees why
-  profile_as_layout refusal.Damaged is = λ other readable. is readable
-  profile_as_layout refusal.Store is = tt
-  profile_as_layout refusal.Memory is = tt
-  profile_as_layout refusal.NotInitialised is = absurd is
-  profile_as_layout refusal.OldFormat is = absurd is
-  profile_as_layout refusal.ProfileChanged is = absurd is
-  profile_as_layout refusal.IdentifierRuleChanged is = absurd is
-  profile_as_layout (refusal.Diagnostic number place addinfo) is = absurd is
-  profile_as_layout refusal.Exists is = absurd is
-  profile_as_layout (refusal.Record file nth fault) is = absurd is
-  profile_as_layout (refusal.Unknown file nth) is = absurd is
-  profile_as_layout refusal.DatabaseFull is = absurd is
-  profile_as_layout refusal.TooManyRecords is = absurd is
-  profile_as_layout (refusal.ReadFault file) is = absurd is
+  pub profile_as_layout : KeepsUpgradable version trees → (why : Refusal) → RefusesText (codes "profile") trees why → RefusesUpgrade version profile trees why
+  profile_as_layout kept = text_refused trees (RefusesUpgrade version profile trees) tt tt (codes "profile") (λ hard. inr (kept, hard))
 
   module _ (pattern : List ℕ) (pattern_is : option_map pattern_text (identifier_pattern profile) ≡ Some pattern) (kept : KeepsText trees (codes "version") version) where
     pub rule_kept : TellsText (codes "identifier") pattern trees true → IsReadyToReindex version profile trees
-    rule_kept tells = record { has_version = kept; has_rule = (pattern, pattern_is, tells.0 refl) }
+    rule_kept tells = record { has_version = kept; has_rule = (pattern, pattern_is, tells.0.0 refl) }
 
-    pub rule_differs : TellsText (codes "identifier") pattern trees false → KeepsText trees (codes "version") version × ¬ KeepsRule profile trees
+    pub rule_differs : TellsText (codes "identifier") pattern trees false → RefusesReindex version profile trees refusal.IdentifierRuleChanged
     rule_differs tells = (
       kept,
       λ it. let e : Some it.0 ≡ Some pattern = sym it.1 ∙ pattern_is in
           let same : it.0 ≡ pattern = cc in
-          let no : false ≡ true = tells.1 (subst (KeepsText trees (codes "identifier")) same it.2) in cc,
+          let no : false ≡ true = tells.0.1 (subst (KeepsText trees (codes "identifier")) same it.2) in cc,
+      tells.1,
     )
 
   -- a register of this version
   module _ (found : List ℕ) (kept : KeepsText trees (codes "version") found) where
-    pub standing_none : (s : State) → IsStore s → s.now.trees ≡ trees → TellsStanding version found None → ((text : List ℕ) × KeepsText trees (codes "version") text) × ¬ KeepsUpgradable version trees
-    standing_none s store same none = (
+    pub standing_none : (s : State) → IsStore s → s.now.trees ≡ trees → AreReadableTexts trees (codes "version") → TellsStanding version found None → RefusesUpgrade version profile trees refusal.OldFormat
+    standing_none s store same readable none = (
       (found, kept),
       λ it. elim it [
         | inl own ↦ none.1 (subst (λ (t : Trees). KeepsText t (codes "version") found → KeepsText t (codes "version") version → found ≡ version) same (one_text s store (codes "version") found version) kept own)
         | inr first ↦ none.0 (subst (λ (t : Trees). KeepsText t (codes "version") found → KeepsText t (codes "version") (version_of plain_rows) → found ≡ version_of plain_rows) same (one_text s store (codes "version") found (version_of plain_rows)) kept first)
       ],
+      readable,
     )
 
     pub standing_found : (standing : Standing) → TellsStanding version found (Some standing) → TellsText (codes "profile") (canonical_text profile) trees true → FindsStanding version profile trees standing
-    standing_found standing.Upgraded is tells = record { has_version = subst (KeepsText trees (codes "version")) is kept; has_profile = tells.0 refl }
+    standing_found standing.Upgraded is tells = record { has_version = subst (KeepsText trees (codes "version")) is kept; has_profile = tells.0.0 refl }
     standing_found standing.First is tells = (
-      record { has_version = subst (KeepsText trees (codes "version")) is.0 kept; has_profile = tells.0 refl },
+      record { has_version = subst (KeepsText trees (codes "version")) is.0 kept; has_profile = tells.0.0 refl },
       λ same. is.1 (is.0 ∙ sym same),
     )
 
-    upgradable_so : (standing : Standing) → TellsStanding version found (Some standing) → KeepsUpgradable version trees
+    pub upgradable_so : (standing : Standing) → TellsStanding version found (Some standing) → KeepsUpgradable version trees
     upgradable_so standing.Upgraded is = inl (subst (KeepsText trees (codes "version")) is kept)
     upgradable_so standing.First is = inr (subst (KeepsText trees (codes "version")) is.0 kept)
 
     pub standing_changed : (standing : Standing) → TellsStanding version found (Some standing) → TellsText (codes "profile") (canonical_text profile) trees false
-        → KeepsUpgradable version trees × ¬ KeepsText trees (codes "profile") (canonical_text profile)
-    standing_changed standing is tells = (upgradable_so standing is, λ there. let no : false ≡ true = tells.1 there in cc)
+        → RefusesUpgrade version profile trees refusal.ProfileChanged
+    standing_changed standing is tells = (upgradable_so standing is, λ there. let no : false ≡ true = tells.0.1 there in cc, tells.1)

@@ -1,5 +1,5 @@
 -- Readers of which none has failed.
-use Rattle.std.proofs.Common.{◌≡◌, ◌⊎◌, ◌∙◌, ℕ, Bool, true, false, List, [], ◌∷◌, Result, Err, IsErrAnd, inl, inr, refl, subst, sym, ap}
+use Rattle.std.proofs.Common.{◌≡◌, ◌⊎◌, ◌∙◌, ◌≤◌, arith, ℕ, Bool, true, false, List, [], ◌∷◌, Result, Err, IsErrAnd, inl, inr, refl, subst, sym, ap}
 use Rattle.zeb_change.specs.declared.refusals.Refusal.{Refusal}
 use Rattle.zeb_change.specs.declared.refusals.Refusal.TheVariants.{ReadFault}
 use Rattle.zeb_change.specs.Reading.{HasFailedAt, NamesFailed, NoneFailed}
@@ -15,10 +15,16 @@ pub none_fails : {R : Type 0} (readers : List R) → NoneFailed (λ reader. fals
 none_fails [] = tt
 none_fails (x ∷ xs) = (refl, none_fails xs)
 
--- one that has failed is named where each is, and so is one where they are looked at
+-- one that has failed is named where each is: then it is the only one, and so the first
 pub named_or_none : {T R : Type 0} (failed : R → Bool) (readers : List R) (result : Result T Refusal) → ((file : ℕ) → HasFailedAt failed readers file → result ≡ Err (ReadFault file))
     → NoneFailed failed readers ⊎ IsErrAnd result (NamesFailed failed readers)
 named_or_none failed readers result each = elim (one_failed failed readers) [
   | inl none ↦ inl none
-  | inr some ↦ inr (subst (λ r. IsErrAnd r (NamesFailed failed readers)) (sym (each some.0 some.1)) (some.0, some.1, refl))
+  | inr some ↦ inr (subst (λ r. IsErrAnd r (NamesFailed failed readers)) (sym (each some.0 some.1)) (some.0, some.1, only some.0 some.1, refl))
 ]
+  where
+    only : (file : ℕ) → HasFailedAt failed readers file → (other : ℕ) → HasFailedAt failed readers other → file ≤ other
+    only file at other there =
+        let both = sym (each file at) ∙ each other there in
+        let same : file ≡ other = cc in
+        omega (arith, same)

@@ -1,5 +1,5 @@
 -- What a look at the texts of a store tells, and what is said of them after a command.
-use Rattle.std.proofs.Common.{◌≡◌, ◌≢◌, ℕ, List, Option, Some, None, Result, Ok, Err, String, string_bytes, refl, subst}
+use Rattle.std.proofs.Common.{◌≡◌, ◌≢◌, ℕ, List, Option, Some, None, Result, Ok, Err, String, codes, string_bytes, refl, subst, inl, inr}
 use Rattle.std.specs.declared.alloc.Global.{Global}
 use Rattle.sqlite.specs.Tree.{Trees}
 use Rattle.sqlite.specs.State.{State}
@@ -12,7 +12,7 @@ use Rattle.zeb_change.specs.declared.refusals.Refusal.{Refusal}
 use Rattle.zeb_change.specs.declared.refusals.Refusal.TheVariants as refusal
 use Rattle.zeb_change.specs.Outcomes.{register_refusal}
 use Rattle.zeb_change.specs.Refused.{NeverUnready}
-use Rattle.zeb_engine.specs.Readiness.{GoesByTexts, IsReadyFor, IsRefusedOver, KeepsText}
+use Rattle.zeb_engine.specs.Readiness.{GoesByTexts, HidesText, IsReadyFor, IsRefusedOver, KeepsText}
 
 -- ---- one text
 
@@ -27,11 +27,11 @@ pub other_text : (s : State) → IsStore s → (name found other : List ℕ) →
 other_text s store name found other kept differs there = differs (one_text s store name found other kept there)
 
 module _ (version : List ℕ) (profile : List Directive) where
-  -- a fault of the tables says nothing of the texts
-  pub fault_texts : (trees : Trees) (fault : RegFault) → IsRefusedOver version profile trees (register_refusal fault)
-  fault_texts trees register.Damaged = tt
-  fault_texts trees register.Store = tt
-  fault_texts trees register.Memory = tt
+  -- a fault while the texts are read
+  pub fault_texts : (trees : Trees) (fault : RegFault) → (fault ≡ register.Damaged → HidesText version (codes "profile") trees) → IsRefusedOver version profile trees (register_refusal fault)
+  fault_texts trees register.Damaged hidden = inl (hidden refl)
+  fault_texts trees register.Store hidden = tt
+  fault_texts trees register.Memory hidden = tt
 
   -- ---- after a look at the register
 
@@ -45,7 +45,7 @@ module _ (version : List ℕ) (profile : List Directive) where
   other_texts trees (refusal.Unknown file nth) is never = is
   other_texts trees refusal.DatabaseFull is never = is
   other_texts trees refusal.TooManyRecords is never = is
-  other_texts trees refusal.Damaged is never = tt
+  other_texts trees refusal.Damaged is never = inr is
   other_texts trees refusal.IdentifierRuleChanged is never = is
   other_texts trees (refusal.ReadFault file) is never = tt
   other_texts trees refusal.Store is never = tt

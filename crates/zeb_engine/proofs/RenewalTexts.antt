@@ -19,8 +19,7 @@ use Rattle.zeb_change.specs.Conditions.{Conditions}
 use Rattle.zeb_change.specs.Refused.{IsFailing, why_of}
 use Rattle.zeb_image.specs.Holdings.{Holdings, nothing_yet, under}
 use Rattle.zeb_image.specs.Image.{HasTexts, IsImage}
-use Rattle.zeb_engine.specs.PrivateLooking.{RefusesLayout, RefusesRule}
-use Rattle.zeb_engine.specs.Readiness.{IsReadyFor, IsReadyToReindex, KeepsRule, KeepsText, KeepsUpgradable}
+use Rattle.zeb_engine.specs.Readiness.{IsReadyFor, IsReadyToReindex, KeepsRule, KeepsText, KeepsUpgradable, RefusesReindex, RefusesUpgrade}
 use Rattle.zeb_engine.specs.Rules.{same_rule}
 use Rattle.zeb_engine.specs.Steps.{ruled, upgradable}
 use Rattle.zeb_engine.proofs.Ready.{none_there, profile_is, profile_readable, version_is, version_readable}
@@ -102,7 +101,7 @@ module _ (c : Conditions) (sound : ∥ IsProfile c.profile ∥₁) (pattern : Li
       let rule = subst (λ t. same_rule t (canonical_text c.profile) ≡ true) (sym it.text_is) (same_texts image.0 c.profile it.sound sound it.pattern pattern it.pattern_is pattern_is same) in
       (bases, ruled_good c version text bases (sym (version_is trees version text it.pattern it.texts c.version ready.has_version)) rule)
 
-  pub rule_refused : (before : Holdings) → IsImage trees before → (why : Refusal) → RefusesRule c.version c.profile trees why → IsFailing (why_of why) ⊎ (ruled c before ≡ Err (why_of why))
+  pub rule_refused : (before : Holdings) → IsImage trees before → (why : Refusal) → RefusesReindex c.version c.profile trees why → IsFailing (why_of why) ⊎ (ruled c before ≡ Err (why_of why))
   rule_refused nothing_yet image refusal.NotInitialised is = inr (ruled_none c)
   rule_refused (under version text bases) image refusal.NotInitialised is = absurd (is version (version_kept trees version text image.1.pattern image.1.texts))
   rule_refused nothing_yet image refusal.OldFormat is = absurd (none_there trees (codes "version") is.0.0 image.0.0 is.0.1)
@@ -114,7 +113,7 @@ module _ (c : Conditions) (sound : ∥ IsProfile c.profile ∥₁) (pattern : Li
       let differs : it.pattern ≢ pattern = λ same. is.1 (pattern, pattern_is, subst (KeepsText trees (codes "identifier")) same (identifier_kept trees version text it.pattern it.texts)) in
       let rule = subst (λ t. same_rule t (canonical_text c.profile) ≡ false) (sym it.text_is) (other_texts image.0 c.profile it.sound sound it.pattern pattern it.pattern_is pattern_is differs) in
       inr (ruled_changed c version text bases (sym (version_is trees version text it.pattern it.texts c.version is.0)) rule)
-  rule_refused before image refusal.Damaged is = absurd (is (version_readable plain_rows c trees before image) (identifier_readable trees before image))
+  rule_refused before image refusal.Damaged is = absurd (elim is [ inl hard ↦ hard (version_readable plain_rows c trees before image) | inr hard ↦ hard.1 (identifier_readable trees before image) ])
   rule_refused before image refusal.Store is = inl (inl refl)
   rule_refused before image refusal.Memory is = inl (inr refl)
   rule_refused before image refusal.ProfileChanged is = absurd is
@@ -157,7 +156,7 @@ module _ (c : Conditions) (trees : Trees) where
   none_kept none (inl is) = none_there trees (codes "version") c.version none is
   none_kept none (inr is) = none_there trees (codes "version") (version_of plain_rows) none is
 
-  pub layout_refused : (before : Holdings) → IsImage trees before → (why : Refusal) → RefusesLayout c.version c.profile trees why → IsFailing (why_of why) ⊎ (upgradable c before ≡ Err (why_of why))
+  pub layout_refused : (before : Holdings) → IsImage trees before → (why : Refusal) → RefusesUpgrade c.version c.profile trees why → IsFailing (why_of why) ⊎ (upgradable c before ≡ Err (why_of why))
   layout_refused nothing_yet image refusal.NotInitialised is = inr (upgradable_none c)
   layout_refused (under version text bases) image refusal.NotInitialised is = absurd (is version (version_kept trees version text image.1.pattern image.1.texts))
   layout_refused nothing_yet image refusal.OldFormat is = absurd (none_there trees (codes "version") is.0.0 image.0.0 is.0.1)
@@ -167,7 +166,7 @@ module _ (c : Conditions) (trees : Trees) where
   layout_refused (under version text bases) image refusal.ProfileChanged is =
       inr (upgradable_changed c version text bases (kept_taken version text image.1.pattern image.1.texts is.0)
       (λ same. is.1 (subst (KeepsText trees (codes "profile")) same (profile_kept trees version text image.1.pattern image.1.texts))))
-  layout_refused before image refusal.Damaged is = absurd (is (version_readable plain_rows c trees before image) (profile_readable plain_rows c trees before image))
+  layout_refused before image refusal.Damaged is = absurd (elim is [ inl hard ↦ hard (version_readable plain_rows c trees before image) | inr hard ↦ hard.1 (profile_readable plain_rows c trees before image) ])
   layout_refused before image refusal.Store is = inl (inl refl)
   layout_refused before image refusal.Memory is = inl (inr refl)
   layout_refused before image refusal.IdentifierRuleChanged is = absurd is

@@ -1,5 +1,5 @@
 -- What work comes to inside a transaction that makes the registers anew.
-use Rattle.std.proofs.Common.{◌≡◌, ◌∙◌, ℕ, List, codes, Ok, Err, IsTrue, IsUtf8, refl, sym, ap, subst, inl, arith}
+use Rattle.std.proofs.Common.{◌≡◌, ◌∙◌, ℕ, List, codes, Ok, Err, IsTrue, IsUtf8, refl, sym, ap, subst, inl, inr, arith}
 use Rattle.std.specs.Option.{option_map}
 use Rattle.sqlite.specs.Tree.{Trees}
 use Rattle.sqlite.specs.State.{State, KeepsCommit}
@@ -20,6 +20,8 @@ use Rattle.zeb_change.specs.Outcomes.{register_refusal}
 use Rattle.zeb_image.specs.Holdings.{Holdings}
 use Rattle.zeb_image.specs.Image.{AreBases, HasTexts, IsImage, IsImageOf}
 use Rattle.zeb_engine.specs.declared.replies.Reply.TheVariants.{Done}
+use Rattle.zeb_image.specs.Rebuilding.{AreReadableLists, AreSound}
+use Rattle.zeb_engine.specs.Checking.{TellsSound}
 use Rattle.zeb_engine.specs.PrivateWriting.{AreUnder, IsRuled, IsUpgradable}
 use Rattle.zeb_engine.specs.Steps.{Outcome, reindexed, upgraded}
 use Rattle.zeb_engine.specs.Works.{Works}
@@ -44,6 +46,12 @@ found_upgradable format profile c trees before fits image =
     let was = upgradable_image format c (session_of format profile c fits.0) trees before fits.1.0 image fits.1.1 in (fits.1.0, was.0, fits.0.profile_is)
 
 -- ---- refused
+
+-- damage tells of the lists or of the kept records
+pub rebuild_tells : (profile : List Directive) (trees : Trees) (fault : RegFault) → (fault ≡ register.Damaged → ¬ (AreReadableLists trees × AreSound profile trees)) → TellsSound profile trees (Err (register_refusal fault))
+rebuild_tells profile trees register.Damaged unsound = inr (inl (unsound refl, refl))
+rebuild_tells profile trees register.Store unsound = inr (inr (inl refl))
+rebuild_tells profile trees register.Memory unsound = inr (inr (inr refl))
 
 module _ (profile : List Directive) (c : Conditions) (Fits : Holdings → Type 0) (outcome : Holdings → Outcome) (old mid : State) (was_open : IsTrue old.is_open)
     (found : (before : Holdings) → Fits before → IsImage old.now.trees before → (bases : List Base) × (was : WasImage c old.now.trees bases) × (c.profile ≡ profile)) where

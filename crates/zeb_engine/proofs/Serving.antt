@@ -1,14 +1,16 @@
 -- How a command ends that was refused, and what follows where it began with a look at the tables.
-use Rattle.std.proofs.Common.{◌≡◌, ◌⊎◌, ◌∙◌, ℕ, true, false, List, [], Result, Ok, Err, OnOk, inl, inr, sym, ap, subst, IsTrue}
+use Rattle.std.proofs.Common.{◌≡◌, ◌⊎◌, ◌∙◌, ℕ, true, false, List, [], Result, Ok, Err, OnOk, inl, inr, refl, sym, ap, subst, IsTrue}
 use Rattle.sqlite.specs.Tree.{Trees}
 use Rattle.sqlite.specs.Store.{Ghosts}
 use Rattle.sqlite.specs.Effect.{Database}
 use Rattle.sqlite.specs.State.{State, IsRolledBack, Shows}
 use Rattle.sqlite.specs.Held.{Held, state}
 use Rattle.zeb_register.specs.Calls.{ChangesNothing}
+use Rattle.zeb_register.specs.Store.{IsStore}
 use Rattle.zeb_register.proofs.Calls.{store_same}
 use Rattle.zeb_engine.specs.declared.replies.Reply.{Reply}
 use Rattle.zeb_change.specs.declared.refusals.Refusal.{Refusal}
+use Rattle.zeb_change.specs.declared.refusals.Refusal.TheVariants as refusal
 use Rattle.zeb_engine.specs.Answers.{refused, IsFailure}
 use Rattle.zeb_change.specs.Refused.{why_of}
 use Rattle.zeb_image.specs.Holdings.{Holdings}
@@ -17,7 +19,7 @@ use Rattle.zeb_engine.specs.Steps.{Outcome, holding}
 use Rattle.zeb_engine.specs.Works.{Works, Serves}
 use Rattle.zeb_engine.specs.declared.writes.Write.{Write}
 use Rattle.zeb_engine.specs.declared.writes.Write.TheVariants as write
-use Rattle.zeb_engine.specs.Checking.{FindsSound}
+use Rattle.zeb_engine.specs.Checking.{TellsSound}
 use Rattle.zeb_engine.specs.PrivateWriting.{Begins, IsReached, ReadsSound}
 use Rattle.zeb_engine.proofs.Ready.{image_still}
 use Rattle.zeb_register.specs.Formats.{Format}
@@ -104,13 +106,14 @@ sound_over g (write.Init profile pattern) old inside result begins did = tt
 sound_over g (write.Create name) old inside result begins did = tt
 sound_over g (write.Drop name id) old inside result begins did = tt
 sound_over g (write.Reindex alloc profile) old inside result begins did = λ store.
-    let began = subst (λ (held : Held _). FindsSound profile.now (state g held) result) begins did in
+    let began = subst (λ (held : Held _). IsStore (state g held) → TellsSound profile.now (state g held).now.trees result) begins did in
     began (record { is = store.is; sound = store.sound; keyed = store.keyed })
 sound_over g (write.Upgrade alloc profile) old inside result begins did = tt
 
-pub sound_refused : (w : Write) (s : State) (why : Refusal) → ReadsSound w s (Err why)
-sound_refused (write.Init profile pattern) s why = tt
-sound_refused (write.Create name) s why = tt
-sound_refused (write.Drop name id) s why = tt
-sound_refused (write.Reindex alloc profile) s why = λ store. tt
-sound_refused (write.Upgrade alloc profile) s why = tt
+-- a commit that failed tells nothing
+pub sound_failed : (w : Write) (s : State) → ReadsSound w s (Err refusal.Store)
+sound_failed (write.Init profile pattern) s = tt
+sound_failed (write.Create name) s = tt
+sound_failed (write.Drop name id) s = tt
+sound_failed (write.Reindex alloc profile) s = λ store. inr (inr (inl refl))
+sound_failed (write.Upgrade alloc profile) s = tt

@@ -1,7 +1,8 @@
 -- What each command that writes leaves in the tables is the image of its outcome.
-use Rattle.std.proofs.Common.{◌≡◌, ◌∙◌, ℕ, ℤ, pos, List, [], Result, Ok, Err, IfErr, OnOk, refl, sym, ap, subst, inl, arith}
+use Rattle.std.proofs.Common.{◌≡◌, ◌∙◌, ℕ, ℤ, pos, List, [], Result, Ok, Err, IfErr, OnOk, refl, sym, subst, inl, arith}
 use Rattle.sqlite.specs.State.{State}
 use Rattle.zeb_profile.specs.declared.directives.Directive.{Directive}
+use Rattle.zeb_register.specs.declared.RegFault.{RegFault}
 use Rattle.zeb_register.specs.Calls.{GoesOn}
 use Rattle.zeb_register.specs.Catalog.{PutsDatabase}
 use Rattle.zeb_profile.specs.Canonical.{canonical_text}
@@ -10,7 +11,6 @@ use Rattle.zeb_register.specs.Content.{Content, IsWithout, TakesWhole}
 use Rattle.zeb_register.specs.Store.{IsStore, Changes, KeepsRegisters, databases_tree}
 use Rattle.zeb_engine.specs.declared.replies.Reply.{Reply}
 use Rattle.zeb_engine.specs.declared.replies.Reply.TheVariants.{Done}
-use Rattle.zeb_change.specs.declared.refusals.Refusal.{Refusal}
 use Rattle.zeb_engine.specs.Answers.{refused, reply_answer, IsFailure}
 use Rattle.zeb_change.specs.Refused.{why_of}
 use Rattle.zeb_change.specs.Conditions.{Conditions}
@@ -20,7 +20,7 @@ use Rattle.zeb_image.specs.Image.{IsImage}
 use Rattle.zeb_engine.specs.Steps.{Outcome, holding, initialised, turned, created, dropped}
 use Rattle.zeb_change.specs.Inside.{Stays}
 use Rattle.zeb_engine.specs.Works.{Works}
-use Rattle.zeb_engine.specs.PrivateWriting.{AreOf, IsFree, IsKnown}
+use Rattle.zeb_engine.specs.PrivateWriting.{AreOf, IsFree, IsKnown, answered}
 use Rattle.zeb_engine.proofs.Beginning.{texts_still}
 use Rattle.zeb_engine.proofs.Creating.{with_new_base, created_image}
 use Rattle.zeb_engine.proofs.Dropping.{without_bases, dropped_image}
@@ -60,16 +60,11 @@ module _ (c : Conditions) (old new : State) (name : List ℕ) (before : Holdings
 
 -- ---- `init`, whose tables are the image of no database whatever they held
 
-pub init_works : (format : Format) (c : Conditions) (version : List ℕ) (profile : List Directive) (pattern : List ℕ) (old new : State) (result : Result Reply Refusal)
-    → Stays old new result → OnOk result (GoesOn old new × (result ≡ Ok Done)) → (IsStore old → OnOk result (IsStore new × ((k : Conditions) → AreOf version profile pattern k → IsImage new.now.trees (holding k []))))
-    → IfErr result (λ refusal. IsFailure (refused (why_of refusal))) → Works (λ trees before. AreOf version profile pattern c) (initialised c) old new result
-init_works format c version profile pattern old new (Ok reply) stays on begun failed =
-    let is : reply ≡ Done = let e = on.1 in cc in (
-      on.0,
-      λ before of store image. let left = begun store in
-          subst (Leads new reply) (sym (step_init c before)) (ap reply_answer (sym is), left.0, left.1 c of),
-    )
-init_works format c version profile pattern old new (Err refusal) stays on begun failed = (stays, λ before of sees. inl failed)
+pub init_works : (format : Format) (c : Conditions) (version : List ℕ) (profile : List Directive) (pattern : List ℕ) (old new : State) (result : Result (Unit {0}) RegFault)
+    → Stays old new result → OnOk result (GoesOn old new) → (IsStore old → OnOk result (IsStore new × ((k : Conditions) → AreOf version profile pattern k → IsImage new.now.trees (holding k []))))
+    → IfErr (answered result) (λ refusal. IsFailure (refused (why_of refusal))) → Works (λ trees before. AreOf version profile pattern c) (initialised c) old new (answered result)
+init_works format c version profile pattern old new (Ok x) stays on begun failed = (on, λ before of store image. let left = begun store in subst (Leads new Done) (sym (step_init c before)) (refl, left.0, left.1 c of))
+init_works format c version profile pattern old new (Err fault) stays on begun failed = (stays, λ before of sees. inl failed)
 
 pub begun_so : {A E : Type 0} (r : Result A E) (P Q : Type 0) → (P → OnOk r Q) → OnOk r (P → Q)
 begun_so (Ok x) P Q so = so

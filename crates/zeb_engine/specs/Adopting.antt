@@ -1,7 +1,9 @@
 -- What a store is once it is taken over.
-use Rattle.std.specs.Prelude.{◌≡◌, IsTrue}
-use Rattle.sqlite.specs.State.{State}
+use Rattle.std.specs.Prelude.{◌≡◌, ◌≢◌, ◌⊎◌, IsTrue}
+use Rattle.sqlite.specs.Effect.{IsDatabase}
+use Rattle.sqlite.specs.State.{State, IsLive}
 use Rattle.zeb_register.specs.Store.{IsStore, LacksLists, LacksRegisters}
+use Rattle.zeb_register.specs.Tables.{no_schema, store_schema}
 
 -- the tables are there, committed, and hold no row
 pub record HoldsNothing (s : State) : Type 0 where
@@ -14,3 +16,17 @@ pub record HoldsNothing (s : State) : Type 0 where
 -- the connection was open and is
 abbrev pub StaysOpen : State → State → Type 0
 StaysOpen old new = IsTrue old.is_open × IsTrue new.is_open
+
+-- the store has tables or views, and not just this store's six tables
+abbrev pub HasOtherTables : State → Type 0
+HasOtherTables s = (s.now.schema ≢ no_schema) × (s.now.schema ≢ store_schema)
+
+-- the store has this store's six tables and nothing else, and their rows obey their rules
+pub record HasOwnTables (s : State) : Type 0 where
+  pub is : s.now.schema ≡ store_schema
+  pub sound : IsDatabase s.now
+
+-- no table yet or this store's six, as a store that is taken over has; the step of a private function
+pub record MayBeTaken (s : State) : Type 0 where
+  pub tables : (s.now.schema ≡ no_schema) ⊎ (s.now.schema ≡ store_schema)
+  pub live : IsLive s

@@ -1,19 +1,20 @@
--- What a check and an upgrade tell of whole tables, whatever these hold.
-use Rattle.std.specs.Prelude.{◌≡◌, ◌≢◌, ◌⊎◌, ℕ, List, Result, Ok, Err, OnOk}
+-- What a check, a reindex and an upgrade tell of whole tables, whatever these hold.
+use Rattle.std.specs.Prelude.{◌≡◌, ◌≢◌, ◌⊎◌, ℕ, List, Result, Ok, Err, IsErrAnd}
 use Rattle.sqlite.specs.Tree.{Trees}
 use Rattle.sqlite.specs.State.{State}
 use Rattle.zeb_profile.specs.declared.directives.Directive.{Directive}
+use Rattle.zeb_register.specs.Calls.{ChangesNothing}
 use Rattle.zeb_register.specs.Formats.{plain_rows, version_of}
 use Rattle.zeb_register.specs.Store.{IsStore}
 use Rattle.zeb_change.specs.declared.refusals.Refusal.{Refusal}
 use Rattle.zeb_change.specs.declared.refusals.Refusal.TheVariants.{Damaged}
 use Rattle.zeb_image.specs.Holdings.{Holdings}
 use Rattle.zeb_image.specs.Image.{IsImage}
-use Rattle.zeb_image.specs.Rebuilding.{AreSound}
+use Rattle.zeb_image.specs.Rebuilding.{AreReadableLists, AreSound}
 use Rattle.zeb_engine.specs.declared.replies.Reply.{Reply}
 use Rattle.zeb_engine.specs.declared.replies.Reply.TheVariants.{Done}
 use Rattle.zeb_engine.specs.Answers.{answer_of, IsFailure}
-use Rattle.zeb_engine.specs.Readiness.{IsReadyFor}
+use Rattle.zeb_engine.specs.Readiness.{IsReadyFor, IsReadyToReindex, RefusesReindex, RefusesUpgrade}
 
 -- the tables are the image of something that can be held
 abbrev pub IsSomeImage : Trees → Type 0
@@ -28,11 +29,29 @@ TellsImage trees result =
 abbrev pub ChecksTables : List ℕ → List Directive → State → Result Reply Refusal → Type 0
 ChecksTables version profile s result = IsStore s → IsReadyFor version profile s.now.trees → TellsImage s.now.trees result
 
--- of an upgrade to another version than the first, on the tables of a store that keep the first one and the session's profile
-abbrev pub UpgradesTables : List ℕ → List Directive → State → Result Reply Refusal → Type 0
-UpgradesTables version profile s result =
-    version ≢ version_of plain_rows → IsStore s → IsReadyFor (version_of plain_rows) profile s.now.trees → TellsImage s.now.trees result
+-- The kept records of listed databases can be indexed under the profile, as far as what is told: accepted, each is one and has its
+-- identifier; refused for damage, one isn't, or a row of the lists can't be read; and there is no other answer, but a failure.
+abbrev pub TellsSound : List Directive → Trees → Result Reply Refusal → Type 0
+TellsSound profile trees result =
+    (AreSound profile trees × (result ≡ Ok Done))
+    ⊎ ((¬ (AreReadableLists trees × AreSound profile trees) × (result ≡ Err Damaged)) ⊎ IsFailure (answer_of result))
 
--- of an accepted reindex, on the tables of a store: each record of a listed database is one, and has its identifier under the profile
-abbrev pub FindsSound : {T : Type 0} → List Directive → State → Result T Refusal → Type 0
-FindsSound profile s result = IsStore s → OnOk result (AreSound profile s.now.trees)
+-- of a reindex, on the tables of a store: their texts refuse it, or it goes by the kept records, whatever the registers hold
+abbrev pub ReindexesTables : List ℕ → List Directive → State → Result Reply Refusal → Type 0
+ReindexesTables version profile s result = IsStore s →
+    IsErrAnd result (RefusesReindex version profile s.now.trees)
+    ⊎ (IsReadyToReindex version profile s.now.trees × TellsSound profile s.now.trees result)
+
+-- Of an upgrade, on the tables of a store: their texts refuse it, or they keep the session's version, and nothing is to do, or they keep
+-- the first version and not the session's, and it goes by all tables.
+abbrev pub UpgradesTables : List ℕ → List Directive → State → Result Reply Refusal → Type 0
+UpgradesTables version profile s result = IsStore s →
+    IsErrAnd result (RefusesUpgrade version profile s.now.trees)
+    ⊎ ((IsReadyFor version profile s.now.trees × (result ≡ Ok Done))
+    ⊎ ((version ≢ version_of plain_rows) × IsReadyFor (version_of plain_rows) profile s.now.trees × TellsImage s.now.trees result))
+
+-- Of an upgrade, on the tables of a store that keep the session's version and profile already, whatever else they hold: it is accepted, or
+-- the store or the memory fails, and nothing changes.
+abbrev pub StaysUpgraded : List ℕ → List Directive → State → State → Result Reply Refusal → Type 0
+StaysUpgraded version profile old new result = IsStore old → IsReadyFor version profile old.now.trees →
+    ChangesNothing old new × ((result ≡ Ok Done) ⊎ IsFailure (answer_of result))

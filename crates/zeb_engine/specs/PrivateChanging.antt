@@ -6,16 +6,27 @@ use Rattle.zeb_register.specs.declared.catalog.Database.{Database}
 use Rattle.zeb_register.specs.Store.{HasDatabase}
 use Rattle.zeb_change.specs.declared.settings.Kind.{Kind}
 use Rattle.zeb_change.specs.declared.settings.Kind.TheVariants.{Update}
+use Rattle.zeb_change.specs.declared.settings.Setting.{Setting}
 use Rattle.zeb_change.specs.Conditions.{Conditions}
+use Rattle.zeb_change.specs.Folding.{splits_of}
+use Rattle.zeb_change.specs.UnderWay.{conditions_of}
 use Rattle.zeb_image.specs.Holdings.{Holdings, base_named}
 use Rattle.zeb_change.specs.Base.{Base}
-use Rattle.zeb_engine.specs.Steps.{ready}
+use Rattle.zeb_engine.specs.Steps.{Outcome, changed_by_files, ready, turned}
 
 -- the register is ready, and this is what the tables know of the name: a database, or none, with which only an update begins
 abbrev pub BeginsWith : Kind → List ℕ → Option Database → Conditions → Trees → Holdings → Type 0
 BeginsWith kind name None c trees before = (bases : List Base) × (ready c before ≡ Ok bases) × (base_named name bases ≡ None) × (kind ≡ Update)
 BeginsWith kind name (Some found) c trees before =
     (bases : List Base) × (base : Base) × (ready c before ≡ Ok bases) × (base_named name bases ≡ Some base) × HasDatabase trees found.id.0 base.name (pos base.last) × (found.last ≡ base.last)
+
+-- the same under what a change works under
+abbrev pub MayBegin : List ℕ → Setting → List ℕ → Option Database → Trees → Holdings → Type 0
+MayBegin version setting name found = BeginsWith setting.kind name found (conditions_of version setting)
+
+-- what a change by these files comes to
+abbrev pub comes_to : List ℕ → Setting → List ℕ → List (List ℕ) → Holdings → Outcome
+comes_to version setting name texts = turned (conditions_of version setting) (changed_by_files (conditions_of version setting) setting.kind name (splits_of texts))
 
 -- the last number that a change begins with: 0 where there is no database
 abbrev pub last_of : Option Database → ℕ

@@ -8,13 +8,13 @@ use Rattle.zeb_register.specs.Calls.{ChangesNothing}
 use Rattle.zeb_register.specs.Formats.{plain_rows, version_of}
 use Rattle.zeb_register.specs.Store.{IsStore, AreReadableTexts}
 use Rattle.zeb_change.specs.declared.refusals.Refusal.{Refusal}
-use Rattle.zeb_change.specs.declared.refusals.Refusal.TheVariants.{NotInitialised, OldFormat, ProfileChanged, IdentifierRuleChanged, Damaged, Store, Memory}
+use Rattle.zeb_change.specs.declared.refusals.Refusal.TheVariants.{NotInitialised, OldFormat, ProfileChanged, Damaged, Store, Memory}
 use Rattle.zeb_change.specs.Refused.{why_of}
 use Rattle.zeb_engine.specs.declared.looks.Standing.{Standing}
 use Rattle.zeb_engine.specs.declared.looks.Standing.TheVariants.{Upgraded, First}
 use Rattle.zeb_engine.specs.Adopting.{StaysOpen}
 use Rattle.zeb_engine.specs.Answers.{IsFailure, refused}
-use Rattle.zeb_engine.specs.Readiness.{IsReadyFor, KeepsText, RefusesReindex, RefusesUpgrade}
+use Rattle.zeb_engine.specs.Readiness.{IsReadyFor, KeepsText}
 
 -- what a look did to the connection, and what it found on the tables of a store
 pub record IsLook {T : Type 0} (Finds : Trees → T → Type 0) (Refuses : Trees → Refusal → Type 0) (old new : State) (result : Result T Refusal) : Type 0 where
@@ -23,9 +23,9 @@ pub record IsLook {T : Type 0} (Finds : Trees → T → Type 0) (Refuses : Trees
   pub seen : IfErr result (λ refusal. IsFailure (refused (why_of refusal)) ⊎ IsTrue old.is_open)
   pub told : IsStore old → MatchResult result (Finds old.now.trees) (Refuses old.now.trees)
 
--- whether this text is kept under this name
+-- whether this text is kept under this name, where what is kept can be read
 abbrev pub TellsText : List ℕ → List ℕ → Trees → Bool → Type 0
-TellsText name text trees it = IsTrue it ↔ KeepsText trees name text
+TellsText name text trees it = (IsTrue it ↔ KeepsText trees name text) × AreReadableTexts trees name
 
 -- over which tables a text of this name isn't told
 abbrev pub RefusesText : List ℕ → Trees → Refusal → Type 0
@@ -41,26 +41,6 @@ RefusesVersion trees Damaged = ¬ AreReadableTexts trees (codes "version")
 RefusesVersion trees Store = Unit {0}
 RefusesVersion trees Memory = Unit {0}
 RefusesVersion trees other = ⊥
-
--- as a reindex is refused before it begins; damage tells of its two texts
-abbrev pub RefusesRule : List ℕ → List Directive → Trees → Refusal → Type 0
-RefusesRule version profile trees NotInitialised = RefusesReindex version profile trees NotInitialised
-RefusesRule version profile trees OldFormat = RefusesReindex version profile trees OldFormat
-RefusesRule version profile trees IdentifierRuleChanged = RefusesReindex version profile trees IdentifierRuleChanged
-RefusesRule version profile trees Damaged = AreReadableTexts trees (codes "version") → ¬ AreReadableTexts trees (codes "identifier")
-RefusesRule version profile trees Store = Unit {0}
-RefusesRule version profile trees Memory = Unit {0}
-RefusesRule version profile trees other = ⊥
-
--- as an upgrade is refused before it begins; damage tells of its two texts
-abbrev pub RefusesLayout : List ℕ → List Directive → Trees → Refusal → Type 0
-RefusesLayout version profile trees NotInitialised = RefusesUpgrade version profile trees NotInitialised
-RefusesLayout version profile trees OldFormat = RefusesUpgrade version profile trees OldFormat
-RefusesLayout version profile trees ProfileChanged = RefusesUpgrade version profile trees ProfileChanged
-RefusesLayout version profile trees Damaged = AreReadableTexts trees (codes "version") → ¬ AreReadableTexts trees (codes "profile")
-RefusesLayout version profile trees Store = Unit {0}
-RefusesLayout version profile trees Memory = Unit {0}
-RefusesLayout version profile trees other = ⊥
 
 -- where a register of this version stands, or none
 abbrev pub TellsStanding : List ℕ → List ℕ → Option Standing → Type 0

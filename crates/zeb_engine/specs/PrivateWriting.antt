@@ -1,6 +1,6 @@
 -- What only the contracts of private functions speak of; no public clause reaches it.
 -- The commands that write without reading records: what each makes of what is held, and what was found out before it began.
-use Rattle.std.specs.Prelude.{◌≡◌, ℕ, ℤ, pos, List, [], Some, None, Result, Ok, IfErr, IsTrue}
+use Rattle.std.specs.Prelude.{◌≡◌, ℕ, ℤ, pos, List, [], Some, None, Result, Ok, Err, IfErr, IsTrue}
 use Rattle.std.specs.Option.{option_map}
 use Rattle.sqlite.specs.Tree.{Trees}
 use Rattle.sqlite.specs.State.{State}
@@ -8,19 +8,22 @@ use Rattle.zeb_profile.specs.declared.directives.Directive.{Directive}
 use Rattle.zeb_profile.specs.Indexes.{identifier_pattern}
 use Rattle.zeb_profile.specs.Canonical.{pattern_text}
 use Rattle.zeb_profile.specs.Laws.{IsProfile}
+use Rattle.zeb_register.specs.declared.RegFault.{RegFault}
 use Rattle.zeb_register.specs.Store.{IsStore, HasDatabase}
 use Rattle.zeb_engine.specs.declared.writes.Write.{Write}
 use Rattle.zeb_engine.specs.declared.writes.Write.TheVariants as write
 use Rattle.zeb_change.specs.declared.refusals.Refusal.{Refusal}
 use Rattle.zeb_engine.specs.declared.replies.Reply.{Reply}
+use Rattle.zeb_engine.specs.declared.replies.Reply.TheVariants.{Done}
 use Rattle.zeb_engine.specs.Answers.{IsFailure, refused}
 use Rattle.zeb_change.specs.Refused.{why_of}
 use Rattle.zeb_change.specs.Conditions.{Conditions}
+use Rattle.zeb_change.specs.Outcomes.{register_refusal}
 use Rattle.zeb_image.specs.Holdings.{Holdings, base_named}
 use Rattle.zeb_change.specs.Base.{Base}
 use Rattle.zeb_image.specs.Image.{HasTexts, IsImage}
 use Rattle.zeb_image.specs.NameOf.{name_bytes}
-use Rattle.zeb_engine.specs.Checking.{FindsSound}
+use Rattle.zeb_engine.specs.Checking.{TellsSound}
 use Rattle.zeb_engine.specs.Steps.{Outcome, holding, ready, initialised, turned, created, dropped, reindexed, ruled, upgradable, upgraded}
 
 -- these conditions are those of a layout's version and of a profile, whose identifier rule has this pattern
@@ -51,6 +54,11 @@ IsRuled version profile c before = AreUnder version profile c × ((bases : List 
 -- the register may be upgraded
 abbrev pub IsUpgradable : List ℕ → List Directive → Conditions → Holdings → Type 0
 IsUpgradable version profile c before = AreUnder version profile c × ((bases : List Base) × (upgradable c before ≡ Ok bases))
+
+-- what a write answers whose work inside its transaction came to this
+abbrev pub answered : Result (Unit {0}) RegFault → Result Reply Refusal
+answered (Ok x) = Ok Done
+answered (Err fault) = Err (register_refusal fault)
 
 abbrev pub written : Conditions → Write → Holdings → Outcome
 written c (write.Init profile pattern) = initialised c
@@ -101,10 +109,10 @@ FailsAlone (write.Drop name id) result = Unit {0}
 FailsAlone (write.Reindex alloc profile) result = Unit {0}
 FailsAlone (write.Upgrade alloc profile) result = Unit {0}
 
--- a reindex is accepted over sound records alone
+-- a reindex goes by the kept records
 abbrev pub ReadsSound : Write → State → Result Reply Refusal → Type 0
 ReadsSound (write.Init profile pattern) s result = Unit {0}
 ReadsSound (write.Create name) s result = Unit {0}
 ReadsSound (write.Drop name id) s result = Unit {0}
-ReadsSound (write.Reindex alloc profile) s result = FindsSound profile.now s result
+ReadsSound (write.Reindex alloc profile) s result = IsStore s → TellsSound profile.now s.now.trees result
 ReadsSound (write.Upgrade alloc profile) s result = Unit {0}

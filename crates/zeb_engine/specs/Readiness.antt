@@ -8,7 +8,7 @@ use Rattle.zeb_profile.specs.Canonical.{canonical_text, pattern_text}
 use Rattle.zeb_profile.specs.Indexes.{identifier_pattern}
 use Rattle.zeb_register.specs.Formats.{plain_rows, version_of}
 use Rattle.zeb_register.specs.Sql.{HasRow}
-use Rattle.zeb_register.specs.Store.{IsStore, entry, meta_tree}
+use Rattle.zeb_register.specs.Store.{AreReadableTexts, IsStore, entry, meta_tree}
 use Rattle.zeb_engine.specs.declared.commands.Command.{Command}
 use Rattle.zeb_engine.specs.declared.commands.Command.TheVariants.{Init, Check, Reindex, Upgrade, Create, Drop, Stat, Dump, Change, Find, Scan, Analyse}
 use Rattle.zeb_change.specs.declared.refusals.Refusal.{Refusal}
@@ -23,13 +23,23 @@ pub record IsReadyFor (version : List ℕ) (profile : List Directive) (trees : T
   pub has_version : KeepsText trees (codes "version") version
   pub has_profile : KeepsText trees (codes "profile") (canonical_text profile)
 
--- Over which texts a command is refused so: no version is kept; one is, and not this one; this one is, and not this profile. Damage, and
--- a failure of the store, of memory or of a reader, tell nothing of them; with any other refusal the register is ready.
+-- One of two texts can't be read: that of the version, or, where this version is kept, the one of this name.
+abbrev pub HidesText : List ℕ → List ℕ → Trees → Type 0
+HidesText version name trees =
+    (¬ AreReadableTexts trees (codes "version")) ⊎ (KeepsText trees (codes "version") version × ¬ AreReadableTexts trees name)
+
+-- Over which texts a command is refused so: no version is kept; one is, and not this one; this one is, and not this profile; one of these
+-- texts can't be read, or they are those of a register that is ready, and damage is found behind them. Each of these leaves no other. A
+-- failure of the store, of memory or of a reader tells nothing of the texts; with any other refusal the register is ready.
 abbrev pub IsRefusedOver : List ℕ → List Directive → Trees → Refusal → Type 0
 IsRefusedOver version profile trees NotInitialised = (text : List ℕ) → ¬ KeepsText trees (codes "version") text
-IsRefusedOver version profile trees OldFormat = ((text : List ℕ) × KeepsText trees (codes "version") text) × ¬ KeepsText trees (codes "version") version
-IsRefusedOver version profile trees ProfileChanged = KeepsText trees (codes "version") version × ¬ KeepsText trees (codes "profile") (canonical_text profile)
-IsRefusedOver version profile trees Damaged = Unit {0}
+IsRefusedOver version profile trees OldFormat =
+    ((text : List ℕ) × KeepsText trees (codes "version") text) × (¬ KeepsText trees (codes "version") version)
+    × AreReadableTexts trees (codes "version")
+IsRefusedOver version profile trees ProfileChanged =
+    KeepsText trees (codes "version") version × (¬ KeepsText trees (codes "profile") (canonical_text profile))
+    × AreReadableTexts trees (codes "profile")
+IsRefusedOver version profile trees Damaged = HidesText version (codes "profile") trees ⊎ IsReadyFor version profile trees
 IsRefusedOver version profile trees (ReadFault file) = Unit {0}
 IsRefusedOver version profile trees Store = Unit {0}
 IsRefusedOver version profile trees Memory = Unit {0}
@@ -65,41 +75,33 @@ pub record IsReadyToReindex (version : List ℕ) (profile : List Directive) (tre
   pub has_version : KeepsText trees (codes "version") version
   pub has_rule : KeepsRule profile trees
 
--- over which texts a reindex is refused so
+-- Over which texts a reindex is refused so before it begins. Each case leaves no other, but a failure of the store or of memory.
 abbrev pub RefusesReindex : List ℕ → List Directive → Trees → Refusal → Type 0
 RefusesReindex version profile trees NotInitialised = (text : List ℕ) → ¬ KeepsText trees (codes "version") text
-RefusesReindex version profile trees OldFormat = ((text : List ℕ) × KeepsText trees (codes "version") text) × ¬ KeepsText trees (codes "version") version
-RefusesReindex version profile trees IdentifierRuleChanged = KeepsText trees (codes "version") version × ¬ KeepsRule profile trees
-RefusesReindex version profile trees Damaged = Unit {0}
+RefusesReindex version profile trees OldFormat =
+    ((text : List ℕ) × KeepsText trees (codes "version") text) × (¬ KeepsText trees (codes "version") version)
+    × AreReadableTexts trees (codes "version")
+RefusesReindex version profile trees IdentifierRuleChanged =
+    KeepsText trees (codes "version") version × (¬ KeepsRule profile trees) × AreReadableTexts trees (codes "identifier")
+RefusesReindex version profile trees Damaged = HidesText version (codes "identifier") trees
 RefusesReindex version profile trees Store = Unit {0}
 RefusesReindex version profile trees Memory = Unit {0}
-RefusesReindex version profile trees (ReadFault file) = Unit {0}
-RefusesReindex version profile trees other = IsReadyToReindex version profile trees
-
-abbrev pub ReindexesByTexts : {T : Type 0} → List ℕ → List Directive → State → Result T Refusal → Type 0
-ReindexesByTexts version profile s result =
-    IsStore s → MatchResult result (λ _. IsReadyToReindex version profile s.now.trees) (RefusesReindex version profile s.now.trees)
+RefusesReindex version profile trees other = ⊥
 
 -- ---- an upgrade: it takes this version and the first one
 
 abbrev pub KeepsUpgradable : List ℕ → Trees → Type 0
 KeepsUpgradable version trees = KeepsText trees (codes "version") version ⊎ KeepsText trees (codes "version") (version_of plain_rows)
 
-pub record IsReadyToUpgrade (version : List ℕ) (profile : List Directive) (trees : Trees) : Type 0 where
-  pub has_version : KeepsUpgradable version trees
-  pub has_profile : KeepsText trees (codes "profile") (canonical_text profile)
-
--- over which texts an upgrade is refused so
+-- over which texts an upgrade is refused so before it begins, in the same way
 abbrev pub RefusesUpgrade : List ℕ → List Directive → Trees → Refusal → Type 0
 RefusesUpgrade version profile trees NotInitialised = (text : List ℕ) → ¬ KeepsText trees (codes "version") text
-RefusesUpgrade version profile trees OldFormat = ((text : List ℕ) × KeepsText trees (codes "version") text) × ¬ KeepsUpgradable version trees
-RefusesUpgrade version profile trees ProfileChanged = KeepsUpgradable version trees × ¬ KeepsText trees (codes "profile") (canonical_text profile)
-RefusesUpgrade version profile trees Damaged = Unit {0}
+RefusesUpgrade version profile trees OldFormat =
+    ((text : List ℕ) × KeepsText trees (codes "version") text) × (¬ KeepsUpgradable version trees) × AreReadableTexts trees (codes "version")
+RefusesUpgrade version profile trees ProfileChanged =
+    KeepsUpgradable version trees × (¬ KeepsText trees (codes "profile") (canonical_text profile)) × AreReadableTexts trees (codes "profile")
+RefusesUpgrade version profile trees Damaged =
+    (¬ AreReadableTexts trees (codes "version")) ⊎ (KeepsUpgradable version trees × ¬ AreReadableTexts trees (codes "profile"))
 RefusesUpgrade version profile trees Store = Unit {0}
 RefusesUpgrade version profile trees Memory = Unit {0}
-RefusesUpgrade version profile trees (ReadFault file) = Unit {0}
-RefusesUpgrade version profile trees other = IsReadyToUpgrade version profile trees
-
-abbrev pub UpgradesByTexts : {T : Type 0} → List ℕ → List Directive → State → Result T Refusal → Type 0
-UpgradesByTexts version profile s result =
-    IsStore s → MatchResult result (λ _. IsReadyToUpgrade version profile s.now.trees) (RefusesUpgrade version profile s.now.trees)
+RefusesUpgrade version profile trees other = ⊥

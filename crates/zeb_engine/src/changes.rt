@@ -6,10 +6,9 @@ ghost use Rattle.sqlite.specs.State.{HasCleanDisk, Survives};
 ghost use Rattle.zeb_register.specs.Calls.{ChangesNothing};
 ghost use Rattle.zeb_register.specs.Formats.{version_of};
 ghost use Rattle.zeb_register.specs.Store.{IsStore};
-ghost use Rattle.zeb_engine.specs.PrivateChanging.{BeginsWith, last_of};
+ghost use Rattle.zeb_engine.specs.PrivateChanging.{BeginsWith, MayBegin, comes_to, last_of};
 ghost use Rattle.zeb_change.specs.Conditions.{Conditions};
 ghost use Rattle.zeb_engine.specs.Crashes.{Commits};
-ghost use Rattle.zeb_change.specs.Folding.{splits_of};
 ghost use Rattle.zeb_change.specs.Base.{Base};
 ghost use Rattle.zeb_image.specs.Holdings.{Holdings, base_named};
 ghost use Rattle.zeb_engine.specs.Costs.{Costs};
@@ -17,7 +16,7 @@ ghost use Rattle.zeb_image.specs.Image.{IsImage, Keeps};
 ghost use Rattle.zeb_image.specs.NameOf.{name_bytes};
 ghost use Rattle.zeb_change.specs.Refused.{NeverUnready, Meets};
 ghost use Rattle.zeb_change.specs.Reading.{HasFailedAt, NoneFailed, NoReadFault};
-ghost use Rattle.zeb_engine.specs.Steps.{changed_by_files, ready, start_of, turned};
+ghost use Rattle.zeb_engine.specs.Steps.{ready, start_of};
 ghost use Rattle.zeb_engine.specs.Transactions.{Commanded};
 ghost use Rattle.zeb_change.specs.Inside.{Stays};
 ghost use Rattle.zeb_change.specs.UnderWay.{conditions_of};
@@ -73,15 +72,12 @@ fn apply<S: Alter, L: Layout, R: Source>(
     ensures works { HasCleanDisk (state S.Store tx.new.conn.now) → IsTrue (state S.Store tx.old.conn.now).in_transaction
         → IsTrue (state S.Store tx.old.conn.now).is_open
         → (texts : List (List ℕ)) → map R.remaining readers.old ≡ map Some texts → NoneFailed R.has_failed readers.new
-        → Works (BeginsWith change.now.setting.kind (name_bytes change.now.name.now) change.now.found
-        (conditions_of (version_of L.format) change.now.setting))
-        (turned (conditions_of (version_of L.format) change.now.setting)
-        (changed_by_files (conditions_of (version_of L.format) change.now.setting) change.now.setting.kind
-        (name_bytes change.now.name.now) (splits_of texts)))
+        → Works (MayBegin (version_of L.format) change.now.setting (name_bytes change.now.name.now) change.now.found)
+        (comes_to (version_of L.format) change.now.setting (name_bytes change.now.name.now) texts)
         (state S.Store tx.old.conn.now) (state S.Store tx.new.conn.now) result }
     ensures honest { HasCleanDisk (state S.Store tx.new.conn.now) → IsTrue (state S.Store tx.old.conn.now).in_transaction
-        → (before : Holdings) → BeginsWith change.now.setting.kind (name_bytes change.now.name.now) change.now.found
-        (conditions_of (version_of L.format) change.now.setting) (state S.Store tx.old.conn.now).now.trees before
+        → (before : Holdings) → MayBegin (version_of L.format) change.now.setting (name_bytes change.now.name.now) change.now.found
+        (state S.Store tx.old.conn.now).now.trees before
         → IsStore (state S.Store tx.old.conn.now) → IsImage (state S.Store tx.old.conn.now).now.trees before
         → result ≢ Err Refusal.Damaged }
     ensures failed { NoneFailed R.has_failed readers.old → (file : ℕ) → HasFailedAt R.has_failed readers.new file
@@ -91,8 +87,8 @@ fn apply<S: Alter, L: Layout, R: Source>(
     ensures crash { Survives (state S.Store tx.old.conn.now) (state S.Store tx.new.conn.now) (λ _. ⊥) }
     ensures work { HasCleanDisk (state S.Store tx.new.conn.now) → IsTrue (state S.Store tx.old.conn.now).in_transaction
         → (texts : List (List ℕ)) → map R.remaining readers.old ≡ map Some texts
-        → OnOk result ((before : Holdings) → BeginsWith change.now.setting.kind (name_bytes change.now.name.now) change.now.found
-        (conditions_of (version_of L.format) change.now.setting) (state S.Store tx.old.conn.now).now.trees before
+        → OnOk result ((before : Holdings)
+        → MayBegin (version_of L.format) change.now.setting (name_bytes change.now.name.now) change.now.found (state S.Store tx.old.conn.now).now.trees before
         → IsStore (state S.Store tx.old.conn.now) → IsImage (state S.Store tx.old.conn.now).now.trees before
         → Costs L.row_work (conditions_of (version_of L.format) change.now.setting) change.now.setting.kind
         (name_bytes change.now.name.now) texts work.old work.new before) }
@@ -130,23 +126,17 @@ fn transact<S: Alter, L: Layout, R: Source>(
     ensures survives { Survives (state S.Store connection.old) (state S.Store connection.new)
         (λ db. IsTrue (state S.Store connection.old).is_open
         → (texts : List (List ℕ)) → map R.remaining readers.old ≡ map Some texts → NoneFailed R.has_failed readers.new
-        → Commits (BeginsWith change.now.setting.kind (name_bytes change.now.name.now) change.now.found
-        (conditions_of (version_of L.format) change.now.setting))
-        (turned (conditions_of (version_of L.format) change.now.setting)
-        (changed_by_files (conditions_of (version_of L.format) change.now.setting) change.now.setting.kind
-        (name_bytes change.now.name.now) (splits_of texts)))
+        → Commits (MayBegin (version_of L.format) change.now.setting (name_bytes change.now.name.now) change.now.found)
+        (comes_to (version_of L.format) change.now.setting (name_bytes change.now.name.now) texts)
         (state S.Store connection.old) db) }
     ensures serves { HasCleanDisk (state S.Store connection.new) → IsTrue (state S.Store connection.old).is_open
         → (texts : List (List ℕ)) → map R.remaining readers.old ≡ map Some texts → NoneFailed R.has_failed readers.new
-        → Serves (BeginsWith change.now.setting.kind (name_bytes change.now.name.now) change.now.found
-        (conditions_of (version_of L.format) change.now.setting))
-        (turned (conditions_of (version_of L.format) change.now.setting)
-        (changed_by_files (conditions_of (version_of L.format) change.now.setting) change.now.setting.kind
-        (name_bytes change.now.name.now) (splits_of texts)))
+        → Serves (MayBegin (version_of L.format) change.now.setting (name_bytes change.now.name.now) change.now.found)
+        (comes_to (version_of L.format) change.now.setting (name_bytes change.now.name.now) texts)
         (state S.Store connection.old) (state S.Store connection.new) result }
     ensures honest { HasCleanDisk (state S.Store connection.new) → IsTrue (state S.Store connection.old).is_open
-        → (before : Holdings) → BeginsWith change.now.setting.kind (name_bytes change.now.name.now) change.now.found
-        (conditions_of (version_of L.format) change.now.setting) (state S.Store connection.old).now.trees before
+        → (before : Holdings) → MayBegin (version_of L.format) change.now.setting (name_bytes change.now.name.now) change.now.found
+        (state S.Store connection.old).now.trees before
         → Keeps (state S.Store connection.old) before → result ≢ Err Refusal.Damaged }
     ensures failed { NoneFailed R.has_failed readers.old → (file : ℕ) → HasFailedAt R.has_failed readers.new file
         → result ≡ Err (Refusal.ReadFault file) }
@@ -154,8 +144,8 @@ fn transact<S: Alter, L: Layout, R: Source>(
     ensures ready { NeverUnready result }
     ensures work { HasCleanDisk (state S.Store connection.new) → IsTrue (state S.Store connection.old).is_open
         → (texts : List (List ℕ)) → map R.remaining readers.old ≡ map Some texts
-        → OnOk result ((before : Holdings) → BeginsWith change.now.setting.kind (name_bytes change.now.name.now) change.now.found
-        (conditions_of (version_of L.format) change.now.setting) (state S.Store connection.old).now.trees before
+        → OnOk result ((before : Holdings)
+        → MayBegin (version_of L.format) change.now.setting (name_bytes change.now.name.now) change.now.found (state S.Store connection.old).now.trees before
         → Keeps (state S.Store connection.old) before
         → Costs L.row_work (conditions_of (version_of L.format) change.now.setting) change.now.setting.kind
         (name_bytes change.now.name.now) texts work.old work.new before) }
@@ -211,14 +201,12 @@ pub(crate) fn change_database<S: Alter, L: Layout, R: Source>(
         (λ db. IsTrue (state S.Store connection.old).is_open
         → (texts : List (List ℕ)) → map R.remaining readers.old ≡ map Some texts → NoneFailed R.has_failed readers.new
         → Commits (IsReady (conditions_of (version_of L.format) setting.entry))
-        (turned (conditions_of (version_of L.format) setting.entry)
-        (changed_by_files (conditions_of (version_of L.format) setting.entry) setting.entry.kind (name_bytes name.now) (splits_of texts)))
+        (comes_to (version_of L.format) setting.entry (name_bytes name.now) texts)
         (state S.Store connection.old) db) }
     ensures serves { HasCleanDisk (state S.Store connection.new) → IsTrue (state S.Store connection.old).is_open
         → (texts : List (List ℕ)) → map R.remaining readers.old ≡ map Some texts → NoneFailed R.has_failed readers.new
         → Serves (IsReady (conditions_of (version_of L.format) setting.entry))
-        (turned (conditions_of (version_of L.format) setting.entry)
-        (changed_by_files (conditions_of (version_of L.format) setting.entry) setting.entry.kind (name_bytes name.now) (splits_of texts)))
+        (comes_to (version_of L.format) setting.entry (name_bytes name.now) texts)
         (state S.Store connection.old) (state S.Store connection.new) result }
     ensures honest { HasCleanDisk (state S.Store connection.new) → IsTrue (state S.Store connection.old).is_open
         → (before : Holdings)

@@ -15,6 +15,7 @@ ghost use Rattle.zeb_change.specs.Refused.{why_of, NeverUnready, Meets};
 ghost use Rattle.zeb_change.specs.Conditions.{conditions};
 ghost use Rattle.zeb_engine.specs.Alone.{Alone, FindSays};
 ghost use Rattle.zeb_engine.specs.Finding.{AreShown, asked_of};
+ghost use Rattle.zeb_engine.specs.Reads.{FindReads};
 ghost use Rattle.zeb_image.specs.Holdings.{Holdings};
 ghost use Rattle.zeb_change.specs.Base.{Base};
 ghost use Rattle.zeb_image.specs.Image.{Keeps};
@@ -132,6 +133,10 @@ pub(crate) fn find<S: Alter, L: Layout>(
     ensures alone { HasCleanDisk (state S.Store connection.new)
         → Alone L.format (FindSays profile.now question.entry.query.now question.entry.first question.entry.count) (name_bytes name.now)
         (state S.Store connection.old) result }
+    // No row is written, no term is read where the query's plan names its entries, and no more lists than those that it asks for.
+    ensures work { HasCleanDisk (state S.Store connection.new)
+        → OnOk result (FindReads L.format L.block_rows profile.now (name_bytes name.now) question.entry.query.now
+        (state S.Store connection.old) work.old work.new) }
 {
     // Its profile is some text's.
     profile.is_of_some_text();

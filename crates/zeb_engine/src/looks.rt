@@ -5,8 +5,8 @@ ghost use Rattle.sqlite.specs.Held.{state};
 ghost use Rattle.sqlite.specs.State.{HasCleanDisk, Survives};
 ghost use Rattle.zeb_register.specs.Formats.{version_of};
 ghost use Rattle.zeb_change.specs.Reading.{NoReadFault};
-ghost use Rattle.zeb_engine.specs.PrivateLooking.{FindsStanding, IsLook, RefusesLayout, RefusesRule, RefusesText, RefusesVersion, TellsStanding, TellsText};
-ghost use Rattle.zeb_engine.specs.Readiness.{IsReadyToReindex, KeepsText};
+ghost use Rattle.zeb_engine.specs.PrivateLooking.{FindsStanding, IsLook, RefusesText, RefusesVersion, TellsStanding, TellsText};
+ghost use Rattle.zeb_engine.specs.Readiness.{IsReadyToReindex, KeepsText, RefusesReindex, RefusesUpgrade};
 
 use crate::readiness::{IDENTIFIER, PROFILE, VERSION};
 use sqlite::{Alter, Connection};
@@ -68,7 +68,7 @@ pub(crate) fn check_rule<S: Alter, L: Layout>(
     requires idle { connection.old.in_transaction ≡ false }
     ensures idle { connection.new.in_transaction ≡ false }
     ensures look { HasCleanDisk (state S.Store connection.new)
-        → IsLook (λ trees _. IsReadyToReindex (version_of L.format) profile.now trees) (RefusesRule (version_of L.format) profile.now)
+        → IsLook (λ trees _. IsReadyToReindex (version_of L.format) profile.now trees) (RefusesReindex (version_of L.format) profile.now)
         (state S.Store connection.old) (state S.Store connection.new) result }
     ensures unread { NoReadFault result }
     ensures crash { Survives (state S.Store connection.old) (state S.Store connection.new) (λ _. ⊥) }
@@ -107,7 +107,7 @@ pub(crate) fn check_layout<S: Alter, L: Layout>(
     requires idle { connection.old.in_transaction ≡ false }
     ensures idle { connection.new.in_transaction ≡ false }
     ensures look { HasCleanDisk (state S.Store connection.new)
-        → IsLook (FindsStanding (version_of L.format) profile.now) (RefusesLayout (version_of L.format) profile.now)
+        → IsLook (FindsStanding (version_of L.format) profile.now) (RefusesUpgrade (version_of L.format) profile.now)
         (state S.Store connection.old) (state S.Store connection.new) result }
     ensures unread { NoReadFault result }
     ensures crash { Survives (state S.Store connection.old) (state S.Store connection.new) (λ _. ⊥) }

@@ -7,9 +7,8 @@ ghost use Rattle.zeb_register.specs.Formats.{version_of};
 ghost use Rattle.zeb_change.specs.declared.settings.Limits.{Limits};
 ghost use Rattle.zeb_change.specs.Conditions.{conditions};
 ghost use Rattle.zeb_change.specs.Reading.{NoReadFault};
-ghost use Rattle.zeb_engine.specs.Checking.{FindsSound, UpgradesTables};
+ghost use Rattle.zeb_engine.specs.Checking.{ReindexesTables, StaysUpgraded, UpgradesTables};
 ghost use Rattle.zeb_engine.specs.Crashes.{Commits};
-ghost use Rattle.zeb_engine.specs.Readiness.{ReindexesByTexts, UpgradesByTexts};
 ghost use Rattle.zeb_engine.specs.Steps.{reindexed, upgraded};
 ghost use Rattle.zeb_engine.specs.Transactions.{Commanded};
 ghost use Rattle.zeb_engine.specs.Works.{Always, Serves};
@@ -25,7 +24,8 @@ use zeb_profile::Profile;
 use zeb_register::{Layout, Rows};
 
 /// Puts the session's profile in the place of the register's, and makes the registers anew by it. `IdentifierRuleChanged` where the
-/// profiles have other rules for identifiers; `Damaged` where a kept record isn't one, or hasn't its identifier.
+/// profiles have other rules for identifiers; `Damaged` where a kept record isn't one, or hasn't its identifier, or where what the store
+/// lists can't be read.
 pub(crate) fn reindex<S: Alter, L: Layout>(
     alloc: Global,
     connection: &mut Connection<S>,
@@ -39,9 +39,8 @@ pub(crate) fn reindex<S: Alter, L: Layout>(
     ensures serves { HasCleanDisk (state S.Store connection.new) → (limits : Limits)
         → Serves Always (reindexed (conditions (version_of L.format) profile.now limits)) (state S.Store connection.old)
         (state S.Store connection.new) result }
-    ensures texts { HasCleanDisk (state S.Store connection.new)
-        → ReindexesByTexts (version_of L.format) profile.now (state S.Store connection.old) result }
-    ensures sound { HasCleanDisk (state S.Store connection.new) → FindsSound profile.now (state S.Store connection.old) result }
+    ensures told { HasCleanDisk (state S.Store connection.new)
+        → ReindexesTables (version_of L.format) profile.now (state S.Store connection.old) result }
     ensures unread { NoReadFault result }
 {
     // Its profile is some text's, and has a rule for identifiers.
@@ -66,16 +65,18 @@ pub(crate) fn upgrade<S: Alter, L: Layout>(
     ensures serves { HasCleanDisk (state S.Store connection.new) → (limits : Limits)
         → Serves Always (upgraded (conditions (version_of L.format) profile.now limits)) (state S.Store connection.old)
         (state S.Store connection.new) result }
-    ensures texts { HasCleanDisk (state S.Store connection.new)
-        → UpgradesByTexts (version_of L.format) profile.now (state S.Store connection.old) result }
     ensures told { HasCleanDisk (state S.Store connection.new)
         → UpgradesTables (version_of L.format) profile.now (state S.Store connection.old) result }
+    ensures stays { HasCleanDisk (state S.Store connection.new)
+        → StaysUpgraded (version_of L.format) profile.now (state S.Store connection.old) (state S.Store connection.new) result }
     ensures unread { NoReadFault result }
 {
     // What is shown is what was committed.
     let _settled = connection.is_autocommit();
-    // Its profile is some text's.
+    // Its profile is some text's, and both texts of the session are UTF-8.
     profile.is_of_some_text();
+    let _version = L::version();
+    let _text = profile.text();
     let standing = check_layout::<S, L>(connection, profile)?;
     match standing {
         Standing::Upgraded => Ok(Reply::Done),

@@ -1,33 +1,30 @@
 //! A register that commands are given to.
 
-ghost use Rattle.std.specs.Prelude.{◌≡◌, ◌≢◌, ◌⊎◌, ℕ, List, [], map, Some, Err, false, IsTrue, IfOk, IfErr, IsOkAnd, IsErrAnd, OnOk, length};
+ghost use Rattle.std.specs.Prelude.{◌≡◌, ◌⊎◌, [], map, Err, false, IsTrue, IfOk, IfErr, IsOkAnd, IsErrAnd, OnOk, length};
 ghost use Rattle.std.specs.List.{AllByRecursion};
 ghost use Rattle.std.specs.Result.{IsErr};
 ghost use Rattle.sqlite.specs.Held.{state};
 ghost use Rattle.sqlite.specs.State.{HasCleanDisk, IsLive, Opens, Survives};
-ghost use Rattle.zeb_engine.specs.Costs.{CommandCosts, CostsAlone};
+ghost use Rattle.zeb_engine.specs.Costs.{CommandCosts};
 ghost use Rattle.zeb_engine.specs.Reads.{CommandReads};
 ghost use Rattle.zeb_engine.specs.Alone.{AnswersAlone};
 ghost use Rattle.zeb_engine.specs.Analysed.{AnswersAnalysis};
 ghost use Rattle.zeb_engine.specs.Answers.{IsFailure, answer_of, refused};
 ghost use Rattle.zeb_change.specs.Refused.{why_of};
 ghost use Rattle.zeb_change.specs.Conditions.{conditions};
-ghost use Rattle.zeb_image.specs.NameOf.{name_bytes};
-ghost use Rattle.zeb_engine.specs.Checking.{ChecksTables, FindsSound, UpgradesTables};
-ghost use Rattle.zeb_engine.specs.Readiness.{GoesByTexts, LooksFirst, ReindexesByTexts, UpgradesByTexts};
-ghost use Rattle.zeb_change.specs.Reading.{HasFailedAt, NamesFailed, NoneFailed, NoReadFault};
-ghost use Rattle.zeb_engine.specs.Steps.{Step, TakesFiles, holding, OnlyAsks};
-ghost use Rattle.zeb_engine.specs.Transactions.{Commanded, CommandedBy, EnduresRefusal, IsDurable};
+ghost use Rattle.zeb_engine.specs.Checking.{ChecksTables, ReindexesTables, StaysUpgraded, UpgradesTables};
+ghost use Rattle.zeb_engine.specs.Readiness.{GoesByTexts, LooksFirst};
+ghost use Rattle.zeb_change.specs.Reading.{NoReadFault};
+ghost use Rattle.zeb_engine.specs.Steps.{Step, holding, OnlyAsks};
+ghost use Rattle.zeb_engine.specs.Transactions.{CommandedBy, EnduresRefusal, IsDurable};
 ghost use Rattle.zeb_register.specs.Calls.{ChangesNothing};
 ghost use Rattle.zeb_register.specs.Formats.{version_of};
 ghost use Rattle.zeb_register.specs.Store.{IsStore};
 
 use crate::analysis::analyse_files;
-use crate::changes::change_database;
 use crate::commands::Command;
 use crate::dump::dump;
 use crate::find::Question;
-use crate::readiness::check_ready;
 use crate::renewals::{reindex, upgrade};
 use crate::replies::Reply;
 use crate::scan::Around;
@@ -37,13 +34,12 @@ use crate::writes::init_register;
 use sqlite::{Alter, Connection};
 use std::alloc::Global;
 use std::marker::PhantomData;
-use zeb_change::{Kind, Limits, Refusal, Setting, check_readers};
-use zeb_image::DbName;
-use zeb_marc::{Slice, Source};
+use zeb_change::{Limits, Refusal};
 use zeb_profile::Profile;
 use zeb_register::{Layout, Work};
 
 mod asking;
+mod changing;
 mod writing;
 
 /// A register under a profile. No transaction is open between two commands.
@@ -71,17 +67,18 @@ impl<S: Alter + Drop, L: Layout> Drop for Session<S, L> {
 }
 
 impl<S: Alter, L: Layout> Session<S, L> {
-    ghost use Rattle.zeb_engine.specs.Works.{FindOpen, ServesBy, ServesCommand};
-    ghost use Rattle.zeb_engine.specs.Crashes.{Bears, CommitsBy, CommitsCommand, CommitsAdopted, CommitsOne, Endures, EnduresRun, KeepsDisk, Stands};
+    ghost use Rattle.zeb_engine.specs.Works.{FindOpen, ServesCommand};
+    ghost use Rattle.zeb_engine.specs.Crashes.{Bears, CommitsCommand, CommitsAdopted, CommitsOne, Endures, EnduresRun, KeepsDisk, Stands};
     ghost use Rattle.zeb_engine.specs.Headline.{Headline};
-    ghost use Rattle.zeb_engine.specs.Adopting.{StaysOpen};
+    ghost use Rattle.zeb_engine.specs.Adopting.{HasOtherTables, HasOwnTables, StaysOpen};
     ghost use Rattle.zeb_image.specs.Holdings.{Holdings};
     ghost use Rattle.zeb_image.specs.Image.{IsImage, Keeps};
     ghost use Rattle.zeb_register.specs.Sql.{KeepsTables};
     ghost use Rattle.zeb_register.specs.Tables.{store_schema};
 
-    /// Takes a store over: the tables that are absent are made, and no row changes. No work is counted yet. Refused
-    /// (`Store`, `Memory`), it gives the connection back, and the tables are as before.
+    /// Takes a store over: the tables of a store that has none are made, and no row changes. No work is counted yet. Refused
+    /// (`Store`, `Memory`), it gives the connection back, and the tables are as before. A store with other tables than this
+    /// store's six, as that of another program, is refused with `Store` before anything is written.
     pub fn adopt(
         alloc: Global,
         connection: Connection<S>,
@@ -89,6 +86,12 @@ impl<S: Alter, L: Layout> Session<S, L> {
         limits: Limits,
     ) -> Result<Session<S, L>, (Connection<S>, Refusal)>
         requires idle { connection.in_transaction ≡ false }
+        // What is taken over has this store's tables and no others.
+        ensures ours { IfOk result (λ session. HasCleanDisk (state S.Store session.connection)
+            → HasOwnTables (state S.Store session.connection)) }
+        // A store of other tables is refused, and nothing is done to it.
+        ensures other { HasOtherTables (state S.Store connection)
+            → IsErrAnd result (λ back. (back.0 ≡ connection) × (back.1 ≡ Refusal.Store)) }
         // A store that has all its tables is as it was, and so it holds what it held.
         ensures there { IfOk result (λ session. HasCleanDisk (state S.Store session.connection)
             → (state S.Store connection).now.schema ≡ store_schema
@@ -191,19 +194,19 @@ impl<S: Alter, L: Layout> Session<S, L> {
         // Of another command the texts of the store tell whether its register was ready, on any tables.
         ensures ready { HasCleanDisk (state S.Store self.new.connection) → LooksFirst command.now
             → GoesByTexts (version_of L.format) self.old.profile (state S.Store self.old.connection) result }
+        // A reindex goes by the texts and by the kept records, whatever the other tables hold.
         ensures reindexes { HasCleanDisk (state S.Store self.new.connection) → command.now ≡ Command.Reindex
-            → ReindexesByTexts (version_of L.format) self.old.profile (state S.Store self.old.connection) result }
-        // An accepted reindex has found each kept record sound, whatever the other tables hold.
-        ensures sound { HasCleanDisk (state S.Store self.new.connection) → command.now ≡ Command.Reindex
-            → FindsSound self.old.profile (state S.Store self.old.connection) result }
-        ensures upgrades { HasCleanDisk (state S.Store self.new.connection) → command.now ≡ Command.Upgrade
-            → UpgradesByTexts (version_of L.format) self.old.profile (state S.Store self.old.connection) result }
+            → ReindexesTables (version_of L.format) self.old.profile (state S.Store self.old.connection) result }
         // A check tells of all tables whether they are an image, whatever they hold.
         ensures checked { HasCleanDisk (state S.Store self.new.connection) → command.now ≡ Command.Check
             → ChecksTables (version_of L.format) self.old.profile (state S.Store self.old.connection) result }
         // So does an upgrade of those of the first version, before it changes them.
-        ensures upgraded { HasCleanDisk (state S.Store self.new.connection) → command.now ≡ Command.Upgrade
+        ensures upgrades { HasCleanDisk (state S.Store self.new.connection) → command.now ≡ Command.Upgrade
             → UpgradesTables (version_of L.format) self.old.profile (state S.Store self.old.connection) result }
+        // A register of the session's version has nothing to upgrade, whatever its other tables hold.
+        ensures stays { HasCleanDisk (state S.Store self.new.connection) → command.now ≡ Command.Upgrade
+            → StaysUpgraded (version_of L.format) self.old.profile (state S.Store self.old.connection)
+            (state S.Store self.new.connection) result }
         // A find, a scan and a stat are answered by the registers, on any tables that hold a content.
         ensures alone { HasCleanDisk (state S.Store self.new.connection)
             → AnswersAlone L.format self.old.profile command.now (state S.Store self.old.connection) result }
@@ -219,9 +222,11 @@ impl<S: Alter, L: Layout> Session<S, L> {
         ensures work { HasCleanDisk (state S.Store self.new.connection)
             → CommandCosts L.row_work (conditions (version_of L.format) self.old.profile self.old.limits) command.now
             (state S.Store self.old.connection) result self.new.work }
-        // An answered scan has read the terms that it was asked for, one more at most, and nothing else.
-        ensures scan_work { HasCleanDisk (state S.Store self.new.connection)
-            → CommandReads L.format L.row_work command.now (state S.Store self.old.connection) result self.new.work }
+        // An answered scan has read the terms that it was asked for, one more at most, and nothing else. An answered find has written
+        // nothing, read no term where its query's plan names its entries, and no more lists than those that it asks for.
+        ensures read_work { HasCleanDisk (state S.Store self.new.connection)
+            → CommandReads L.format L.row_work L.block_rows self.old.profile command.now
+            (state S.Store self.old.connection) result self.new.work }
     {
         let answer = self.carry_out(command);
         // What is shown is what was committed.
@@ -247,15 +252,14 @@ impl<S: Alter, L: Layout> Session<S, L> {
         ensures ready { HasCleanDisk (state S.Store self.new.connection) → LooksFirst command.now
             → GoesByTexts (version_of L.format) self.old.profile (state S.Store self.old.connection) result }
         ensures reindexes { HasCleanDisk (state S.Store self.new.connection) → command.now ≡ Command.Reindex
-            → ReindexesByTexts (version_of L.format) self.old.profile (state S.Store self.old.connection) result }
-        ensures sound { HasCleanDisk (state S.Store self.new.connection) → command.now ≡ Command.Reindex
-            → FindsSound self.old.profile (state S.Store self.old.connection) result }
-        ensures upgrades { HasCleanDisk (state S.Store self.new.connection) → command.now ≡ Command.Upgrade
-            → UpgradesByTexts (version_of L.format) self.old.profile (state S.Store self.old.connection) result }
+            → ReindexesTables (version_of L.format) self.old.profile (state S.Store self.old.connection) result }
         ensures checked { HasCleanDisk (state S.Store self.new.connection) → command.now ≡ Command.Check
             → ChecksTables (version_of L.format) self.old.profile (state S.Store self.old.connection) result }
-        ensures upgraded { HasCleanDisk (state S.Store self.new.connection) → command.now ≡ Command.Upgrade
+        ensures upgrades { HasCleanDisk (state S.Store self.new.connection) → command.now ≡ Command.Upgrade
             → UpgradesTables (version_of L.format) self.old.profile (state S.Store self.old.connection) result }
+        ensures stays { HasCleanDisk (state S.Store self.new.connection) → command.now ≡ Command.Upgrade
+            → StaysUpgraded (version_of L.format) self.old.profile (state S.Store self.old.connection)
+            (state S.Store self.new.connection) result }
         ensures failed { command.now ≡ Command.Init → IfErr result (λ refusal. IsFailure (refused (why_of refusal))) }
         ensures alone { HasCleanDisk (state S.Store self.new.connection)
             → AnswersAlone L.format self.old.profile command.now (state S.Store self.old.connection) result }
@@ -265,8 +269,9 @@ impl<S: Alter, L: Layout> Session<S, L> {
         ensures work { HasCleanDisk (state S.Store self.new.connection)
             → CommandCosts L.row_work (conditions (version_of L.format) self.old.profile self.old.limits) command.now
             (state S.Store self.old.connection) result self.new.work }
-        ensures scan_work { HasCleanDisk (state S.Store self.new.connection)
-            → CommandReads L.format L.row_work command.now (state S.Store self.old.connection) result self.new.work }
+        ensures read_work { HasCleanDisk (state S.Store self.new.connection)
+            → CommandReads L.format L.row_work L.block_rows self.old.profile command.now
+            (state S.Store self.old.connection) result self.new.work }
     {
         self.work = Work::default();
         match command {
@@ -323,120 +328,6 @@ impl<S: Alter, L: Layout> Session<S, L> {
                 analyse_files(self.alloc, &self.profile, self.limits, files)
             }
         }
-    }
-
-    /// Changes a database by files that are given as their bytes.
-    fn change(&mut self, kind: Kind, database: &DbName, files: &[Vec<u8>]) -> Result<Reply, Refusal>
-        ensures call { Commanded (state S.Store self.old.connection) (state S.Store self.new.connection) result }
-        ensures survives { Survives (state S.Store self.old.connection) (state S.Store self.new.connection)
-            (CommitsBy (TakesFiles (conditions (version_of L.format) self.old.profile self.old.limits) kind (name_bytes database.now) (map
-            (λ file. file.items) files.now)) (state S.Store self.old.connection)) }
-        ensures under { (self.new.profile ≡ self.old.profile) × (self.new.limits ≡ self.old.limits) }
-        ensures serves { HasCleanDisk (state S.Store self.new.connection)
-            → ServesBy (TakesFiles (conditions (version_of L.format) self.old.profile self.old.limits) kind (name_bytes database.now)
-            (map (λ file. file.items) files.now)) (state S.Store self.old.connection) (state S.Store self.new.connection) result }
-        ensures unread { NoReadFault result }
-        ensures ready { HasCleanDisk (state S.Store self.new.connection)
-            → GoesByTexts (version_of L.format) self.old.profile (state S.Store self.old.connection) result }
-        ensures work { HasCleanDisk (state S.Store self.new.connection)
-            → CostsAlone L.row_work (conditions (version_of L.format) self.old.profile self.old.limits) kind (name_bytes database.now)
-            (map (λ file. file.items) files.now) (state S.Store self.old.connection) result self.new.work }
-    {
-        let mut readers = Vec::with_capacity(self.alloc, files.len())?;
-        for file in files {
-            readers.push_reserved(Slice::new(file));
-        }
-        self.change_from(database, kind, &mut readers)
-    }
-
-    /// Changes a database by the records that the readers give, one held at a time. Refused, it changes nothing, and
-    /// nothing is said of what the readers have left.
-    pub fn update_from<R: Source>(
-        &mut self,
-        database: &DbName,
-        kind: Kind,
-        readers: &mut [R],
-    ) -> Result<Reply, Refusal>
-        ensures durable { HasCleanDisk (state S.Store self.new.connection) → IsDurable (state S.Store self.new.connection) }
-        ensures call { Commanded (state S.Store self.old.connection) (state S.Store self.new.connection) result }
-        ensures survives { Survives (state S.Store self.old.connection) (state S.Store self.new.connection) (λ db. (texts : List (List ℕ))
-            → map R.remaining readers.old ≡ map Some texts → NoneFailed R.has_failed readers.new
-            → CommitsBy (TakesFiles (conditions (version_of L.format) self.old.profile self.old.limits) kind
-            (name_bytes database.now) texts) (state S.Store self.old.connection) db) }
-        // A crash then leaves what the change left, or what was there before it.
-        ensures crash { HasCleanDisk (state S.Store self.new.connection) → (texts : List (List ℕ))
-            → map R.remaining readers.old ≡ map Some texts → NoneFailed R.has_failed readers.new
-            → Endures (TakesFiles (conditions (version_of L.format) self.old.profile self.old.limits) kind
-            (name_bytes database.now) texts) (state S.Store self.old.connection) (state S.Store self.new.connection) result }
-        ensures under { (self.new.profile ≡ self.old.profile) × (self.new.limits ≡ self.old.limits) }
-        ensures serves { HasCleanDisk (state S.Store self.new.connection) → (texts : List (List ℕ))
-            → map R.remaining readers.old ≡ map Some texts → NoneFailed R.has_failed readers.new
-            → ServesBy (TakesFiles (conditions (version_of L.format) self.old.profile self.old.limits) kind
-            (name_bytes database.now) texts) (state S.Store self.old.connection) (state S.Store self.new.connection) result }
-        // The texts of the store tell whether its register was ready, on any tables.
-        ensures ready { HasCleanDisk (state S.Store self.new.connection)
-            → GoesByTexts (version_of L.format) self.old.profile (state S.Store self.old.connection) result }
-        // A reader that has failed, also before the call, is named, whatever else would be refused.
-        ensures sound { NoneFailed R.has_failed readers.new ⊎ IsErrAnd result (NamesFailed R.has_failed readers.new) }
-        ensures fault { (file : ℕ) → result ≡ Err (Refusal.ReadFault file) → HasFailedAt R.has_failed readers.new file }
-        // Damage is answered only where the tables are the image of nothing that can be held, whatever the readers tell.
-        ensures honest { HasCleanDisk (state S.Store self.new.connection) → result ≡ Err Refusal.Damaged
-            → (before : Holdings) → ¬ Keeps (state S.Store self.old.connection) before }
-        // An accepted change has counted the work for the keys that its records change, and no other.
-        ensures work { HasCleanDisk (state S.Store self.new.connection) → (texts : List (List ℕ))
-            → map R.remaining readers.old ≡ map Some texts
-            → CostsAlone L.row_work (conditions (version_of L.format) self.old.profile self.old.limits) kind
-            (name_bytes database.now) texts (state S.Store self.old.connection) result self.new.work }
-    {
-        let answer = self.change_from(database, kind, readers);
-        // What is shown is what was committed.
-        let _settled = self.connection.is_autocommit();
-        answer
-    }
-
-    fn change_from<R: Source>(
-        &mut self,
-        database: &DbName,
-        kind: Kind,
-        readers: &mut [R],
-    ) -> Result<Reply, Refusal>
-        ensures call { Commanded (state S.Store self.old.connection) (state S.Store self.new.connection) result }
-        ensures survives { Survives (state S.Store self.old.connection) (state S.Store self.new.connection) (λ db. (texts : List (List ℕ))
-            → map R.remaining readers.old ≡ map Some texts → NoneFailed R.has_failed readers.new
-            → CommitsBy (TakesFiles (conditions (version_of L.format) self.old.profile self.old.limits) kind
-            (name_bytes database.now) texts) (state S.Store self.old.connection) db) }
-        ensures under { (self.new.profile ≡ self.old.profile) × (self.new.limits ≡ self.old.limits) }
-        ensures serves { HasCleanDisk (state S.Store self.new.connection) → (texts : List (List ℕ))
-            → map R.remaining readers.old ≡ map Some texts → NoneFailed R.has_failed readers.new
-            → ServesBy (TakesFiles (conditions (version_of L.format) self.old.profile self.old.limits) kind
-            (name_bytes database.now) texts) (state S.Store self.old.connection) (state S.Store self.new.connection) result }
-        ensures sound { NoneFailed R.has_failed readers.new ⊎ IsErrAnd result (NamesFailed R.has_failed readers.new) }
-        ensures fault { (file : ℕ) → result ≡ Err (Refusal.ReadFault file) → HasFailedAt R.has_failed readers.new file }
-        ensures ready { HasCleanDisk (state S.Store self.new.connection)
-            → GoesByTexts (version_of L.format) self.old.profile (state S.Store self.old.connection) result }
-        ensures honest { HasCleanDisk (state S.Store self.new.connection)
-            → (before : Holdings) → Keeps (state S.Store self.old.connection) before → result ≢ Err Refusal.Damaged }
-        ensures work { HasCleanDisk (state S.Store self.new.connection) → (texts : List (List ℕ))
-            → map R.remaining readers.old ≡ map Some texts
-            → CostsAlone L.row_work (conditions (version_of L.format) self.old.profile self.old.limits) kind
-            (name_bytes database.now) texts (state S.Store self.old.connection) result self.new.work }
-    {
-        self.work = Work::default();
-        check_readers(readers)?;
-        check_ready::<S, L>(&mut self.connection, &self.profile)?;
-        let setting = Setting {
-            alloc: self.alloc,
-            profile: &self.profile,
-            limits: self.limits,
-            kind,
-        };
-        change_database::<S, L, R>(
-            &mut self.connection,
-            &mut self.work,
-            setting,
-            database,
-            readers,
-        )
     }
 
     /// Carries out commands in turn, also after a refusal, and answers one for each. `Memory` where there is no room

@@ -1,9 +1,9 @@
 //! The tables of a store that is taken over.
 
-ghost use Rattle.std.specs.Prelude.{◌≡◌, ◌⊎◌, false, OnOk, OnErr, IfErr, IsTrue};
+ghost use Rattle.std.specs.Prelude.{◌≡◌, ◌⊎◌, Err, false, OnOk, OnErr, IfErr, IsTrue};
 ghost use Rattle.sqlite.specs.Held.{state};
 ghost use Rattle.sqlite.specs.State.{HasCleanDisk, Survives};
-ghost use Rattle.zeb_engine.specs.Adopting.{HoldsNothing, StaysOpen};
+ghost use Rattle.zeb_engine.specs.Adopting.{HasOtherTables, HoldsNothing, MayBeTaken, StaysOpen};
 ghost use Rattle.zeb_engine.specs.Crashes.{CommitsTables};
 ghost use Rattle.zeb_engine.specs.Transactions.{EnduresRefusal};
 ghost use Rattle.zeb_register.specs.Calls.{ChangesNothing};
@@ -12,9 +12,23 @@ ghost use Rattle.zeb_register.specs.Tables.{no_schema, store_schema};
 
 use sqlite::{Alter, Connection};
 use zeb_change::Refusal;
-use zeb_register::make_tables;
+use zeb_register::{is_bare_schema, is_store_schema, make_tables};
 
-/// Makes the tables that are absent, in one transaction. No row changes.
+/// Refuses a store (`Store`) that has tables or views, and not just this store's six tables.
+fn check_tables<S: Alter>(connection: &Connection<S>) -> Result<(), Refusal>
+    ensures ok { OnOk result (MayBeTaken (state S.Store connection.now)) }
+    ensures other { IfErr result (λ refusal. (refusal ≡ Refusal.Store) × HasOtherTables (state S.Store connection.now)) }
+{
+    let schema = connection.schema();
+    if is_bare_schema(schema) || is_store_schema(schema) {
+        Ok(())
+    } else {
+        Err(Refusal::Store)
+    }
+}
+
+/// Makes the tables of a store that has none, in one transaction, and leaves this store's six. No row changes. Any other
+/// store is refused (`Store`) before anything is written.
 pub(crate) fn make_absent_tables<S: Alter>(connection: &mut Connection<S>) -> Result<(), Refusal>
     requires idle { connection.old.in_transaction ≡ false }
     ensures idle { connection.new.in_transaction ≡ false }
@@ -34,7 +48,11 @@ pub(crate) fn make_absent_tables<S: Alter>(connection: &mut Connection<S>) -> Re
     ensures survives { Survives (state S.Store connection.old) (state S.Store connection.new)
         (CommitsTables (state S.Store connection.old)) }
     ensures failed { IfErr result (λ refusal. (refusal ≡ Refusal.Store) ⊎ (refusal ≡ Refusal.Memory)) }
+    ensures ours { OnOk result (MayBeTaken (state S.Store connection.old)) }
+    ensures other { HasOtherTables (state S.Store connection.old)
+        → (result ≡ Err Refusal.Store) × (connection.new ≡ connection.old) }
 {
+    check_tables(connection)?;
     let _settled = connection.is_autocommit();
     let mut tx = connection.transaction();
     make_tables(&mut tx)?;

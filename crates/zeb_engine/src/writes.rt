@@ -1,6 +1,6 @@
 //! The commands that write without reading records, each in one transaction.
 
-ghost use Rattle.std.specs.Prelude.{◌≡◌, ◌≢◌, false, [], Err, IsTrue, OnOk, OnErr, IfErr};
+ghost use Rattle.std.specs.Prelude.{◌≡◌, false, [], IsTrue, OnOk, OnErr, IfErr};
 ghost use Rattle.sqlite.specs.Held.{state};
 ghost use Rattle.sqlite.specs.State.{HasCleanDisk, KeepsCommit, Survives};
 ghost use Rattle.zeb_register.specs.Calls.{GoesOn};
@@ -10,7 +10,7 @@ ghost use Rattle.zeb_change.specs.declared.settings.Limits.{Limits};
 ghost use Rattle.zeb_engine.specs.Answers.{IsFailure, refused};
 ghost use Rattle.zeb_change.specs.Refused.{why_of, NeverUnready};
 ghost use Rattle.zeb_change.specs.Conditions.{Conditions, conditions};
-ghost use Rattle.zeb_engine.specs.Checking.{FindsSound};
+ghost use Rattle.zeb_engine.specs.Checking.{TellsSound};
 ghost use Rattle.zeb_engine.specs.Crashes.{Commits};
 ghost use Rattle.zeb_image.specs.Image.{IsImage};
 ghost use Rattle.zeb_image.specs.NameOf.{name_bytes};
@@ -19,7 +19,7 @@ ghost use Rattle.zeb_engine.specs.Steps.{holding, initialised, turned, created, 
 ghost use Rattle.zeb_engine.specs.Transactions.{Commanded};
 ghost use Rattle.zeb_change.specs.Inside.{Stays};
 ghost use Rattle.zeb_engine.specs.Works.{Always, IsReady, Serves, Works};
-ghost use Rattle.zeb_engine.specs.PrivateWriting.{AreOf, Begins, IsFree, IsKnown, FailsAlone, Fits, IsReached, IsRuled, IsUpgradable, PutsTexts, ReadsSound, written};
+ghost use Rattle.zeb_engine.specs.PrivateWriting.{AreOf, Begins, IsFree, IsKnown, FailsAlone, Fits, IsReached, IsRuled, IsUpgradable, PutsTexts, ReadsSound, answered, written};
 
 use crate::readiness::{IDENTIFIER, PROFILE, VERSION, existing_database};
 use crate::replies::Reply;
@@ -28,7 +28,7 @@ use std::alloc::Global;
 use zeb_change::Refusal;
 use zeb_image::{DbName, rebuild};
 use zeb_profile::Profile;
-use zeb_register::{DatabaseId, Layout, database_of, database_put, meta_put, wipe};
+use zeb_register::{DatabaseId, Layout, RegFault, database_of, database_put, meta_put, wipe};
 
 /// A command that writes.
 #[derive(Clone, Copy)]
@@ -60,7 +60,7 @@ fn put_texts<S: Alter>(
     version: &str,
     text: &str,
     pattern: &str,
-) -> Result<(), Refusal>
+) -> Result<(), RegFault>
     ensures same { tx.new.conn.ghost_name ≡ tx.old.conn.ghost_name }
     ensures ok { HasCleanDisk (state S.Store tx.new.conn.now) → IsTrue (state S.Store tx.old.conn.now).in_transaction
         → OnOk result (GoesOn (state S.Store tx.old.conn.now) (state S.Store tx.new.conn.now)) }
@@ -69,11 +69,8 @@ fn put_texts<S: Alter>(
     ensures put { HasCleanDisk (state S.Store tx.new.conn.now) → IsTrue (state S.Store tx.old.conn.now).in_transaction
         → IsStore (state S.Store tx.old.conn.now) → (state S.Store tx.old.conn.now).now.trees meta_tree ≡ []
         → OnOk result (PutsTexts version.now text.now pattern.now (state S.Store tx.old.conn.now) (state S.Store tx.new.conn.now)) }
-    ensures failed { IfErr result (λ refusal. IsFailure (refused (why_of refusal))) }
+    ensures failed { IfErr (answered result) (λ refusal. IsFailure (refused (why_of refusal))) }
     ensures crash { Survives (state S.Store tx.old.conn.now) (state S.Store tx.new.conn.now) (λ _. ⊥) }
-    ensures unread { NoReadFault result }
-    ensures ready { NeverUnready result }
-    ensures ruled { result ≢ Err Refusal.IdentifierRuleChanged }
 {
     meta_put(tx, VERSION, version)?;
     meta_put(tx, PROFILE, text)?;
@@ -86,44 +83,38 @@ fn init<S: Alter, L: Layout>(
     tx: &mut Transaction<'_, S>,
     profile: &Profile,
     pattern: &str,
-) -> Result<Reply, Refusal>
+) -> Result<(), RegFault>
     ensures same { tx.new.conn.ghost_name ≡ tx.old.conn.ghost_name }
     ensures stays { HasCleanDisk (state S.Store tx.new.conn.now) → IsTrue (state S.Store tx.old.conn.now).in_transaction
         → Stays (state S.Store tx.old.conn.now) (state S.Store tx.new.conn.now) result }
     ensures ok { HasCleanDisk (state S.Store tx.new.conn.now) → IsTrue (state S.Store tx.old.conn.now).in_transaction
-        → OnOk result (GoesOn (state S.Store tx.old.conn.now) (state S.Store tx.new.conn.now) × (result ≡ Ok Reply.Done)) }
+        → OnOk result (GoesOn (state S.Store tx.old.conn.now) (state S.Store tx.new.conn.now)) }
     ensures begun { HasCleanDisk (state S.Store tx.new.conn.now) → IsTrue (state S.Store tx.old.conn.now).in_transaction
         → IsStore (state S.Store tx.old.conn.now)
         → OnOk result (IsStore (state S.Store tx.new.conn.now)
         × ((c : Conditions) → AreOf (version_of L.format) profile.now pattern.now c
         → IsImage (state S.Store tx.new.conn.now).now.trees (holding c []))) }
-    ensures failed { IfErr result (λ refusal. IsFailure (refused (why_of refusal))) }
+    ensures failed { IfErr (answered result) (λ refusal. IsFailure (refused (why_of refusal))) }
     ensures crash { Survives (state S.Store tx.old.conn.now) (state S.Store tx.new.conn.now) (λ _. ⊥) }
-    ensures unread { NoReadFault result }
-    ensures ready { NeverUnready result }
-    ensures ruled { result ≢ Err Refusal.IdentifierRuleChanged }
 {
     wipe(tx)?;
     put_texts(tx, L::version(), profile.text(), pattern)?;
-    Ok(Reply::Done)
+    Ok(())
 }
 
 /// An empty database under a name that has none.
-fn create<S: Alter, L: Layout>(tx: &mut Transaction<'_, S>, name: &DbName) -> Result<Reply, Refusal>
+fn create<S: Alter, L: Layout>(tx: &mut Transaction<'_, S>, name: &DbName) -> Result<(), RegFault>
     ensures same { tx.new.conn.ghost_name ≡ tx.old.conn.ghost_name }
     ensures stays { HasCleanDisk (state S.Store tx.new.conn.now) → IsTrue (state S.Store tx.old.conn.now).in_transaction
         → Stays (state S.Store tx.old.conn.now) (state S.Store tx.new.conn.now) result }
     ensures works { HasCleanDisk (state S.Store tx.new.conn.now) → IsTrue (state S.Store tx.old.conn.now).in_transaction
         → IsTrue (state S.Store tx.old.conn.now).is_open → (c : Conditions)
         → Works (IsFree (name_bytes name.now) c) (turned c (created (name_bytes name.now))) (state S.Store tx.old.conn.now)
-        (state S.Store tx.new.conn.now) result }
+        (state S.Store tx.new.conn.now) (answered result) }
     ensures crash { Survives (state S.Store tx.old.conn.now) (state S.Store tx.new.conn.now) (λ _. ⊥) }
-    ensures unread { NoReadFault result }
-    ensures ready { NeverUnready result }
-    ensures ruled { result ≢ Err Refusal.IdentifierRuleChanged }
 {
     database_put(tx, name.as_str(), 0)?;
-    Ok(Reply::Done)
+    Ok(())
 }
 
 /// No database of this id, with its records and postings.
@@ -131,21 +122,18 @@ fn take<S: Alter, L: Layout>(
     tx: &mut Transaction<'_, S>,
     name: &DbName,
     id: DatabaseId,
-) -> Result<Reply, Refusal>
+) -> Result<(), RegFault>
     ensures same { tx.new.conn.ghost_name ≡ tx.old.conn.ghost_name }
     ensures stays { HasCleanDisk (state S.Store tx.new.conn.now) → IsTrue (state S.Store tx.old.conn.now).in_transaction
         → Stays (state S.Store tx.old.conn.now) (state S.Store tx.new.conn.now) result }
     ensures works { HasCleanDisk (state S.Store tx.new.conn.now) → IsTrue (state S.Store tx.old.conn.now).in_transaction → (c : Conditions)
         → Works (λ trees before. (c.version ≡ version_of L.format)
         × IsKnown (name_bytes name.now) id.0 c trees before) (turned c (dropped (name_bytes name.now))) (state S.Store tx.old.conn.now)
-        (state S.Store tx.new.conn.now) result }
+        (state S.Store tx.new.conn.now) (answered result) }
     ensures crash { Survives (state S.Store tx.old.conn.now) (state S.Store tx.new.conn.now) (λ _. ⊥) }
-    ensures unread { NoReadFault result }
-    ensures ready { NeverUnready result }
-    ensures ruled { result ≢ Err Refusal.IdentifierRuleChanged }
 {
     L::database_take(tx, id)?;
-    Ok(Reply::Done)
+    Ok(())
 }
 
 /// The registers made anew by this profile, whose text is kept then.
@@ -153,24 +141,22 @@ fn reindex<S: Alter, L: Layout>(
     alloc: Global,
     tx: &mut Transaction<'_, S>,
     profile: &Profile,
-) -> Result<Reply, Refusal>
+) -> Result<(), RegFault>
     ensures same { tx.new.conn.ghost_name ≡ tx.old.conn.ghost_name }
     ensures stays { HasCleanDisk (state S.Store tx.new.conn.now) → IsTrue (state S.Store tx.old.conn.now).in_transaction
         → Stays (state S.Store tx.old.conn.now) (state S.Store tx.new.conn.now) result }
     ensures works { HasCleanDisk (state S.Store tx.new.conn.now) → IsTrue (state S.Store tx.old.conn.now).in_transaction
         → IsTrue (state S.Store tx.old.conn.now).is_open → (c : Conditions)
         → Works (λ _ before. IsRuled (version_of L.format) profile.now c before) (reindexed c) (state S.Store tx.old.conn.now)
-        (state S.Store tx.new.conn.now) result }
+        (state S.Store tx.new.conn.now) (answered result) }
     ensures crash { Survives (state S.Store tx.old.conn.now) (state S.Store tx.new.conn.now) (λ _. ⊥) }
-    ensures unread { NoReadFault result }
-    ensures ready { NeverUnready result }
     ensures sound { HasCleanDisk (state S.Store tx.new.conn.now) → IsTrue (state S.Store tx.old.conn.now).in_transaction
-        → FindsSound profile.now (state S.Store tx.old.conn.now) result }
-    ensures ruled { result ≢ Err Refusal.IdentifierRuleChanged }
+        → IsStore (state S.Store tx.old.conn.now) → TellsSound profile.now (state S.Store tx.old.conn.now).now.trees
+        (answered result) }
 {
     rebuild::<S, L>(alloc, tx, profile)?;
     meta_put(tx, PROFILE, profile.text())?;
-    Ok(Reply::Done)
+    Ok(())
 }
 
 /// The registers made anew in this layout, whose version is kept then.
@@ -178,44 +164,38 @@ fn upgrade<S: Alter, L: Layout>(
     alloc: Global,
     tx: &mut Transaction<'_, S>,
     profile: &Profile,
-) -> Result<Reply, Refusal>
+) -> Result<(), RegFault>
     ensures same { tx.new.conn.ghost_name ≡ tx.old.conn.ghost_name }
     ensures stays { HasCleanDisk (state S.Store tx.new.conn.now) → IsTrue (state S.Store tx.old.conn.now).in_transaction
         → Stays (state S.Store tx.old.conn.now) (state S.Store tx.new.conn.now) result }
     ensures works { HasCleanDisk (state S.Store tx.new.conn.now) → IsTrue (state S.Store tx.old.conn.now).in_transaction
         → IsTrue (state S.Store tx.old.conn.now).is_open → (c : Conditions)
         → Works (λ _ before. IsUpgradable (version_of L.format) profile.now c before) (upgraded c) (state S.Store tx.old.conn.now)
-        (state S.Store tx.new.conn.now) result }
+        (state S.Store tx.new.conn.now) (answered result) }
     ensures crash { Survives (state S.Store tx.old.conn.now) (state S.Store tx.new.conn.now) (λ _. ⊥) }
-    ensures unread { NoReadFault result }
-    ensures ready { NeverUnready result }
-    ensures ruled { result ≢ Err Refusal.IdentifierRuleChanged }
 {
     rebuild::<S, L>(alloc, tx, profile)?;
     meta_put(tx, VERSION, L::version())?;
-    Ok(Reply::Done)
+    Ok(())
 }
 
 fn apply<S: Alter, L: Layout>(
     tx: &mut Transaction<'_, S>,
     write: &Write<'_>,
-) -> Result<Reply, Refusal>
+) -> Result<(), RegFault>
     ensures same { tx.new.conn.ghost_name ≡ tx.old.conn.ghost_name }
     ensures stays { HasCleanDisk (state S.Store tx.new.conn.now) → IsTrue (state S.Store tx.old.conn.now).in_transaction
         → Stays (state S.Store tx.old.conn.now) (state S.Store tx.new.conn.now) result }
     ensures works { HasCleanDisk (state S.Store tx.new.conn.now) → IsTrue (state S.Store tx.old.conn.now).in_transaction
         → (c : Conditions) → IsReached write.now (state S.Store tx.old.conn.now)
         → Works (Fits (version_of L.format) c write.now) (written c write.now) (state S.Store tx.old.conn.now)
-        (state S.Store tx.new.conn.now) result }
+        (state S.Store tx.new.conn.now) (answered result) }
     ensures begun { HasCleanDisk (state S.Store tx.new.conn.now) → IsTrue (state S.Store tx.old.conn.now).in_transaction
         → OnOk result (Begins (version_of L.format) write.now (state S.Store tx.old.conn.now) (state S.Store tx.new.conn.now)) }
-    ensures failed { FailsAlone write.now result }
+    ensures failed { FailsAlone write.now (answered result) }
     ensures crash { Survives (state S.Store tx.old.conn.now) (state S.Store tx.new.conn.now) (λ _. ⊥) }
-    ensures unread { NoReadFault result }
-    ensures ready { NeverUnready result }
     ensures sound { HasCleanDisk (state S.Store tx.new.conn.now) → IsTrue (state S.Store tx.old.conn.now).in_transaction
-        → ReadsSound write.now (state S.Store tx.old.conn.now) result }
-    ensures ruled { result ≢ Err Refusal.IdentifierRuleChanged }
+        → ReadsSound write.now (state S.Store tx.old.conn.now) (answered result) }
 {
     match write {
         Write::Init { profile, pattern } => init::<S, L>(tx, profile, pattern),
@@ -226,7 +206,7 @@ fn apply<S: Alter, L: Layout>(
     }
 }
 
-/// The reply is there before the commit, which is the last that the store is asked.
+/// The commit is the last that the store is asked.
 pub(crate) fn transact<S: Alter, L: Layout>(
     connection: &mut Connection<S>,
     write: &Write<'_>,
@@ -246,13 +226,12 @@ pub(crate) fn transact<S: Alter, L: Layout>(
     ensures unread { NoReadFault result }
     ensures ready { NeverUnready result }
     ensures sound { HasCleanDisk (state S.Store connection.new) → ReadsSound write.now (state S.Store connection.old) result }
-    ensures ruled { result ≢ Err Refusal.IdentifierRuleChanged }
 {
     let _settled = connection.is_autocommit();
     let mut tx = connection.transaction();
-    let reply = apply::<S, L>(&mut tx, write)?;
+    apply::<S, L>(&mut tx, write)?;
     tx.commit()?;
-    Ok(reply)
+    Ok(Reply::Done)
 }
 
 /// The register holds no database then, under this profile.

@@ -15,7 +15,8 @@ use Rattle.zeb_profile.specs.declared.registers.Register.{Register}
 use Rattle.zeb_profile.specs.declared.registers.Register.TheVariants.{Word, Phrase, Number}
 use Rattle.zeb_extract.specs.declared.keys.Key.{Key}
 use Rattle.zeb_extract.specs.declared.keys.Occurrence.{Occurrence}
-use Rattle.zeb_extract.specs.Order.{register_rank, key_order, occurrence_order, TellsApart}
+use Rattle.zeb_profile.specs.Indexes.{register_code}
+use Rattle.zeb_extract.specs.Order.{key_order, occurrence_order, TellsApart}
 use Rattle.zeb_extract.proofs.Members.{no_member, first_member, later_member, member_cases}
 
 module _ {K : Type 0} {R : K → K → Ordering} (o : IsTotalOrder R) (apart : TellsApart R) where
@@ -63,7 +64,7 @@ module _ {K : Type 0} {R : K → K → Ordering} (o : IsTotalOrder R) (apart : T
 pub key_total : IsTotalOrder key_order
 key_total =
     then_total (on_total (λ (k : Key). k.index) nat_cmp_total)
-    (then_total (on_total (λ (k : Key). register_rank k.register) nat_cmp_total) (on_total (λ (k : Key). k.term) nat_list_cmp_total))
+    (then_total (on_total (λ (k : Key). register_code k.register) nat_cmp_total) (on_total (λ (k : Key). k.term) nat_list_cmp_total))
 
 pub occurrence_total : IsTotalOrder occurrence_order
 occurrence_total =
@@ -81,7 +82,7 @@ numbers_apart x y e = ranked x y Equal (sym e)
 texts_apart : TellsApart (slice_cmp nat_cmp)
 texts_apart x y e = same_text x y (sym (texts_ties x y ∙ ap is_eq e))
 
-registers_apart : (r s : Register) → register_rank r ≡ register_rank s → r ≡ s
+registers_apart : (r s : Register) → register_code r ≡ register_code s → r ≡ s
 registers_apart Word Word e = refl
 registers_apart Word Phrase e = absurd (omega arith)
 registers_apart Word Number e = absurd (omega arith)

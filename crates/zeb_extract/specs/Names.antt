@@ -1,4 +1,4 @@
--- The names of the faults of an identifier, as they are printed.
+-- The names of the faults of an identifier, as they are printed (this project's own).
 use Rattle.std.specs.Prelude.{ℕ, List, codes}
 use Rattle.zeb_extract.specs.declared.naming.IdentFault.{IdentFault}
 use Rattle.zeb_extract.specs.declared.naming.IdentFault.TheVariants.{NoIdentifier, BadIdentifier, Memory}

@@ -1,26 +1,20 @@
--- The order of occurrences: by index, register (word, phrase, number), term by its UTF-8 bytes, unit and place.
-use Rattle.std.specs.Prelude.{◌≡◌, ℕ, List}
+-- The order of occurrences: by index, register (word, phrase, number), term by its UTF-8 bytes, unit and place (this project's
+-- own).
+use Rattle.std.specs.Prelude.{◌≡◌, List}
 use Rattle.std.specs.declared.cmp.Ordering.{Ordering}
 use Rattle.std.specs.declared.cmp.Ordering.TheVariants.{Equal}
 use Rattle.std.specs.Ordering.{nat_cmp, ordering_then}
 use Rattle.std.specs.Cmp.Lexicographic.{slice_cmp}
 use Rattle.std.specs.List.Sorted.{IsStrictlySortedBy}
-use Rattle.zeb_profile.specs.declared.registers.Register.{Register}
-use Rattle.zeb_profile.specs.declared.registers.Register.TheVariants.{Word, Phrase, Number}
+use Rattle.zeb_profile.specs.Indexes.{register_code}
 use Rattle.zeb_extract.specs.declared.keys.Key.{Key}
 use Rattle.zeb_extract.specs.declared.keys.Occurrence.{Occurrence}
-
--- where a register stands among the three
-abbrev pub register_rank : Register → ℕ
-register_rank Word = 0
-register_rank Phrase = 1
-register_rank Number = 2
 
 -- index, then register, then term
 abbrev pub key_order : Key → Key → Ordering
 key_order a b =
     ordering_then (nat_cmp a.index b.index)
-    (ordering_then (nat_cmp (register_rank a.register) (register_rank b.register)) (slice_cmp nat_cmp a.term b.term))
+    (ordering_then (nat_cmp (register_code a.register) (register_code b.register)) (slice_cmp nat_cmp a.term b.term))
 
 -- key, then unit, then place in the unit
 abbrev pub occurrence_order : Occurrence → Occurrence → Ordering

@@ -1,27 +1,29 @@
--- A record as an example: the units of "Moby Dick", and a profile that sends the date of publication (MARC 21, field 260,
--- subfield c) to the number register of an index `Date`.
-use Rattle.std.specs.Prelude.{ℕ, List, [], ◌∷◌, codes, Some, None}
+-- A record as an example: the units of "Moby Dick", and two profiles, as texts and as what they say. The smaller sends the date of
+-- publication (MARC 21, field 260, subfield c) to the number register of an index `Date`.
+use Rattle.std.specs.Prelude.{ℕ, List, [], ◌∷◌, ◌++◌, codes, Some, None}
+use Rattle.std.specs.List.{flat_map}
 use Rattle.zeb_marc.specs.Contents.{UnitText}
+use Rattle.zeb_marc.specs.Worked.{worked_units}
 use Rattle.zeb_profile.specs.declared.directives.Directive.{Directive}
 use Rattle.zeb_profile.specs.declared.directives.Directive.TheVariants.{Store, Identifier, Att, Melm, All}
 use Rattle.zeb_profile.specs.declared.registers.Register.{Register}
 use Rattle.zeb_profile.specs.declared.registers.Register.TheVariants.{Word, Phrase, Number}
 use Rattle.zeb_extract.specs.declared.keys.Occurrence.{Occurrence}
 
--- the control number, the title, the remainder of the title, and the date
+-- *Moby Dick*: the control number, the title, the remainder of the title, and the date
 abbrev pub moby_dick : List UnitText
-moby_dick =
-    record { seq = 1; tag = codes "001"; code = None; text = codes "a1" }
-    ∷ record { seq = 2; tag = codes "245"; code = Some 97; text = codes "Moby Dick :" }
-    ∷ record { seq = 3; tag = codes "245"; code = Some 98; text = codes "or, the whale /" }
-    ∷ record { seq = 4; tag = codes "260"; code = Some 99; text = codes "c1851." }
-    ∷ []
+moby_dick = worked_units
 
--- `identifier 001` and `melm 260$c Date:n`
+-- a profile of dates alone
+abbrev pub date_text : List ℕ
+date_text = codes "identifier 001\nmelm 260$c Date:n\nstore books.db\n"
+
+-- what that text says
 abbrev pub date_profile : List Directive
 date_profile =
     Identifier (record { tag = codes "001"; code = None })
     ∷ Melm (record { tag = codes "260"; code = Some 99 }) (record { name = codes "Date"; register = Number } ∷ [])
+    ∷ Store (codes "books.db")
     ∷ []
 
 -- a number in the register of dates, at place 1 of a unit
@@ -30,6 +32,24 @@ date_at seq number = record { key = record { index = 0; register = Number; term 
 
 -- a whole profile: words and phrases of the title, words of the other title subfields, numbers of the date, and any words of
 -- a data field
+abbrev pub title_lines : List (List ℕ)
+title_lines =
+    codes "store books.db"
+    ∷ codes "identifier 001"
+    ∷ codes "att 4 Title"
+    ∷ codes "att 31 Date"
+    ∷ codes "att 1016 Any"
+    ∷ codes "melm 245$a Title:w,Title:p"
+    ∷ codes "melm 245 Title:w"
+    ∷ codes "melm 260$c Date:n"
+    ∷ codes "all Any"
+    ∷ []
+
+-- the lines, each ended by LF (10)
+abbrev pub title_text : List ℕ
+title_text = flat_map (λ line. line ++ 10 ∷ []) title_lines
+
+-- what that text says
 abbrev pub title_profile : List Directive
 title_profile =
     Store (codes "books.db")

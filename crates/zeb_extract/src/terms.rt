@@ -40,14 +40,6 @@ impl Term {
     {
         self.text.as_str()
     }
-
-    /// The text, taken out. It takes no memory.
-    pub fn into_string(self) -> String
-        ensures { string_bytes result ≡ self }
-    {
-        let Term { text } = self;
-        text
-    }
 }
 
 impl Clone for Term {

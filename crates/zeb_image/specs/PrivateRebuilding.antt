@@ -1,13 +1,14 @@
 -- What only the contracts of private functions speak of; no public clause reaches it.
 -- Registers on their way: which of the kept records have their postings in them.
 use Rattle.std.specs.Prelude.{◌≡◌, ◌≢◌, ◌↔◌, ℕ, ℤ, pos, List}
-use Rattle.std.specs.List.{Contains}
 use Rattle.sqlite.specs.Tree.{Trees}
 use Rattle.zeb_profile.specs.declared.directives.Directive.{Directive}
 use Rattle.zeb_extract.specs.declared.keys.Occurrence.{Occurrence}
-use Rattle.zeb_register.specs.Content.{Content, IsStorable, IsStorablePosting, posted}
+use Rattle.zeb_register.specs.Content.{Content, IsStorable, posted}
 use Rattle.zeb_register.specs.Formats.{Format, holds_in}
 use Rattle.zeb_register.specs.Store.{HasRecord}
+use Rattle.zeb_change.specs.declared.pending.Pending.{Pending}
+use Rattle.zeb_change.specs.Noted.{WillHold}
 use Rattle.zeb_change.specs.Occurs.{OccursIn}
 
 -- the database keeps a record of this number that has the occurrence
@@ -16,14 +17,17 @@ RowOccurs profile lists id n o =
     (ident : List ℕ) × (bytes : List ℕ) × HasRecord lists id (pos n) ident bytes
     × OccursIn profile (record { sysno = n; ident = ident; bytes = bytes }) o
 
--- every layout can store the postings of these occurrences under this number
-abbrev pub CanBePosted : ℕ → List Occurrence → Type 0
-CanBePosted sysno found = (o : Occurrence) → Contains found o → IsStorablePosting o.key (record { sysno = sysno; seq = o.seq; pos = o.pos })
-
 -- the registers hold a content of which this holds, and which every layout can store
 pub record HoldsSuch (format : Format) (trees : Trees) (P : Content → Type 0) : Type 0 where
   pub content : Content
   pub held : holds_in format trees content
+  pub storable : IsStorable content
+  pub is : P content
+
+-- the same, once the noted changes are written
+pub record WillHoldSuch (format : Format) (trees : Trees) (id : ℤ) (pending : Pending) (P : Content → Type 0) : Type 0 where
+  pub content : Content
+  pub held : WillHold format trees id pending content
   pub storable : IsStorable content
   pub is : P content
 

@@ -15,16 +15,18 @@ ghost use Rattle.zeb_image.specs.Image.{AreBases, IsImageOf};
 ghost use Rattle.zeb_image.specs.Rebuilding.{AreReadableLists, AreSound, AreSoundIn};
 ghost use Rattle.zeb_image.specs.PrivateRebuilding.{HoldsSuch, IsPosted, LacksDatabase};
 
-use crate::rebuilding_records::record_post;
+use crate::rebuilding_records::record_note;
 use sqlite::{Alter, Transaction};
 use std::alloc::Global;
+use zeb_change::{Pending, write_pending, write_where_full};
 use zeb_profile::Profile;
 use zeb_register::{
-    DatabaseId, Layout, RegFault, databases_inside, record_from_inside, registers_wipe,
+    DatabaseId, Layout, RegFault, Work, databases_inside, record_from_inside, registers_wipe,
 };
 
 /// Takes every row of the registers out, in whichever format, and puts in this layout's rows of what the kept records have under the
-/// profile. Texts, databases and records stay. One record is held at a time.
+/// profile. Texts, databases and records stay. One record is held at a time, and what is noted of keys, some 64 MB at most: each key of a
+/// database is written once each time that so much is noted, and once at the end, in the order of keys.
 ///
 /// `Damaged` where a record isn't one of ISO 2709 with the identifier that it is kept under, where its number isn't 1 to 999,999,999, and
 /// where a row of the lists can't be read.
@@ -61,7 +63,8 @@ pub fn rebuild<S: Alter, L: Layout>(
     Ok(())
 }
 
-/// Puts the postings of a database's records in, which has none. Its records are read one after the other.
+/// Puts the postings of a database's records in, which has none. Its records are read one after the other and their keys noted, which are
+/// written where they are many and behind the last record.
 fn database_post<S: Alter, L: Layout>(
     alloc: Global,
     tx: &mut Transaction<'_, S>,
@@ -90,12 +93,15 @@ fn database_post<S: Alter, L: Layout>(
         → LacksDatabase db.0 before → AreReadable (state S.Store tx.old.conn.now).now.trees db.0
         → ¬ AreSoundIn profile.now (state S.Store tx.old.conn.now).now.trees db.0 }
 {
+    let mut work = Work::default();
+    let mut pending = Pending::new(alloc);
     let mut next: u64 = 0;
     for _turn in 0..u64::MAX {
         let Some(record) = record_from_inside(tx, db, next)? else {
-            return Ok(());
+            return write_pending::<S, L>(tx, alloc, &mut work, db, &mut pending);
         };
-        record_post::<S, L>(alloc, tx, profile, db, &record)?;
+        record_note(alloc, profile, &mut pending, &record)?;
+        write_where_full::<S, L>(tx, alloc, &mut work, db, &mut pending)?;
         next = record.sysno + 1;
     }
     // Numbers that rise come to an end before this, so the store gave others.

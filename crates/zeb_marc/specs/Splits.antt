@@ -1,7 +1,8 @@
 -- A stream of records, by ISO 2709 (a record begins with its length in five digits): runs of separators (CR, LF and
 -- space, at most 65,535 in one run) and slices, each as long as its own first five digits say. Behind the last slice
 -- stands the end, with or without separators before it, or a fault: a slice that is cut off, whose length isn't digits
--- or is too small for a record, or a run that is too long.
+-- or is too small for a record, or a run that is too long. ISO 2709 knows no separators: that they may stand there, how many, and
+-- the faults of a stream are this project's own rules.
 use Rattle.std.specs.Prelude.{◌≡◌, ℕ, zero, suc, ◌≤◌, Bool, true, false, ◌||◌, List, [], ◌∷◌, ◌++◌, length, take, drop, Option, Some, None, nat_lt, ◌==◌, if◌then◌else◌, Result, Ok, Err, ◌⊎◌}
 use Rattle.std.specs.List.{list_all, prefix_len}
 use Rattle.zeb_marc.specs.declared.faults.MarcFault.{MarcFault}

@@ -18,8 +18,3 @@ pub use records::Marc;
 pub use sources::{FromRead, ReadFailed, Slice, Source};
 pub use stream::{RecordBuf, next_record};
 pub use units::{Unit, Units};
-
-#[cfg(test)]
-mod stream_tests;
-#[cfg(test)]
-mod tests;

@@ -1,6 +1,6 @@
 //! What a program asks of paths.
 
-ghost use Rattle.std.specs.Prelude.{◌≡◌, ℕ, List, Option, false, string_bytes, IfOk};
+ghost use Rattle.std.specs.Prelude.{◌≡◌, ℕ, List, Option, Some, false, string_bytes, IfOk};
 
 use sqlite::{Alter, Connection};
 use std::alloc::{AllocError, AllocFailed, Global};
@@ -58,8 +58,10 @@ pub trait Paths {
     /// The bytes of the file at a path, where the paths tell them.
     ghost tells: { Self → List ℕ → Option (List ℕ) };
 
-    /// What stands at a path: `None` where nothing does, or neither a file nor a folder. Links are followed.
-    fn kind(&self, path: &str) -> Option<PathKind>;
+    /// What stands at a path: `None` where nothing does, or neither a file nor a folder. Links are followed. Where the paths tell
+    /// the bytes of a file, it is a file.
+    fn kind(&self, path: &str) -> Option<PathKind>
+        ensures file { (bytes : List ℕ) → tells self.now path.now ≡ Some bytes → result ≡ Some PathKind.File };
 
     /// The names in a folder, in any order.
     fn names(&self, alloc: Global, path: &str) -> Result<Vec<String>, NamesFault>;

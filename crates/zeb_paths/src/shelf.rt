@@ -1,6 +1,8 @@
 //! Paths in memory, for tests.
 
-ghost use Rattle.std.specs.Prelude.{None};
+ghost use Rattle.std.specs.Prelude.{◌≡◌};
+ghost use Rattle.std.specs.Option.{option_map};
+ghost use Rattle.zeb_paths.specs.Told.{first_at, told_at};
 
 use crate::paths::{NamesFault, OpenFailed, PathKind, Paths};
 use sqlite::{Alter, Connection};
@@ -15,7 +17,8 @@ pub struct Shelved<'a> {
     pub bytes: Option<&'a [u8]>,
 }
 
-/// Files in memory: a folder stands at each path that the path of a file goes through.
+/// Files in memory: a folder stands at each path that the path of a file goes through, unless a file stands there. Contracts are
+/// told the bytes of each file, that of the first where several have one path.
 #[derive(Drop)]
 pub struct Shelf<'a, S: Alter + Drop> {
     files: &'a [Shelved<'a>],
@@ -37,6 +40,18 @@ impl<'a> Shelved<'a> {
     }
 }
 
+/// The first file at a path.
+fn file_at<'a>(files: &'a [Shelved<'a>], path: &str) -> Option<&'a Shelved<'a>>
+    ensures { option_map (λ file. file.now) result ≡ first_at files.now path.now }
+{
+    for file in files {
+        if file.path == path {
+            return Some(file);
+        }
+    }
+    None
+}
+
 /// Adds a name, unless it is there.
 fn add_name(alloc: Global, names: &mut Vec<String>, name: &str) -> Result<(), AllocError> {
     if !names.iter().any(|known| known.as_str() == name) {
@@ -50,18 +65,14 @@ impl<'a, S: Alter + Drop> Paths for Shelf<'a, S> {
 
     type Store = S;
 
-    ghost tells = { λ _ _. None };
+    ghost tells = { λ shelf path. told_at shelf.files.now path };
 
     fn kind(&self, path: &str) -> Option<PathKind> {
-        for file in self.files {
-            if file.path == path {
-                return Some(PathKind::File);
-            }
-            if file.below(path).is_some() {
-                return Some(PathKind::Folder);
-            }
+        if file_at(self.files, path).is_some() {
+            return Some(PathKind::File);
         }
-        None
+        let is_folder = self.files.iter().any(|file| file.below(path).is_some());
+        is_folder.then_some(PathKind::Folder)
     }
 
     fn names(&self, alloc: Global, path: &str) -> Result<Vec<String>, NamesFault> {
@@ -80,9 +91,12 @@ impl<'a, S: Alter + Drop> Paths for Shelf<'a, S> {
     }
 
     fn reader(&self, path: String) -> ShelfReader<'a> {
-        let found = self.files.iter().find(|file| file.path == path.as_str());
+        let bytes = match file_at(self.files, path.as_str()) {
+            Some(file) => file.bytes.map(Slice::new),
+            None => None,
+        };
         ShelfReader {
-            bytes: found.and_then(|file| file.bytes).map(Slice::new),
+            bytes,
             failed: false,
         }
     }
@@ -107,7 +121,7 @@ pub struct ShelfReader<'a> {
 }
 
 impl Source for ShelfReader<'_> {
-    ghost remaining = { λ _. None };
+    ghost remaining = { λ s. s.bytes };
 
     ghost has_failed = { λ s. s.failed };
 

@@ -1,6 +1,7 @@
 //! The files at and below the paths that a user names.
 
-ghost use Rattle.std.specs.Prelude.{◌≤◌};
+ghost use Rattle.std.specs.Prelude.{◌≡◌, ◌≤◌, ◌∷◌, [], ℕ, List, Some, None, Ok, IfOk, map, string_bytes};
+ghost use Rattle.zeb_paths.specs.Walks.{GivesFile, SeesFile, paths_left};
 
 use crate::paths::{NamesFault, PathKind, Paths};
 use std::alloc::{AllocError, AllocFailed, Global};
@@ -29,6 +30,17 @@ impl<T: Drop> From<AllocFailed<T>> for WalkFault {
     }
 }
 
+/// What stands at the next path of a walk.
+#[derive(Debug, Drop)]
+enum Seen {
+    /// A file, with its path.
+    File(String),
+    /// A folder, whose names are now the next paths.
+    Folder,
+    /// There is no further path.
+    End,
+}
+
 /// A path that is still to be looked at, and the level that it has if it is a folder.
 #[derive(Debug, Drop)]
 struct Step {
@@ -48,12 +60,16 @@ pub struct Walk<'a, P: Paths> {
 
 impl<'a, P: Paths> Walk<'a, P> {
     /// A walk over these paths, from left to right.
-    pub fn new(alloc: Global, paths: &'a P, named: &[String]) -> Result<Walk<'a, P>, AllocError> {
+    pub fn new(alloc: Global, paths: &'a P, named: &[String]) -> Result<Walk<'a, P>, AllocError>
+        ensures paths { IfOk result (λ walk. walk.paths ≡ paths.entry) }
+        ensures left { IfOk result (λ walk. paths_left walk.steps.items ≡ map string_bytes named.now) }
+    {
         let mut steps = Vec::new(alloc);
-        for path in named.iter().rev() {
+        for path in named {
             let path = path.clone()?;
             steps.push(Step { path, level: 1 })?;
         }
+        steps.reverse();
         Ok(Walk {
             alloc,
             paths,
@@ -61,25 +77,49 @@ impl<'a, P: Paths> Walk<'a, P> {
         })
     }
 
-    /// The path of the next file, or `None` behind the last. After a fault the walk is of no use.
-    pub fn next_file(&mut self) -> Result<Option<String>, WalkFault> {
+    /// The path of the next file, or `None` behind the last. After a fault the walk is of no use. A file of which the paths
+    /// tell the bytes is given by its own path.
+    pub fn next_file(&mut self) -> Result<Option<String>, WalkFault>
+        ensures paths { self.new.paths ≡ self.old.paths }
+        ensures told { (path bytes : List ℕ) (rest : List (List ℕ)) → paths_left self.old.steps.items ≡ path ∷ rest
+            → P.tells self.old.paths.now path ≡ Some bytes → GivesFile path result × (paths_left self.new.steps.items ≡ rest) }
+        ensures ended { paths_left self.old.steps.items ≡ [] → result ≡ Ok None }
+    {
         for _ in 0..u64::MAX {
-            let Some(step) = self.steps.pop() else {
-                return Ok(None);
-            };
-            match self.paths.kind(step.path.as_str()) {
-                Some(PathKind::File) => return Ok(Some(step.path)),
-                Some(PathKind::Folder) if step.level <= GREATEST_LEVEL => self.enter(step)?,
-                _ => return Err(WalkFault::Unreadable(step.path)),
+            match self.look()? {
+                Seen::File(path) => return Ok(Some(path)),
+                Seen::End => return Ok(None),
+                Seen::Folder => {}
             }
         }
         // So many folders without a file are none that could be held.
         Err(WalkFault::Memory)
     }
 
+    /// Looks at the next path.
+    fn look(&mut self) -> Result<Seen, WalkFault>
+        ensures paths { self.new.paths ≡ self.old.paths }
+        ensures told { (path bytes : List ℕ) (rest : List (List ℕ)) → paths_left self.old.steps.items ≡ path ∷ rest
+            → P.tells self.old.paths.now path ≡ Some bytes → SeesFile path result × (paths_left self.new.steps.items ≡ rest) }
+        ensures ended { paths_left self.old.steps.items ≡ [] → result ≡ Ok Seen.End }
+    {
+        let Some(step) = self.steps.pop() else {
+            return Ok(Seen::End);
+        };
+        match self.paths.kind(step.path.as_str()) {
+            Some(PathKind::File) => Ok(Seen::File(step.path)),
+            Some(PathKind::Folder) if step.level <= GREATEST_LEVEL => {
+                self.enter(step)?;
+                Ok(Seen::Folder)
+            }
+            _ => Err(WalkFault::Unreadable(step.path)),
+        }
+    }
+
     /// Puts what stands in a folder before what is left.
     fn enter(&mut self, folder: Step) -> Result<(), WalkFault>
         requires { folder.level ≤ 32 }
+        ensures paths { self.new.paths ≡ self.old.paths }
     {
         let mut names = match self.paths.names(self.alloc, folder.path.as_str()) {
             Ok(names) => names,

@@ -9,6 +9,7 @@ pub mod StoreLaws
 pub mod PlainWords
 pub mod WordsBack
 pub mod TargetsBack
+pub mod TargetsOnce
 pub mod LinesBack
 pub mod StorePaths
 pub mod DirectivesBack
@@ -17,3 +18,4 @@ pub mod SoundLists
 pub mod ProfilesBack
 pub mod SaysProps
 pub mod Comments
+pub mod FirstFault

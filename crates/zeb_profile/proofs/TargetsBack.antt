@@ -59,7 +59,7 @@ pub step_ok : {A B E : Type 0} (r : Result A E) (f : A → Result B E) (y : B) �
 step_ok (Ok x) f y h = (x, refl, h)
 step_ok (Err e) f y h = absurd (cc)
 
-unless_ok : {A E : Type 0} (b : Bool) (e : E) (r : Result A E) (y : A) → cond b (Err e) r ≡ Ok y → (b ≡ false) × (r ≡ Ok y)
+pub unless_ok : {A E : Type 0} (b : Bool) (e : E) (r : Result A E) (y : A) → cond b (Err e) r ≡ Ok y → (b ≡ false) × (r ≡ Ok y)
 unless_ok true e r y h = absurd (cc)
 unless_ok false e r y h = (refl, h)
 

@@ -120,7 +120,7 @@ store_path (Att number name ∷ others) = store_path others
 store_path (All targets ∷ others) = store_path others
 store_path (Identifier pattern ∷ others) = store_path others
 
--- the numbers by which the tables know the registers
+-- the number of a register: by it registers are ordered, and tables know them (this project's own)
 abbrev pub register_code : Register → ℕ
 register_code Word = 0
 register_code Phrase = 1

@@ -1,10 +1,15 @@
 -- Laws of profiles and their canonical texts.
-use Rattle.std.specs.Prelude.{◌≡◌, ℕ, List, [], ◌∷◌, ◌++◌, codes, map, not, filter, Option, Some, Ok}
+use Rattle.std.specs.Prelude.{◌≡◌, ◌↔◌, ◌⊎◌, ℕ, List, [], ◌∷◌, ◌++◌, codes, map, not, filter, Option, Some, None, Result, Ok, Err}
+use Rattle.std.specs.List.{IsDistinct}
 use Rattle.zeb_profile.specs.declared.directives.Directive.{Directive}
 use Rattle.zeb_profile.specs.declared.directives.Directive.TheVariants.{Store}
+use Rattle.zeb_profile.specs.declared.directives.Placed.{Placed}
+use Rattle.zeb_profile.specs.declared.faults.ProfileFault.{ProfileFault}
+use Rattle.zeb_profile.specs.declared.faults.ProfileFaultKind.{ProfileFaultKind}
 use Rattle.zeb_profile.specs.Canonical.{canonical_text}
-use Rattle.zeb_profile.specs.Indexes.{identifier_pattern, index_by_use, index_names, all_pairs, store_path, unit_targets}
-use Rattle.zeb_profile.specs.Profiles.{is_store, profile_of, telling_lines}
+use Rattle.zeb_profile.specs.Directives.{directive_of}
+use Rattle.zeb_profile.specs.Indexes.{identifier_pattern, index_by_use, index_names, all_pairs, same_pair, store_path, unit_targets}
+use Rattle.zeb_profile.specs.Profiles.{directive_after, directives_in, first_clash, is_store, lack_of, profile_of, telling_lines}
 
 abbrev pub without_store : List Directive → List Directive
 without_store directives = filter (λ directive. not (is_store directive)) directives
@@ -51,3 +56,43 @@ telling_texts text = map (λ line. line.1) (telling_lines text)
 abbrev pub CommentsSayNothing : Type 0
 CommentsSayNothing = (text other : List ℕ) (directives : List Directive)
     → telling_texts text ≡ telling_texts other → profile_of text ≡ Ok directives → profile_of other ≡ Ok directives
+
+-- no two targets of a unit are one pair, whatever its tag and code
+abbrev pub EachTargetOnce : Type 0
+EachTargetOnce = (directives : List Directive) (tag : List ℕ) (code : Option ℕ)
+    → IsProfile directives → IsDistinct same_pair (unit_targets directives tag code)
+
+-- what a numbered line says, read alone
+abbrev pub said_alone : ℕ × List ℕ → ℕ × Result Directive ProfileFaultKind
+said_alone line = (line.0, directive_of line.1)
+
+-- a line that says its directive
+abbrev pub said_soundly : Placed → ℕ × Result Directive ProfileFaultKind
+said_soundly read = (read.line, Ok read.directive)
+
+-- each line, read alone, says the directive that has its number, and none of these may not stand behind those before it
+pub record AreSaid (lines : List (ℕ × List ℕ)) (placed : List Placed) : Type 0 where
+  pub said : map said_alone lines ≡ map said_soundly placed
+  pub apart : (before : List Directive) (directive : Directive) (after : List Directive)
+      → directives_in placed ≡ before ++ directive ∷ after → first_clash before directive ≡ None
+
+-- the line of this number has this fault, and those before it have none
+pub record IsFirstFaulty (lines : List (ℕ × List ℕ)) (fault : ProfileFault) : Type 0 where
+  pub before : List (ℕ × List ℕ)
+  pub line : List ℕ
+  pub after : List (ℕ × List ℕ)
+  pub whole : lines ≡ before ++ (fault.line, line) ∷ after
+  pub earlier : List Placed
+  pub sound : AreSaid before earlier
+  pub faulty : directive_after (directives_in earlier) line ≡ Err fault.kind
+
+-- no line has a fault, and together they lack something
+pub record LacksSomething (lines : List (ℕ × List ℕ)) (fault : ProfileFault) : Type 0 where
+  pub placed : List Placed
+  pub sound : AreSaid lines placed
+  pub lacks : lack_of placed ≡ Some fault
+
+-- a text is refused by the fault of its first faulty line, or, where no line has a fault, by what all together lack
+abbrev pub FirstFaultIsAnswered : Type 0
+FirstFaultIsAnswered = (text : List ℕ) (fault : ProfileFault)
+    → (profile_of text ≡ Err fault) ↔ (IsFirstFaulty (telling_lines text) fault ⊎ LacksSomething (telling_lines text) fault)

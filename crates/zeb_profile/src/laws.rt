@@ -1,6 +1,6 @@
 //! Laws of profiles, each the contract of a function that does nothing.
 ghost use Rattle.zeb_profile.specs.Examples.{FourLinesAreRead, UnknownIndexIsFound};
-ghost use Rattle.zeb_profile.specs.Laws.{CanonicalTextReadsBack, CommentsSayNothing, OneTextSaysTheSame, StoreSaysNothingElse};
+ghost use Rattle.zeb_profile.specs.Laws.{CanonicalTextReadsBack, CommentsSayNothing, EachTargetOnce, FirstFaultIsAnswered, OneTextSaysTheSame, StoreSaysNothingElse};
 
 /// The canonical text and all that is asked of indexes, units and identifiers don't depend on the `store` line.
 pub fn store_says_nothing_else()
@@ -22,6 +22,17 @@ pub fn one_text_says_the_same()
 /// profile.
 pub fn comments_say_nothing()
     ensures { CommentsSayNothing }
+{}
+
+/// A text is refused by the fault of its first faulty line: each line before it says a directive that may stand behind the
+/// ones before. Where no line has a fault, it is refused by what all of them lack, and by nothing else.
+pub fn first_fault_is_answered()
+    ensures { FirstFaultIsAnswered }
+{}
+
+/// A unit has each of its targets, a pair of an index and a register, once: whatever its tag and code.
+pub fn each_target_once()
+    ensures { EachTargetOnce }
 {}
 
 /// Two profiles that the definitions alone read: one of four directives, one with a fault.

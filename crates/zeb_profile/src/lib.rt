@@ -20,13 +20,10 @@ mod unit_targets;
 
 pub use faults::{ProfileFault, ProfileFaultKind};
 pub use laws::{
-    canonical_text_reads_back, comments_say_nothing, examples, one_text_says_the_same,
-    store_says_nothing_else,
+    canonical_text_reads_back, comments_say_nothing, each_target_once, examples,
+    first_fault_is_answered, one_text_says_the_same, store_says_nothing_else,
 };
 pub use lookups::Profile;
 pub use patterns::UnitPattern;
 pub use registers::Register;
 pub use unit_targets::Targets;
-
-#[cfg(test)]
-mod tests;

@@ -17,7 +17,7 @@ pub enum Register {
 }
 
 impl Register {
-    /// The number by which the tables know the register: 0, 1 or 2.
+    /// The register's number, by which registers are ordered and tables know them: 0, 1 or 2.
     pub fn code(self) -> u8
         ensures { result ≡ register_code self }
     {

@@ -43,6 +43,3 @@ pub use plans::{
 pub use queries::{Attribute, Connective, Head, Leaf, Query, Tree};
 pub use reading::read_pqf;
 pub use scanning::plan_scan;
-
-#[cfg(test)]
-mod tests;

@@ -2,8 +2,10 @@
 use Rattle.std.proofs.Common.{◌≡◌, ◌≢◌, ◌↔◌, ◌⊎◌, ◌∙◌, ◌<◌, ◌≤◌, ◌+◌, ℕ, List, [], ◌∷◌, ◌++◌, length, refl, sym, ap, subst, inl, inr, Less, Equal, nat_cmp, arith, length-append}
 use Rattle.std.specs.Cmp.{IsTotalOrder, on_total, nat_cmp_total}
 use Rattle.std.specs.Cmp.Lexicographic.{slice_cmp, nat_list_cmp_total}
+use Rattle.std.specs.List.{sum_by}
 use Rattle.std.specs.List.Sorted.{IsStrictlySortedBy}
 use Rattle.std.proofs.lemmas.Cmp.{ranked, tied_itself}
+use Rattle.std.proofs.lemmas.List.Sums.{sum_by-cons}
 use Rattle.std.proofs.lemmas.Bool.Decides.{nat_tests}
 use Rattle.sqlite_rules.specs.Lists.{Has}
 use Rattle.sqlite_rules.proofs.ListLemmas.{all_has, has_left, has_right, has_either}
@@ -228,3 +230,8 @@ counted_upto n newest sysno term old new upto (inr fresh) t h = elim (has_end ol
   | inl there ↦ omega (arith, upto t there)
   | inr same ↦ omega (arith, ap (λ (x : TermCount). x.records) same)
 ]
+
+-- nothing is counted of any element
+pub none_in_sum : {X : Type 0} (xs : List X) → sum_by (λ (x : X). 0) xs ≡ 0
+none_in_sum [] = refl
+none_in_sum {X} (x ∷ xs) = omega (arith, sum_by-cons (λ (x : X). 0) x xs, none_in_sum xs)

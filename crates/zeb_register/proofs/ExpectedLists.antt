@@ -11,7 +11,7 @@ use Rattle.sqlite_rules.specs.Lists.{Has}
 use Rattle.sqlite_value.proofs.OrderLemmas.{row_cmp_total, value_cmp-Int, value_cmp-Text}
 use Rattle.zeb_profile.specs.declared.Register.{Register}
 use Rattle.zeb_profile.specs.declared.Register.TheVariants.{Word, Phrase, Number}
-use Rattle.zeb_extract.specs.Order.{register_rank}
+use Rattle.zeb_profile.specs.Indexes.{register_code}
 use Rattle.zeb_register.specs.declared.catalog.ListedDatabase.{ListedDatabase}
 use Rattle.zeb_register.specs.declared.expected.Expected.{Expected}
 use Rattle.zeb_register.specs.declared.expected.KeyPosting.{KeyPosting}
@@ -50,7 +50,7 @@ record_lower a b less =
 pub records_rise : (records : List Record) → IsStrictlySortedBy number_order records → IsStrictlySortedBy row_cmp (map record_shown records)
 records_rise records up = strictly_mapped number_order row_cmp record_shown records (λ a b here there. record_lower a b) up
 
-pub rank_is : (r : Register) → register_rank r ≡ code_of_register r
+pub rank_is : (r : Register) → register_code r ≡ code_of_register r
 rank_is Word = refl
 rank_is Phrase = refl
 rank_is Number = refl
@@ -70,7 +70,7 @@ then_joined Equal Equal c d = refl
 pub posting_lower : (a b : KeyPosting) → key_posting_order a b ≡ Less → row_cmp (posting_shown a) (posting_shown b) ≡ Less
 posting_lower a b less =
     let index = nat_cmp a.key.index b.key.index in
-    let rank = nat_cmp (register_rank a.key.register) (register_rank b.key.register) in
+    let rank = nat_cmp (register_code a.key.register) (register_code b.key.register) in
     let term = slice_cmp nat_cmp a.key.term b.key.term in
     let sysno = nat_cmp a.posting.sysno b.posting.sysno in
     let seq = nat_cmp a.posting.seq b.posting.seq in

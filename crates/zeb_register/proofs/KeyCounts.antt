@@ -13,7 +13,8 @@ use Rattle.sqlite_rules.proofs.ProbeLemmas.{has_mapped, mapped_has}
 use Rattle.sqlite_value.proofs.OrderLemmas.{value_cmp-Int, value_cmp-Text}
 use Rattle.zeb_blocks.specs.declared.postings.Posting.{Posting}
 use Rattle.zeb_extract.specs.declared.keys.Key.{Key}
-use Rattle.zeb_extract.specs.Order.{key_order, register_rank}
+use Rattle.zeb_profile.specs.Indexes.{register_code}
+use Rattle.zeb_extract.specs.Order.{key_order}
 use Rattle.zeb_extract.proofs.Rising.{key_total, keys_apart}
 use Rattle.zeb_register.specs.declared.expected.KeyPosting.{KeyPosting}
 use Rattle.zeb_register.specs.declared.key_counts.KeyCount.{KeyCount}
@@ -231,7 +232,7 @@ then_low Equal Equal Greater d h = absurd (let e : Greater ≡ Less = h in cc)
 
 counts_lower : (a b : KeyCount) → count_order a b ≡ Less → row_cmp (count_shown a) (count_shown b) ≡ Less
 counts_lower a b less =
-    let low = then_low (nat_cmp a.key.index b.key.index) (nat_cmp (register_rank a.key.register) (register_rank b.key.register)) (slice_cmp nat_cmp a.key.term b.key.term) (row_cmp (Int (pos a.records) ∷ []) (Int (pos b.records) ∷ [])) less in
+    let low = then_low (nat_cmp a.key.index b.key.index) (nat_cmp (register_code a.key.register) (register_code b.key.register)) (slice_cmp nat_cmp a.key.term b.key.term) (row_cmp (Int (pos a.records) ∷ []) (Int (pos b.records) ∷ [])) less in
     rw (
       value_cmp-Int (pos a.key.index) (pos b.key.index),
       value_cmp-Int (pos (code_of_register a.key.register)) (pos (code_of_register b.key.register)),

@@ -1,5 +1,6 @@
 pub mod StatementForms
 pub mod ValueKinds
+pub mod Columns
 pub mod RowLemmas
 pub mod Scans
 pub mod Edits

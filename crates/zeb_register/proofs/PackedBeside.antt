@@ -14,7 +14,8 @@ use Rattle.sqlite_value.proofs.OrderLemmas.{row_cmp_total, value_cmp-Int, value_
 use Rattle.zeb_blocks.specs.declared.postings.Posting.{Posting}
 use Rattle.zeb_blocks.specs.Blocks.{BlockSpells, IsNumbered, spelled_from, start_of}
 use Rattle.zeb_extract.specs.declared.keys.Key.{Key}
-use Rattle.zeb_extract.specs.Order.{key_order, register_rank}
+use Rattle.zeb_profile.specs.Indexes.{register_code}
+use Rattle.zeb_extract.specs.Order.{key_order}
 use Rattle.zeb_extract.proofs.Rising.{key_total, keys_apart}
 use Rattle.zeb_register.specs.declared.expected.KeyPosting.{KeyPosting}
 use Rattle.zeb_register.specs.Content.{posting_cmp}
@@ -53,7 +54,7 @@ same_rest k l b c x y same =
 -- rows are in the order of their keys, and then of their blocks
 rows_order : (k l : Key) (b c : ℕ) (x y : List ℕ)
     → row_cmp (rest_of k b x) (rest_of l c y)
-    ≡ ordering_then (nat_cmp k.index l.index) (ordering_then (nat_cmp (register_rank k.register) (register_rank l.register)) (ordering_then (slice_cmp nat_cmp k.term l.term) (ordering_then (nat_cmp b c) (row_cmp (Blob x ∷ []) (Blob y ∷ [])))))
+    ≡ ordering_then (nat_cmp k.index l.index) (ordering_then (nat_cmp (register_code k.register) (register_code l.register)) (ordering_then (slice_cmp nat_cmp k.term l.term) (ordering_then (nat_cmp b c) (row_cmp (Blob x ∷ []) (Blob y ∷ [])))))
 rows_order k l b c x y =
     rw (
       value_cmp-Int (pos k.index) (pos l.index),
@@ -278,7 +279,7 @@ module _ (s : State) (store : IsStore s) (id : ℤ) (postings : List KeyPosting)
 
         whole : ordering_then (key_order one.0 two.0) tail ≡ Less
         whole =
-            then_joined (nat_cmp one.0.index two.0.index) (nat_cmp (register_rank one.0.register) (register_rank two.0.register)) (slice_cmp nat_cmp one.0.term two.0.term) tail
+            then_joined (nat_cmp one.0.index two.0.index) (nat_cmp (register_code one.0.register) (register_code two.0.register)) (slice_cmp nat_cmp one.0.term two.0.term) tail
             ∙ sym (rows_order one.0 two.0 one.1 two.1 one.2 two.2) ∙ sym (ap₂ row_cmp one.4 two.4) ∙ less
 
         keys : key_order a.key b.key ≡ key_order one.0 two.0

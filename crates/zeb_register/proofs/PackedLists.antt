@@ -19,6 +19,7 @@ use Rattle.zeb_extract.specs.declared.keys.Key.{Key}
 use Rattle.zeb_register.specs.Content.{Content, posting_cmp}
 use Rattle.zeb_register.specs.PackedBlocks.{HoldsBlocks, SpellsPart, blocks_of, part_in}
 use Rattle.zeb_register.specs.PackedRows.{AreSpelled}
+use Rattle.zeb_register.specs.Occurring.{key_in}
 use Rattle.zeb_register.specs.PlainRows.{key_row}
 use Rattle.zeb_register.specs.Sql.{IsListOf}
 use Rattle.zeb_register.specs.Store.{IsRest, blocks_tree}
@@ -27,6 +28,11 @@ use Rattle.zeb_register.proofs.ContentLemmas.{ints_order, told_apart}
 use Rattle.zeb_register.proofs.CountLemmas.{is_less}
 use Rattle.zeb_register.proofs.PackedLemmas.{block_rows, block_spells, block_there, in_part, not_empty, one_spelled, part_in_block, part_in_list}
 use Rattle.zeb_register.proofs.RisingLists.{joined_rises, never_itself, same_list}
+
+-- a key's rows are those of its columns
+pub key_listed : (trees : Trees) (db : ℤ) (key : Key) (term : List ℕ) → term ≡ key.term → (rows : List Row)
+    → IsListOf (IsRest blocks_tree (key_row db (key_in key.index key.register term)) trees) rows → IsListOf (IsRest blocks_tree (key_row db key) trees) rows
+key_listed trees db key term same rows = subst (λ t. IsListOf (IsRest blocks_tree (key_row db (key_in key.index key.register t)) trees) rows) same
 
 -- ---- rows that spell lists
 

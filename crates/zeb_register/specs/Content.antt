@@ -1,6 +1,7 @@
 -- What the registers hold: for each database and each key a list of postings, each the number of a record and a place in it, in
 -- rising order of number, unit and place.
 use Rattle.std.specs.Prelude.{◌≡◌, ◌≢◌, ◌↔◌, ◌≤◌, ℕ, ℤ, List, [], ◌∷◌, IsUtf8}
+use Rattle.std.specs.List.{AllByRecursion}
 use Rattle.std.specs.List.Sorted.{IsStrictlySortedBy}
 use Rattle.std.specs.declared.cmp.Ordering.{Ordering}
 use Rattle.std.specs.Ordering.{nat_cmp, ordering_then}
@@ -64,6 +65,10 @@ AreListChanges [] old new = new ≡ old
 AreListChanges (change ∷ changes) old new =
     (next : List Posting) × ArePlacesOf change.sysno change.old.now old
     × IsListChanged change.sysno change.new.now old next × AreListChanges changes next new
+
+-- the places that changes say stood there rise, in each of them
+abbrev pub OldsRise : List RecordChange → Type 0
+OldsRise changes = AllByRecursion (λ (change : RecordChange). IsStrictlySortedBy place_cmp change.old.now) changes
 
 -- one list is changed so, and no other
 pub record AreChangedAt (db : ℤ) (key : Key) (changes : List RecordChange) (old new : Content) : Type 0 where

@@ -6,6 +6,7 @@ pub mod Calls
 pub mod Catalog
 pub mod Kept
 pub mod Content
+pub mod Clauses
 pub mod Occurring
 pub mod Tallies
 pub mod PlainRows
@@ -19,3 +20,5 @@ pub mod Formats
 pub mod Expected
 pub mod RowExpected
 pub mod RowKeys
+pub mod KeyColumns
+pub mod TableForms

@@ -2,18 +2,18 @@
 
 ghost use Rattle.std.specs.Prelude.{◌≡◌, ◌≢◌, ◌↔◌, true, false, length, MatchOption, IfSome, IsTrue, IfOk};
 ghost use Rattle.sqlite.specs.Held.{state};
-ghost use Rattle.sqlite.specs.State.{HasCleanDisk, IsUnchanged};
+ghost use Rattle.sqlite.specs.State.{IsUnchanged};
 ghost use Rattle.sqlite.specs.declared.types.Value.TheVariants.{Int};
 ghost use Rattle.sqlite.specs.Order.{column};
 ghost use Rattle.sqlite_rules.specs.Lists.{Has};
 ghost use Rattle.std.specs.List.Sorted.{IsStrictlySortedBy};
 ghost use Rattle.zeb_register.specs.Calls.{Reading};
+ghost use Rattle.zeb_register.specs.Clauses.{OnStore, Tells, TellsWhether};
 ghost use Rattle.zeb_register.specs.Expected.{IsOrdered, name_order};
 ghost use Rattle.zeb_register.specs.RowExpected.{AreBeside, AreInOrder, AsExpected, BelongsTo, EachAsExpected, HasNames, HasTexts};
 ghost use Rattle.zeb_register.specs.RowExpected.{HoldsExpected, HoldsThere, IsInOrder, IsOwnedBy, LacksPacked, ListsAgree, ShowsOwners};
 ghost use Rattle.zeb_register.specs.RowExpected.{tree_of};
 ghost use Rattle.zeb_register.specs.RowTerms.{Reads};
-ghost use Rattle.zeb_register.specs.Store.{IsStore};
 
 use crate::catalog::databases_in;
 use crate::expected::{are_named, are_postings, are_records, are_texts};
@@ -44,10 +44,9 @@ pub(crate) fn lists_beside<S: Alter>(
     expected: &Expected,
 ) -> Result<Option<Vec<ListedDatabase>>, RegFault>
     ensures call { Reading (state S.Store conn.old) (state S.Store conn.new) result (λ _. IsUnchanged) }
-    ensures value { HasCleanDisk (state S.Store conn.new) → IsStore (state S.Store conn.old) → IsOrdered expected.now
-        → IfOk result (λ found. MatchOption found (¬ ListsAgree (state S.Store conn.old).now.trees expected.now)
-        (λ listed. AreBeside listed.items expected.now.databases.items (state S.Store conn.old).now.trees
-        × ListsAgree (state S.Store conn.old).now.trees expected.now)) }
+    ensures value { OnStore (state S.Store conn.old) (state S.Store conn.new) (λ trees. IsOrdered expected.now → IfOk result
+        (λ found. MatchOption found (¬ ListsAgree trees expected.now) (λ listed. AreBeside listed.items expected.now.databases.items trees
+        × ListsAgree trees expected.now))) }
     ensures long { IfOk result (λ found. IfSome found (λ listed. length listed.items ≡ length expected.now.databases.items)) }
     ensures honest { result ≢ Err RegFault.Damaged }
 {
@@ -64,11 +63,10 @@ fn records_beside<S: Alter>(
     expected: &[ExpectedDatabase],
 ) -> Result<Option<Vec<ListedDatabase>>, RegFault>
     ensures call { Reading (state S.Store conn.old) (state S.Store conn.new) result (λ _. IsUnchanged) }
-    ensures value { HasCleanDisk (state S.Store conn.new) → IsStore (state S.Store conn.old) → IsStrictlySortedBy name_order expected.now
-        → AreInOrder expected.now → IfOk result (λ found. MatchOption found
-        (¬ (HasNames (state S.Store conn.old).now.trees expected.now × HoldsThere Table.Records expected.now (state S.Store conn.old).now.trees))
-        (λ listed. AreBeside listed.items expected.now (state S.Store conn.old).now.trees
-        × HoldsThere Table.Records expected.now (state S.Store conn.old).now.trees)) }
+    ensures value { OnStore (state S.Store conn.old) (state S.Store conn.new) (λ trees. IsStrictlySortedBy name_order expected.now
+        → AreInOrder expected.now → IfOk result (λ found. MatchOption found (¬ (HasNames trees expected.now
+        × HoldsThere Table.Records expected.now trees)) (λ listed. AreBeside listed.items expected.now trees
+        × HoldsThere Table.Records expected.now trees))) }
     ensures long { IfOk result (λ found. IfSome found (λ listed. length listed.items ≡ length expected.now)) }
     ensures honest { result ≢ Err RegFault.Damaged }
 {
@@ -87,9 +85,8 @@ pub(crate) fn rows_agree<S: Alter>(
 ) -> Result<bool, RegFault>
     requires { length listed.now ≡ length expected.now }
     ensures call { Reading (state S.Store conn.old) (state S.Store conn.new) result (λ _. IsUnchanged) }
-    ensures value { HasCleanDisk (state S.Store conn.new) → IsStore (state S.Store conn.old) → AreInOrder expected.now
-        → IfOk result (λ agree. IsTrue agree ↔ (HoldsExpected Table.Postings listed.now expected.now (state S.Store conn.old).now.trees
-        × LacksPacked (state S.Store conn.old).now.trees)) }
+    ensures value { TellsWhether (λ trees. HoldsExpected Table.Postings listed.now expected.now trees × LacksPacked trees)
+        (AreInOrder expected.now) (state S.Store conn.old) (state S.Store conn.new) result }
     ensures honest { result ≢ Err RegFault.Damaged }
 {
     if !table_agrees(conn, Table::Postings, listed, expected)? {
@@ -101,8 +98,7 @@ pub(crate) fn rows_agree<S: Alter>(
 /// Whether no packed table has a row.
 fn lacks_packed<S: Alter>(conn: &mut Connection<S>) -> Result<bool, RegFault>
     ensures call { Reading (state S.Store conn.old) (state S.Store conn.new) result (λ _. IsUnchanged) }
-    ensures value { HasCleanDisk (state S.Store conn.new) → IsStore (state S.Store conn.old)
-        → IfOk result (λ agree. IsTrue agree ↔ LacksPacked (state S.Store conn.old).now.trees) }
+    ensures value { Tells (state S.Store conn.old) (state S.Store conn.new) result (λ trees agree. IsTrue agree ↔ LacksPacked trees) }
     ensures honest { result ≢ Err RegFault.Damaged }
 {
     if !belongs(conn, Table::Blocks, &[])? {
@@ -114,8 +110,8 @@ fn lacks_packed<S: Alter>(conn: &mut Connection<S>) -> Result<bool, RegFault>
 /// Whether `meta` has just the expected texts.
 fn texts_agree<S: Alter>(conn: &mut Connection<S>, expected: &Expected) -> Result<bool, RegFault>
     ensures call { Reading (state S.Store conn.old) (state S.Store conn.new) result (λ _. IsUnchanged) }
-    ensures value { HasCleanDisk (state S.Store conn.new) → IsStore (state S.Store conn.old)
-        → IfOk result (λ agree. IsTrue agree ↔ HasTexts (state S.Store conn.old).now.trees expected.now) }
+    ensures value { Tells (state S.Store conn.old) (state S.Store conn.new) result
+        (λ trees agree. IsTrue agree ↔ HasTexts trees expected.now) }
     ensures honest { result ≢ Err RegFault.Damaged }
 {
     let rows = all_texts(conn)?;
@@ -129,9 +125,8 @@ fn databases_beside<S: Alter>(
     expected: &[ExpectedDatabase],
 ) -> Result<Option<Vec<ListedDatabase>>, RegFault>
     ensures call { Reading (state S.Store conn.old) (state S.Store conn.new) result (λ _. IsUnchanged) }
-    ensures value { HasCleanDisk (state S.Store conn.new) → IsStore (state S.Store conn.old) → IsStrictlySortedBy name_order expected.now
-        → IfOk result (λ found. MatchOption found (¬ HasNames (state S.Store conn.old).now.trees expected.now)
-        (λ listed. AreBeside listed.items expected.now (state S.Store conn.old).now.trees)) }
+    ensures value { OnStore (state S.Store conn.old) (state S.Store conn.new) (λ trees. IsStrictlySortedBy name_order expected.now
+        → IfOk result (λ found. MatchOption found (¬ HasNames trees expected.now) (λ listed. AreBeside listed.items expected.now trees))) }
     ensures long { IfOk result (λ found. IfSome found (λ listed. length listed.items ≡ length expected.now)) }
     ensures honest { result ≢ Err RegFault.Damaged }
 {
@@ -159,8 +154,8 @@ pub(crate) fn table_agrees<S: Alter>(
 ) -> Result<bool, RegFault>
     requires { length listed.now ≡ length expected.now }
     ensures call { Reading (state S.Store conn.old) (state S.Store conn.new) result (λ _. IsUnchanged) }
-    ensures value { HasCleanDisk (state S.Store conn.new) → IsStore (state S.Store conn.old) → AreInOrder expected.now
-        → IfOk result (λ agree. IsTrue agree ↔ HoldsExpected table listed.now expected.now (state S.Store conn.old).now.trees) }
+    ensures value { TellsWhether (HoldsExpected table listed.now expected.now) (AreInOrder expected.now)
+        (state S.Store conn.old) (state S.Store conn.new) result }
     ensures honest { result ≢ Err RegFault.Damaged }
 {
     if !each_agrees(conn, table, listed, expected)? {
@@ -178,8 +173,8 @@ fn each_agrees<S: Alter>(
 ) -> Result<bool, RegFault>
     requires { length listed.now ≡ length expected.now }
     ensures call { Reading (state S.Store conn.old) (state S.Store conn.new) result (λ _. IsUnchanged) }
-    ensures value { HasCleanDisk (state S.Store conn.new) → IsStore (state S.Store conn.old) → AreInOrder expected.now
-        → IfOk result (λ agree. IsTrue agree ↔ EachAsExpected table listed.now expected.now (state S.Store conn.old).now.trees) }
+    ensures value { TellsWhether (EachAsExpected table listed.now expected.now) (AreInOrder expected.now)
+        (state S.Store conn.old) (state S.Store conn.new) result }
     ensures honest { result ≢ Err RegFault.Damaged }
 {
     // A closed connection is refused also where no database is expected.
@@ -200,8 +195,8 @@ fn database_agrees<S: Alter>(
     database: &ExpectedDatabase,
 ) -> Result<bool, RegFault>
     ensures call { Reading (state S.Store conn.old) (state S.Store conn.new) result (λ _. IsUnchanged) }
-    ensures value { HasCleanDisk (state S.Store conn.new) → IsStore (state S.Store conn.old) → IsInOrder database.now
-        → IfOk result (λ agree. IsTrue agree ↔ AsExpected table db.0 database.now (state S.Store conn.old).now.trees) }
+    ensures value { TellsWhether (AsExpected table db.0 database.now) (IsInOrder database.now)
+        (state S.Store conn.old) (state S.Store conn.new) result }
     ensures honest { result ≢ Err RegFault.Damaged }
 {
     match table {
@@ -219,8 +214,8 @@ fn records_agree<S: Alter>(
     database: &ExpectedDatabase,
 ) -> Result<bool, RegFault>
     ensures call { Reading (state S.Store conn.old) (state S.Store conn.new) result (λ _. IsUnchanged) }
-    ensures value { HasCleanDisk (state S.Store conn.new) → IsStore (state S.Store conn.old) → IsInOrder database.now
-        → IfOk result (λ agree. IsTrue agree ↔ AsExpected Table.Records db.0 database.now (state S.Store conn.old).now.trees) }
+    ensures value { TellsWhether (AsExpected Table.Records db.0 database.now) (IsInOrder database.now)
+        (state S.Store conn.old) (state S.Store conn.new) result }
     ensures honest { result ≢ Err RegFault.Damaged }
 {
     let rows = record_rows(conn, db.column())?;
@@ -234,8 +229,8 @@ fn postings_agree<S: Alter>(
     database: &ExpectedDatabase,
 ) -> Result<bool, RegFault>
     ensures call { Reading (state S.Store conn.old) (state S.Store conn.new) result (λ _. IsUnchanged) }
-    ensures value { HasCleanDisk (state S.Store conn.new) → IsStore (state S.Store conn.old) → IsInOrder database.now
-        → IfOk result (λ agree. IsTrue agree ↔ AsExpected Table.Postings db.0 database.now (state S.Store conn.old).now.trees) }
+    ensures value { TellsWhether (AsExpected Table.Postings db.0 database.now) (IsInOrder database.now)
+        (state S.Store conn.old) (state S.Store conn.new) result }
     ensures honest { result ≢ Err RegFault.Damaged }
 {
     let rows = database_postings(conn, db.column())?;
@@ -249,8 +244,8 @@ pub(crate) fn belongs<S: Alter>(
     listed: &[ListedDatabase],
 ) -> Result<bool, RegFault>
     ensures call { Reading (state S.Store conn.old) (state S.Store conn.new) result (λ _. IsUnchanged) }
-    ensures value { HasCleanDisk (state S.Store conn.new) → IsStore (state S.Store conn.old)
-        → IfOk result (λ agree. IsTrue agree ↔ BelongsTo (tree_of table) listed.now (state S.Store conn.old).now.trees) }
+    ensures value { Tells (state S.Store conn.old) (state S.Store conn.new) result
+        (λ trees agree. IsTrue agree ↔ BelongsTo (tree_of table) listed.now trees) }
     ensures honest { result ≢ Err RegFault.Damaged }
 {
     let rows = owners(conn, table)?;

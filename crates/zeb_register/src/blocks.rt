@@ -1,22 +1,25 @@
 //! The layout of packed blocks.
 
-ghost use Rattle.std.specs.Prelude.{◌≡◌, ◌<◌, List, IfOk, OnOk};
+ghost use Rattle.std.specs.Prelude.{◌≡◌, OnOk};
 ghost use Rattle.sqlite.specs.Held.{state};
-ghost use Rattle.sqlite.specs.State.{HasCleanDisk, IsUnchanged};
+ghost use Rattle.sqlite.specs.State.{IsUnchanged};
 ghost use Rattle.zeb_register.specs.Calls.{Reading};
-ghost use Rattle.zeb_register.specs.Content.{Content, IsStorable};
+ghost use Rattle.zeb_register.specs.Clauses.{IsHonest, IsHonestStorable, OnStore, TellsHeld};
 ghost use Rattle.zeb_register.specs.PackedBlocks.{AreAllSpelled, HoldsBlocks, blocks_of};
 ghost use Rattle.zeb_register.specs.PlainRows.{key_row};
-ghost use Rattle.zeb_register.specs.Store.{IsStore};
 ghost use Rattle.zeb_register.specs.Tallies.{Works};
 
 use crate::agreeing::lists_beside;
 use crate::dropping::database_drop_whole;
-use crate::packed::{postings_packed, terms_packed, terms_packed_before, terms_packed_from};
+use crate::packed::{counted, counts_in, limit_of, postings_in};
 use crate::packed_agreeing::packed_agree;
-use crate::packed_runs::{key_change_packed, key_changes_packed};
-use crate::packed_totals::totals_packed;
+use crate::packed_parts::check_changes;
+use crate::packed_runs::{changes_put, count_rows};
+use crate::packed_totals::term_postings;
 use crate::registers::{Layout, Place, RecordChange, TermCount, Totals, Work};
+use crate::statements::inside::nothing_inside;
+use crate::statements::keys::RegisterOf;
+use crate::statements::packed::{block_rows, dict_rows, dict_rows_before, dict_rows_from};
 use crate::{DatabaseId, Expected, RegFault};
 use sqlite::{Alter, Connection, Transaction};
 use std::alloc::Global;
@@ -52,9 +55,12 @@ impl Layout for Blocks {
         old: &[Place],
         new: &[Place],
     ) -> Result<(), RegFault> {
-        key_change_packed(tx, work, db, key, sysno, old, new)
+        let change = RecordChange { sysno, old, new };
+        Self::key_changes(tx, work, db, key, &[change])
     }
 
+    /// `Damaged` also where the rows that are read can't be those of a content that every layout can store; `Store` also where one of the
+    /// places `new` is 0, or these don't rise.
     fn key_changes<S: Alter>(
         tx: &mut Transaction<'_, S>,
         work: &mut Work,
@@ -62,7 +68,15 @@ impl Layout for Blocks {
         key: &Key,
         changes: &[RecordChange<'_>],
     ) -> Result<(), RegFault> {
-        key_changes_packed(tx, work, db, key, changes)
+        check_changes(changes)?;
+        if changes.is_empty() {
+            // A closed connection is refused also where there is no change.
+            nothing_inside(tx)?;
+            return Ok(());
+        }
+        changes_put(tx, db, key, changes)?;
+        count_rows(work, changes.len());
+        Ok(())
     }
 
     fn database_take<S: Alter>(
@@ -81,21 +95,25 @@ impl Layout for Blocks {
         key: &Key,
     ) -> Result<Vec<Posting>, RegFault>
         ensures call { Reading (state S.Store conn.old) (state S.Store conn.new) result (λ _. IsUnchanged) }
-        ensures value { HasCleanDisk (state S.Store conn.new) → IsStore (state S.Store conn.old)
-            → IfOk result (λ list. (content : Content) → HoldsBlocks (state S.Store conn.old).now.trees content
-            → list.items ≡ content db.0 key.now) }
-        ensures honest { HasCleanDisk (state S.Store conn.new) → IsStore (state S.Store conn.old) → result ≡ Err RegFault.Damaged
-            → (content : Content) → IsStorable content → ¬ HoldsBlocks (state S.Store conn.old).now.trees content }
-        ensures spelled { HasCleanDisk (state S.Store conn.new) → IsStore (state S.Store conn.old)
-            → OnOk result (AreAllSpelled (state S.Store conn.old).now.trees (key_row db.0 key.now)) }
-        ensures damaged { HasCleanDisk (state S.Store conn.new) → IsStore (state S.Store conn.old) → result ≡ Err RegFault.Damaged
-            → ¬ AreAllSpelled (state S.Store conn.old).now.trees (key_row db.0 key.now) }
-        ensures work { HasCleanDisk (state S.Store conn.new) → IsStore (state S.Store conn.old)
-            → IfOk result (λ list. (content : Content) → HoldsBlocks (state S.Store conn.old).now.trees content
-            → Works 0 0 (blocks_of list.items) 0 work.old work.new) }
+        ensures value { TellsHeld HoldsBlocks (state S.Store conn.old) (state S.Store conn.new) result
+            (λ content list. list.items ≡ content db.0 key.now) }
+        ensures honest { IsHonestStorable HoldsBlocks (state S.Store conn.old) (state S.Store conn.new) result }
+        ensures spelled { OnStore (state S.Store conn.old) (state S.Store conn.new) (λ trees. OnOk result
+            (AreAllSpelled trees (key_row db.0 key.now))) }
+        ensures damaged { IsHonest (state S.Store conn.old) (state S.Store conn.new) result
+            (λ trees. AreAllSpelled trees (key_row db.0 key.now)) }
+        ensures work { TellsHeld HoldsBlocks (state S.Store conn.old) (state S.Store conn.new) result
+            (λ content list. Works 0 0 (blocks_of list.items) 0 work.old work.new) }
     {
-        let term = key.term.as_str();
-        postings_packed(alloc, conn, work, db, key.index, key.register, term)
+        let at = RegisterOf {
+            db,
+            index: key.index,
+            register: key.register,
+        };
+        let rows = block_rows(conn, at, key.term.as_str())?;
+        let list = postings_in(alloc, &rows)?;
+        work.block_read = counted(work.block_read, rows.len());
+        Ok(list)
     }
 
     fn terms_of<S: Alter>(
@@ -106,7 +124,15 @@ impl Layout for Blocks {
         index: u32,
         register: Register,
     ) -> Result<Vec<TermCount>, RegFault> {
-        terms_packed(alloc, conn, work, db, index, register)
+        let at = RegisterOf {
+            db,
+            index,
+            register,
+        };
+        let rows = dict_rows(conn, at)?;
+        let counts = counts_in(alloc, &rows)?;
+        work.dict_read = counted(work.dict_read, counts.len());
+        Ok(counts)
     }
 
     fn terms_from<S: Alter>(
@@ -119,7 +145,16 @@ impl Layout for Blocks {
         start: &str,
         n: u64,
     ) -> Result<Vec<TermCount>, RegFault> {
-        terms_packed_from(alloc, conn, work, db, index, register, start, n)
+        let limit = limit_of(n);
+        let at = RegisterOf {
+            db,
+            index,
+            register,
+        };
+        let rows = dict_rows_from(conn, at, start, limit)?;
+        let counts = counts_in(alloc, &rows)?;
+        work.dict_read = counted(work.dict_read, rows.len());
+        Ok(counts)
     }
 
     fn terms_before<S: Alter>(
@@ -132,9 +167,20 @@ impl Layout for Blocks {
         start: &str,
         n: u64,
     ) -> Result<Vec<TermCount>, RegFault> {
-        terms_packed_before(alloc, conn, work, db, index, register, start, n)
+        let limit = limit_of(n);
+        let at = RegisterOf {
+            db,
+            index,
+            register,
+        };
+        let rows = dict_rows_before(conn, at, start, limit)?;
+        let mut counts = counts_in(alloc, &rows)?;
+        work.dict_read = counted(work.dict_read, rows.len());
+        counts.reverse();
+        Ok(counts)
     }
 
+    /// The blocks of one term are held at a time, and no list of postings.
     fn totals<S: Alter>(
         alloc: Global,
         conn: &mut Connection<S>,
@@ -143,7 +189,16 @@ impl Layout for Blocks {
         index: u32,
         register: Register,
     ) -> Result<Totals, RegFault> {
-        totals_packed(alloc, conn, work, db, index, register)
+        let terms = Self::terms_of(alloc, conn, work, db, index, register)?;
+        let mut occurrences: u64 = 0;
+        for term in &terms {
+            let more = term_postings(conn, work, db, index, register, term.term.as_str())?;
+            occurrences = occurrences.saturating_add(more);
+        }
+        Ok(Totals {
+            terms: terms.len() as u64,
+            occurrences,
+        })
     }
 
     fn agrees<S: Alter>(

@@ -1,16 +1,19 @@
 //! The databases of the store.
 
-ghost use Rattle.std.specs.Prelude.{◌≡◌, ◌≢◌, pos, map, IsTrue, IfOk, FitsSigned};
+ghost use Rattle.std.specs.Prelude.{◌≡◌, ◌≢◌, pos, map, IfOk, FitsSigned};
 ghost use Rattle.std.specs.Int.{w64};
 ghost use Rattle.sqlite.specs.Held.{state};
-ghost use Rattle.sqlite.specs.State.{HasCleanDisk, IsUnchanged};
-ghost use Rattle.zeb_register.specs.Store.{IsStore, Changes, databases_tree, TakesDatabase};
+ghost use Rattle.sqlite.specs.State.{IsUnchanged};
+ghost use Rattle.zeb_register.specs.Store.{databases_tree, TakesDatabase};
 ghost use Rattle.zeb_register.specs.Catalog.{IsDatabaseOf, AreCountedDatabases, PutsDatabase};
 ghost use Rattle.zeb_register.specs.Catalog.{AreDatabases, AreReadableDatabases, listed_row};
 ghost use Rattle.zeb_register.specs.RowPlaces.{first_three};
 ghost use Rattle.zeb_register.specs.RowStatements.{IsDatabaseShown};
 ghost use Rattle.sqlite_rules.specs.Lists.{Has};
-ghost use Rattle.zeb_register.specs.Calls.{GoesOn, OnlyReads, Alters, Inside, Reading, MayRefuse};
+ghost use Rattle.zeb_register.specs.Calls.{GoesOn, OnlyReads, Inside, Reading};
+ghost use Rattle.zeb_register.specs.Clauses.{Writes};
+ghost use Rattle.zeb_register.specs.Clauses.{ChangesTable, InStore, IsHonest, IsHonestInside, IsOpenDamage, IsOpenDamageInside};
+ghost use Rattle.zeb_register.specs.Clauses.{IsReasoned, Tells, TellsInside};
 
 use crate::RegFault;
 use crate::statements::databases::{
@@ -58,13 +61,10 @@ pub fn database_of<S: Alter>(
     name: &str,
 ) -> Result<Option<Database>, RegFault>
     ensures call { Reading (state S.Store conn.old) (state S.Store conn.new) result (λ _. IsUnchanged) }
-    ensures value { HasCleanDisk (state S.Store conn.new) → IsStore (state S.Store conn.old)
-        → IfOk result (IsDatabaseOf (state S.Store conn.old).now.trees name.now) }
-    ensures honest { HasCleanDisk (state S.Store conn.new) → IsStore (state S.Store conn.old) → result ≡ Err RegFault.Damaged
-        → ¬ AreCountedDatabases (state S.Store conn.old).now.trees name.now }
-    ensures opened { HasCleanDisk (state S.Store conn.new) → result ≡ Err RegFault.Damaged → IsTrue (state S.Store conn.old).is_open }
-    ensures refused { HasCleanDisk (state S.Store conn.new) → IsStore (state S.Store conn.old) → result ≡ Err RegFault.Store
-        → MayRefuse (state S.Store conn.old) (state S.Store conn.new) }
+    ensures value { Tells (state S.Store conn.old) (state S.Store conn.new) result (λ trees. IsDatabaseOf trees name.now) }
+    ensures honest { IsHonest (state S.Store conn.old) (state S.Store conn.new) result (λ trees. AreCountedDatabases trees name.now) }
+    ensures opened { IsOpenDamage (state S.Store conn.old) (state S.Store conn.new) result }
+    ensures refused { IsReasoned (state S.Store conn.old) (state S.Store conn.new) result }
 {
     let rows = database_rows(conn, name)?;
     match rows.first() {
@@ -84,13 +84,10 @@ pub fn databases<S: Alter>(
     conn: &mut Connection<S>,
 ) -> Result<Vec<ListedDatabase>, RegFault>
     ensures call { Reading (state S.Store conn.old) (state S.Store conn.new) result (λ _. IsUnchanged) }
-    ensures value { HasCleanDisk (state S.Store conn.new) → IsStore (state S.Store conn.old)
-        → IfOk result (λ list. AreDatabases (state S.Store conn.old).now.trees list.items) }
-    ensures honest { HasCleanDisk (state S.Store conn.new) → IsStore (state S.Store conn.old) → result ≡ Err RegFault.Damaged
-        → ¬ AreReadableDatabases (state S.Store conn.old).now.trees }
-    ensures opened { HasCleanDisk (state S.Store conn.new) → result ≡ Err RegFault.Damaged → IsTrue (state S.Store conn.old).is_open }
-    ensures refused { HasCleanDisk (state S.Store conn.new) → IsStore (state S.Store conn.old) → result ≡ Err RegFault.Store
-        → MayRefuse (state S.Store conn.old) (state S.Store conn.new) }
+    ensures value { Tells (state S.Store conn.old) (state S.Store conn.new) result (λ trees list. AreDatabases trees list.items) }
+    ensures honest { IsHonest (state S.Store conn.old) (state S.Store conn.new) result AreReadableDatabases }
+    ensures opened { IsOpenDamage (state S.Store conn.old) (state S.Store conn.new) result }
+    ensures refused { IsReasoned (state S.Store conn.old) (state S.Store conn.new) result }
 {
     let rows = listed_rows(conn)?;
     databases_in(alloc, &rows)
@@ -103,14 +100,10 @@ pub fn databases_inside<S: Alter>(
 ) -> Result<Vec<ListedDatabase>, RegFault>
     ensures same { tx.new.conn.ghost_name ≡ tx.old.conn.ghost_name }
     ensures call { Inside (state S.Store tx.old.conn.now) (state S.Store tx.new.conn.now) result (λ _. OnlyReads) }
-    ensures value { HasCleanDisk (state S.Store tx.new.conn.now) → IsTrue (state S.Store tx.old.conn.now).in_transaction
-        → IsStore (state S.Store tx.old.conn.now)
-        → IfOk result (λ list. AreDatabases (state S.Store tx.old.conn.now).now.trees list.items) }
-    ensures honest { HasCleanDisk (state S.Store tx.new.conn.now) → IsTrue (state S.Store tx.old.conn.now).in_transaction
-        → IsStore (state S.Store tx.old.conn.now) → result ≡ Err RegFault.Damaged
-        → ¬ AreReadableDatabases (state S.Store tx.old.conn.now).now.trees }
-    ensures opened { HasCleanDisk (state S.Store tx.new.conn.now) → IsTrue (state S.Store tx.old.conn.now).in_transaction
-        → result ≡ Err RegFault.Damaged → IsTrue (state S.Store tx.old.conn.now).is_open }
+    ensures value { TellsInside (state S.Store tx.old.conn.now) (state S.Store tx.new.conn.now) result
+        (λ trees list. AreDatabases trees list.items) }
+    ensures honest { IsHonestInside (state S.Store tx.old.conn.now) (state S.Store tx.new.conn.now) result AreReadableDatabases }
+    ensures opened { IsOpenDamageInside (state S.Store tx.old.conn.now) (state S.Store tx.new.conn.now) result }
 {
     let rows = listed_rows_inside(tx)?;
     databases_in(alloc, &rows)
@@ -152,14 +145,10 @@ pub fn database_put<S: Alter>(
 ) -> Result<DatabaseId, RegFault>
     ensures same { tx.new.conn.ghost_name ≡ tx.old.conn.ghost_name }
     ensures call { Inside (state S.Store tx.old.conn.now) (state S.Store tx.new.conn.now) result (λ _. GoesOn) }
-    ensures put { HasCleanDisk (state S.Store tx.new.conn.now) → IsTrue (state S.Store tx.old.conn.now).in_transaction
-        → IsStore (state S.Store tx.old.conn.now)
-        → IfOk result (λ id. Changes databases_tree (PutsDatabase id.0 name.now (pos last))
-        (state S.Store tx.old.conn.now) (state S.Store tx.new.conn.now)) }
-    ensures honest { HasCleanDisk (state S.Store tx.new.conn.now) → IsTrue (state S.Store tx.old.conn.now).in_transaction
-        → IsStore (state S.Store tx.old.conn.now) → result ≢ Err RegFault.Damaged }
-    ensures opened { HasCleanDisk (state S.Store tx.new.conn.now) → IsTrue (state S.Store tx.old.conn.now).in_transaction
-        → result ≡ Err RegFault.Damaged → IsTrue (state S.Store tx.old.conn.now).is_open }
+    ensures put { ChangesTable databases_tree (state S.Store tx.old.conn.now) (state S.Store tx.new.conn.now) result
+        (λ id. PutsDatabase id.0 name.now (pos last)) }
+    ensures honest { InStore (state S.Store tx.old.conn.now) (state S.Store tx.new.conn.now) (λ _. result ≢ Err RegFault.Damaged) }
+    ensures opened { IsOpenDamageInside (state S.Store tx.old.conn.now) (state S.Store tx.new.conn.now) result }
 {
     let last = stored(last)?;
     let rows = database_rows_inside(tx, name)?;
@@ -182,8 +171,7 @@ pub(crate) fn database_drop<S: Alter>(
     db: DatabaseId,
 ) -> Result<(), RegFault>
     ensures same { tx.new.conn.ghost_name ≡ tx.old.conn.ghost_name }
-    ensures call { Inside (state S.Store tx.old.conn.now) (state S.Store tx.new.conn.now) result
-        (λ _. Alters databases_tree (TakesDatabase db.0)) }
+    ensures call { Writes databases_tree (TakesDatabase db.0) (state S.Store tx.old.conn.now) (state S.Store tx.new.conn.now) result }
     ensures honest { result ≢ Err RegFault.Damaged }
 {
     database_cut(tx, db.column())?;

@@ -1,9 +1,9 @@
 //! A database is taken out, in whichever format the registers are kept.
 
-ghost use Rattle.std.specs.Prelude.{◌≡◌, ◌≢◌, IsTrue, OnOk};
+ghost use Rattle.std.specs.Prelude.{◌≡◌, ◌≢◌, OnOk};
 ghost use Rattle.sqlite.specs.Held.{state};
-ghost use Rattle.sqlite.specs.State.{HasCleanDisk};
 ghost use Rattle.zeb_register.specs.Calls.{GoesOn, Inside};
+ghost use Rattle.zeb_register.specs.Clauses.{InStore};
 ghost use Rattle.zeb_register.specs.Content.{Content, IsWithout, TakesWhole};
 ghost use Rattle.zeb_register.specs.Formats.{Format, holds_in};
 ghost use Rattle.zeb_register.specs.RowPlaces.{DropsRegisters};
@@ -23,11 +23,9 @@ pub(crate) fn database_drop_whole<S: Alter>(
 ) -> Result<(), RegFault>
     ensures same { tx.new.conn.ghost_name ≡ tx.old.conn.ghost_name }
     ensures call { Inside (state S.Store tx.old.conn.now) (state S.Store tx.new.conn.now) result (λ _. GoesOn) }
-    ensures taken { HasCleanDisk (state S.Store tx.new.conn.now) → IsTrue (state S.Store tx.old.conn.now).in_transaction
-        → IsStore (state S.Store tx.old.conn.now)
-        → OnOk result (TakesWhole db.0 (state S.Store tx.old.conn.now) (state S.Store tx.new.conn.now)
-        × ((format : Format) (before after : Content) → holds_in format (state S.Store tx.old.conn.now).now.trees before
-        → IsWithout db.0 before after → holds_in format (state S.Store tx.new.conn.now).now.trees after)) }
+    ensures taken { InStore (state S.Store tx.old.conn.now) (state S.Store tx.new.conn.now) (λ trees. OnOk result
+        (TakesWhole db.0 (state S.Store tx.old.conn.now) (state S.Store tx.new.conn.now) × ((format : Format) (before after : Content)
+        → holds_in format trees before → IsWithout db.0 before after → holds_in format (state S.Store tx.new.conn.now).now.trees after))) }
     ensures honest { result ≢ Err RegFault.Damaged }
 {
     registers_drop(tx, db)?;

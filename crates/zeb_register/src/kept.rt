@@ -1,17 +1,20 @@
 //! The records that a database keeps.
 
-ghost use Rattle.std.specs.Prelude.{◌≡◌, ◌≢◌, ◌<◌, ◌≤◌, ◌^◌, [], ◌∷◌, pos, map, None, IsTrue, IfOk};
+ghost use Rattle.std.specs.Prelude.{◌≡◌, ◌≢◌, ◌<◌, ◌≤◌, ◌^◌, [], ◌∷◌, pos, map, None, IfOk};
 ghost use Rattle.sqlite.specs.Held.{state};
-ghost use Rattle.sqlite.specs.State.{HasCleanDisk, IsUnchanged};
+ghost use Rattle.sqlite.specs.State.{IsUnchanged};
 ghost use Rattle.sqlite.specs.declared.types.Value.TheVariants.{Int};
 ghost use Rattle.zeb_register.specs.Sql.{Loses, Replaces, IsListOf};
-ghost use Rattle.zeb_register.specs.Store.{IsStore, records_tree, record_row, HasNumber, SharesRecord, IsRecordIn, IsRest};
+ghost use Rattle.zeb_register.specs.Store.{records_tree, record_row, HasNumber, SharesRecord, IsRecordIn, IsRest};
 ghost use Rattle.sqlite_rules.specs.Lists.{Has};
 ghost use Rattle.zeb_register.specs.RowPlaces.{first_three};
 ghost use Rattle.zeb_register.specs.Kept.{IsElderOf, IsIdentOf, AreNumbered, AreReadableIdents, AreReadable, record_shown};
 ghost use Rattle.zeb_register.specs.Kept.{IsFirstFrom, IsRecordCount};
 ghost use Rattle.zeb_register.specs.RowStatements.{IsRecordShown};
-ghost use Rattle.zeb_register.specs.Calls.{OnlyReads, Alters, Inside, Reading, MayRefuse};
+ghost use Rattle.zeb_register.specs.Calls.{OnlyReads, Inside, Reading};
+ghost use Rattle.zeb_register.specs.Clauses.{Writes};
+ghost use Rattle.zeb_register.specs.Clauses.{InStore, IsHonest, IsHonestInside, IsOpenDamage, IsOpenDamageInside, IsReasoned};
+ghost use Rattle.zeb_register.specs.Clauses.{OnStore, Tells, TellsInside};
 
 use crate::statements::inside::{nothing_inside, rows_from_inside};
 use crate::statements::postings::nothing_of;
@@ -50,8 +53,8 @@ pub fn record_put<S: Alter>(
     bytes: &[u8],
 ) -> Result<(), RegFault>
     ensures same { tx.new.conn.ghost_name ≡ tx.old.conn.ghost_name }
-    ensures call { Inside (state S.Store tx.old.conn.now) (state S.Store tx.new.conn.now) result
-        (λ _. Alters records_tree (Replaces (SharesRecord db.0 (pos sysno) ident.now) (record_row db.0 (pos sysno) ident.now bytes.now))) }
+    ensures call { Writes records_tree (Replaces (SharesRecord db.0 (pos sysno) ident.now)
+        (record_row db.0 (pos sysno) ident.now bytes.now)) (state S.Store tx.old.conn.now) (state S.Store tx.new.conn.now) result }
     ensures honest { result ≢ Err RegFault.Damaged }
 {
     let sysno = stored(sysno)?;
@@ -68,8 +71,8 @@ pub fn record_take<S: Alter>(
     sysno: u64,
 ) -> Result<(), RegFault>
     ensures same { tx.new.conn.ghost_name ≡ tx.old.conn.ghost_name }
-    ensures call { Inside (state S.Store tx.old.conn.now) (state S.Store tx.new.conn.now) result
-        (λ _. Alters records_tree (Loses (HasNumber db.0 (pos sysno)))) }
+    ensures call { Writes records_tree (Loses (HasNumber db.0 (pos sysno)))
+        (state S.Store tx.old.conn.now) (state S.Store tx.new.conn.now) result }
     ensures honest { result ≢ Err RegFault.Damaged }
 {
     let sysno = stored(sysno)?;
@@ -87,13 +90,11 @@ pub fn record_of_ident<S: Alter>(
 ) -> Result<Option<Elder>, RegFault>
     ensures same { tx.new.conn.ghost_name ≡ tx.old.conn.ghost_name }
     ensures call { Inside (state S.Store tx.old.conn.now) (state S.Store tx.new.conn.now) result (λ _. OnlyReads) }
-    ensures value { HasCleanDisk (state S.Store tx.new.conn.now) → IsTrue (state S.Store tx.old.conn.now).in_transaction
-        → IsStore (state S.Store tx.old.conn.now) → IfOk result (IsElderOf (state S.Store tx.old.conn.now).now.trees db.0 ident.now) }
-    ensures honest { HasCleanDisk (state S.Store tx.new.conn.now) → IsTrue (state S.Store tx.old.conn.now).in_transaction
-        → IsStore (state S.Store tx.old.conn.now) → result ≡ Err RegFault.Damaged
-        → ¬ AreNumbered (state S.Store tx.old.conn.now).now.trees db.0 ident.now }
-    ensures opened { HasCleanDisk (state S.Store tx.new.conn.now) → IsTrue (state S.Store tx.old.conn.now).in_transaction
-        → result ≡ Err RegFault.Damaged → IsTrue (state S.Store tx.old.conn.now).is_open }
+    ensures value { TellsInside (state S.Store tx.old.conn.now) (state S.Store tx.new.conn.now) result
+        (λ trees. IsElderOf trees db.0 ident.now) }
+    ensures honest { IsHonestInside (state S.Store tx.old.conn.now) (state S.Store tx.new.conn.now) result
+        (λ trees. AreNumbered trees db.0 ident.now) }
+    ensures opened { IsOpenDamageInside (state S.Store tx.old.conn.now) (state S.Store tx.new.conn.now) result }
 {
     let rows = elder_rows(tx, db.column(), ident)?;
     match rows.first() {
@@ -114,14 +115,12 @@ pub fn ident_of<S: Alter>(
     sysno: u64,
 ) -> Result<Option<String>, RegFault>
     ensures call { Reading (state S.Store conn.old) (state S.Store conn.new) result (λ _. IsUnchanged) }
-    ensures value { HasCleanDisk (state S.Store conn.new) → IsStore (state S.Store conn.old) → sysno < 2 ^ 63
-        → IfOk result (IsIdentOf (state S.Store conn.old).now.trees db.0 (pos sysno)) }
+    ensures value { OnStore (state S.Store conn.old) (state S.Store conn.new) (λ trees. sysno < 2 ^ 63 → IfOk result
+        (IsIdentOf trees db.0 (pos sysno))) }
     ensures large { 2 ^ 63 ≤ sysno → IfOk result (λ found. found ≡ None) }
-    ensures honest { HasCleanDisk (state S.Store conn.new) → IsStore (state S.Store conn.old) → result ≡ Err RegFault.Damaged
-        → ¬ AreReadableIdents (state S.Store conn.old).now.trees db.0 (pos sysno) }
-    ensures opened { HasCleanDisk (state S.Store conn.new) → result ≡ Err RegFault.Damaged → IsTrue (state S.Store conn.old).is_open }
-    ensures refused { HasCleanDisk (state S.Store conn.new) → IsStore (state S.Store conn.old) → result ≡ Err RegFault.Store
-        → MayRefuse (state S.Store conn.old) (state S.Store conn.new) }
+    ensures honest { IsHonest (state S.Store conn.old) (state S.Store conn.new) result (λ trees. AreReadableIdents trees db.0 (pos sysno)) }
+    ensures opened { IsOpenDamage (state S.Store conn.old) (state S.Store conn.new) result }
+    ensures refused { IsReasoned (state S.Store conn.old) (state S.Store conn.new) result }
 {
     // What is seen outside a transaction is what was committed.
     let _idle = conn.is_autocommit();
@@ -142,10 +141,9 @@ pub fn ident_of<S: Alter>(
 /// No record is read for it, and no memory is held. It changes nothing.
 pub fn record_count<S: Alter>(conn: &mut Connection<S>, db: DatabaseId) -> Result<u64, RegFault>
     ensures call { Reading (state S.Store conn.old) (state S.Store conn.new) result (λ _. IsUnchanged) }
-    ensures value { HasCleanDisk (state S.Store conn.new) → IsStore (state S.Store conn.old)
-        → IfOk result (IsRecordCount (state S.Store conn.old).now.trees db.0) }
-    ensures honest { HasCleanDisk (state S.Store conn.new) → IsStore (state S.Store conn.old) → result ≢ Err RegFault.Damaged }
-    ensures opened { HasCleanDisk (state S.Store conn.new) → result ≡ Err RegFault.Damaged → IsTrue (state S.Store conn.old).is_open }
+    ensures value { Tells (state S.Store conn.old) (state S.Store conn.new) result (λ trees. IsRecordCount trees db.0) }
+    ensures honest { OnStore (state S.Store conn.old) (state S.Store conn.new) (λ trees. result ≢ Err RegFault.Damaged) }
+    ensures opened { IsOpenDamage (state S.Store conn.old) (state S.Store conn.new) result }
 {
     let rows = count_rows(conn, db.column())?;
     match rows.first() {
@@ -165,14 +163,12 @@ pub fn record_from<S: Alter>(
     start: u64,
 ) -> Result<Option<Record>, RegFault>
     ensures call { Reading (state S.Store conn.old) (state S.Store conn.new) result (λ _. IsUnchanged) }
-    ensures value { HasCleanDisk (state S.Store conn.new) → IsStore (state S.Store conn.old) → start < 2 ^ 63
-        → IfOk result (IsFirstFrom (state S.Store conn.old).now.trees db.0 start) }
+    ensures value { OnStore (state S.Store conn.old) (state S.Store conn.new) (λ trees. start < 2 ^ 63 → IfOk result
+        (IsFirstFrom trees db.0 start)) }
     ensures large { 2 ^ 63 ≤ start → IfOk result (λ found. found ≡ None) }
-    ensures honest { HasCleanDisk (state S.Store conn.new) → IsStore (state S.Store conn.old) → result ≡ Err RegFault.Damaged
-        → ¬ AreReadable (state S.Store conn.old).now.trees db.0 }
-    ensures opened { HasCleanDisk (state S.Store conn.new) → result ≡ Err RegFault.Damaged → IsTrue (state S.Store conn.old).is_open }
-    ensures refused { HasCleanDisk (state S.Store conn.new) → IsStore (state S.Store conn.old) → result ≡ Err RegFault.Store
-        → MayRefuse (state S.Store conn.old) (state S.Store conn.new) }
+    ensures honest { IsHonest (state S.Store conn.old) (state S.Store conn.new) result (λ trees. AreReadable trees db.0) }
+    ensures opened { IsOpenDamage (state S.Store conn.old) (state S.Store conn.new) result }
+    ensures refused { IsReasoned (state S.Store conn.old) (state S.Store conn.new) result }
 {
     // What is seen outside a transaction is what was committed.
     let _idle = conn.is_autocommit();
@@ -196,15 +192,12 @@ pub fn record_from_inside<S: Alter>(
 ) -> Result<Option<Record>, RegFault>
     ensures same { tx.new.conn.ghost_name ≡ tx.old.conn.ghost_name }
     ensures call { Inside (state S.Store tx.old.conn.now) (state S.Store tx.new.conn.now) result (λ _. OnlyReads) }
-    ensures value { HasCleanDisk (state S.Store tx.new.conn.now) → IsTrue (state S.Store tx.old.conn.now).in_transaction
-        → IsStore (state S.Store tx.old.conn.now) → start < 2 ^ 63
-        → IfOk result (IsFirstFrom (state S.Store tx.old.conn.now).now.trees db.0 start) }
+    ensures value { InStore (state S.Store tx.old.conn.now) (state S.Store tx.new.conn.now) (λ trees. start < 2 ^ 63 → IfOk result
+        (IsFirstFrom trees db.0 start)) }
     ensures large { 2 ^ 63 ≤ start → IfOk result (λ found. found ≡ None) }
-    ensures honest { HasCleanDisk (state S.Store tx.new.conn.now) → IsTrue (state S.Store tx.old.conn.now).in_transaction
-        → IsStore (state S.Store tx.old.conn.now) → result ≡ Err RegFault.Damaged
-        → ¬ AreReadable (state S.Store tx.old.conn.now).now.trees db.0 }
-    ensures opened { HasCleanDisk (state S.Store tx.new.conn.now) → IsTrue (state S.Store tx.old.conn.now).in_transaction
-        → result ≡ Err RegFault.Damaged → IsTrue (state S.Store tx.old.conn.now).is_open }
+    ensures honest { IsHonestInside (state S.Store tx.old.conn.now) (state S.Store tx.new.conn.now) result
+        (λ trees. AreReadable trees db.0) }
+    ensures opened { IsOpenDamageInside (state S.Store tx.old.conn.now) (state S.Store tx.new.conn.now) result }
 {
     let Ok(start) = stored(start) else {
         // A closed connection is refused for such a number too.
@@ -227,13 +220,11 @@ pub fn records<S: Alter>(
     db: DatabaseId,
 ) -> Result<Vec<Record>, RegFault>
     ensures call { Reading (state S.Store conn.old) (state S.Store conn.new) result (λ _. IsUnchanged) }
-    ensures value { HasCleanDisk (state S.Store conn.new) → IsStore (state S.Store conn.old) → IfOk result
-        (λ list. IsListOf (IsRest records_tree (Int db.0 ∷ []) (state S.Store conn.old).now.trees) (map record_shown list.items)) }
-    ensures honest { HasCleanDisk (state S.Store conn.new) → IsStore (state S.Store conn.old) → result ≡ Err RegFault.Damaged
-        → ¬ AreReadable (state S.Store conn.old).now.trees db.0 }
-    ensures opened { HasCleanDisk (state S.Store conn.new) → result ≡ Err RegFault.Damaged → IsTrue (state S.Store conn.old).is_open }
-    ensures refused { HasCleanDisk (state S.Store conn.new) → IsStore (state S.Store conn.old) → result ≡ Err RegFault.Store
-        → MayRefuse (state S.Store conn.old) (state S.Store conn.new) }
+    ensures value { Tells (state S.Store conn.old) (state S.Store conn.new) result
+        (λ trees list. IsListOf (IsRest records_tree (Int db.0 ∷ []) trees) (map record_shown list.items)) }
+    ensures honest { IsHonest (state S.Store conn.old) (state S.Store conn.new) result (λ trees. AreReadable trees db.0) }
+    ensures opened { IsOpenDamage (state S.Store conn.old) (state S.Store conn.new) result }
+    ensures refused { IsReasoned (state S.Store conn.old) (state S.Store conn.new) result }
 {
     let rows = record_rows(conn, db.column())?;
     records_of(alloc, &rows)
@@ -271,8 +262,7 @@ pub(crate) fn records_drop<S: Alter>(
     db: DatabaseId,
 ) -> Result<(), RegFault>
     ensures same { tx.new.conn.ghost_name ≡ tx.old.conn.ghost_name }
-    ensures call { Inside (state S.Store tx.old.conn.now) (state S.Store tx.new.conn.now) result
-        (λ _. Alters records_tree (Loses (IsRecordIn db.0))) }
+    ensures call { Writes records_tree (Loses (IsRecordIn db.0)) (state S.Store tx.old.conn.now) (state S.Store tx.new.conn.now) result }
     ensures honest { result ≢ Err RegFault.Damaged }
 {
     records_clear(tx, db.column())?;

@@ -26,6 +26,7 @@ mod packed_totals;
 mod plain;
 mod plain_changes;
 mod registers;
+mod schema;
 mod statements;
 mod tables;
 mod terms;
@@ -50,6 +51,7 @@ pub use registers::{
     Layout, Place, RecordChange, TermCount, Totals, Work, contents_change,
     registers_hold_one_content,
 };
+pub use schema::{is_bare_schema, is_store_schema};
 pub use tables::make_tables;
 pub use wiping::{registers_wipe, wipe};
 pub use zeb_blocks::Posting;

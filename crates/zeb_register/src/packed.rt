@@ -2,27 +2,17 @@
 
 ghost use Rattle.std.specs.Prelude.{◌≡◌, ◌≢◌, ◌^◌, ◌<◌, ◌≤◌, ◌++◌, List, length, map, pos, take, IfOk, OnOk, FitsSigned};
 ghost use Rattle.std.specs.Int.{w64};
-ghost use Rattle.sqlite.specs.Held.{state};
-ghost use Rattle.sqlite.specs.State.{HasCleanDisk, IsUnchanged};
 ghost use Rattle.sqlite.specs.Order.{Row as Columns, column};
 ghost use Rattle.sqlite.specs.declared.types.Value.TheVariants.{Int};
 ghost use Rattle.sqlite_rules.specs.Lists.{Has};
 ghost use Rattle.sqlite_sql.specs.Query.{as_count, limited};
-ghost use Rattle.zeb_register.specs.Calls.{Reading};
-ghost use Rattle.zeb_register.specs.Content.{Content, IsStorable, posted};
-ghost use Rattle.zeb_register.specs.Occurring.{AreTermsBefore, AreTermsFrom, AreTermsOf, key_in};
-ghost use Rattle.zeb_register.specs.PackedBlocks.{AreAllSpelled, HoldsBlocks, SpellsPart, blocks_of};
+ghost use Rattle.zeb_register.specs.PackedBlocks.{SpellsPart};
 ghost use Rattle.zeb_register.specs.PackedRows.{AreSpelled, IsCountRow, IsRecordNumber, count_row};
 ghost use Rattle.zeb_blocks.specs.Blocks.{BlockSpells};
-ghost use Rattle.zeb_register.specs.PlainRows.{key_row};
 ghost use Rattle.zeb_register.specs.RowPlaces.{first_two};
-ghost use Rattle.zeb_register.specs.RowStatements.{Lists};
-ghost use Rattle.zeb_register.specs.Store.{IsRest, IsStore, blocks_tree};
-ghost use Rattle.zeb_register.specs.Tallies.{ReadsTerms, Rises, Works};
+ghost use Rattle.zeb_register.specs.Tallies.{Rises};
 
-use crate::plain::code_of;
-use crate::registers::{TermCount, Work};
-use crate::statements::packed::{block_rows, dict_rows, dict_rows_before, dict_rows_from};
+use crate::registers::TermCount;
 use crate::values::read;
 use crate::{DatabaseId, RegFault};
 use sqlite::{Alter, Connection, Row};
@@ -34,52 +24,6 @@ use zeb_profile::Register;
 /// How many records a database has at most, since each has a number of 1 to this.
 const MOST_RECORDS: u64 = 999_999_999;
 
-/// The postings of a term, rising. `Damaged` exactly where a row of its blocks spells none. `work` counts these rows.
-pub(crate) fn postings_packed<S: Alter>(
-    alloc: Global,
-    conn: &mut Connection<S>,
-    work: &mut Work,
-    db: DatabaseId,
-    index: u32,
-    register: Register,
-    term: &str,
-) -> Result<Vec<Posting>, RegFault>
-    ensures call { Reading (state S.Store conn.old) (state S.Store conn.new) result (λ _. IsUnchanged) }
-    ensures value { HasCleanDisk (state S.Store conn.new) → IsStore (state S.Store conn.old)
-        → IfOk result (λ list. (content : Content) → HoldsBlocks (state S.Store conn.old).now.trees content
-        → list.items ≡ content db.0 (key_in index register term.now)) }
-    ensures honest { HasCleanDisk (state S.Store conn.new) → IsStore (state S.Store conn.old) → result ≡ Err RegFault.Damaged
-        → (content : Content) → ¬ HoldsBlocks (state S.Store conn.old).now.trees content }
-    ensures spelled { HasCleanDisk (state S.Store conn.new) → IsStore (state S.Store conn.old)
-        → OnOk result (AreAllSpelled (state S.Store conn.old).now.trees (key_row db.0 (key_in index register term.now))) }
-    ensures damaged { HasCleanDisk (state S.Store conn.new) → IsStore (state S.Store conn.old) → result ≡ Err RegFault.Damaged
-        → ¬ AreAllSpelled (state S.Store conn.old).now.trees (key_row db.0 (key_in index register term.now)) }
-    ensures work { HasCleanDisk (state S.Store conn.new) → IsStore (state S.Store conn.old)
-        → IfOk result (λ list. (content : Content) → HoldsBlocks (state S.Store conn.old).now.trees content
-        → Works 0 0 (blocks_of list.items) 0 work.old work.new) }
-{
-    let rows = key_rows(conn, db, index, register, term)?;
-    let list = postings_in(alloc, &rows)?;
-    work.block_read = counted(work.block_read, rows.len());
-    Ok(list)
-}
-
-/// The rows of a term's blocks, by the numbers of the blocks.
-pub(crate) fn key_rows<S: Alter>(
-    conn: &mut Connection<S>,
-    db: DatabaseId,
-    index: u32,
-    register: Register,
-    term: &str,
-) -> Result<Vec<Row>, RegFault>
-    ensures call { Reading (state S.Store conn.old) (state S.Store conn.new) result
-        (λ rows a b. Lists (IsRest blocks_tree (key_row db.0 (key_in index register term.now))) a b rows.items) }
-    ensures honest { result ≢ Err RegFault.Damaged }
-{
-    let rows = block_rows(conn, db.column(), index, code_of(register), term)?;
-    Ok(rows)
-}
-
 /// A count with so many rows more; it stays at its greatest value.
 pub(crate) fn counted(count: u64, rows: usize) -> u64
     ensures rises { Rises rows count result }
@@ -89,7 +33,7 @@ pub(crate) fn counted(count: u64, rows: usize) -> u64
 }
 
 /// The postings that blocks spell, one block behind the other.
-fn postings_in(alloc: Global, rows: &[Row]) -> Result<Vec<Posting>, RegFault>
+pub(crate) fn postings_in(alloc: Global, rows: &[Row]) -> Result<Vec<Posting>, RegFault>
     ensures ok { IfOk result (λ list. AreSpelled rows.now list.items) }
     ensures honest { result ≡ Err RegFault.Damaged → (list : List _) → ¬ AreSpelled rows.now list }
 {
@@ -128,86 +72,8 @@ pub(crate) fn add_spelled(
     Ok(())
 }
 
-/// The terms of a register that have a posting, in the order of their bytes. `work` counts their rows, as below.
-pub(crate) fn terms_packed<S: Alter>(
-    alloc: Global,
-    conn: &mut Connection<S>,
-    work: &mut Work,
-    db: DatabaseId,
-    index: u32,
-    register: Register,
-) -> Result<Vec<TermCount>, RegFault>
-    ensures call { Reading (state S.Store conn.old) (state S.Store conn.new) result (λ _. IsUnchanged) }
-    ensures value { HasCleanDisk (state S.Store conn.new) → IsStore (state S.Store conn.old)
-        → IfOk result (λ list. (content : Content) → HoldsBlocks (state S.Store conn.old).now.trees content
-        → AreTermsOf (posted content db.0) index register list.items) }
-    ensures honest { HasCleanDisk (state S.Store conn.new) → IsStore (state S.Store conn.old) → result ≡ Err RegFault.Damaged
-        → (content : Content) → IsStorable content → ¬ HoldsBlocks (state S.Store conn.old).now.trees content }
-    ensures work { IfOk result (λ list. Works (length list.items) 0 0 0 work.old work.new) }
-{
-    let rows = dict_rows(conn, db.column(), index, code_of(register))?;
-    let counts = counts_in(alloc, &rows)?;
-    work.dict_read = counted(work.dict_read, counts.len());
-    Ok(counts)
-}
-
-/// The first `n` of these terms that are not below `start`, in the order of their bytes.
-pub(crate) fn terms_packed_from<S: Alter>(
-    alloc: Global,
-    conn: &mut Connection<S>,
-    work: &mut Work,
-    db: DatabaseId,
-    index: u32,
-    register: Register,
-    start: &str,
-    n: u64,
-) -> Result<Vec<TermCount>, RegFault>
-    ensures call { Reading (state S.Store conn.old) (state S.Store conn.new) result (λ _. IsUnchanged) }
-    ensures value { HasCleanDisk (state S.Store conn.new) → IsStore (state S.Store conn.old)
-        → IfOk result (λ list. (content : Content) → HoldsBlocks (state S.Store conn.old).now.trees content
-        → AreTermsFrom (posted content db.0) index register start.now n list.items) }
-    ensures honest { HasCleanDisk (state S.Store conn.new) → IsStore (state S.Store conn.old) → result ≡ Err RegFault.Damaged
-        → (content : Content) → IsStorable content → ¬ HoldsBlocks (state S.Store conn.old).now.trees content }
-    ensures work { HasCleanDisk (state S.Store conn.new) → IsStore (state S.Store conn.old)
-        → OnOk result (ReadsTerms n work.old work.new) }
-{
-    let limit = limit_of(n);
-    let rows = dict_rows_from(conn, db.column(), index, code_of(register), start, limit)?;
-    let counts = counts_in(alloc, &rows)?;
-    work.dict_read = counted(work.dict_read, rows.len());
-    Ok(counts)
-}
-
-/// The last `n` of these terms that are below `start`, in the order of their bytes.
-pub(crate) fn terms_packed_before<S: Alter>(
-    alloc: Global,
-    conn: &mut Connection<S>,
-    work: &mut Work,
-    db: DatabaseId,
-    index: u32,
-    register: Register,
-    start: &str,
-    n: u64,
-) -> Result<Vec<TermCount>, RegFault>
-    ensures call { Reading (state S.Store conn.old) (state S.Store conn.new) result (λ _. IsUnchanged) }
-    ensures value { HasCleanDisk (state S.Store conn.new) → IsStore (state S.Store conn.old)
-        → IfOk result (λ list. (content : Content) → HoldsBlocks (state S.Store conn.old).now.trees content
-        → AreTermsBefore (posted content db.0) index register start.now n list.items) }
-    ensures honest { HasCleanDisk (state S.Store conn.new) → IsStore (state S.Store conn.old) → result ≡ Err RegFault.Damaged
-        → (content : Content) → IsStorable content → ¬ HoldsBlocks (state S.Store conn.old).now.trees content }
-    ensures work { HasCleanDisk (state S.Store conn.new) → IsStore (state S.Store conn.old)
-        → OnOk result (ReadsTerms n work.old work.new) }
-{
-    let limit = limit_of(n);
-    let rows = dict_rows_before(conn, db.column(), index, code_of(register), start, limit)?;
-    let mut counts = counts_in(alloc, &rows)?;
-    work.dict_read = counted(work.dict_read, rows.len());
-    counts.reverse();
-    Ok(counts)
-}
-
 /// How many rows a statement gives at most: a number that no column stores, and no list has, is no limit, as -1 says.
-fn limit_of(n: u64) -> i64
+pub(crate) fn limit_of(n: u64) -> i64
     ensures fits { FitsSigned w64 result }
     ensures limit { (rows all : List Columns) → rows ≡ limited (as_count (Int result)) all → length rows < 2 ^ 63 → rows ≡ take n all }
 {
@@ -215,7 +81,7 @@ fn limit_of(n: u64) -> i64
 }
 
 /// The terms that rows show, each with the number of its records.
-fn counts_in(alloc: Global, rows: &[Row]) -> Result<Vec<TermCount>, RegFault>
+pub(crate) fn counts_in(alloc: Global, rows: &[Row]) -> Result<Vec<TermCount>, RegFault>
     ensures ok { IfOk result (λ list. map count_row list.items ≡ map first_two rows.now) }
     ensures few { length rows.now < 2 ^ 63 }
     ensures honest { result ≡ Err RegFault.Damaged → ¬ ((row : _) → Has rows.now row → IsCountRow row) }

@@ -1,15 +1,15 @@
 //! The packed tables of a database beside what is expected of it. Rows are read in order, and each takes its postings from the front of
 //! those that are left.
 
-ghost use Rattle.std.specs.Prelude.{◌≡◌, ◌≢◌, ◌↔◌, ◌≤◌, ◌++◌, ℕ, pos, List, true, false, length, drop, map, MatchOption, IsTrue, IfOk};
+ghost use Rattle.std.specs.Prelude.{◌≡◌, ◌≢◌, ◌≤◌, ◌++◌, ℕ, pos, List, true, false, length, drop, map, MatchOption};
 ghost use Rattle.sqlite.specs.Held.{state};
-ghost use Rattle.sqlite.specs.State.{HasCleanDisk, IsUnchanged};
+ghost use Rattle.sqlite.specs.State.{IsUnchanged};
 ghost use Rattle.sqlite.specs.declared.types.Value.TheVariants.{Int};
 ghost use Rattle.sqlite.specs.Order.{column};
 ghost use Rattle.zeb_blocks.specs.Blocks.{BlockSpells};
 ghost use Rattle.zeb_register.specs.Calls.{Reading};
+ghost use Rattle.zeb_register.specs.Clauses.{TellsWhether};
 ghost use Rattle.zeb_register.specs.RowExpected.{AreBlocks, AreInOrder, AsExpected, HoldsExpected, HoldsKeysAlone, IsBlockBefore, IsInOrder, with_key};
-ghost use Rattle.zeb_register.specs.Store.{IsStore};
 
 use crate::agreeing::{Table, belongs, table_agrees};
 use crate::expected::is_key;
@@ -29,9 +29,8 @@ pub(crate) fn packed_agree<S: Alter>(
 ) -> Result<bool, RegFault>
     requires { length listed.now ≡ length expected.now }
     ensures call { Reading (state S.Store conn.old) (state S.Store conn.new) result (λ _. IsUnchanged) }
-    ensures value { HasCleanDisk (state S.Store conn.new) → IsStore (state S.Store conn.old) → AreInOrder expected.now
-        → IfOk result (λ agree. IsTrue agree ↔ (HoldsExpected Table.Blocks listed.now expected.now (state S.Store conn.old).now.trees
-        × HoldsKeysAlone listed.now expected.now (state S.Store conn.old).now.trees)) }
+    ensures value { TellsWhether (λ trees. HoldsExpected Table.Blocks listed.now expected.now trees
+        × HoldsKeysAlone listed.now expected.now trees) (AreInOrder expected.now) (state S.Store conn.old) (state S.Store conn.new) result }
     ensures honest { result ≢ Err RegFault.Damaged }
 {
     if !table_agrees(conn, Table::Blocks, listed, expected)? {
@@ -48,8 +47,8 @@ fn keys_alone<S: Alter>(
 ) -> Result<bool, RegFault>
     requires { length listed.now ≡ length expected.now }
     ensures call { Reading (state S.Store conn.old) (state S.Store conn.new) result (λ _. IsUnchanged) }
-    ensures value { HasCleanDisk (state S.Store conn.new) → IsStore (state S.Store conn.old) → AreInOrder expected.now
-        → IfOk result (λ agree. IsTrue agree ↔ HoldsKeysAlone listed.now expected.now (state S.Store conn.old).now.trees) }
+    ensures value { TellsWhether (HoldsKeysAlone listed.now expected.now) (AreInOrder expected.now)
+        (state S.Store conn.old) (state S.Store conn.new) result }
     ensures honest { result ≢ Err RegFault.Damaged }
 {
     if !table_agrees(conn, Table::Dict, listed, expected)? {
@@ -65,8 +64,8 @@ pub(crate) fn blocks_agree<S: Alter>(
     database: &ExpectedDatabase,
 ) -> Result<bool, RegFault>
     ensures call { Reading (state S.Store conn.old) (state S.Store conn.new) result (λ _. IsUnchanged) }
-    ensures value { HasCleanDisk (state S.Store conn.new) → IsStore (state S.Store conn.old) → IsInOrder database.now
-        → IfOk result (λ agree. IsTrue agree ↔ AsExpected Table.Blocks db.0 database.now (state S.Store conn.old).now.trees) }
+    ensures value { TellsWhether (AsExpected Table.Blocks db.0 database.now) (IsInOrder database.now)
+        (state S.Store conn.old) (state S.Store conn.new) result }
     ensures honest { result ≢ Err RegFault.Damaged }
 {
     let rows = database_blocks(conn, db.column())?;
@@ -80,8 +79,8 @@ pub(crate) fn keys_agree<S: Alter>(
     database: &ExpectedDatabase,
 ) -> Result<bool, RegFault>
     ensures call { Reading (state S.Store conn.old) (state S.Store conn.new) result (λ _. IsUnchanged) }
-    ensures value { HasCleanDisk (state S.Store conn.new) → IsStore (state S.Store conn.old) → IsInOrder database.now
-        → IfOk result (λ agree. IsTrue agree ↔ AsExpected Table.Dict db.0 database.now (state S.Store conn.old).now.trees) }
+    ensures value { TellsWhether (AsExpected Table.Dict db.0 database.now) (IsInOrder database.now)
+        (state S.Store conn.old) (state S.Store conn.new) result }
     ensures honest { result ≢ Err RegFault.Damaged }
 {
     let rows = database_keys(conn, db.column())?;

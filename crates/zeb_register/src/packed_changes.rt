@@ -1,23 +1,19 @@
 //! One row of a key in packed registers, read and written inside a transaction: that of a block, and that of `dict`.
 
-ghost use Rattle.std.specs.Prelude.{IsUtf8, ◌≡◌, ◌≢◌, ◌<◌, ◌≤◌, List, IsTrue, IfOk, OnOk};
+ghost use Rattle.std.specs.Prelude.{IsUtf8, ◌≡◌, ◌≢◌, ◌≤◌, List, IfOk, OnOk};
 ghost use Rattle.sqlite.specs.Held.{state};
-ghost use Rattle.sqlite.specs.State.{HasCleanDisk};
-ghost use Rattle.sqlite.specs.Order.{column};
-ghost use Rattle.sqlite.specs.declared.types.Value.TheVariants.{Blob};
-ghost use Rattle.zeb_blocks.specs.Blocks.{BlockSpells, LiesIn};
-ghost use Rattle.zeb_blocks.specs.declared.postings.Posting.{Posting};
-ghost use Rattle.zeb_register.specs.Calls.{Alters, Inside, OnlyReads};
+ghost use Rattle.zeb_blocks.specs.Blocks.{LiesIn};
+ghost use Rattle.zeb_register.specs.Calls.{Inside, OnlyReads};
+ghost use Rattle.zeb_register.specs.Clauses.{Writes};
+ghost use Rattle.zeb_register.specs.Clauses.{InStore, TellsHeldInside};
 ghost use Rattle.zeb_register.specs.Content.{Content, IsStorable, posted};
 ghost use Rattle.zeb_register.specs.Occurring.{HasKey, IsCount};
-ghost use Rattle.zeb_register.specs.PackedBlocks.{HoldsBlocks, block_row, dict_row, part_in};
+ghost use Rattle.zeb_register.specs.PackedBlocks.{HoldsBlocks, part_in};
 ghost use Rattle.zeb_register.specs.PackedChanges.{HoldsBlockRows, IfTold, IsBlockIn, IsDictIn, PutsBlock, PutsCount, SpellsIn};
-ghost use Rattle.zeb_register.specs.RowStatements.{Gains, Renews};
-ghost use Rattle.zeb_register.specs.Sql.{Loses};
-ghost use Rattle.zeb_register.specs.Store.{IsStore, blocks_tree, dict_tree};
+ghost use Rattle.zeb_register.specs.Store.{blocks_tree, dict_tree};
 
 use crate::packed::{add_spelled, records_at};
-use crate::plain::code_of;
+use crate::statements::keys::KeyOf;
 use crate::statements::packed_changes::{
     block_add, block_bytes, block_remove, block_set, dict_add, dict_records, dict_remove, dict_set,
 };
@@ -37,25 +33,14 @@ pub(crate) fn block_list<S: Alter>(
 ) -> Result<Vec<Posting>, RegFault>
     ensures same { tx.new.conn.ghost_name ≡ tx.old.conn.ghost_name }
     ensures call { Inside (state S.Store tx.old.conn.now) (state S.Store tx.new.conn.now) result (λ _. OnlyReads) }
-    ensures value { HasCleanDisk (state S.Store tx.new.conn.now) → IsTrue (state S.Store tx.old.conn.now).in_transaction
-        → IsStore (state S.Store tx.old.conn.now)
-        → IfOk result (λ list. (content : Content) → HoldsBlockRows (state S.Store tx.old.conn.now).now.trees content
-        → list.items ≡ part_in block (content db.0 key.now)) }
+    ensures value { TellsHeldInside HoldsBlockRows (state S.Store tx.old.conn.now) (state S.Store tx.new.conn.now) result
+        (λ content list. list.items ≡ part_in block (content db.0 key.now)) }
     ensures lies { IfOk result (λ list. LiesIn block list.items) }
-    ensures honest { HasCleanDisk (state S.Store tx.new.conn.now) → IsTrue (state S.Store tx.old.conn.now).in_transaction
-        → IsStore (state S.Store tx.old.conn.now) → result ≡ Err RegFault.Damaged
-        → (content : Content) → ¬ HoldsBlockRows (state S.Store tx.old.conn.now).now.trees content }
+    ensures honest { InStore (state S.Store tx.old.conn.now) (state S.Store tx.new.conn.now) (λ trees. result ≡ Err RegFault.Damaged
+        → (content : Content) → ¬ HoldsBlockRows trees content) }
 {
     let number = stored(block)?;
-    let register = code_of(key.register);
-    let rows = block_bytes(
-        tx,
-        db.column(),
-        key.index,
-        register,
-        key.term.as_str(),
-        number,
-    )?;
+    let rows = block_bytes(tx, KeyOf { db, key }, number)?;
     let alloc = *rows.allocator();
     match rows.first() {
         Some(row) => spelled_list(alloc, row, block),
@@ -82,18 +67,14 @@ pub(crate) fn key_records<S: Alter>(
 ) -> Result<u64, RegFault>
     ensures same { tx.new.conn.ghost_name ≡ tx.old.conn.ghost_name }
     ensures call { Inside (state S.Store tx.old.conn.now) (state S.Store tx.new.conn.now) result (λ _. OnlyReads) }
-    ensures value { HasCleanDisk (state S.Store tx.new.conn.now) → IsTrue (state S.Store tx.old.conn.now).in_transaction
-        → IsStore (state S.Store tx.old.conn.now)
-        → IfOk result (λ records. (content : Content) → HoldsBlocks (state S.Store tx.old.conn.now).now.trees content
-        → IsCount (HasKey (posted content db.0) key.now) records) }
+    ensures value { TellsHeldInside HoldsBlocks (state S.Store tx.old.conn.now) (state S.Store tx.new.conn.now) result
+        (λ content records. IsCount (HasKey (posted content db.0) key.now) records) }
     ensures few { IfOk result (λ records. records ≤ 999999999) }
-    ensures honest { HasCleanDisk (state S.Store tx.new.conn.now) → IsTrue (state S.Store tx.old.conn.now).in_transaction
-        → IsStore (state S.Store tx.old.conn.now) → result ≡ Err RegFault.Damaged
-        → (content : Content) → IsStorable content → ¬ HoldsBlocks (state S.Store tx.old.conn.now).now.trees content }
+    ensures honest { InStore (state S.Store tx.old.conn.now) (state S.Store tx.new.conn.now) (λ trees. result ≡ Err RegFault.Damaged
+        → (content : Content) → IsStorable content → ¬ HoldsBlocks trees content) }
     ensures text { OnOk result (IsUtf8 key.now.term) }
 {
-    let register = code_of(key.register);
-    let rows = dict_records(tx, db.column(), key.index, register, key.term.as_str())?;
+    let rows = dict_records(tx, KeyOf { db, key })?;
     match rows.first() {
         Some(row) => records_at(row, 0),
         None => Ok(0),
@@ -112,93 +93,22 @@ pub(crate) fn block_write<S: Alter>(
 ) -> Result<(), RegFault>
     requires { LiesIn block list.now }
     ensures same { tx.new.conn.ghost_name ≡ tx.old.conn.ghost_name }
-    ensures call { Inside (state S.Store tx.old.conn.now) (state S.Store tx.new.conn.now) result
-        (λ _. Alters blocks_tree (IfTold is_there (IsBlockIn db.0 key.now block) (PutsBlock db.0 key.now block list.now))) }
+    ensures call { Writes blocks_tree (IfTold is_there (IsBlockIn db.0 key.now block) (PutsBlock db.0 key.now block list.now))
+        (state S.Store tx.old.conn.now) (state S.Store tx.new.conn.now) result }
     ensures honest { result ≢ Err RegFault.Damaged }
 {
+    let number = stored(block)?;
+    let at = KeyOf { db, key };
     if list.is_empty() {
-        return block_take(tx, db, key, block);
+        block_remove(tx, at, number)?;
+        return Ok(());
     }
     let bytes = spell(alloc, block, list)?;
     if is_there {
-        return block_renew(tx, db, key, block, &bytes);
+        block_set(tx, at, number, &bytes)?;
+        return Ok(());
     }
-    block_insert(tx, db, key, block, &bytes)
-}
-
-fn block_renew<S: Alter>(
-    tx: &mut Transaction<'_, S>,
-    db: DatabaseId,
-    key: &Key,
-    block: u64,
-    bytes: &[u8],
-) -> Result<(), RegFault>
-    ensures same { tx.new.conn.ghost_name ≡ tx.old.conn.ghost_name }
-    ensures call { Inside (state S.Store tx.old.conn.now) (state S.Store tx.new.conn.now) result
-        (λ _. Alters blocks_tree (Renews (IsBlockIn db.0 key.now block) (block_row db.0 key.now block bytes.now))) }
-    ensures honest { result ≢ Err RegFault.Damaged }
-{
-    let number = stored(block)?;
-    let register = code_of(key.register);
-    block_set(
-        tx,
-        db.column(),
-        key.index,
-        register,
-        key.term.as_str(),
-        number,
-        bytes,
-    )?;
-    Ok(())
-}
-
-fn block_insert<S: Alter>(
-    tx: &mut Transaction<'_, S>,
-    db: DatabaseId,
-    key: &Key,
-    block: u64,
-    bytes: &[u8],
-) -> Result<(), RegFault>
-    ensures same { tx.new.conn.ghost_name ≡ tx.old.conn.ghost_name }
-    ensures call { Inside (state S.Store tx.old.conn.now) (state S.Store tx.new.conn.now) result
-        (λ _. Alters blocks_tree (Gains (block_row db.0 key.now block bytes.now))) }
-    ensures honest { result ≢ Err RegFault.Damaged }
-{
-    let number = stored(block)?;
-    let register = code_of(key.register);
-    block_add(
-        tx,
-        db.column(),
-        key.index,
-        register,
-        key.term.as_str(),
-        number,
-        bytes,
-    )?;
-    Ok(())
-}
-
-fn block_take<S: Alter>(
-    tx: &mut Transaction<'_, S>,
-    db: DatabaseId,
-    key: &Key,
-    block: u64,
-) -> Result<(), RegFault>
-    ensures same { tx.new.conn.ghost_name ≡ tx.old.conn.ghost_name }
-    ensures call { Inside (state S.Store tx.old.conn.now) (state S.Store tx.new.conn.now) result
-        (λ _. Alters blocks_tree (Loses (IsBlockIn db.0 key.now block))) }
-    ensures honest { result ≢ Err RegFault.Damaged }
-{
-    let number = stored(block)?;
-    let register = code_of(key.register);
-    block_remove(
-        tx,
-        db.column(),
-        key.index,
-        register,
-        key.term.as_str(),
-        number,
-    )?;
+    block_add(tx, at, number, &bytes)?;
     Ok(())
 }
 
@@ -211,78 +121,20 @@ pub(crate) fn dict_write<S: Alter>(
     is_there: bool,
 ) -> Result<(), RegFault>
     ensures same { tx.new.conn.ghost_name ≡ tx.old.conn.ghost_name }
-    ensures call { Inside (state S.Store tx.old.conn.now) (state S.Store tx.new.conn.now) result
-        (λ _. Alters dict_tree (IfTold is_there (IsDictIn db.0 key.now) (PutsCount db.0 key.now records))) }
+    ensures call { Writes dict_tree (IfTold is_there (IsDictIn db.0 key.now) (PutsCount db.0 key.now records))
+        (state S.Store tx.old.conn.now) (state S.Store tx.new.conn.now) result }
     ensures honest { result ≢ Err RegFault.Damaged }
 {
+    let number = stored(records)?;
+    let at = KeyOf { db, key };
     if records == 0 {
-        return dict_take(tx, db, key);
+        dict_remove(tx, at)?;
+        return Ok(());
     }
     if is_there {
-        return dict_renew(tx, db, key, records);
+        dict_set(tx, at, number)?;
+        return Ok(());
     }
-    dict_insert(tx, db, key, records)
-}
-
-fn dict_renew<S: Alter>(
-    tx: &mut Transaction<'_, S>,
-    db: DatabaseId,
-    key: &Key,
-    records: u64,
-) -> Result<(), RegFault>
-    ensures same { tx.new.conn.ghost_name ≡ tx.old.conn.ghost_name }
-    ensures call { Inside (state S.Store tx.old.conn.now) (state S.Store tx.new.conn.now) result
-        (λ _. Alters dict_tree (Renews (IsDictIn db.0 key.now) (dict_row db.0 key.now records))) }
-    ensures honest { result ≢ Err RegFault.Damaged }
-{
-    let number = stored(records)?;
-    let register = code_of(key.register);
-    dict_set(
-        tx,
-        db.column(),
-        key.index,
-        register,
-        key.term.as_str(),
-        number,
-    )?;
-    Ok(())
-}
-
-fn dict_insert<S: Alter>(
-    tx: &mut Transaction<'_, S>,
-    db: DatabaseId,
-    key: &Key,
-    records: u64,
-) -> Result<(), RegFault>
-    ensures same { tx.new.conn.ghost_name ≡ tx.old.conn.ghost_name }
-    ensures call { Inside (state S.Store tx.old.conn.now) (state S.Store tx.new.conn.now) result
-        (λ _. Alters dict_tree (Gains (dict_row db.0 key.now records))) }
-    ensures honest { result ≢ Err RegFault.Damaged }
-{
-    let number = stored(records)?;
-    let register = code_of(key.register);
-    dict_add(
-        tx,
-        db.column(),
-        key.index,
-        register,
-        key.term.as_str(),
-        number,
-    )?;
-    Ok(())
-}
-
-fn dict_take<S: Alter>(
-    tx: &mut Transaction<'_, S>,
-    db: DatabaseId,
-    key: &Key,
-) -> Result<(), RegFault>
-    ensures same { tx.new.conn.ghost_name ≡ tx.old.conn.ghost_name }
-    ensures call { Inside (state S.Store tx.old.conn.now) (state S.Store tx.new.conn.now) result
-        (λ _. Alters dict_tree (Loses (IsDictIn db.0 key.now))) }
-    ensures honest { result ≢ Err RegFault.Damaged }
-{
-    let register = code_of(key.register);
-    dict_remove(tx, db.column(), key.index, register, key.term.as_str())?;
+    dict_add(tx, at, number)?;
     Ok(())
 }

@@ -7,7 +7,7 @@ ghost use Rattle.std.specs.List.{AllByRecursion};
 ghost use Rattle.std.specs.List.Sorted.{IsStrictlySortedBy};
 ghost use Rattle.zeb_blocks.specs.Blocks.{LiesIn};
 ghost use Rattle.zeb_blocks.specs.declared.postings.Posting.{Posting};
-ghost use Rattle.zeb_register.specs.Content.{AreListChanges, ArePlacesOf, IsListChanged, place_cmp, posting_at, posting_cmp};
+ghost use Rattle.zeb_register.specs.Content.{AreListChanges, ArePlacesOf, IsListChanged, OldsRise, place_cmp, posting_at, posting_cmp};
 ghost use Rattle.zeb_register.specs.PackedChanges.{AreStorablePlaces, CountsOn, IsHeld, IsInBlock, IsParted};
 ghost use Rattle.zeb_register.specs.PackedChanges.{IsStorableChange, IsStorablePlace};
 
@@ -37,7 +37,7 @@ impl Held {
             → (new : List Posting) × AreListChanges changes.now old new × IsHeld new held) }
         ensures lies { IfOk result (λ held. LiesIn self.block held.list.items) }
         ensures block { IfOk result (λ held. held.block ≡ self.block) }
-        ensures damaged { result ≡ Err RegFault.Damaged → AllByRecursion (λ c. IsStrictlySortedBy place_cmp c.old.now) changes.now
+        ensures damaged { result ≡ Err RegFault.Damaged → OldsRise changes.now
             → (old new : List Posting) → IsStrictlySortedBy posting_cmp old → IsHeld old self → ¬ AreListChanges changes.now old new }
     {
         let mut held = self;

@@ -1,61 +1,28 @@
 //! How much a packed register holds: its terms by their rows of `dict`, its postings by the blocks of each term.
 
-ghost use Rattle.std.specs.Prelude.{◌≡◌, ◌<◌, ◌^◌, List, length, sum_by, IfOk, OnOk};
+ghost use Rattle.std.specs.Prelude.{◌≡◌, ◌<◌, ◌^◌, List, length, IfOk, OnOk};
 ghost use Rattle.sqlite.specs.Held.{state};
-ghost use Rattle.sqlite.specs.State.{HasCleanDisk, IsUnchanged};
+ghost use Rattle.sqlite.specs.State.{IsUnchanged};
 ghost use Rattle.zeb_register.specs.Calls.{Reading};
-ghost use Rattle.zeb_register.specs.Content.{Content, IsStorable, posted};
-ghost use Rattle.zeb_register.specs.Occurring.{AreTermsOf, AreTotals, capped, key_in};
+ghost use Rattle.zeb_register.specs.Clauses.{IsHonestOfHeld, OnStore, TellsHeld};
+ghost use Rattle.zeb_register.specs.Content.{Content};
+ghost use Rattle.zeb_register.specs.Occurring.{capped, key_in};
 ghost use Rattle.zeb_register.specs.PackedBlocks.{HoldsBlocks, SpellsPart, blocks_of};
 ghost use Rattle.zeb_register.specs.PackedRows.{AreSpelled};
-ghost use Rattle.zeb_register.specs.Store.{IsStore};
-ghost use Rattle.zeb_register.specs.Tallies.{Rises, Works};
-ghost use Rattle.zeb_register.specs.declared.registers.TermCount.{TermCount};
+ghost use Rattle.zeb_register.specs.Tallies.{Rises};
 
-use crate::packed::{counted, key_rows, terms_packed};
-use crate::registers::{Totals, Work};
+use crate::packed::counted;
+use crate::registers::Work;
+use crate::statements::keys::RegisterOf;
+use crate::statements::packed::block_rows;
 use crate::values::read;
 use crate::{DatabaseId, RegFault};
 use sqlite::{Alter, Connection, Row};
-use std::alloc::Global;
 use zeb_blocks::Postings;
 use zeb_profile::Register;
 
-/// How many terms and postings a register holds. Each row of its terms and of their blocks is read once, and `work` counts it; the
-/// blocks of one term are held at a time, and no list of postings.
-pub(crate) fn totals_packed<S: Alter>(
-    alloc: Global,
-    conn: &mut Connection<S>,
-    work: &mut Work,
-    db: DatabaseId,
-    index: u32,
-    register: Register,
-) -> Result<Totals, RegFault>
-    ensures call { Reading (state S.Store conn.old) (state S.Store conn.new) result (λ _. IsUnchanged) }
-    ensures value { HasCleanDisk (state S.Store conn.new) → IsStore (state S.Store conn.old)
-        → IfOk result (λ sums. (content : Content) → HoldsBlocks (state S.Store conn.old).now.trees content
-        → AreTotals (posted content db.0) index register sums) }
-    ensures honest { HasCleanDisk (state S.Store conn.new) → IsStore (state S.Store conn.old) → result ≡ Err RegFault.Damaged
-        → (content : Content) → IsStorable content → ¬ HoldsBlocks (state S.Store conn.old).now.trees content }
-    ensures work { HasCleanDisk (state S.Store conn.new) → IsStore (state S.Store conn.old)
-        → OnOk result ((content : Content) → HoldsBlocks (state S.Store conn.old).now.trees content
-        → (all : List TermCount) → AreTermsOf (posted content db.0) index register all
-        → Works (length all) 0 (sum_by (λ t. blocks_of (content db.0 (key_in index register t.term))) all) 0 work.old work.new) }
-{
-    let terms = terms_packed(alloc, conn, work, db, index, register)?;
-    let mut occurrences: u64 = 0;
-    for term in &terms {
-        let more = term_postings(conn, work, db, index, register, term.term.as_str())?;
-        occurrences = occurrences.saturating_add(more);
-    }
-    Ok(Totals {
-        terms: terms.len() as u64,
-        occurrences,
-    })
-}
-
 /// How many postings a term has. `Damaged` where a row of its blocks spells none. `work` counts these rows.
-fn term_postings<S: Alter>(
+pub(crate) fn term_postings<S: Alter>(
     conn: &mut Connection<S>,
     work: &mut Work,
     db: DatabaseId,
@@ -64,18 +31,21 @@ fn term_postings<S: Alter>(
     term: &str,
 ) -> Result<u64, RegFault>
     ensures call { Reading (state S.Store conn.old) (state S.Store conn.new) result (λ _. IsUnchanged) }
-    ensures value { HasCleanDisk (state S.Store conn.new) → IsStore (state S.Store conn.old)
-        → IfOk result (λ count. (content : Content) → HoldsBlocks (state S.Store conn.old).now.trees content
-        → count ≡ capped (length (content db.0 (key_in index register term.now)))) }
-    ensures honest { HasCleanDisk (state S.Store conn.new) → IsStore (state S.Store conn.old) → result ≡ Err RegFault.Damaged
-        → (content : Content) → ¬ HoldsBlocks (state S.Store conn.old).now.trees content }
-    ensures blocks { HasCleanDisk (state S.Store conn.new) → IsStore (state S.Store conn.old)
-        → OnOk result ((content : Content) → HoldsBlocks (state S.Store conn.old).now.trees content
-        → Rises (blocks_of (content db.0 (key_in index register term.now))) work.old.block_read work.new.block_read) }
+    ensures value { TellsHeld HoldsBlocks (state S.Store conn.old) (state S.Store conn.new) result
+        (λ content count. count ≡ capped (length (content db.0 (key_in index register term.now)))) }
+    ensures honest { IsHonestOfHeld HoldsBlocks (state S.Store conn.old) (state S.Store conn.new) result }
+    ensures blocks { OnStore (state S.Store conn.old) (state S.Store conn.new) (λ trees. OnOk result ((content : Content)
+        → HoldsBlocks trees content
+        → Rises (blocks_of (content db.0 (key_in index register term.now))) work.old.block_read work.new.block_read)) }
     ensures others { work.new ≡ record work.old { block_read = work.new.block_read } }
     ensures fits { OnOk result (work.new.block_read < 2 ^ 64) }
 {
-    let rows = key_rows(conn, db, index, register, term)?;
+    let at = RegisterOf {
+        db,
+        index,
+        register,
+    };
+    let rows = block_rows(conn, at, term)?;
     let count = rows_postings(&rows)?;
     work.block_read = counted(work.block_read, rows.len());
     Ok(count)

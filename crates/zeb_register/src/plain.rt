@@ -1,21 +1,22 @@
 //! Registers with one row for each posting.
 
-ghost use Rattle.std.specs.Prelude.{◌≡◌, ◌≢◌, pos, map, IfOk, FitsSigned};
+ghost use Rattle.std.specs.Prelude.{◌≡◌, pos, map, IfOk, FitsSigned};
 ghost use Rattle.std.specs.Int.{w64};
 ghost use Rattle.sqlite_rules.specs.Lists.{Has};
 ghost use Rattle.sqlite.specs.Held.{state};
-ghost use Rattle.sqlite.specs.State.{HasCleanDisk, IsUnchanged};
+ghost use Rattle.sqlite.specs.State.{IsUnchanged};
 ghost use Rattle.zeb_register.specs.Calls.{Reading};
-ghost use Rattle.zeb_register.specs.Content.{Content};
+ghost use Rattle.zeb_register.specs.Clauses.{IsHonestOfHeld, TellsHeld};
 ghost use Rattle.zeb_register.specs.Occurring.{key_in};
 ghost use Rattle.zeb_register.specs.PlainRows.{HoldsRows, code_of_register, posting_row};
 ghost use Rattle.zeb_register.specs.RowPlaces.{first_three, IsThreeNumbers};
-ghost use Rattle.zeb_register.specs.Store.{IsStore};
 
 use crate::agreeing::{lists_beside, rows_agree};
 use crate::dropping::database_drop_whole;
-use crate::plain_changes::{key_change_plain, key_changes_plain};
+use crate::plain_changes::key_change_plain;
 use crate::registers::{Layout, Place, RecordChange, TermCount, Totals, Work};
+use crate::statements::inside::nothing_inside;
+use crate::statements::keys::RegisterOf;
 use crate::statements::postings::{nothing_of, posting_rows, register_rows};
 use crate::terms::{count_terms, term_before, term_count, term_from, text_above};
 use crate::values::read;
@@ -63,7 +64,12 @@ impl Layout for Rows {
         key: &Key,
         changes: &[RecordChange<'_>],
     ) -> Result<(), RegFault> {
-        key_changes_plain(tx, db, key, changes)
+        // A closed connection is refused also where there is no change.
+        nothing_inside(tx)?;
+        for change in changes {
+            key_change_plain(tx, db, key, change.sysno, change.old, change.new)?;
+        }
+        Ok(())
     }
 
     fn database_take<S: Alter>(
@@ -91,7 +97,12 @@ impl Layout for Rows {
         index: u32,
         register: Register,
     ) -> Result<Vec<TermCount>, RegFault> {
-        let rows = register_rows(conn, db.column(), index, code_of(register))?;
+        let at = RegisterOf {
+            db,
+            index,
+            register,
+        };
+        let rows = register_rows(conn, at)?;
         count_terms(alloc, &rows)
     }
 
@@ -154,7 +165,12 @@ impl Layout for Rows {
         index: u32,
         register: Register,
     ) -> Result<Totals, RegFault> {
-        let rows = register_rows(conn, db.column(), index, code_of(register))?;
+        let at = RegisterOf {
+            db,
+            index,
+            register,
+        };
+        let rows = register_rows(conn, at)?;
         let counts = count_terms(alloc, &rows)?;
         Ok(Totals {
             terms: counts.len() as u64,
@@ -196,13 +212,16 @@ pub(crate) fn postings_under<S: Alter>(
     term: &str,
 ) -> Result<Vec<Posting>, RegFault>
     ensures call { Reading (state S.Store conn.old) (state S.Store conn.new) result (λ _. IsUnchanged) }
-    ensures value { HasCleanDisk (state S.Store conn.new) → IsStore (state S.Store conn.old)
-        → IfOk result (λ list. (content : Content) → HoldsRows (state S.Store conn.old).now.trees content
-        → list.items ≡ content db.0 (key_in index register term.now)) }
-    ensures honest { HasCleanDisk (state S.Store conn.new) → IsStore (state S.Store conn.old) → result ≡ Err RegFault.Damaged
-        → (content : Content) → ¬ HoldsRows (state S.Store conn.old).now.trees content }
+    ensures value { TellsHeld HoldsRows (state S.Store conn.old) (state S.Store conn.new) result
+        (λ content list. list.items ≡ content db.0 (key_in index register term.now)) }
+    ensures honest { IsHonestOfHeld HoldsRows (state S.Store conn.old) (state S.Store conn.new) result }
 {
-    let rows = posting_rows(conn, db.column(), index, code_of(register), term)?;
+    let at = RegisterOf {
+        db,
+        index,
+        register,
+    };
+    let rows = posting_rows(conn, at, term)?;
     postings_of(alloc, &rows)
 }
 

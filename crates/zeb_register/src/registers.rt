@@ -1,10 +1,11 @@
 //! What a layout of the registers has to do, whatever tables it keeps them in.
 
-ghost use Rattle.std.specs.Prelude.{◌≡◌, ◌≢◌, ◌↔◌, ◌+◌, ◌*◌, ℕ, ℤ, List, [], length, IsUtf8, IsTrue, OnOk, IfOk};
+ghost use Rattle.std.specs.Prelude.{◌≡◌, ◌≢◌, ◌↔◌, ◌+◌, ◌*◌, ℕ, ℤ, List, [], length, IsUtf8, OnOk};
 ghost use Rattle.sqlite.specs.Held.{state};
-ghost use Rattle.sqlite.specs.State.{HasCleanDisk, IsUnchanged};
+ghost use Rattle.sqlite.specs.State.{IsUnchanged};
 ghost use Rattle.sqlite_rules.specs.Lists.{Has};
 ghost use Rattle.zeb_register.specs.Calls.{GoesOn, Inside, Reading};
+ghost use Rattle.zeb_register.specs.Clauses.{ChangesHeld, DamagedHeld, FindsHeld, InStore, IsHonestStorable, TellsHeld, TellsWhether};
 ghost use Rattle.sqlite.specs.Tree.{Trees};
 ghost use Rattle.zeb_register.specs.Content.{Content, IsRising, IsChangedAt, IsWithout};
 ghost use Rattle.zeb_register.specs.Formats.{Format, holds_in, version_of};
@@ -61,17 +62,16 @@ pub struct Work {
 /// What the registers hold is, for each database and each key, a rising list of postings. The system numbers of records are 1 to
 /// 999,999,999.
 pub trait Layout {
-    ghost use Rattle.std.specs.Prelude.{List, ℕ};
-    ghost use Rattle.std.specs.List.{AllByRecursion};
+    ghost use Rattle.std.specs.Prelude.{List, ℕ, sum_by};
     ghost use Rattle.std.specs.List.Sorted.{IsStrictlySortedBy};
     ghost use Rattle.sqlite.specs.Tree.{Trees};
     ghost use Rattle.zeb_register.specs.Formats.{Format, version_of, holds_in};
-    ghost use Rattle.zeb_register.specs.Store.{IsStore, KeepsLists};
-    ghost use Rattle.zeb_register.specs.Content.{AreChangedAt, Content, IsChangedAt, ArePlacesOf, IsStorable, place_cmp, posted};
+    ghost use Rattle.zeb_register.specs.Content.{AreChangedAt, Content, IsChangedAt, ArePlacesOf, OldsRise, place_cmp, posted};
     ghost use Rattle.zeb_register.specs.Content.{IsWithout, TakesWhole};
-    ghost use Rattle.zeb_register.specs.Occurring.{AreTermsOf, AreTermsFrom, AreTermsBefore, AreTotals};
+    ghost use Rattle.zeb_register.specs.Occurring.{AreTermsOf, AreTermsFrom, AreTermsBefore, AreTotals, key_in};
     ghost use Rattle.zeb_register.specs.Expected.{IsOrdered, AreExpected};
     ghost use Rattle.zeb_register.specs.Tallies.{Works, ReadsTerms};
+    ghost use Rattle.zeb_register.specs.declared.registers.TermCount.{TermCount};
     ghost use Rattle.zeb_blocks.specs.declared.postings.Posting.{Posting};
 
     /// In which format the tables keep the registers.
@@ -102,25 +102,15 @@ pub trait Layout {
     ) -> Result<(), RegFault>
         ensures same { tx.new.conn.ghost_name ≡ tx.old.conn.ghost_name }
         ensures call { Inside (state S.Store tx.old.conn.now) (state S.Store tx.new.conn.now) result (λ _. GoesOn) }
-        ensures change { HasCleanDisk (state S.Store tx.new.conn.now) → IsTrue (state S.Store tx.old.conn.now).in_transaction
-            → IsStore (state S.Store tx.old.conn.now)
-            → OnOk result (IsStore (state S.Store tx.new.conn.now)
-            × KeepsLists (state S.Store tx.old.conn.now).now.trees (state S.Store tx.new.conn.now).now.trees
-            × ((before after : Content) → holds_in format (state S.Store tx.old.conn.now).now.trees before
-            → IsChangedAt db.0 key.now sysno new.now before after → holds_in format (state S.Store tx.new.conn.now).now.trees after)) }
-        ensures found { HasCleanDisk (state S.Store tx.new.conn.now) → IsTrue (state S.Store tx.old.conn.now).in_transaction
-            → IsStore (state S.Store tx.old.conn.now)
-            → OnOk result ((content : Content) → holds_in format (state S.Store tx.old.conn.now).now.trees content
-            → ArePlacesOf sysno old.now (content db.0 key.now)) }
-        ensures damaged { HasCleanDisk (state S.Store tx.new.conn.now) → IsTrue (state S.Store tx.old.conn.now).in_transaction
-            → IsStore (state S.Store tx.old.conn.now)
-            → result ≡ Err RegFault.Damaged → IsStrictlySortedBy place_cmp old.now → (content : Content) → IsStorable content
-            → holds_in format (state S.Store tx.old.conn.now).now.trees content → ¬ ArePlacesOf sysno old.now (content db.0 key.now) }
+        ensures change { ChangesHeld (holds_in format) (state S.Store tx.old.conn.now) (state S.Store tx.new.conn.now) result
+            (IsChangedAt db.0 key.now sysno new.now) }
+        ensures found { FindsHeld (holds_in format) (state S.Store tx.old.conn.now) (state S.Store tx.new.conn.now) result
+            (λ content. ArePlacesOf sysno old.now (content db.0 key.now)) }
+        ensures damaged { DamagedHeld (holds_in format) (state S.Store tx.old.conn.now) (state S.Store tx.new.conn.now) result
+            (IsStrictlySortedBy place_cmp old.now) (λ content. ¬ ArePlacesOf sysno old.now (content db.0 key.now)) }
         ensures text { OnOk result (IsUtf8 key.now.term) }
-        ensures work { HasCleanDisk (state S.Store tx.new.conn.now) → IsTrue (state S.Store tx.old.conn.now).in_transaction
-            → IsStore (state S.Store tx.old.conn.now)
-            → OnOk result ((content : Content) → holds_in format (state S.Store tx.old.conn.now).now.trees content
-            → Works row_work row_work row_work row_work work.old work.new) }
+        ensures work { FindsHeld (holds_in format) (state S.Store tx.old.conn.now) (state S.Store tx.new.conn.now) result
+            (λ _. Works row_work row_work row_work row_work work.old work.new) }
         ensures no_work { row_work ≡ 0 → work.new ≡ work.old };
 
     /// Puts places of a key in several records, one after the other, each where its `old` stood. A layout may read and write a row once
@@ -137,26 +127,15 @@ pub trait Layout {
     ) -> Result<(), RegFault>
         ensures same { tx.new.conn.ghost_name ≡ tx.old.conn.ghost_name }
         ensures call { Inside (state S.Store tx.old.conn.now) (state S.Store tx.new.conn.now) result (λ _. GoesOn) }
-        ensures change { HasCleanDisk (state S.Store tx.new.conn.now) → IsTrue (state S.Store tx.old.conn.now).in_transaction
-            → IsStore (state S.Store tx.old.conn.now)
-            → OnOk result (IsStore (state S.Store tx.new.conn.now)
-            × KeepsLists (state S.Store tx.old.conn.now).now.trees (state S.Store tx.new.conn.now).now.trees
-            × ((before after : Content) → holds_in format (state S.Store tx.old.conn.now).now.trees before
-            → AreChangedAt db.0 key.now changes.now before after → holds_in format (state S.Store tx.new.conn.now).now.trees after)) }
-        ensures found { HasCleanDisk (state S.Store tx.new.conn.now) → IsTrue (state S.Store tx.old.conn.now).in_transaction
-            → IsStore (state S.Store tx.old.conn.now)
-            → OnOk result ((content : Content) → holds_in format (state S.Store tx.old.conn.now).now.trees content
-            → (after : Content) × AreChangedAt db.0 key.now changes.now content after) }
-        ensures damaged { HasCleanDisk (state S.Store tx.new.conn.now) → IsTrue (state S.Store tx.old.conn.now).in_transaction
-            → IsStore (state S.Store tx.old.conn.now)
-            → result ≡ Err RegFault.Damaged → AllByRecursion (λ c. IsStrictlySortedBy place_cmp c.old.now) changes.now
-            → (content : Content) → IsStorable content → holds_in format (state S.Store tx.old.conn.now).now.trees content
-            → (after : Content) → ¬ AreChangedAt db.0 key.now changes.now content after }
+        ensures change { ChangesHeld (holds_in format) (state S.Store tx.old.conn.now) (state S.Store tx.new.conn.now) result
+            (AreChangedAt db.0 key.now changes.now) }
+        ensures found { FindsHeld (holds_in format) (state S.Store tx.old.conn.now) (state S.Store tx.new.conn.now) result
+            (λ content. (after : Content) × AreChangedAt db.0 key.now changes.now content after) }
+        ensures damaged { DamagedHeld (holds_in format) (state S.Store tx.old.conn.now) (state S.Store tx.new.conn.now) result
+            (OldsRise changes.now) (λ content. (after : Content) → ¬ AreChangedAt db.0 key.now changes.now content after) }
         ensures text { OnOk result (changes.now ≢ [] → IsUtf8 key.now.term) }
-        ensures work { HasCleanDisk (state S.Store tx.new.conn.now) → IsTrue (state S.Store tx.old.conn.now).in_transaction
-            → IsStore (state S.Store tx.old.conn.now)
-            → OnOk result ((content : Content) → holds_in format (state S.Store tx.old.conn.now).now.trees content
-            → Works (row_work * length changes.now) (row_work * length changes.now) (row_work * length changes.now)
+        ensures work { FindsHeld (holds_in format) (state S.Store tx.old.conn.now) (state S.Store tx.new.conn.now) result
+            (λ _. Works (row_work * length changes.now) (row_work * length changes.now) (row_work * length changes.now)
             (row_work * length changes.now) work.old work.new) }
         ensures no_work { row_work ≡ 0 → work.new ≡ work.old };
 
@@ -164,11 +143,10 @@ pub trait Layout {
     fn database_take<S: Alter>(tx: &mut Transaction<'_, S>, db: DatabaseId) -> Result<(), RegFault>
         ensures same { tx.new.conn.ghost_name ≡ tx.old.conn.ghost_name }
         ensures call { Inside (state S.Store tx.old.conn.now) (state S.Store tx.new.conn.now) result (λ _. GoesOn) }
-        ensures taken { HasCleanDisk (state S.Store tx.new.conn.now) → IsTrue (state S.Store tx.old.conn.now).in_transaction
-            → IsStore (state S.Store tx.old.conn.now)
-            → OnOk result (TakesWhole db.0 (state S.Store tx.old.conn.now) (state S.Store tx.new.conn.now)
-            × ((before after : Content) → holds_in format (state S.Store tx.old.conn.now).now.trees before → IsWithout db.0 before after
-            → holds_in format (state S.Store tx.new.conn.now).now.trees after)) }
+        ensures taken { InStore (state S.Store tx.old.conn.now) (state S.Store tx.new.conn.now) (λ trees. OnOk result
+            (TakesWhole db.0 (state S.Store tx.old.conn.now) (state S.Store tx.new.conn.now)
+            × ((before after : Content) → holds_in format trees before → IsWithout db.0 before after
+            → holds_in format (state S.Store tx.new.conn.now).now.trees after))) }
         ensures honest { result ≢ Err RegFault.Damaged };
 
     /// The postings of a key, rising.
@@ -180,14 +158,11 @@ pub trait Layout {
         key: &Key,
     ) -> Result<Vec<Posting>, RegFault>
         ensures call { Reading (state S.Store conn.old) (state S.Store conn.new) result (λ _. IsUnchanged) }
-        ensures value { HasCleanDisk (state S.Store conn.new) → IsStore (state S.Store conn.old)
-            → IfOk result (λ list. (content : Content) → holds_in format (state S.Store conn.old).now.trees content
-            → list.items ≡ content db.0 key.now) }
-        ensures honest { HasCleanDisk (state S.Store conn.new) → IsStore (state S.Store conn.old) → result ≡ Err RegFault.Damaged
-            → (content : Content) → IsStorable content → ¬ holds_in format (state S.Store conn.old).now.trees content }
-        ensures work { HasCleanDisk (state S.Store conn.new) → IsStore (state S.Store conn.old)
-            → IfOk result (λ list. (content : Content) → holds_in format (state S.Store conn.old).now.trees content
-            → Works 0 0 (block_rows list.items) 0 work.old work.new) }
+        ensures value { TellsHeld (holds_in format) (state S.Store conn.old) (state S.Store conn.new) result
+            (λ content list. list.items ≡ content db.0 key.now) }
+        ensures honest { IsHonestStorable (holds_in format) (state S.Store conn.old) (state S.Store conn.new) result }
+        ensures work { TellsHeld (holds_in format) (state S.Store conn.old) (state S.Store conn.new) result
+            (λ _ list. Works 0 0 (block_rows list.items) 0 work.old work.new) }
         ensures no_work { row_work ≡ 0 → work.new ≡ work.old };
 
     /// The terms of a register that have a posting, in the order of their bytes.
@@ -200,14 +175,11 @@ pub trait Layout {
         register: Register,
     ) -> Result<Vec<TermCount>, RegFault>
         ensures call { Reading (state S.Store conn.old) (state S.Store conn.new) result (λ _. IsUnchanged) }
-        ensures value { HasCleanDisk (state S.Store conn.new) → IsStore (state S.Store conn.old)
-            → IfOk result (λ list. (content : Content) → holds_in format (state S.Store conn.old).now.trees content
-            → AreTermsOf (posted content db.0) index register list.items) }
-        ensures honest { HasCleanDisk (state S.Store conn.new) → IsStore (state S.Store conn.old) → result ≡ Err RegFault.Damaged
-            → (content : Content) → IsStorable content → ¬ holds_in format (state S.Store conn.old).now.trees content }
-        ensures work { HasCleanDisk (state S.Store conn.new) → IsStore (state S.Store conn.old)
-            → IfOk result (λ list. (content : Content) → holds_in format (state S.Store conn.old).now.trees content
-            → Works (row_work * length list.items) 0 0 0 work.old work.new) }
+        ensures value { TellsHeld (holds_in format) (state S.Store conn.old) (state S.Store conn.new) result
+            (λ content list. AreTermsOf (posted content db.0) index register list.items) }
+        ensures honest { IsHonestStorable (holds_in format) (state S.Store conn.old) (state S.Store conn.new) result }
+        ensures work { TellsHeld (holds_in format) (state S.Store conn.old) (state S.Store conn.new) result
+            (λ _ list. Works (row_work * length list.items) 0 0 0 work.old work.new) }
         ensures no_work { row_work ≡ 0 → work.new ≡ work.old };
 
     /// The first `n` of these terms that are not below `start`, in the order of their bytes.
@@ -222,14 +194,11 @@ pub trait Layout {
         n: u64,
     ) -> Result<Vec<TermCount>, RegFault>
         ensures call { Reading (state S.Store conn.old) (state S.Store conn.new) result (λ _. IsUnchanged) }
-        ensures value { HasCleanDisk (state S.Store conn.new) → IsStore (state S.Store conn.old)
-            → IfOk result (λ list. (content : Content) → holds_in format (state S.Store conn.old).now.trees content
-            → AreTermsFrom (posted content db.0) index register start.now n list.items) }
-        ensures honest { HasCleanDisk (state S.Store conn.new) → IsStore (state S.Store conn.old) → result ≡ Err RegFault.Damaged
-            → (content : Content) → IsStorable content → ¬ holds_in format (state S.Store conn.old).now.trees content }
-        ensures work { HasCleanDisk (state S.Store conn.new) → IsStore (state S.Store conn.old)
-            → IfOk result (λ list. (content : Content) → holds_in format (state S.Store conn.old).now.trees content
-            → ReadsTerms (row_work * (n + 1)) work.old work.new) }
+        ensures value { TellsHeld (holds_in format) (state S.Store conn.old) (state S.Store conn.new) result
+            (λ content list. AreTermsFrom (posted content db.0) index register start.now n list.items) }
+        ensures honest { IsHonestStorable (holds_in format) (state S.Store conn.old) (state S.Store conn.new) result }
+        ensures work { TellsHeld (holds_in format) (state S.Store conn.old) (state S.Store conn.new) result
+            (λ _ _. ReadsTerms (row_work * (n + 1)) work.old work.new) }
         ensures no_work { row_work ≡ 0 → work.new ≡ work.old };
 
     /// The last `n` of these terms that are below `start`, in the order of their bytes.
@@ -244,17 +213,14 @@ pub trait Layout {
         n: u64,
     ) -> Result<Vec<TermCount>, RegFault>
         ensures call { Reading (state S.Store conn.old) (state S.Store conn.new) result (λ _. IsUnchanged) }
-        ensures value { HasCleanDisk (state S.Store conn.new) → IsStore (state S.Store conn.old)
-            → IfOk result (λ list. (content : Content) → holds_in format (state S.Store conn.old).now.trees content
-            → AreTermsBefore (posted content db.0) index register start.now n list.items) }
-        ensures honest { HasCleanDisk (state S.Store conn.new) → IsStore (state S.Store conn.old) → result ≡ Err RegFault.Damaged
-            → (content : Content) → IsStorable content → ¬ holds_in format (state S.Store conn.old).now.trees content }
-        ensures work { HasCleanDisk (state S.Store conn.new) → IsStore (state S.Store conn.old)
-            → IfOk result (λ list. (content : Content) → holds_in format (state S.Store conn.old).now.trees content
-            → ReadsTerms (row_work * n) work.old work.new) }
+        ensures value { TellsHeld (holds_in format) (state S.Store conn.old) (state S.Store conn.new) result
+            (λ content list. AreTermsBefore (posted content db.0) index register start.now n list.items) }
+        ensures honest { IsHonestStorable (holds_in format) (state S.Store conn.old) (state S.Store conn.new) result }
+        ensures work { TellsHeld (holds_in format) (state S.Store conn.old) (state S.Store conn.new) result
+            (λ _ _. ReadsTerms (row_work * n) work.old work.new) }
         ensures no_work { row_work ≡ 0 → work.new ≡ work.old };
 
-    /// How many terms and postings a register holds.
+    /// How many terms and postings a register holds. Each row of its terms and of their blocks counts once in `work`.
     fn totals<S: Alter>(
         alloc: Global,
         conn: &mut Connection<S>,
@@ -264,11 +230,12 @@ pub trait Layout {
         register: Register,
     ) -> Result<Totals, RegFault>
         ensures call { Reading (state S.Store conn.old) (state S.Store conn.new) result (λ _. IsUnchanged) }
-        ensures value { HasCleanDisk (state S.Store conn.new) → IsStore (state S.Store conn.old)
-            → IfOk result (λ sums. (content : Content) → holds_in format (state S.Store conn.old).now.trees content
-            → AreTotals (posted content db.0) index register sums) }
-        ensures honest { HasCleanDisk (state S.Store conn.new) → IsStore (state S.Store conn.old) → result ≡ Err RegFault.Damaged
-            → (content : Content) → IsStorable content → ¬ holds_in format (state S.Store conn.old).now.trees content }
+        ensures value { TellsHeld (holds_in format) (state S.Store conn.old) (state S.Store conn.new) result
+            (λ content sums. AreTotals (posted content db.0) index register sums) }
+        ensures honest { IsHonestStorable (holds_in format) (state S.Store conn.old) (state S.Store conn.new) result }
+        ensures work { TellsHeld (holds_in format) (state S.Store conn.old) (state S.Store conn.new) result
+            (λ content _. (all : List TermCount) → AreTermsOf (posted content db.0) index register all → Works (row_work * length all) 0
+            (sum_by (λ t. block_rows (content db.0 (key_in index register t.term))) all) 0 work.old work.new) }
         ensures no_work { row_work ≡ 0 → work.new ≡ work.old };
 
     /// Whether the tables hold just what is expected, in this layout. Unreadable rows are not expected. It changes nothing.
@@ -278,8 +245,8 @@ pub trait Layout {
         expected: &Expected,
     ) -> Result<bool, RegFault>
         ensures call { Reading (state S.Store conn.old) (state S.Store conn.new) result (λ _. IsUnchanged) }
-        ensures value { HasCleanDisk (state S.Store conn.new) → IsStore (state S.Store conn.old) → IsOrdered expected.now
-            → IfOk result (λ agrees. IsTrue agrees ↔ AreExpected format (state S.Store conn.old).now.trees expected.now) }
+        ensures value { TellsWhether (λ trees. AreExpected format trees expected.now) (IsOrdered expected.now)
+            (state S.Store conn.old) (state S.Store conn.new) result }
         ensures honest { result ≢ Err RegFault.Damaged };
 }
 

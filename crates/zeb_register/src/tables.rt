@@ -1,26 +1,22 @@
 //! The six tables, made one statement at a time.
 
-ghost use Rattle.std.specs.Prelude.{◌≡◌, ◌≢◌, OnOk, IsTrue};
+ghost use Rattle.std.specs.Prelude.{◌≡◌, ◌≢◌};
 ghost use Rattle.sqlite.specs.Held.{state};
-ghost use Rattle.sqlite.specs.State.{HasCleanDisk, IsUnchanged};
+ghost use Rattle.sqlite.specs.State.{IsUnchanged};
 ghost use Rattle.zeb_register.specs.Tables.{no_schema, with_meta, with_databases, with_records, with_postings, with_blocks, store_schema};
-ghost use Rattle.zeb_register.specs.Sql.{KeepsTables};
 ghost use Rattle.zeb_register.specs.RowStatements.{IsMade};
 ghost use Rattle.zeb_register.specs.Store.{IsEmptyStore};
 ghost use Rattle.zeb_register.specs.Calls.{GoesOn, Inside};
+ghost use Rattle.zeb_register.specs.Clauses.{DoneUnder, KeepsAllTables};
 
 use crate::RegFault;
 use sqlite::{Alter, Error, Transaction};
 
 fn make_meta<S: Alter>(tx: &mut Transaction<'_, S>) -> Result<(), Error>
     ensures same { tx.new.conn.ghost_name ≡ tx.old.conn.ghost_name }
-    ensures made { HasCleanDisk (state S.Store tx.new.conn.now) → IsTrue (state S.Store tx.old.conn.now).in_transaction
-        → (state S.Store tx.old.conn.now).now.schema ≡ no_schema → OnOk result (IsMade with_meta (state S.Store tx.new.conn.now)) }
-    ensures there { HasCleanDisk (state S.Store tx.new.conn.now) → IsTrue (state S.Store tx.old.conn.now).in_transaction
-        → (state S.Store tx.old.conn.now).now.schema ≡ store_schema
-        → OnOk result (IsUnchanged (state S.Store tx.old.conn.now) (state S.Store tx.new.conn.now)) }
-    ensures kept { HasCleanDisk (state S.Store tx.new.conn.now) → IsTrue (state S.Store tx.old.conn.now).in_transaction
-        → OnOk result (KeepsTables (state S.Store tx.old.conn.now).now (state S.Store tx.new.conn.now).now) }
+    ensures made { DoneUnder no_schema (state S.Store tx.old.conn.now) (state S.Store tx.new.conn.now) result (λ _ b. IsMade with_meta b) }
+    ensures there { DoneUnder store_schema (state S.Store tx.old.conn.now) (state S.Store tx.new.conn.now) result IsUnchanged }
+    ensures kept { KeepsAllTables (state S.Store tx.old.conn.now) (state S.Store tx.new.conn.now) result }
     ensures call { Inside (state S.Store tx.old.conn.now) (state S.Store tx.new.conn.now) result (λ _. GoesOn) }
 {
     tx.execute(
@@ -32,13 +28,10 @@ fn make_meta<S: Alter>(tx: &mut Transaction<'_, S>) -> Result<(), Error>
 
 fn make_databases<S: Alter>(tx: &mut Transaction<'_, S>) -> Result<(), Error>
     ensures same { tx.new.conn.ghost_name ≡ tx.old.conn.ghost_name }
-    ensures made { HasCleanDisk (state S.Store tx.new.conn.now) → IsTrue (state S.Store tx.old.conn.now).in_transaction
-        → (state S.Store tx.old.conn.now).now.schema ≡ no_schema → OnOk result (IsMade with_databases (state S.Store tx.new.conn.now)) }
-    ensures there { HasCleanDisk (state S.Store tx.new.conn.now) → IsTrue (state S.Store tx.old.conn.now).in_transaction
-        → (state S.Store tx.old.conn.now).now.schema ≡ store_schema
-        → OnOk result (IsUnchanged (state S.Store tx.old.conn.now) (state S.Store tx.new.conn.now)) }
-    ensures kept { HasCleanDisk (state S.Store tx.new.conn.now) → IsTrue (state S.Store tx.old.conn.now).in_transaction
-        → OnOk result (KeepsTables (state S.Store tx.old.conn.now).now (state S.Store tx.new.conn.now).now) }
+    ensures made { DoneUnder no_schema (state S.Store tx.old.conn.now) (state S.Store tx.new.conn.now) result
+        (λ _ b. IsMade with_databases b) }
+    ensures there { DoneUnder store_schema (state S.Store tx.old.conn.now) (state S.Store tx.new.conn.now) result IsUnchanged }
+    ensures kept { KeepsAllTables (state S.Store tx.old.conn.now) (state S.Store tx.new.conn.now) result }
     ensures call { Inside (state S.Store tx.old.conn.now) (state S.Store tx.new.conn.now) result (λ _. GoesOn) }
 {
     make_meta(tx)?;
@@ -51,13 +44,10 @@ fn make_databases<S: Alter>(tx: &mut Transaction<'_, S>) -> Result<(), Error>
 
 fn make_records<S: Alter>(tx: &mut Transaction<'_, S>) -> Result<(), Error>
     ensures same { tx.new.conn.ghost_name ≡ tx.old.conn.ghost_name }
-    ensures made { HasCleanDisk (state S.Store tx.new.conn.now) → IsTrue (state S.Store tx.old.conn.now).in_transaction
-        → (state S.Store tx.old.conn.now).now.schema ≡ no_schema → OnOk result (IsMade with_records (state S.Store tx.new.conn.now)) }
-    ensures there { HasCleanDisk (state S.Store tx.new.conn.now) → IsTrue (state S.Store tx.old.conn.now).in_transaction
-        → (state S.Store tx.old.conn.now).now.schema ≡ store_schema
-        → OnOk result (IsUnchanged (state S.Store tx.old.conn.now) (state S.Store tx.new.conn.now)) }
-    ensures kept { HasCleanDisk (state S.Store tx.new.conn.now) → IsTrue (state S.Store tx.old.conn.now).in_transaction
-        → OnOk result (KeepsTables (state S.Store tx.old.conn.now).now (state S.Store tx.new.conn.now).now) }
+    ensures made { DoneUnder no_schema (state S.Store tx.old.conn.now) (state S.Store tx.new.conn.now) result
+        (λ _ b. IsMade with_records b) }
+    ensures there { DoneUnder store_schema (state S.Store tx.old.conn.now) (state S.Store tx.new.conn.now) result IsUnchanged }
+    ensures kept { KeepsAllTables (state S.Store tx.old.conn.now) (state S.Store tx.new.conn.now) result }
     ensures call { Inside (state S.Store tx.old.conn.now) (state S.Store tx.new.conn.now) result (λ _. GoesOn) }
 {
     make_databases(tx)?;
@@ -70,13 +60,10 @@ fn make_records<S: Alter>(tx: &mut Transaction<'_, S>) -> Result<(), Error>
 
 fn make_postings<S: Alter>(tx: &mut Transaction<'_, S>) -> Result<(), Error>
     ensures same { tx.new.conn.ghost_name ≡ tx.old.conn.ghost_name }
-    ensures made { HasCleanDisk (state S.Store tx.new.conn.now) → IsTrue (state S.Store tx.old.conn.now).in_transaction
-        → (state S.Store tx.old.conn.now).now.schema ≡ no_schema → OnOk result (IsMade with_postings (state S.Store tx.new.conn.now)) }
-    ensures there { HasCleanDisk (state S.Store tx.new.conn.now) → IsTrue (state S.Store tx.old.conn.now).in_transaction
-        → (state S.Store tx.old.conn.now).now.schema ≡ store_schema
-        → OnOk result (IsUnchanged (state S.Store tx.old.conn.now) (state S.Store tx.new.conn.now)) }
-    ensures kept { HasCleanDisk (state S.Store tx.new.conn.now) → IsTrue (state S.Store tx.old.conn.now).in_transaction
-        → OnOk result (KeepsTables (state S.Store tx.old.conn.now).now (state S.Store tx.new.conn.now).now) }
+    ensures made { DoneUnder no_schema (state S.Store tx.old.conn.now) (state S.Store tx.new.conn.now) result
+        (λ _ b. IsMade with_postings b) }
+    ensures there { DoneUnder store_schema (state S.Store tx.old.conn.now) (state S.Store tx.new.conn.now) result IsUnchanged }
+    ensures kept { KeepsAllTables (state S.Store tx.old.conn.now) (state S.Store tx.new.conn.now) result }
     ensures call { Inside (state S.Store tx.old.conn.now) (state S.Store tx.new.conn.now) result (λ _. GoesOn) }
 {
     make_records(tx)?;
@@ -89,13 +76,10 @@ fn make_postings<S: Alter>(tx: &mut Transaction<'_, S>) -> Result<(), Error>
 
 fn make_blocks<S: Alter>(tx: &mut Transaction<'_, S>) -> Result<(), Error>
     ensures same { tx.new.conn.ghost_name ≡ tx.old.conn.ghost_name }
-    ensures made { HasCleanDisk (state S.Store tx.new.conn.now) → IsTrue (state S.Store tx.old.conn.now).in_transaction
-        → (state S.Store tx.old.conn.now).now.schema ≡ no_schema → OnOk result (IsMade with_blocks (state S.Store tx.new.conn.now)) }
-    ensures there { HasCleanDisk (state S.Store tx.new.conn.now) → IsTrue (state S.Store tx.old.conn.now).in_transaction
-        → (state S.Store tx.old.conn.now).now.schema ≡ store_schema
-        → OnOk result (IsUnchanged (state S.Store tx.old.conn.now) (state S.Store tx.new.conn.now)) }
-    ensures kept { HasCleanDisk (state S.Store tx.new.conn.now) → IsTrue (state S.Store tx.old.conn.now).in_transaction
-        → OnOk result (KeepsTables (state S.Store tx.old.conn.now).now (state S.Store tx.new.conn.now).now) }
+    ensures made { DoneUnder no_schema (state S.Store tx.old.conn.now) (state S.Store tx.new.conn.now) result
+        (λ _ b. IsMade with_blocks b) }
+    ensures there { DoneUnder store_schema (state S.Store tx.old.conn.now) (state S.Store tx.new.conn.now) result IsUnchanged }
+    ensures kept { KeepsAllTables (state S.Store tx.old.conn.now) (state S.Store tx.new.conn.now) result }
     ensures call { Inside (state S.Store tx.old.conn.now) (state S.Store tx.new.conn.now) result (λ _. GoesOn) }
 {
     make_postings(tx)?;
@@ -108,13 +92,10 @@ fn make_blocks<S: Alter>(tx: &mut Transaction<'_, S>) -> Result<(), Error>
 
 fn make_dict<S: Alter>(tx: &mut Transaction<'_, S>) -> Result<(), Error>
     ensures same { tx.new.conn.ghost_name ≡ tx.old.conn.ghost_name }
-    ensures made { HasCleanDisk (state S.Store tx.new.conn.now) → IsTrue (state S.Store tx.old.conn.now).in_transaction
-        → (state S.Store tx.old.conn.now).now.schema ≡ no_schema → OnOk result (IsMade store_schema (state S.Store tx.new.conn.now)) }
-    ensures there { HasCleanDisk (state S.Store tx.new.conn.now) → IsTrue (state S.Store tx.old.conn.now).in_transaction
-        → (state S.Store tx.old.conn.now).now.schema ≡ store_schema
-        → OnOk result (IsUnchanged (state S.Store tx.old.conn.now) (state S.Store tx.new.conn.now)) }
-    ensures kept { HasCleanDisk (state S.Store tx.new.conn.now) → IsTrue (state S.Store tx.old.conn.now).in_transaction
-        → OnOk result (KeepsTables (state S.Store tx.old.conn.now).now (state S.Store tx.new.conn.now).now) }
+    ensures made { DoneUnder no_schema (state S.Store tx.old.conn.now) (state S.Store tx.new.conn.now) result
+        (λ _ b. IsMade store_schema b) }
+    ensures there { DoneUnder store_schema (state S.Store tx.old.conn.now) (state S.Store tx.new.conn.now) result IsUnchanged }
+    ensures kept { KeepsAllTables (state S.Store tx.old.conn.now) (state S.Store tx.new.conn.now) result }
     ensures call { Inside (state S.Store tx.old.conn.now) (state S.Store tx.new.conn.now) result (λ _. GoesOn) }
 {
     make_blocks(tx)?;
@@ -130,13 +111,9 @@ fn make_dict<S: Alter>(tx: &mut Transaction<'_, S>) -> Result<(), Error>
 /// `Store` also where a table of one of these names is there with other columns that the statement doesn't fit.
 pub fn make_tables<S: Alter>(tx: &mut Transaction<'_, S>) -> Result<(), RegFault>
     ensures same { tx.new.conn.ghost_name ≡ tx.old.conn.ghost_name }
-    ensures made { HasCleanDisk (state S.Store tx.new.conn.now) → IsTrue (state S.Store tx.old.conn.now).in_transaction
-        → (state S.Store tx.old.conn.now).now.schema ≡ no_schema → OnOk result (IsEmptyStore (state S.Store tx.new.conn.now)) }
-    ensures there { HasCleanDisk (state S.Store tx.new.conn.now) → IsTrue (state S.Store tx.old.conn.now).in_transaction
-        → (state S.Store tx.old.conn.now).now.schema ≡ store_schema
-        → OnOk result (IsUnchanged (state S.Store tx.old.conn.now) (state S.Store tx.new.conn.now)) }
-    ensures kept { HasCleanDisk (state S.Store tx.new.conn.now) → IsTrue (state S.Store tx.old.conn.now).in_transaction
-        → OnOk result (KeepsTables (state S.Store tx.old.conn.now).now (state S.Store tx.new.conn.now).now) }
+    ensures made { DoneUnder no_schema (state S.Store tx.old.conn.now) (state S.Store tx.new.conn.now) result (λ _ b. IsEmptyStore b) }
+    ensures there { DoneUnder store_schema (state S.Store tx.old.conn.now) (state S.Store tx.new.conn.now) result IsUnchanged }
+    ensures kept { KeepsAllTables (state S.Store tx.old.conn.now) (state S.Store tx.new.conn.now) result }
     ensures call { Inside (state S.Store tx.old.conn.now) (state S.Store tx.new.conn.now) result (λ _. GoesOn) }
     ensures honest { result ≢ Err RegFault.Damaged }
 {

@@ -3,19 +3,20 @@
 ghost use Rattle.std.specs.Prelude.{◌≡◌, ◌≢◌, ◌<◌, ◌+◌, ◌^◌, ◌++◌, [], ◌∷◌, IfOk, OnOk, string_bytes};
 ghost use Rattle.std.specs.List.Sorted.{IsStrictlySortedBy};
 ghost use Rattle.sqlite.specs.Held.{state};
-ghost use Rattle.sqlite.specs.State.{HasCleanDisk, IsUnchanged};
+ghost use Rattle.sqlite.specs.State.{IsUnchanged};
 ghost use Rattle.sqlite.specs.Order.{row_cmp};
 ghost use Rattle.sqlite_rules.specs.Lists.{Has};
 ghost use Rattle.zeb_register.specs.Calls.{Reading};
-ghost use Rattle.zeb_register.specs.Content.{Content, posting_cmp, posted, IsStorable};
+ghost use Rattle.zeb_register.specs.Clauses.{IsHonestOfHeld, IsHonestStorable, TellsHeld};
+ghost use Rattle.zeb_register.specs.Content.{posting_cmp, posted};
 ghost use Rattle.zeb_register.specs.PlainRows.{HoldsRows};
-ghost use Rattle.zeb_register.specs.Store.{IsStore};
 ghost use Rattle.zeb_register.specs.Occurring.{IsCount, AreCounts, TermIn};
 ghost use Rattle.zeb_register.specs.RowTerms.{IsInRecord, IsShown, ShowsOccurrence, IsOccurrenceRow, ShowsTerm, IsTermRow, IsCountedIn};
 ghost use Rattle.zeb_register.specs.RowTerms.{IsLeastTerm, IsGreatestTerm};
 
-use crate::plain::{code_of, postings_under};
+use crate::plain::postings_under;
 use crate::registers::TermCount;
+use crate::statements::keys::RegisterOf;
 use crate::statements::postings::{rows_before, rows_from};
 use crate::values::read;
 use crate::{DatabaseId, RegFault};
@@ -98,11 +99,9 @@ pub(crate) fn term_count<S: Alter>(
     term: String,
 ) -> Result<TermCount, RegFault>
     ensures call { Reading (state S.Store conn.old) (state S.Store conn.new) result (λ _. IsUnchanged) }
-    ensures value { HasCleanDisk (state S.Store conn.new) → IsStore (state S.Store conn.old)
-        → IfOk result (λ t. (content : Content) → HoldsRows (state S.Store conn.old).now.trees content
-        → (t.term ≡ string_bytes term) × IsCount (TermIn (posted content db.0) index register (string_bytes term)) t.records) }
-    ensures honest { HasCleanDisk (state S.Store conn.new) → IsStore (state S.Store conn.old) → result ≡ Err RegFault.Damaged
-        → (content : Content) → ¬ HoldsRows (state S.Store conn.old).now.trees content }
+    ensures value { TellsHeld HoldsRows (state S.Store conn.old) (state S.Store conn.new) result
+        (λ content t. (t.term ≡ string_bytes term) × IsCount (TermIn (posted content db.0) index register (string_bytes term)) t.records) }
+    ensures honest { IsHonestOfHeld HoldsRows (state S.Store conn.old) (state S.Store conn.new) result }
 {
     let list = postings_under(alloc, conn, db, index, register, term.as_str())?;
     let records = records_in(&list);
@@ -141,13 +140,16 @@ pub(crate) fn term_from<S: Alter>(
     start: &str,
 ) -> Result<Option<String>, RegFault>
     ensures call { Reading (state S.Store conn.old) (state S.Store conn.new) result (λ _. IsUnchanged) }
-    ensures value { HasCleanDisk (state S.Store conn.new) → IsStore (state S.Store conn.old)
-        → IfOk result (λ term. (content : Content) → HoldsRows (state S.Store conn.old).now.trees content
-        → IsLeastTerm (TermIn (posted content db.0) index register) start.now term) }
-    ensures honest { HasCleanDisk (state S.Store conn.new) → IsStore (state S.Store conn.old) → result ≡ Err RegFault.Damaged
-        → (content : Content) → IsStorable content → ¬ HoldsRows (state S.Store conn.old).now.trees content }
+    ensures value { TellsHeld HoldsRows (state S.Store conn.old) (state S.Store conn.new) result
+        (λ content term. IsLeastTerm (TermIn (posted content db.0) index register) start.now term) }
+    ensures honest { IsHonestStorable HoldsRows (state S.Store conn.old) (state S.Store conn.new) result }
 {
-    let rows = rows_from(conn, db.column(), index, code_of(register), start)?;
+    let at = RegisterOf {
+        db,
+        index,
+        register,
+    };
+    let rows = rows_from(conn, at, start)?;
     term_of(&rows)
 }
 
@@ -160,12 +162,15 @@ pub(crate) fn term_before<S: Alter>(
     start: &str,
 ) -> Result<Option<String>, RegFault>
     ensures call { Reading (state S.Store conn.old) (state S.Store conn.new) result (λ _. IsUnchanged) }
-    ensures value { HasCleanDisk (state S.Store conn.new) → IsStore (state S.Store conn.old)
-        → IfOk result (λ term. (content : Content) → HoldsRows (state S.Store conn.old).now.trees content
-        → IsGreatestTerm (TermIn (posted content db.0) index register) start.now term) }
-    ensures honest { HasCleanDisk (state S.Store conn.new) → IsStore (state S.Store conn.old) → result ≡ Err RegFault.Damaged
-        → (content : Content) → IsStorable content → ¬ HoldsRows (state S.Store conn.old).now.trees content }
+    ensures value { TellsHeld HoldsRows (state S.Store conn.old) (state S.Store conn.new) result
+        (λ content term. IsGreatestTerm (TermIn (posted content db.0) index register) start.now term) }
+    ensures honest { IsHonestStorable HoldsRows (state S.Store conn.old) (state S.Store conn.new) result }
 {
-    let rows = rows_before(conn, db.column(), index, code_of(register), start)?;
+    let at = RegisterOf {
+        db,
+        index,
+        register,
+    };
+    let rows = rows_before(conn, at, start)?;
     term_of(&rows)
 }

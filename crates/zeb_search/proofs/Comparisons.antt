@@ -1,5 +1,5 @@
 -- Texts compared by their bytes.
-use Rattle.std.proofs.Common.{◌≡◌, ◌↔◌, ◌⊎◌, ◌∙◌, ◌++◌, ◌<◌, ℕ, List, [], ◌∷◌, IsTrue, true, false, refl, sym, ap, inl, inr, Ordering, Less, Equal, Greater, arith}
+use Rattle.std.proofs.Common.{◌≡◌, ◌↔◌, ◌⊎◌, ◌∙◌, ◌++◌, ◌<◌, ℕ, List, [], ◌∷◌, IsTrue, true, false, refl, sym, ap, subst, inl, inr, Ordering, Less, Equal, Greater, arith}
 use Rattle.std.specs.Cmp.Lexicographic.{slice_cmp, nat_list_cmp_total}
 use Rattle.std.specs.Ordering.{nat_cmp, is_lt, is_le, is_ge, is_gt, ordering_reverse, ordering_then}
 use Rattle.std.proofs.lemmas.Bool.Decides.{nat_tests}
@@ -7,7 +7,7 @@ use Rattle.std.proofs.lemmas.Cmp.{tied_itself}
 use Rattle.zeb_query.specs.declared.plans.Order.TheVariants as in_order
 use Rattle.zeb_register.proofs.RisingLists.{never_back, never_itself}
 use Rattle.zeb_register.proofs.RowLemmas.{same_bytes}
-use Rattle.zeb_register.proofs.TermLists.{above_least}
+use Rattle.zeb_register.proofs.TermLists.{above_least, least_above}
 use Rattle.zeb_search.specs.Comparing.{Precedes, StandsInOrder}
 
 pub turned : (a b : List ℕ) → slice_cmp nat_cmp a b ≡ Greater → Precedes b a
@@ -56,6 +56,24 @@ never_before_itself = never_itself nat_list_cmp_total
 
 pub precedes_then : (a b c : List ℕ) → Precedes a b → Precedes b c → Precedes a c
 precedes_then = nat_list_cmp_total.trans
+
+-- what comes before a text comes before each that doesn't
+pub below_others : (a b s : List ℕ) → Precedes a s → ¬ Precedes b s → Precedes a b
+below_others a b s up low = by (slice_cmp nat_cmp b s) refl
+  where
+    by : (o : Ordering) → slice_cmp nat_cmp b s ≡ o → Precedes a b
+    by Less is = absurd (low is)
+    by Equal is = subst (Precedes a) (sym (same_bytes b s is)) up
+    by Greater is = precedes_then a s b up (turned b s is)
+
+-- a text comes before the one with a NUL behind it
+pub below_next : (a : List ℕ) → Precedes a (a ++ 0 ∷ [])
+below_next a = by (slice_cmp nat_cmp a (a ++ 0 ∷ [])) refl
+  where
+    by : (o : Ordering) → slice_cmp nat_cmp a (a ++ 0 ∷ []) ≡ o → Precedes a (a ++ 0 ∷ [])
+    by Less is = is
+    by Equal is = absurd (never_before_itself a (least_above a a (ap is_lt is)))
+    by Greater is = absurd (never_before_itself a (least_above a a (ap is_lt is)))
 
 -- the empty text comes first
 pub none_before : (a : List ℕ) → ¬ Precedes a []

@@ -14,5 +14,7 @@ pub mod PostingLemmas
 pub mod RangeLemmas
 pub mod ReadLemmas
 pub mod ReadableNames
+pub mod RisingTexts
+pub mod RowCounts
 pub mod SeparatedPostings
 pub mod TermLemmas

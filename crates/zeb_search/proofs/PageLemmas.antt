@@ -1,5 +1,5 @@
 -- The terms that are asked for, read page by page.
-use Rattle.std.proofs.Common.{◌≡◌, ◌≢◌, ◌⊎◌, ◌∙◌, ◌<◌, ℕ, zero, suc, true, not, List, [], ◌∷◌, ◌++◌, filter, take, drop, refl, sym, subst, inl, inr, Ordering, Less, Equal, Greater, arith, Some, None, String, string_bytes}
+use Rattle.std.proofs.Common.{◌≡◌, ◌≢◌, ◌⊎◌, ◌∙◌, ◌<◌, ℕ, zero, suc, true, false, not, List, [], ◌∷◌, ◌++◌, filter, take, drop, refl, sym, ap, subst, inl, inr, Ordering, Less, Equal, Greater, arith, Some, None, String, string_bytes}
 use Rattle.std.specs.declared.alloc.Global.{Global}
 use Rattle.std.specs.Ordering.{nat_cmp, is_lt}
 use Rattle.std.specs.Cmp.Lexicographic.{slice_cmp}
@@ -7,15 +7,16 @@ use Rattle.std.specs.List.Sorted.{IsStrictlySortedBy}
 use Rattle.std.proofs.lemmas.List.{take-append-drop}
 use Rattle.std.proofs.lemmas.List.Kept.{IsStrictlySortedBy-filter}
 use Rattle.sqlite_rules.specs.Lists.{Has}
-use Rattle.sqlite_rules.proofs.ListLemmas.{all_has, has_either, has_kept, has_left, has_right}
+use Rattle.sqlite_rules.proofs.ListLemmas.{all_has, has_either, has_filtered, has_kept, has_left, has_right}
 use Rattle.zeb_profile.specs.declared.Register.{Register}
 use Rattle.zeb_extract.specs.declared.keys.Occurrence.{Occurrence}
 use Rattle.zeb_register.specs.declared.registers.TermCount.{TermCount}
 use Rattle.zeb_register.specs.Occurring.{AreTermsFrom, TermIn, is_from, term_cmp}
 use Rattle.zeb_search.specs.Comparing.{Precedes}
 use Rattle.zeb_search.specs.declared.terms.Wanted.{Wanted}
-use Rattle.zeb_search.specs.PrivateTerms.{BeginsAt, HasWanted, IsAmong, IsWanted, LeadsTo}
-use Rattle.zeb_search.proofs.Comparisons.{none_between}
+use Rattle.zeb_search.specs.PrivateTerms.{BeginsAt, HasWanted, IsAmong, IsWanted, LeadsTo, TermsRise}
+use Rattle.zeb_search.proofs.Comparisons.{below_next, below_others, none_between, precedes_then}
+use Rattle.zeb_search.proofs.RisingTexts.{before_last_text, front_rise, joined_rise, none_rises, terms_rise}
 
 -- ---- lists cut in two
 
@@ -63,15 +64,39 @@ module _ (O : ℕ → Occurrence → Type 0) (index : ℕ) (register : Register)
         )
       ]
 
+  -- the terms of a page rise, and none of them is below its start
+  page_cut : (start : List ℕ) (n : ℕ) (page : List TermCount) → (are : AreTermsFrom O index register start n page) → page ++ drop n (filter (is_from start) are.all) ≡ filter (is_from start) are.all
+  page_cut start n page are = ap (λ (l : List TermCount). l ++ drop n (filter (is_from start) are.all)) are.is ∙ take-append-drop n (filter (is_from start) are.all)
+
+  page_rises : (start : List ℕ) (n : ℕ) (page : List TermCount) → AreTermsFrom O index register start n page → TermsRise page
+  page_rises start n page are =
+      let all = filter (is_from start) are.all in
+      let rises = terms_rise all (IsStrictlySortedBy-filter term_cmp (is_from start) are.all are.are.rising) in
+      front_rise (λ (t : TermCount). t.term) page (drop n all) (subst TermsRise (sym (page_cut start n page are)) rises)
+
+  page_from : (start : List ℕ) (n : ℕ) (page : List TermCount) → AreTermsFrom O index register start n page → (t : TermCount) → Has page t → ¬ Precedes t.term start
+  page_from start n page are t there low =
+      let all = filter (is_from start) are.all in
+      let kept : Has all t = subst (λ (l : List TermCount). Has l t) (page_cut start n page are) (has_left page (drop n all) t there) in
+      let from : is_from start t ≡ true = (has_filtered (is_from start) are.all t kept).1 in
+      let e : false ≡ true = sym (ap (λ o. not (is_lt o)) low) ∙ from in
+      cc
+
   -- ---- page after page
 
   module _ (wanted : Wanted) where
-    -- what is asked for is among the terms so far, or isn't below the next page's start
-    abbrev pub HasUpTo : List TermCount → List ℕ → Type 0
-    HasUpTo terms start = (term : List ℕ) (m : ℕ) → TermIn O index register term m → IsWanted wanted term → IsAmong terms term ⊎ (¬ Precedes term start)
+    -- The terms so far rise and are below the next page's start. What is asked for is among them, or isn't below the start.
+    pub record HasUpTo (terms : List TermCount) (start : List ℕ) : Type 0 where
+      pub rising : TermsRise terms
+      pub below : (t : TermCount) → Has terms t → Precedes t.term start
+      pub among : (term : List ℕ) (m : ℕ) → TermIn O index register term m → IsWanted wanted term → IsAmong terms term ⊎ (¬ Precedes term start)
 
-    pub none_so_far : (terms : List TermCount) (start : List ℕ) → BeginsAt wanted start → HasUpTo terms start
-    none_so_far terms start begins term m there asked = inr (begins term asked)
+    pub none_so_far : (start : List ℕ) → BeginsAt wanted start → HasUpTo [] start
+    none_so_far start begins = record {
+      rising = none_rises (λ (t : TermCount). t.term);
+      below = λ t there. absurd there;
+      among = λ term m there asked. inr (begins term asked);
+    }
 
     among_left : (xs ys : List TermCount) (term : List ℕ) → IsAmong xs term → IsAmong (xs ++ ys) term
     among_left xs ys term among = (among.0, has_left xs ys among.0 among.1, among.2)
@@ -82,20 +107,56 @@ module _ (O : ℕ → Occurrence → Type 0) (index : ℕ) (register : Register)
     module _ (terms : List TermCount) (start : List ℕ) (n : ℕ) (page : List TermCount) (some : 0 < n) (are : AreTermsFrom O index register start n page) (before : HasUpTo terms start) where
       after_page : (term : List ℕ) (m : ℕ) → TermIn O index register term m → IsWanted wanted term
           → IsAmong (terms ++ page) term ⊎ ((page ≢ []) × ((t : TermCount) → Has page t → Precedes t.term term))
-      after_page term m there asked = elim (before term m there asked) [
+      after_page term m there asked = elim (before.among term m there asked) [
         | inl among ↦ inl (among_left terms page term among)
         | inr low ↦ elim (page_has start n page some are term m there low) [ inl among ↦ inl (among_right terms page term among) | inr behind ↦ inr behind ]
       ]
 
+      in_order : (t u : TermCount) → Has terms t → Has page u → Precedes t.term u.term
+      in_order t u here there = below_others t.term u.term start (before.below t here) (page_from start n page are u there)
+
+      more_rises : TermsRise (terms ++ page)
+      more_rises = joined_rise (λ (t : TermCount). t.term) terms page before.rising (page_rises start n page are) in_order
+
       -- with the last page all are there
       pub last_page : LeadsTo wanted page None → HasWanted O index register wanted (terms ++ page)
-      last_page ends term m there asked = elim (after_page term m there asked) [
-        | inl among ↦ among
-        | inr behind ↦ absurd (elim ends [ inl none ↦ behind.0 none | inr last ↦ last.2 term asked (behind.1 last.0 last.1) ])
-      ]
+      last_page ends = record {
+        rising = more_rises;
+        all = λ term m there asked. elim (after_page term m there asked) [
+          | inl among ↦ among
+          | inr behind ↦ absurd (elim ends [ inl none ↦ behind.0 none | inr last ↦ last.2 term asked (behind.1 last.0 last.1) ])
+        ];
+      }
+
+      module _ (front : List TermCount) (last : TermCount) (is_page : page ≡ front ++ last ∷ []) where
+        last_there : Has page last
+        last_there = subst (λ (l : List TermCount). Has l last) (sym is_page) (has_right front (last ∷ []) last (inl refl))
+
+        -- each term is the last one or comes before it
+        up_to_last : (t : TermCount) → Has (terms ++ page) t → Precedes t.term last.term ⊎ (t ≡ last)
+        up_to_last t there = elim (has_either terms page t there) [
+          | inl before ↦ inl (in_order t last before last_there)
+          | inr here ↦ elim (has_either front (last ∷ []) t (subst (λ (l : List TermCount). Has l t) is_page here)) [
+            | inl first ↦ inl (before_last_text (λ (u : TermCount). u.term) front last (subst TermsRise is_page (page_rises start n page are)) t first)
+            | inr end ↦ elim end [ inl same ↦ inr same | inr none ↦ absurd none ]
+          ]
+        ]
+
+        below_above : (t : TermCount) → Has (terms ++ page) t → Precedes t.term (last.term ++ 0 ∷ [])
+        below_above t there = elim (up_to_last t there) [
+          | inl before ↦ precedes_then t.term last.term (last.term ++ 0 ∷ []) before (below_next last.term)
+          | inr same ↦ subst (λ (u : TermCount). Precedes u.term (last.term ++ 0 ∷ [])) (sym same) (below_next last.term)
+        ]
+
+        pub page_behind : (next : List ℕ) → next ≡ last.term ++ 0 ∷ [] → HasUpTo (terms ++ page) next
+        page_behind next is_next = record {
+          rising = more_rises;
+          below = λ t there. subst (Precedes t.term) (sym is_next) (below_above t there);
+          among = λ term m there asked. elim (after_page term m there asked) [
+            | inl among ↦ inl among
+            | inr behind ↦ inr (subst (λ (l : List ℕ). ¬ Precedes term l) (sym is_next) (none_between last.term term (behind.1 last last_there)))
+          ];
+        }
 
       pub next_page : (next : String Global) → LeadsTo wanted page (Some next) → HasUpTo (terms ++ page) (string_bytes next)
-      next_page next leads term m there asked = elim (after_page term m there asked) [
-        | inl among ↦ inl among
-        | inr behind ↦ inr (subst (λ (l : List ℕ). ¬ Precedes term l) (sym leads.2) (none_between leads.0.term term (behind.1 leads.0 leads.1)))
-      ]
+      next_page next leads = page_behind leads.0 leads.1 leads.2 (string_bytes next) leads.3

@@ -9,7 +9,8 @@ use Rattle.zeb_register.specs.Content.{Content, posted, Posting}
 use Rattle.zeb_register.specs.Occurring.{key_in}
 use Rattle.zeb_search.specs.Holds.{Fits, HasEntry, HasWord}
 use Rattle.zeb_search.specs.Lists.{AreNumbers, ArePostings}
-use Rattle.zeb_search.specs.PrivateTerms.{AreKeysOf, HasPosting, IsPostingOf}
+use Rattle.zeb_search.specs.ListRows.{AreKeysOf}
+use Rattle.zeb_search.specs.PrivateTerms.{HasPosting, IsPostingOf}
 
 module _ (content : Content) (db : ℤ) (index : ℕ) (register : Register) (P : List ℕ → Type 0) (keys : List Key) (are : AreKeysOf (posted content db) index register P keys) where
   -- a posting of one of the keys is one of an entry that is P

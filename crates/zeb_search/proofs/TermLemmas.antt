@@ -1,5 +1,5 @@
 -- The terms that a step of a search asks for.
-use Rattle.std.proofs.Common.{◌≡◌, ◌↔◌, ◌∙◌, ◌<◌, ◌^◌, ℕ, List, sym, ap, subst, IsUtf8, chars, encode_utf8_all}
+use Rattle.std.proofs.Common.{◌≡◌, ◌↔◌, ◌∙◌, ◌<◌, ◌^◌, ℕ, List, [], ◌∷◌, ◌++◌, sym, ap, subst, subst₂, inl, inr, IsUtf8, chars, encode_utf8_all}
 use Rattle.std.proofs.lemmas.Str.{encodes-chars}
 use Rattle.zeb_query.specs.declared.plans.Relation.{Relation}
 use Rattle.zeb_text.specs.Numbers.{number_key}
@@ -13,11 +13,14 @@ use Rattle.zeb_extract.specs.declared.keys.Occurrence.{Occurrence}
 use Rattle.zeb_register.specs.declared.registers.TermCount.{TermCount}
 use Rattle.zeb_register.specs.Occurring.{AreTermsOf, key_in}
 use Rattle.zeb_register.proofs.ContentChanges.{numbers_apart}
-use Rattle.zeb_search.specs.Comparing.{Stands}
+use Rattle.zeb_search.specs.Comparing.{Precedes, Stands}
 use Rattle.zeb_search.specs.Holds.{Fits, IsNumberAt}
 use Rattle.zeb_search.specs.declared.terms.Wanted.{Wanted}
-use Rattle.zeb_search.specs.PrivateTerms.{AreKeysOf, AreTaken, HasWanted, IsWanted}
+use Rattle.zeb_search.specs.ListRows.{AreKeysOf}
+use Rattle.zeb_search.specs.PrivateTerms.{AreTaken, HasWanted, IsWanted}
 use Rattle.zeb_search.proofs.Comparisons.{tied_back}
+use Rattle.zeb_search.proofs.Gathering.{gathers_more, gathers_none, gathers_past}
+use Rattle.zeb_search.proofs.RisingTexts.{before_last_text, front_rise, joined_rise, none_rises, one_rises, terms_rise}
 
 pub same_number : (m n : ℕ) → m < 10 ^ 18 → n < 10 ^ 18 → number_key m ≡ number_key n → m ≡ n
 same_number m n m_small n_small same = numbers_apart m n (sym (keys_order m n m_small n_small) ∙ tied_back (number_key m) (number_key n) same)
@@ -40,15 +43,56 @@ literal_wanted pattern text utf8 is term = (
 
 module _ (O : ℕ → Occurrence → Type 0) (index : ℕ) (register : Register) (wanted : Wanted) where
   pub all_has_wanted : (terms : List TermCount) → AreTermsOf O index register terms → HasWanted O index register wanted terms
-  all_has_wanted terms are term n there asked = are.found term n there
+  all_has_wanted terms are = record { rising = terms_rise terms are.rising; all = λ term n there asked. are.found term n there }
 
   pub keys_are : (terms : List TermCount) (keys : List Key) → HasWanted O index register wanted terms → AreTaken index register wanted terms keys → AreKeysOf O index register (IsWanted wanted) keys
   keys_are terms keys has taken = record {
+    rising = taken.rising has.rising;
     each = λ key there.
-        let from = (taken key).0 there in
+        let from = (taken.each key).0 there in
         let same : key.term ≡ from.0.term = ap (λ (k : Key). k.term) from.2.1 in
         (from.2.1 ∙ ap (key_in index register) (sym same), subst (IsWanted wanted) (sym same) from.2.0);
     all = λ term n there asked.
-        let from = has term n there asked in
-        (taken (key_in index register term)).1 (from.0, from.1, (subst (IsWanted wanted) (sym from.2) asked, ap (key_in index register) (sym from.2)));
+        let from = has.all term n there asked in
+        (taken.each (key_in index register term)).1 (from.0, from.1, (subst (IsWanted wanted) (sym from.2) asked, ap (key_in index register) (sym from.2)));
   }
+
+  -- the key of the one entry that is asked for
+  pub named_key : (text : List ℕ) → ((term : List ℕ) → IsWanted wanted term ↔ (term ≡ text)) → AreKeysOf O index register (IsWanted wanted) (key_in index register text ∷ [])
+  named_key text one = record {
+    rising = one_rises (λ (key : Key). key.term) (key_in index register text);
+    each = λ key there. elim there [
+      | inl same ↦
+          let of : key.term ≡ text = ap (λ (k : Key). k.term) same in
+          (same ∙ ap (key_in index register) (sym of), (one key.term).1 of)
+      | inr none ↦ absurd none
+    ];
+    all = λ term n there asked. inl (ap (key_in index register) ((one term).0 asked));
+  }
+
+-- the keys that are taken of terms, term by term
+module _ (index : ℕ) (register : Register) (wanted : Wanted) where
+  abbrev Gives : TermCount → Key → Type 0
+  Gives t key = IsWanted wanted t.term × (key ≡ key_in index register t.term)
+
+  pub none_taken : AreTaken index register wanted [] []
+  none_taken = record { each = gathers_none Gives; rising = λ up. none_rises (λ (key : Key). key.term) }
+
+  module _ (terms : List TermCount) (keys : List Key) (t : TermCount) where
+    pub one_taken : IsWanted wanted t.term → AreTaken index register wanted terms keys → AreTaken index register wanted (terms ++ t ∷ []) (keys ++ key_in index register t.term ∷ [])
+    one_taken asked taken =
+        let key = key_in index register t.term in
+        record {
+          each = gathers_more Gives terms keys t (key ∷ []) taken.each (λ k. (λ h. elim h [ inl same ↦ (asked, same) | inr none ↦ absurd none ], λ gives. inl gives.1));
+          rising = λ up. joined_rise (λ (k : Key). k.term) keys (key ∷ []) (taken.rising (front_rise (λ (s : TermCount). s.term) terms (t ∷ []) up)) (one_rises (λ (k : Key). k.term) key) (λ k last here there.
+              let from = (taken.each k).0 here in
+              let of : k.term ≡ from.0.term = ap (λ (x : Key). x.term) from.2.1 in
+              let at : last.term ≡ t.term = elim there [ inl same ↦ ap (λ (x : Key). x.term) same | inr none ↦ absurd none ] in
+              subst₂ Precedes (sym of) (sym at) (before_last_text (λ (s : TermCount). s.term) terms t up from.0 from.1));
+        }
+
+    pub one_left : ¬ IsWanted wanted t.term → AreTaken index register wanted terms keys → AreTaken index register wanted (terms ++ t ∷ []) keys
+    one_left never taken = record {
+      each = gathers_past Gives terms keys t taken.each (λ k gives. never gives.0);
+      rising = λ up. taken.rising (front_rise (λ (s : TermCount). s.term) terms (t ∷ []) up);
+    }

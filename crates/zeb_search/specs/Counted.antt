@@ -1,5 +1,5 @@
 -- What a search counts of the rows of the packed tables.
-use Rattle.std.specs.Prelude.{◌≡◌, ◌<◌, ◌^◌, ℕ, List, Some, None}
+use Rattle.std.specs.Prelude.{◌≡◌, ◌+◌, ◌<◌, ◌≤◌, ◌^◌, ℕ, List, Some, None}
 use Rattle.std.specs.List.{Contains}
 use Rattle.sqlite.specs.State.{State, HasCleanDisk}
 use Rattle.sqlite_rules.specs.Lists.{Has}
@@ -47,13 +47,19 @@ NamesEntries (NearOf index left right separation) = HasNoStar left × HasNoStar 
 
 -- ---- counts
 
--- no row is counted as written; and none of `dict` as read, where this holds
-pub record Counts (WithoutTerms : Type 0) (old new : Work) : Type 0 where
+-- No row is counted as written, and of `blocks` at most so many as read; and none of `dict` as read, where this holds.
+pub record Counts (WithoutTerms : Type 0) (most : ℕ) (old new : Work) : Type 0 where
   pub no_term : Rises 0 old.dict_written new.dict_written
   pub no_block : Rises 0 old.block_written new.block_written
   pub unread : WithoutTerms → Rises 0 old.dict_read new.dict_read
+  pub blocks : new.block_read ≤ old.block_read + most
 
--- the same of a call, where the disk is clean and the tables of a store hold a content
-abbrev pub Counted : Format → (WithoutTerms : Type 0) → (old new : State) → (before after : Work) → Type 0
-Counted format WithoutTerms old new before after =
-    HasCleanDisk new → IsStore old → (content : Content) → holds_in format old.now.trees content → Counts WithoutTerms before after
+-- The same of a call, where the disk is clean and the tables of a store hold a content. `Rows` says how many rows of `blocks` its lists have.
+abbrev pub Counted : Format → (WithoutTerms : Type 0) → (Rows : Content → ℕ → Type 0) → (old new : State) → (before after : Work) → Type 0
+Counted format WithoutTerms Rows old new before after =
+    HasCleanDisk new → IsStore old → (content : Content) → holds_in format old.now.trees content
+    → (most : ℕ) × Rows content most × Counts WithoutTerms most before after
+
+-- no list is read
+abbrev pub NoRows : Content → ℕ → Type 0
+NoRows content n = n ≡ 0

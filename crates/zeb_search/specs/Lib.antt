@@ -1,6 +1,7 @@
 pub mod Comparing
 pub mod Counted
 pub mod Holds
+pub mod ListRows
 pub mod Lists
 pub mod PrivateTerms
 pub mod PrivateWalks

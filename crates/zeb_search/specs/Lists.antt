@@ -1,10 +1,15 @@
--- Lists that rise and have just the members that are P.
-use Rattle.std.specs.Prelude.{◌↔◌, ℕ, List}
+-- Lists that rise, and those that have just the members that are P.
+use Rattle.std.specs.Prelude.{◌↔◌, ℕ, List, map}
 use Rattle.std.specs.declared.cmp.Ordering.{Ordering}
 use Rattle.std.specs.List.Sorted.{IsStrictlySortedBy}
 use Rattle.std.specs.Ordering.{nat_cmp}
+use Rattle.std.specs.Cmp.Lexicographic.{slice_cmp}
 use Rattle.sqlite_rules.specs.Lists.{Has}
 use Rattle.zeb_register.specs.Content.{posting_cmp, Posting}
+
+-- the texts of the elements rise, in the order of their bytes; so each element stands there once
+abbrev pub Rise : {X : Type 0} → (X → List ℕ) → List X → Type 0
+Rise text xs = IsStrictlySortedBy (slice_cmp nat_cmp) (map text xs)
 
 -- just those that are P, each once, in order
 pub record AreJust {X : Type 0} (cmp : X → X → Ordering) (P : X → Type 0) (list : List X) : Type 0 where

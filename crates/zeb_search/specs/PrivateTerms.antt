@@ -14,6 +14,7 @@ use Rattle.zeb_query.specs.declared.plans.Separation.{Separation}
 use Rattle.zeb_search.specs.Comparing.{AreSeparated, Precedes, StandsInOrder}
 use Rattle.zeb_search.specs.Counted.{HasNoStar, IsOneKey}
 use Rattle.zeb_search.specs.Holds.{Fits, IsNumberAt}
+use Rattle.zeb_search.specs.Lists.{Rise}
 
 -- the entry is asked for
 abbrev pub IsWanted : Wanted → List ℕ → Type 0
@@ -29,18 +30,22 @@ NamesEntry (wanted.Matching pattern) = HasNoStar pattern.now
 NamesEntry (wanted.Number relation number) = IsOneKey relation number
 NamesEntry (wanted.Text order start) = ⊥
 
--- these are the keys of those of the terms that are asked for
-abbrev pub AreTaken : ℕ → Register → Wanted → List TermCount → List Key → Type 0
-AreTaken index register wanted terms keys =
-    (key : Key) → Has keys key ↔ ((t : TermCount) × Has terms t × (IsWanted wanted t.term × (key ≡ key_in index register t.term)))
+abbrev pub TermsRise : List TermCount → Type 0
+TermsRise = Rise (λ (t : TermCount). t.term)
+
+-- these are the keys of those of the terms that are asked for, in the order of the terms
+pub record AreTaken (index : ℕ) (register : Register) (wanted : Wanted) (terms : List TermCount) (keys : List Key) : Type 0 where
+  pub each : (key : Key) → Has keys key ↔ ((t : TermCount) × Has terms t × (IsWanted wanted t.term × (key ≡ key_in index register t.term)))
+  pub rising : TermsRise terms → Rise (λ (key : Key). key.term) keys
 
 -- the entry is one of the terms
 abbrev pub IsAmong : List TermCount → List ℕ → Type 0
 IsAmong terms term = (t : TermCount) × Has terms t × (t.term ≡ term)
 
--- each entry that is asked for and that some record has is among the terms
-abbrev pub HasWanted : (O : ℕ → Occurrence → Type 0) → ℕ → Register → Wanted → List TermCount → Type 0
-HasWanted O index register wanted terms = (term : List ℕ) (n : ℕ) → TermIn O index register term n → IsWanted wanted term → IsAmong terms term
+-- each entry that is asked for and that some record has is among the terms, each of which stands there once
+pub record HasWanted (O : ℕ → Occurrence → Type 0) (index : ℕ) (register : Register) (wanted : Wanted) (terms : List TermCount) : Type 0 where
+  pub rising : TermsRise terms
+  pub all : (term : List ℕ) (n : ℕ) → TermIn O index register term n → IsWanted wanted term → IsAmong terms term
 
 -- no entry that is asked for comes before the text
 abbrev pub BeginsAt : Wanted → List ℕ → Type 0
@@ -50,16 +55,11 @@ BeginsAt wanted start = (term : List ℕ) → IsWanted wanted term → ¬ Preced
 abbrev pub EndsAt : Wanted → List ℕ → Type 0
 EndsAt wanted end = (term : List ℕ) → IsWanted wanted term → ¬ Precedes end term
 
--- The next page begins right behind a term of this one. There is no next one where the page is empty, or where no entry that is asked
+-- The next page begins right behind the last term of this one. There is no next one where the page is empty, or where no entry that is asked
 -- for comes behind one of its terms.
 abbrev pub LeadsTo : Wanted → List TermCount → Option (String Global) → Type 0
 LeadsTo wanted page None = (page ≡ []) ⊎ ((t : TermCount) × Has page t × EndsAt wanted t.term)
-LeadsTo wanted page (Some next) = (t : TermCount) × Has page t × (string_bytes next ≡ t.term ++ 0 ∷ [])
-
--- keys of one register: each is P, and each entry that is P and that some record has is among them
-pub record AreKeysOf (O : ℕ → Occurrence → Type 0) (index : ℕ) (register : Register) (P : List ℕ → Type 0) (keys : List Key) : Type 0 where
-  pub each : (key : Key) → Has keys key → (key ≡ key_in index register key.term) × P key.term
-  pub all : (term : List ℕ) (n : ℕ) → TermIn O index register term n → P term → Has keys (key_in index register term)
+LeadsTo wanted page (Some next) = (front : List TermCount) × (t : TermCount) × (page ≡ front ++ t ∷ []) × (string_bytes next ≡ t.term ++ 0 ∷ [])
 
 -- it is a posting of one of the keys
 abbrev pub IsPostingOf : Content → ℤ → List Key → Posting → Type 0

@@ -7,8 +7,9 @@ ghost use Rattle.zeb_register.specs.Calls.{Reading};
 ghost use Rattle.zeb_register.specs.Content.{Content, IsStorable, posted};
 ghost use Rattle.zeb_register.specs.Formats.{holds_in};
 ghost use Rattle.zeb_register.specs.Store.{IsStore};
-ghost use Rattle.zeb_search.specs.Counted.{Counted};
-ghost use Rattle.zeb_search.specs.PrivateTerms.{AreKeysOf, AreTaken, HasWanted, IsWanted, LeadsTo, NamesEntry};
+ghost use Rattle.zeb_search.specs.Counted.{Counted, NoRows};
+ghost use Rattle.zeb_search.specs.ListRows.{AreKeysOf};
+ghost use Rattle.zeb_search.specs.PrivateTerms.{AreTaken, HasWanted, IsWanted, LeadsTo, NamesEntry};
 ghost use Rattle.zeb_search.specs.Untouched.{IsUntouched};
 
 use crate::ranges::text_above;
@@ -80,7 +81,7 @@ fn terms_by_pages<S: Alter, L: Layout>(
         → HasWanted (posted content database.0) index register wanted.entry terms.items) }
     ensures honest { HasCleanDisk (state S.Store connection.new) → IsStore (state S.Store connection.old) → result ≡ Err RegFault.Damaged
         → (content : Content) → IsStorable content → ¬ holds_in L.format (state S.Store connection.old).now.trees content }
-    ensures work { OnOk result (Counted L.format ⊥
+    ensures work { OnOk result (Counted L.format ⊥ NoRows
         (state S.Store connection.old) (state S.Store connection.new) work.old work.new) }
     ensures no_work { L.row_work ≡ 0 → work.new ≡ work.old }
 {
@@ -124,7 +125,7 @@ fn terms_wanted<S: Alter, L: Layout>(
         → HasWanted (posted content database.0) index register wanted.entry terms.items) }
     ensures honest { HasCleanDisk (state S.Store connection.new) → IsStore (state S.Store connection.old) → result ≡ Err RegFault.Damaged
         → (content : Content) → IsStorable content → ¬ holds_in L.format (state S.Store connection.old).now.trees content }
-    ensures work { OnOk result (Counted L.format ⊥
+    ensures work { OnOk result (Counted L.format ⊥ NoRows
         (state S.Store connection.old) (state S.Store connection.new) work.old work.new) }
     ensures no_work { L.row_work ≡ 0 → work.new ≡ work.old }
 {
@@ -151,7 +152,7 @@ pub(crate) fn keys_wanted<S: Alter, L: Layout>(
         → AreKeysOf (posted content database.0) index register (IsWanted wanted.entry) keys.items) }
     ensures honest { HasCleanDisk (state S.Store connection.new) → IsStore (state S.Store connection.old) → result ≡ Err RegFault.Damaged
         → (content : Content) → IsStorable content → ¬ holds_in L.format (state S.Store connection.old).now.trees content }
-    ensures work { OnOk result (Counted L.format (NamesEntry wanted.entry)
+    ensures work { OnOk result (Counted L.format (NamesEntry wanted.entry) NoRows
         (state S.Store connection.old) (state S.Store connection.new) work.old work.new) }
     ensures no_work { L.row_work ≡ 0 → work.new ≡ work.old }
 {

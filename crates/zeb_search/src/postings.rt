@@ -8,7 +8,8 @@ ghost use Rattle.zeb_register.specs.Content.{Content, IsStorable, posted};
 ghost use Rattle.zeb_register.specs.Formats.{holds_in};
 ghost use Rattle.zeb_register.specs.Store.{IsStore};
 ghost use Rattle.zeb_search.specs.Counted.{Counted, HasNoStar};
-ghost use Rattle.zeb_search.specs.Holds.{HasEntry, HasWord};
+ghost use Rattle.zeb_search.specs.Holds.{Fits, HasEntry, HasWord};
+ghost use Rattle.zeb_search.specs.ListRows.{EntryRows, rows_under};
 ghost use Rattle.zeb_search.specs.Lists.{AreNumbers, ArePostings};
 ghost use Rattle.zeb_search.specs.PrivateTerms.{IsPostingOf, IsWanted, NamesEntry};
 ghost use Rattle.zeb_search.specs.Untouched.{IsUntouched};
@@ -38,6 +39,7 @@ fn postings_of<S: Alter, L: Layout>(
     ensures honest { HasCleanDisk (state S.Store connection.new) → IsStore (state S.Store connection.old) → result ≡ Err RegFault.Damaged
         → (content : Content) → IsStorable content → ¬ holds_in L.format (state S.Store connection.old).now.trees content }
     ensures work { OnOk result (Counted L.format (Unit {0})
+        (λ content n. n ≡ rows_under L.block_rows content database.0 keys.now)
         (state S.Store connection.old) (state S.Store connection.new) work.old work.new) }
     ensures no_work { L.row_work ≡ 0 → work.new ≡ work.old }
 {
@@ -66,6 +68,7 @@ pub(crate) fn numbers_wanted<S: Alter, L: Layout>(
     ensures honest { HasCleanDisk (state S.Store connection.new) → IsStore (state S.Store connection.old) → result ≡ Err RegFault.Damaged
         → (content : Content) → IsStorable content → ¬ holds_in L.format (state S.Store connection.old).now.trees content }
     ensures work { OnOk result (Counted L.format (NamesEntry wanted.entry)
+        (λ content. EntryRows L.block_rows content database.0 index register (IsWanted wanted.entry))
         (state S.Store connection.old) (state S.Store connection.new) work.old work.new) }
     ensures no_work { L.row_work ≡ 0 → work.new ≡ work.old }
 {
@@ -90,6 +93,7 @@ pub(crate) fn places_of_words<S: Alter, L: Layout>(
     ensures honest { HasCleanDisk (state S.Store connection.new) → IsStore (state S.Store connection.old) → result ≡ Err RegFault.Damaged
         → (content : Content) → IsStorable content → ¬ holds_in L.format (state S.Store connection.old).now.trees content }
     ensures work { OnOk result (Counted L.format (HasNoStar pattern.now)
+        (λ content. EntryRows L.block_rows content database.0 index Register.Word (Fits pattern.now))
         (state S.Store connection.old) (state S.Store connection.new) work.old work.new) }
     ensures no_work { L.row_work ≡ 0 → work.new ≡ work.old }
 {

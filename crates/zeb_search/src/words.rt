@@ -10,6 +10,7 @@ ghost use Rattle.zeb_register.specs.Formats.{holds_in};
 ghost use Rattle.zeb_register.specs.Store.{IsStore};
 ghost use Rattle.zeb_search.specs.Counted.{Counted, HaveNoStar};
 ghost use Rattle.zeb_search.specs.Holds.{HasWords};
+ghost use Rattle.zeb_search.specs.ListRows.{WordRows};
 ghost use Rattle.zeb_search.specs.Lists.{AreNumbers, ArePostings};
 ghost use Rattle.zeb_search.specs.Registers.{HoldsIn};
 ghost use Rattle.zeb_search.specs.Untouched.{IsUntouched};
@@ -40,6 +41,7 @@ pub(crate) fn any_word_hits<S: Alter, L: Layout>(
     ensures honest { HasCleanDisk (state S.Store connection.new) → IsStore (state S.Store connection.old) → result ≡ Err RegFault.Damaged
         → (content : Content) → IsStorable content → ¬ holds_in L.format (state S.Store connection.old).now.trees content }
     ensures work { OnOk result (Counted L.format (HaveNoStar patterns.now)
+        (λ content. WordRows L.block_rows content database.0 index patterns.now)
         (state S.Store connection.old) (state S.Store connection.new) work.old work.new) }
     ensures no_work { L.row_work ≡ 0 → work.new ≡ work.old }
 {
@@ -76,6 +78,7 @@ pub(crate) fn all_words_hits<S: Alter, L: Layout>(
     ensures honest { HasCleanDisk (state S.Store connection.new) → IsStore (state S.Store connection.old) → result ≡ Err RegFault.Damaged
         → (content : Content) → IsStorable content → ¬ holds_in L.format (state S.Store connection.old).now.trees content }
     ensures work { OnOk result (Counted L.format (HaveNoStar patterns.now)
+        (λ content. WordRows L.block_rows content database.0 index patterns.now)
         (state S.Store connection.old) (state S.Store connection.new) work.old work.new) }
     ensures no_work { L.row_work ≡ 0 → work.new ≡ work.old }
 {
@@ -126,6 +129,7 @@ pub(crate) fn phrase_hits<S: Alter, L: Layout>(
     ensures honest { HasCleanDisk (state S.Store connection.new) → IsStore (state S.Store connection.old) → result ≡ Err RegFault.Damaged
         → (content : Content) → IsStorable content → ¬ holds_in L.format (state S.Store connection.old).now.trees content }
     ensures work { OnOk result (Counted L.format (HaveNoStar patterns.now)
+        (λ content. WordRows L.block_rows content database.0 index patterns.now)
         (state S.Store connection.old) (state S.Store connection.new) work.old work.new) }
     ensures no_work { L.row_work ≡ 0 → work.new ≡ work.old }
 {
@@ -165,6 +169,7 @@ fn places_of_phrase<S: Alter, L: Layout>(
     ensures honest { HasCleanDisk (state S.Store connection.new) → IsStore (state S.Store connection.old) → result ≡ Err RegFault.Damaged
         → (content : Content) → IsStorable content → ¬ holds_in L.format (state S.Store connection.old).now.trees content }
     ensures work { OnOk result (Counted L.format (HaveNoStar patterns.now)
+        (λ content. WordRows L.block_rows content database.0 index patterns.now)
         (state S.Store connection.old) (state S.Store connection.new) work.old work.new) }
     ensures no_work { L.row_work ≡ 0 → work.new ≡ work.old }
 {

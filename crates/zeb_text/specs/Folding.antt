@@ -1,5 +1,5 @@
 -- Folding: the key of canonical caseless matching (The Unicode Standard, section 3.13, D145), without the combining
--- diacritical marks (the block U+0300 to U+036F). Texts are lists of code points.
+-- diacritical marks (the block U+0300 to U+036F). That these marks are dropped is this project's own rule. Texts are lists of code points.
 use Rattle.std.specs.Prelude.{ℕ, Bool, ◌&&◌, not, List, filter, nat_le}
 use Rattle.unicode_normalization.specs.Forms.{nfd}
 use Rattle.caseless.specs.Caseless.{default_case_fold}

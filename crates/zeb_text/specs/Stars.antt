@@ -1,4 +1,5 @@
--- Where the truncation of a term puts stars (Z39.50, Bib-1 attribute type 5).
+-- Where the truncation of a term puts stars (Z39.50, Bib-1 attribute type 5). Bib-1 speaks of a term as a whole: whether the stars
+-- stand at the ends of the term or at each of its words is this project's own rule.
 use Rattle.std.specs.Prelude.{Bool, true, false, List, [], ◌∷◌, if◌then◌else◌}
 use Rattle.zeb_text.specs.declared.truncation.Cut.{Cut}
 use Rattle.zeb_text.specs.declared.truncation.Cut.TheVariants.{Left, Right, Both}

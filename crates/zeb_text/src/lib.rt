@@ -7,8 +7,6 @@ mod folding;
 mod laws;
 mod numerals;
 mod patterns;
-#[cfg(test)]
-mod tests;
 mod truncation;
 
 pub use crate::cutting::{join, words};

@@ -1,5 +1,5 @@
 #!/usr/bin/env python3
-"""Prints the rows of `TEXTS` in src/tests/texts.rt: texts, and by Python's own tables what each folds to, its words with a
+"""Prints the rows of `TEXTS` in crates/vectors/src/texts/samples.rt: texts, and by Python's own tables what each folds to, its words with a
 comma after each, and its numbers with a comma after each.
 
 A text is folded (NFD, full case folding, NFD, the marks U+0300 to U+036F dropped), its words are the longest runs of

@@ -332,6 +332,19 @@ fn upgraded(rt: &(impl Abort + AllocGlobal), changes: &[Change]) -> Result<(), F
     Ok(())
 }
 
+/// A packed register is one of today's: an upgrade leaves it as it is, whatever its rows.
+fn left_as_it_is(rt: &(impl Abort + AllocGlobal), changes: &[Change]) -> Result<(), Fail> {
+    for (sql, _, _, _) in changes {
+        let connection = changed(rt, Kept::Packed, sql)?;
+        done_in_vain(
+            rt,
+            connection,
+            &part(Kept::Packed, &[(Step::Upgrade, SOUND)]),
+        )?;
+    }
+    Ok(())
+}
+
 #[test]
 fn a_check_finds_each_change_of_plain_rows(rt: HostRuntime) -> Result<(), Fail> {
     checked(&rt, Kept::Plain, LISTS)?;
@@ -347,5 +360,6 @@ fn a_check_finds_each_change_of_packed_rows(rt: HostRuntime) -> Result<(), Fail>
 #[test]
 fn an_upgrade_is_refused_where_a_check_is(rt: HostRuntime) -> Result<(), Fail> {
     upgraded(&rt, LISTS)?;
-    upgraded(&rt, POSTINGS)
+    upgraded(&rt, POSTINGS)?;
+    left_as_it_is(&rt, PACKED)
 }

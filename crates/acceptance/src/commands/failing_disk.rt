@@ -15,10 +15,12 @@ use zeb_register::Blocks;
 type OnDisk<D> = Session<FileStore<D>, Blocks>;
 
 /// The numbers of hits before the first step, and after each.
-const KEPT: [Hits; 11] = [
+const KEPT: [Hits; 13] = [
     [None, None, None],
     [None, None, None],
     [Some(0), Some(0), Some(0)],
+    [Some(1), Some(0), Some(1)],
+    [Some(1), Some(0), Some(1)],
     [Some(1), Some(0), Some(1)],
     [Some(1), Some(0), Some(1)],
     [Some(1), Some(0), Some(1)],

@@ -130,6 +130,23 @@ const NO_RECORD: Case = (
     &[],
 );
 
+/// A kept record with another's bytes, which have another identifier.
+const OTHER_RECORD: Case = (
+    &[(
+        TableStep::Execute(
+            "UPDATE records SET bytes = x'30303036346e616d206132323030303439206120343530303030313030303330\
+            303030303234353030313130303030331e62321e30301f6143616665cc811e1d' WHERE sysno = 1",
+        ),
+        "1",
+    )],
+    &[
+        (Step::Delete(&[&[MOBY]]), DAMAGED),
+        (Step::Update(&[&[DOCK]]), DAMAGED),
+        (Step::Find("@attr 1=4 moby"), "hits 1\n1 a1\n"),
+    ],
+    &[(TableStep::Rows(COUNTS), "13|13\n")],
+);
+
 /// A block of a key that an update doesn't change is neither read nor written by it.
 const UNREAD: Case = (
     &[(
@@ -159,8 +176,17 @@ const VERSION: Case = (
     &[(TableStep::Rows(COUNTS), "13|13\n")],
 );
 
-const CASES: [Case; 9] = [
-    KEPT, CUT, TAKEN_OUT, STRANGER, UNCOUNTED, EMPTY_TERM, NO_RECORD, UNREAD, VERSION,
+const CASES: [Case; 10] = [
+    KEPT,
+    CUT,
+    TAKEN_OUT,
+    STRANGER,
+    UNCOUNTED,
+    EMPTY_TERM,
+    NO_RECORD,
+    OTHER_RECORD,
+    UNREAD,
+    VERSION,
 ];
 
 /// Runs commands over a connection, which is given back.

@@ -12,7 +12,7 @@ use zeb_engine::{Command, Limits, Refusal, Reply, Session};
 use zeb_register::Blocks;
 
 /// Commands, and what is printed for them.
-pub const STEPS: [Row<'static>; 10] = [
+pub const STEPS: [Row<'static>; 12] = [
     (Step::Init, "ok\n"),
     (Step::Create("Default"), "ok\n"),
     (
@@ -20,6 +20,14 @@ pub const STEPS: [Row<'static>; 10] = [
         "inserted 2 updated 0 deleted 0\n",
     ),
     (Step::Find("@attr 1=4 whale"), "hits 1\n1 a1\n"),
+    (
+        Step::Scan("Default", 3, 2, "@attr 1=4 m"),
+        "dick 1\nmoby 1\nor 1\n",
+    ),
+    (
+        Step::Analyse(&[&[CAFE]]),
+        "record 1 1 b2\nTitle:w 2 1 cafe\n",
+    ),
     (Step::Dump("Default"), MOBY_CAFE),
     (Step::Stat("Default"), "records 2\nlast 2\nTitle:w 6 6\n"),
     (

@@ -10,7 +10,7 @@ ghost use Rattle.zeb_change.specs.Conditions.{conditions};
 ghost use Rattle.zeb_image.specs.NameOf.{name_bytes};
 ghost use Rattle.zeb_engine.specs.Checking.{ChecksTables};
 ghost use Rattle.zeb_engine.specs.Readiness.{GoesByTexts};
-ghost use Rattle.zeb_engine.specs.Reads.{ScanReads};
+ghost use Rattle.zeb_engine.specs.Reads.{FindReads, ScanReads};
 ghost use Rattle.zeb_change.specs.Reading.{NoReadFault};
 ghost use Rattle.zeb_engine.specs.Transactions.{Commanded};
 ghost use Rattle.zeb_engine.specs.Steps.{checked};
@@ -48,6 +48,9 @@ impl<S: Alter, L: Layout> Session<S, L> {
         ensures alone { HasCleanDisk (state S.Store self.new.connection)
             → Alone L.format (FindSays self.old.profile question.entry.query.now question.entry.first question.entry.count)
             (name_bytes database.now) (state S.Store self.old.connection) result }
+        ensures work { HasCleanDisk (state S.Store self.new.connection)
+            → OnOk result (FindReads L.format L.block_rows self.old.profile (name_bytes database.now) question.entry.query.now
+            (state S.Store self.old.connection) self.old.work self.new.work) }
     {
         check_ready::<S, L>(&mut self.connection, &self.profile)?;
         find::<S, L>(

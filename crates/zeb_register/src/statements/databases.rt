@@ -1,12 +1,12 @@
 //! Statements on the table `databases`.
 
-ghost use Rattle.std.specs.Prelude.{◌≡◌, IfErr};
+ghost use Rattle.std.specs.Prelude.{◌≡◌};
 ghost use Rattle.sqlite.specs.Held.{state};
-ghost use Rattle.sqlite.specs.State.{HasCleanDisk};
-ghost use Rattle.zeb_register.specs.Store.{IsStore, databases_tree, TakesDatabase};
+ghost use Rattle.zeb_register.specs.Store.{databases_tree, TakesDatabase};
 ghost use Rattle.zeb_register.specs.RowStatements.{AddsDatabase, SetsLast, IsDatabaseRow, IsListedRow, Lists, ListsInside};
-ghost use Rattle.zeb_register.specs.Faults.{fault_of};
-ghost use Rattle.zeb_register.specs.Calls.{Alters, Inside, Reading, MayRefuse};
+ghost use Rattle.zeb_register.specs.Calls.{Alters, Inside, Reading};
+ghost use Rattle.zeb_register.specs.Clauses.{Writes};
+ghost use Rattle.zeb_register.specs.Clauses.{IsReasonedError};
 
 use crate::RegFault;
 use sqlite::{Alter, Connection, Error, Row, Transaction, params};
@@ -17,8 +17,7 @@ pub(crate) fn database_rows<S: Alter>(
 ) -> Result<Vec<Row>, Error>
     ensures call { Reading (state S.Store conn.old) (state S.Store conn.new) result
         (λ rows a b. Lists (λ trees. IsDatabaseRow trees name.now) a b rows.items) }
-    ensures err { HasCleanDisk (state S.Store conn.new) → IsStore (state S.Store conn.old)
-        → IfErr result (λ e. fault_of e ≡ RegFault.Store → MayRefuse (state S.Store conn.old) (state S.Store conn.new)) }
+    ensures err { IsReasonedError (state S.Store conn.old) (state S.Store conn.new) result }
 {
     // What is seen outside a transaction is what was committed.
     let _idle = conn.is_autocommit();
@@ -45,8 +44,7 @@ pub(crate) fn database_rows_inside<S: Alter>(
 /// All databases, rising by the bytes of their names: the name, the id and the last number of each.
 pub(crate) fn listed_rows<S: Alter>(conn: &mut Connection<S>) -> Result<Vec<Row>, Error>
     ensures call { Reading (state S.Store conn.old) (state S.Store conn.new) result (λ rows a b. Lists IsListedRow a b rows.items) }
-    ensures err { HasCleanDisk (state S.Store conn.new) → IsStore (state S.Store conn.old)
-        → IfErr result (λ e. fault_of e ≡ RegFault.Store → MayRefuse (state S.Store conn.old) (state S.Store conn.new)) }
+    ensures err { IsReasonedError (state S.Store conn.old) (state S.Store conn.new) result }
 {
     // What is seen outside a transaction is what was committed.
     let _idle = conn.is_autocommit();
@@ -82,8 +80,7 @@ pub(crate) fn last_set<S: Alter>(
     last: i64,
 ) -> Result<usize, Error>
     ensures same { tx.new.conn.ghost_name ≡ tx.old.conn.ghost_name }
-    ensures call { Inside (state S.Store tx.old.conn.now) (state S.Store tx.new.conn.now) result
-        (λ _. Alters databases_tree (SetsLast id last)) }
+    ensures call { Writes databases_tree (SetsLast id last) (state S.Store tx.old.conn.now) (state S.Store tx.new.conn.now) result }
 {
     tx.execute(
         "UPDATE databases SET last = ?2 WHERE id = ?1",
@@ -93,8 +90,7 @@ pub(crate) fn last_set<S: Alter>(
 
 pub(crate) fn database_cut<S: Alter>(tx: &mut Transaction<'_, S>, id: i64) -> Result<usize, Error>
     ensures same { tx.new.conn.ghost_name ≡ tx.old.conn.ghost_name }
-    ensures call { Inside (state S.Store tx.old.conn.now) (state S.Store tx.new.conn.now) result
-        (λ _. Alters databases_tree (TakesDatabase id)) }
+    ensures call { Writes databases_tree (TakesDatabase id) (state S.Store tx.old.conn.now) (state S.Store tx.new.conn.now) result }
 {
     tx.execute("DELETE FROM databases WHERE id = ?1", params![id])
 }

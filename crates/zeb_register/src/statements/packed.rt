@@ -1,32 +1,36 @@
 //! Statements on the tables `blocks` and `dict`, which hold packed registers.
 
-ghost use Rattle.std.specs.Prelude.{◌≡◌, [], ◌∷◌, pos};
+ghost use Rattle.std.specs.Prelude.{◌≡◌, [], ◌∷◌, ◌++◌};
 ghost use Rattle.sqlite.specs.Held.{state};
 ghost use Rattle.zeb_register.specs.Sql.{Loses};
-ghost use Rattle.sqlite.specs.declared.types.Value.TheVariants.{Int};
-ghost use Rattle.zeb_register.specs.Store.{blocks_tree, dict_tree, key_of, IsPostingIn, IsRest};
-ghost use Rattle.zeb_register.specs.Calls.{Alters, Inside, Reading};
+ghost use Rattle.sqlite.specs.declared.types.Value.TheVariants.{Int, Text};
+ghost use Rattle.zeb_register.specs.Store.{blocks_tree, dict_tree, IsPostingIn, IsRest};
+ghost use Rattle.zeb_register.specs.Calls.{Reading};
+ghost use Rattle.zeb_register.specs.Clauses.{Writes};
+ghost use Rattle.zeb_register.specs.KeyColumns.{register_columns};
 ghost use Rattle.zeb_register.specs.PackedRows.{IsRestBefore, IsRestFrom, ListsFirst, ListsLast};
 ghost use Rattle.zeb_register.specs.RowStatements.{Lists};
 
+use crate::plain::code_of;
+use crate::statements::keys::RegisterOf;
 use sqlite::{Alter, Connection, Error, Row, Transaction, params};
 
 /// The blocks of a key: the number of each, and its bytes.
 pub(crate) fn block_rows<S: Alter>(
     conn: &mut Connection<S>,
-    db: i64,
-    idx: u32,
-    reg: i64,
+    at: RegisterOf,
     term: &str,
 ) -> Result<Vec<Row>, Error>
     ensures call { Reading (state S.Store conn.old) (state S.Store conn.new) result
-        (λ rows a b. Lists (IsRest blocks_tree (key_of db (pos idx) reg term.now)) a b rows.items) }
+        (λ rows a b. Lists (IsRest blocks_tree (register_columns at ++ Text term.now ∷ [])) a b rows.items) }
 {
     // What is seen outside a transaction is what was committed.
     let _idle = conn.is_autocommit();
+    let db = at.db.column();
+    let reg = code_of(at.register);
     conn.query_all(
         "SELECT block, data FROM blocks WHERE db = ?1 AND idx = ?2 AND reg = ?3 AND term = ?4 ORDER BY block",
-        params![db, idx, reg, term],
+        params![db, at.index, reg, term],
     )
 }
 
@@ -62,38 +66,38 @@ pub(crate) fn database_keys<S: Alter>(conn: &mut Connection<S>, db: i64) -> Resu
 /// The terms of a register, each with the number of its records.
 pub(crate) fn dict_rows<S: Alter>(
     conn: &mut Connection<S>,
-    db: i64,
-    idx: u32,
-    reg: i64,
+    at: RegisterOf,
 ) -> Result<Vec<Row>, Error>
     ensures call { Reading (state S.Store conn.old) (state S.Store conn.new) result
-        (λ rows a b. Lists (IsRest dict_tree (Int db ∷ Int (pos idx) ∷ Int reg ∷ [])) a b rows.items) }
+        (λ rows a b. Lists (IsRest dict_tree (register_columns at)) a b rows.items) }
 {
     // What is seen outside a transaction is what was committed.
     let _idle = conn.is_autocommit();
+    let db = at.db.column();
+    let reg = code_of(at.register);
     conn.query_all(
         "SELECT term, records FROM dict WHERE db = ?1 AND idx = ?2 AND reg = ?3 ORDER BY term",
-        params![db, idx, reg],
+        params![db, at.index, reg],
     )
 }
 
 /// The first of the terms that are not below `start`, with the numbers of their records: at most `limit`, or all where that is below 0.
 pub(crate) fn dict_rows_from<S: Alter>(
     conn: &mut Connection<S>,
-    db: i64,
-    idx: u32,
-    reg: i64,
+    at: RegisterOf,
     start: &str,
     limit: i64,
 ) -> Result<Vec<Row>, Error>
     ensures call { Reading (state S.Store conn.old) (state S.Store conn.new) result
-        (λ rows a b. ListsFirst limit (IsRestFrom dict_tree (Int db ∷ Int (pos idx) ∷ Int reg ∷ []) start.now) a b rows.items) }
+        (λ rows a b. ListsFirst limit (IsRestFrom dict_tree (register_columns at) start.now) a b rows.items) }
 {
     // What is seen outside a transaction is what was committed.
     let _idle = conn.is_autocommit();
+    let db = at.db.column();
+    let reg = code_of(at.register);
     conn.query_all(
         "SELECT term, records FROM dict WHERE db = ?1 AND idx = ?2 AND reg = ?3 AND term >= ?4 ORDER BY term LIMIT ?5",
-        params![db, idx, reg, start, limit],
+        params![db, at.index, reg, start, limit],
     )
 }
 
@@ -101,35 +105,33 @@ pub(crate) fn dict_rows_from<S: Alter>(
 /// that is below 0.
 pub(crate) fn dict_rows_before<S: Alter>(
     conn: &mut Connection<S>,
-    db: i64,
-    idx: u32,
-    reg: i64,
+    at: RegisterOf,
     start: &str,
     limit: i64,
 ) -> Result<Vec<Row>, Error>
     ensures call { Reading (state S.Store conn.old) (state S.Store conn.new) result
-        (λ rows a b. ListsLast limit (IsRestBefore dict_tree (Int db ∷ Int (pos idx) ∷ Int reg ∷ []) start.now) a b rows.items) }
+        (λ rows a b. ListsLast limit (IsRestBefore dict_tree (register_columns at) start.now) a b rows.items) }
 {
     // What is seen outside a transaction is what was committed.
     let _idle = conn.is_autocommit();
+    let db = at.db.column();
+    let reg = code_of(at.register);
     conn.query_all(
         "SELECT term, records FROM dict WHERE db = ?1 AND idx = ?2 AND reg = ?3 AND term < ?4 ORDER BY term DESC LIMIT ?5",
-        params![db, idx, reg, start, limit],
+        params![db, at.index, reg, start, limit],
     )
 }
 
 pub(crate) fn blocks_clear<S: Alter>(tx: &mut Transaction<'_, S>, db: i64) -> Result<usize, Error>
     ensures same { tx.new.conn.ghost_name ≡ tx.old.conn.ghost_name }
-    ensures call { Inside (state S.Store tx.old.conn.now) (state S.Store tx.new.conn.now) result
-        (λ _. Alters blocks_tree (Loses (IsPostingIn db))) }
+    ensures call { Writes blocks_tree (Loses (IsPostingIn db)) (state S.Store tx.old.conn.now) (state S.Store tx.new.conn.now) result }
 {
     tx.execute("DELETE FROM blocks WHERE db = ?1", params![db])
 }
 
 pub(crate) fn dict_clear<S: Alter>(tx: &mut Transaction<'_, S>, db: i64) -> Result<usize, Error>
     ensures same { tx.new.conn.ghost_name ≡ tx.old.conn.ghost_name }
-    ensures call { Inside (state S.Store tx.old.conn.now) (state S.Store tx.new.conn.now) result
-        (λ _. Alters dict_tree (Loses (IsPostingIn db))) }
+    ensures call { Writes dict_tree (Loses (IsPostingIn db)) (state S.Store tx.old.conn.now) (state S.Store tx.new.conn.now) result }
 {
     tx.execute("DELETE FROM dict WHERE db = ?1", params![db])
 }

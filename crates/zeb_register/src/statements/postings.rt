@@ -1,26 +1,29 @@
 //! Statements on the table `postings`: a row for each posting.
 
-ghost use Rattle.std.specs.Prelude.{◌≡◌, true, false, [], ◌∷◌, pos, IfErr};
+ghost use Rattle.std.specs.Prelude.{IsUtf8, ◌≡◌, true, false, [], ◌∷◌, ◌++◌};
 ghost use Rattle.std.specs.Ordering.{is_lt, nat_cmp};
 ghost use Rattle.std.specs.Cmp.Lexicographic.{slice_cmp};
 ghost use Rattle.sqlite.specs.Held.{state};
-ghost use Rattle.sqlite.specs.State.{HasCleanDisk, IsUnchanged};
-ghost use Rattle.sqlite.specs.declared.types.Value.TheVariants.{Int};
+ghost use Rattle.sqlite.specs.State.{IsUnchanged};
+ghost use Rattle.sqlite.specs.declared.types.Value.TheVariants.{Int, Text};
 ghost use Rattle.zeb_register.specs.Sql.{Loses};
-ghost use Rattle.zeb_register.specs.RowStatements.{Gains, posting, place_key, IsPlaceOf, Lists, ListsInside};
-ghost use Rattle.zeb_register.specs.Store.{IsStore, postings_tree, key_of, IsPostingIn, IsRest};
-ghost use Rattle.zeb_register.specs.Calls.{Alters, Inside, Reading, MayRefuse};
-ghost use Rattle.zeb_register.specs.Faults.{fault_of};
-ghost use Rattle.zeb_register.specs.RowTerms.{HasTerm, ShowsLeast, ShowsGreatest, Reads};
+ghost use Rattle.zeb_register.specs.RowStatements.{Gains, Lists, ListsInside};
+ghost use Rattle.zeb_register.specs.Store.{postings_tree, IsPostingIn, IsRest};
+ghost use Rattle.zeb_register.specs.Calls.{Inside, Reading};
+ghost use Rattle.zeb_register.specs.Clauses.{Writes};
+ghost use Rattle.zeb_register.specs.Clauses.{IsReasonedError};
+ghost use Rattle.zeb_register.specs.KeyColumns.{HasTermOf, IsOfNumbered, numbered_columns, register_columns};
+ghost use Rattle.zeb_register.specs.RowTerms.{ShowsLeast, ShowsGreatest, Reads};
 
 use crate::RegFault;
+use crate::plain::code_of;
+use crate::statements::keys::{KeyOf, RegisterOf};
 use sqlite::{Alter, Connection, Error, Row, Transaction, params};
 
 /// Reads nothing. It is refused where the connection is closed.
 pub(crate) fn nothing_of<S: Alter>(conn: &mut Connection<S>) -> Result<(), Error>
     ensures call { Reading (state S.Store conn.old) (state S.Store conn.new) result (λ _. IsUnchanged) }
-    ensures err { HasCleanDisk (state S.Store conn.new) → IsStore (state S.Store conn.old)
-        → IfErr result (λ e. fault_of e ≡ RegFault.Store → MayRefuse (state S.Store conn.old) (state S.Store conn.new)) }
+    ensures err { IsReasonedError (state S.Store conn.old) (state S.Store conn.new) result }
 {
     // What is seen outside a transaction is what was committed.
     let _idle = conn.is_autocommit();
@@ -46,99 +49,99 @@ pub(crate) fn database_postings<S: Alter>(
 
 pub(crate) fn posting_rows<S: Alter>(
     conn: &mut Connection<S>,
-    db: i64,
-    idx: u32,
-    reg: i64,
+    at: RegisterOf,
     term: &str,
 ) -> Result<Vec<Row>, Error>
     ensures call { Reading (state S.Store conn.old) (state S.Store conn.new) result
-        (λ rows a b. Lists (IsRest postings_tree (key_of db (pos idx) reg term.now)) a b rows.items) }
+        (λ rows a b. Lists (IsRest postings_tree (register_columns at ++ Text term.now ∷ [])) a b rows.items) }
 {
     // What is seen outside a transaction is what was committed.
     let _idle = conn.is_autocommit();
+    let db = at.db.column();
+    let reg = code_of(at.register);
     conn.query_all(
         "SELECT sysno, seq, pos FROM postings WHERE db = ?1 AND idx = ?2 AND reg = ?3 AND term = ?4 ORDER BY sysno, seq, pos",
-        params![db, idx, reg, term],
+        params![db, at.index, reg, term],
     )
 }
 
 pub(crate) fn place_rows<S: Alter>(
     tx: &mut Transaction<'_, S>,
-    db: i64,
-    idx: u32,
-    reg: i64,
-    term: &str,
-    sysno: i64,
+    at: KeyOf<'_>,
+    number: i64,
 ) -> Result<Vec<Row>, Error>
     ensures same { tx.new.conn.ghost_name ≡ tx.old.conn.ghost_name }
     ensures call { Inside (state S.Store tx.old.conn.now) (state S.Store tx.new.conn.now) result
-        (λ rows a b. ListsInside (IsRest postings_tree (place_key db (pos idx) reg term.now sysno)) a b rows.items) }
+        (λ rows a b. ListsInside (IsRest postings_tree (numbered_columns at.entry number)) a b rows.items) }
+    ensures text { IsUtf8 at.entry.key.now.term }
 {
+    let db = at.db.column();
+    let reg = code_of(at.key.register);
+    let term = at.key.term.as_str();
     tx.query_all(
         "SELECT seq, pos FROM postings WHERE db = ?1 AND idx = ?2 AND reg = ?3 AND term = ?4 AND sysno = ?5 ORDER BY seq, pos",
-        params![db, idx, reg, term, sysno],
+        params![db, at.key.index, reg, term, number],
     )
 }
 
 pub(crate) fn register_rows<S: Alter>(
     conn: &mut Connection<S>,
-    db: i64,
-    idx: u32,
-    reg: i64,
+    at: RegisterOf,
 ) -> Result<Vec<Row>, Error>
     ensures call { Reading (state S.Store conn.old) (state S.Store conn.new) result
-        (λ rows a b. Lists (IsRest postings_tree (Int db ∷ Int (pos idx) ∷ Int reg ∷ [])) a b rows.items) }
+        (λ rows a b. Lists (IsRest postings_tree (register_columns at)) a b rows.items) }
 {
     // What is seen outside a transaction is what was committed.
     let _idle = conn.is_autocommit();
+    let db = at.db.column();
+    let reg = code_of(at.register);
     conn.query_all(
         "SELECT term, sysno, seq, pos FROM postings WHERE db = ?1 AND idx = ?2 AND reg = ?3 ORDER BY term, sysno, seq, pos",
-        params![db, idx, reg],
+        params![db, at.index, reg],
     )
 }
 
 pub(crate) fn places_lift<S: Alter>(
     tx: &mut Transaction<'_, S>,
-    db: i64,
-    idx: u32,
-    reg: i64,
-    term: &str,
-    sysno: i64,
+    at: KeyOf<'_>,
+    number: i64,
 ) -> Result<usize, Error>
     ensures same { tx.new.conn.ghost_name ≡ tx.old.conn.ghost_name }
-    ensures call { Inside (state S.Store tx.old.conn.now) (state S.Store tx.new.conn.now) result
-        (λ _. Alters postings_tree (Loses (IsPlaceOf db (pos idx) reg term.now sysno))) }
+    ensures call { Writes postings_tree (Loses (IsOfNumbered at.entry number))
+        (state S.Store tx.old.conn.now) (state S.Store tx.new.conn.now) result }
 {
+    let db = at.db.column();
+    let reg = code_of(at.key.register);
+    let term = at.key.term.as_str();
     tx.execute(
         "DELETE FROM postings WHERE db = ?1 AND idx = ?2 AND reg = ?3 AND term = ?4 AND sysno = ?5",
-        params![db, idx, reg, term, sysno],
+        params![db, at.key.index, reg, term, number],
     )
 }
 
 pub(crate) fn posting_put<S: Alter>(
     tx: &mut Transaction<'_, S>,
-    db: i64,
-    idx: u32,
-    reg: i64,
-    term: &str,
-    sysno: i64,
+    at: KeyOf<'_>,
+    number: i64,
     seq: i64,
     place: i64,
 ) -> Result<usize, Error>
     ensures same { tx.new.conn.ghost_name ≡ tx.old.conn.ghost_name }
-    ensures call { Inside (state S.Store tx.old.conn.now) (state S.Store tx.new.conn.now) result
-        (λ _. Alters postings_tree (Gains (posting db (pos idx) reg term.now sysno seq place))) }
+    ensures call { Writes postings_tree (Gains (numbered_columns at.entry number ++ Int seq ∷ Int place ∷ []))
+        (state S.Store tx.old.conn.now) (state S.Store tx.new.conn.now) result }
 {
+    let db = at.db.column();
+    let reg = code_of(at.key.register);
+    let term = at.key.term.as_str();
     tx.execute(
         "INSERT INTO postings VALUES (?1, ?2, ?3, ?4, ?5, ?6, ?7)",
-        params![db, idx, reg, term, sysno, seq, place],
+        params![db, at.key.index, reg, term, number, seq, place],
     )
 }
 
 pub(crate) fn postings_clear<S: Alter>(tx: &mut Transaction<'_, S>, db: i64) -> Result<usize, Error>
     ensures same { tx.new.conn.ghost_name ≡ tx.old.conn.ghost_name }
-    ensures call { Inside (state S.Store tx.old.conn.now) (state S.Store tx.new.conn.now) result
-        (λ _. Alters postings_tree (Loses (IsPostingIn db))) }
+    ensures call { Writes postings_tree (Loses (IsPostingIn db)) (state S.Store tx.old.conn.now) (state S.Store tx.new.conn.now) result }
 {
     tx.execute("DELETE FROM postings WHERE db = ?1", params![db])
 }
@@ -146,39 +149,39 @@ pub(crate) fn postings_clear<S: Alter>(tx: &mut Transaction<'_, S>, db: i64) -> 
 /// The least term of the register that is not below `start`.
 pub(crate) fn rows_from<S: Alter>(
     conn: &mut Connection<S>,
-    db: i64,
-    idx: u32,
-    reg: i64,
+    at: RegisterOf,
     start: &str,
 ) -> Result<Vec<Row>, Error>
     ensures call { Reading (state S.Store conn.old) (state S.Store conn.new) result
-        (λ rows a b. Reads (λ trees. ShowsLeast (λ term. HasTerm trees db (pos idx) reg term
+        (λ rows a b. Reads (λ trees. ShowsLeast (λ term. HasTermOf at trees term
         × (is_lt (slice_cmp nat_cmp term start.now) ≡ false))) a b rows.items) }
 {
     // What is seen outside a transaction is what was committed.
     let _idle = conn.is_autocommit();
+    let db = at.db.column();
+    let reg = code_of(at.register);
     conn.query_all(
         "SELECT term FROM postings WHERE db = ?1 AND idx = ?2 AND reg = ?3 AND term >= ?4 ORDER BY term LIMIT 1",
-        params![db, idx, reg, start],
+        params![db, at.index, reg, start],
     )
 }
 
 /// The greatest term of the register that is below `start`.
 pub(crate) fn rows_before<S: Alter>(
     conn: &mut Connection<S>,
-    db: i64,
-    idx: u32,
-    reg: i64,
+    at: RegisterOf,
     start: &str,
 ) -> Result<Vec<Row>, Error>
     ensures call { Reading (state S.Store conn.old) (state S.Store conn.new) result
-        (λ rows a b. Reads (λ trees. ShowsGreatest (λ term. HasTerm trees db (pos idx) reg term
+        (λ rows a b. Reads (λ trees. ShowsGreatest (λ term. HasTermOf at trees term
         × (is_lt (slice_cmp nat_cmp term start.now) ≡ true))) a b rows.items) }
 {
     // What is seen outside a transaction is what was committed.
     let _idle = conn.is_autocommit();
+    let db = at.db.column();
+    let reg = code_of(at.register);
     conn.query_all(
         "SELECT term FROM postings WHERE db = ?1 AND idx = ?2 AND reg = ?3 AND term < ?4 ORDER BY term DESC LIMIT 1",
-        params![db, idx, reg, start],
+        params![db, at.index, reg, start],
     )
 }

@@ -1,15 +1,15 @@
 //! Statements on the table `records`.
 
-ghost use Rattle.std.specs.Prelude.{◌≡◌, List, [], ◌∷◌, take, IfErr};
+ghost use Rattle.std.specs.Prelude.{◌≡◌, List, [], ◌∷◌, take};
 ghost use Rattle.sqlite.specs.Held.{state};
-ghost use Rattle.sqlite.specs.State.{HasCleanDisk};
 ghost use Rattle.sqlite.specs.declared.types.Value.TheVariants.{Int};
 ghost use Rattle.zeb_register.specs.Sql.{IsListOf, Loses, Replaces};
-ghost use Rattle.zeb_register.specs.Store.{IsStore, records_tree, record_row, HasNumber, SharesRecord, IsRecordIn, IsRest};
+ghost use Rattle.zeb_register.specs.Store.{records_tree, record_row, HasNumber, SharesRecord, IsRecordIn, IsRest};
 ghost use Rattle.zeb_register.specs.RowStatements.{IsElderRow, IsIdentRow, IsRestAtLeast, Lists, ListsInside, ShowsCount};
 ghost use Rattle.zeb_register.specs.RowTerms.{Reads};
-ghost use Rattle.zeb_register.specs.Faults.{fault_of};
-ghost use Rattle.zeb_register.specs.Calls.{Alters, Inside, Reading, MayRefuse};
+ghost use Rattle.zeb_register.specs.Calls.{Inside, Reading};
+ghost use Rattle.zeb_register.specs.Clauses.{Writes};
+ghost use Rattle.zeb_register.specs.Clauses.{IsReasonedError};
 
 use crate::RegFault;
 use sqlite::{Alter, Connection, Error, Row, Transaction, params};
@@ -22,8 +22,8 @@ pub(crate) fn record_keep<S: Alter>(
     bytes: &[u8],
 ) -> Result<usize, Error>
     ensures same { tx.new.conn.ghost_name ≡ tx.old.conn.ghost_name }
-    ensures call { Inside (state S.Store tx.old.conn.now) (state S.Store tx.new.conn.now) result
-        (λ _. Alters records_tree (Replaces (SharesRecord db sysno ident.now) (record_row db sysno ident.now bytes.now))) }
+    ensures call { Writes records_tree (Replaces (SharesRecord db sysno ident.now) (record_row db sysno ident.now bytes.now))
+        (state S.Store tx.old.conn.now) (state S.Store tx.new.conn.now) result }
 {
     tx.execute(
         "INSERT OR REPLACE INTO records VALUES (?1, ?2, ?3, ?4)",
@@ -37,8 +37,7 @@ pub(crate) fn record_remove<S: Alter>(
     sysno: i64,
 ) -> Result<usize, Error>
     ensures same { tx.new.conn.ghost_name ≡ tx.old.conn.ghost_name }
-    ensures call { Inside (state S.Store tx.old.conn.now) (state S.Store tx.new.conn.now) result
-        (λ _. Alters records_tree (Loses (HasNumber db sysno))) }
+    ensures call { Writes records_tree (Loses (HasNumber db sysno)) (state S.Store tx.old.conn.now) (state S.Store tx.new.conn.now) result }
 {
     tx.execute(
         "DELETE FROM records WHERE db = ?1 AND sysno = ?2",
@@ -48,8 +47,7 @@ pub(crate) fn record_remove<S: Alter>(
 
 pub(crate) fn records_clear<S: Alter>(tx: &mut Transaction<'_, S>, db: i64) -> Result<usize, Error>
     ensures same { tx.new.conn.ghost_name ≡ tx.old.conn.ghost_name }
-    ensures call { Inside (state S.Store tx.old.conn.now) (state S.Store tx.new.conn.now) result
-        (λ _. Alters records_tree (Loses (IsRecordIn db))) }
+    ensures call { Writes records_tree (Loses (IsRecordIn db)) (state S.Store tx.old.conn.now) (state S.Store tx.new.conn.now) result }
 {
     tx.execute("DELETE FROM records WHERE db = ?1", params![db])
 }
@@ -76,8 +74,7 @@ pub(crate) fn ident_rows<S: Alter>(
 ) -> Result<Vec<Row>, Error>
     ensures call { Reading (state S.Store conn.old) (state S.Store conn.new) result
         (λ rows a b. Lists (IsIdentRow db sysno) a b rows.items) }
-    ensures err { HasCleanDisk (state S.Store conn.new) → IsStore (state S.Store conn.old)
-        → IfErr result (λ e. fault_of e ≡ RegFault.Store → MayRefuse (state S.Store conn.old) (state S.Store conn.new)) }
+    ensures err { IsReasonedError (state S.Store conn.old) (state S.Store conn.new) result }
 {
     // What is seen outside a transaction is what was committed.
     let _idle = conn.is_autocommit();
@@ -90,8 +87,7 @@ pub(crate) fn ident_rows<S: Alter>(
 pub(crate) fn record_rows<S: Alter>(conn: &mut Connection<S>, db: i64) -> Result<Vec<Row>, Error>
     ensures call { Reading (state S.Store conn.old) (state S.Store conn.new) result
         (λ rows a b. Lists (IsRest records_tree (Int db ∷ [])) a b rows.items) }
-    ensures err { HasCleanDisk (state S.Store conn.new) → IsStore (state S.Store conn.old)
-        → IfErr result (λ e. fault_of e ≡ RegFault.Store → MayRefuse (state S.Store conn.old) (state S.Store conn.new)) }
+    ensures err { IsReasonedError (state S.Store conn.old) (state S.Store conn.new) result }
 {
     // What is seen outside a transaction is what was committed.
     let _idle = conn.is_autocommit();
@@ -120,8 +116,7 @@ pub(crate) fn rows_from<S: Alter>(
     ensures call { Reading (state S.Store conn.old) (state S.Store conn.new) result
         (λ rows a b. Reads (λ trees rows. (all : List _) × IsListOf (IsRestAtLeast records_tree (Int db ∷ []) start trees) all
         × (rows ≡ take 1 all)) a b rows.items) }
-    ensures err { HasCleanDisk (state S.Store conn.new) → IsStore (state S.Store conn.old)
-        → IfErr result (λ e. fault_of e ≡ RegFault.Store → MayRefuse (state S.Store conn.old) (state S.Store conn.new)) }
+    ensures err { IsReasonedError (state S.Store conn.old) (state S.Store conn.new) result }
 {
     // What is seen outside a transaction is what was committed.
     let _idle = conn.is_autocommit();

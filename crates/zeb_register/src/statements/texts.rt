@@ -1,13 +1,13 @@
 //! Statements on the table `meta`: texts, each under a name.
 
-ghost use Rattle.std.specs.Prelude.{◌≡◌, IfErr};
+ghost use Rattle.std.specs.Prelude.{◌≡◌};
 ghost use Rattle.sqlite.specs.Held.{state};
-ghost use Rattle.sqlite.specs.State.{HasCleanDisk};
 ghost use Rattle.zeb_register.specs.Sql.{HasRow, Replaces};
-ghost use Rattle.zeb_register.specs.Store.{IsStore, meta_tree, entry, IsEntryOf};
+ghost use Rattle.zeb_register.specs.Store.{meta_tree, entry, IsEntryOf};
 ghost use Rattle.zeb_register.specs.RowStatements.{IsValueRow, Lists};
-ghost use Rattle.zeb_register.specs.Faults.{fault_of};
-ghost use Rattle.zeb_register.specs.Calls.{Alters, Inside, Reading, MayRefuse};
+ghost use Rattle.zeb_register.specs.Calls.{Reading};
+ghost use Rattle.zeb_register.specs.Clauses.{Writes};
+ghost use Rattle.zeb_register.specs.Clauses.{IsReasonedError};
 
 use crate::RegFault;
 use sqlite::{Alter, Connection, Error, Row, Transaction, params};
@@ -18,8 +18,8 @@ pub(crate) fn text_set<S: Alter>(
     value: &str,
 ) -> Result<usize, Error>
     ensures same { tx.new.conn.ghost_name ≡ tx.old.conn.ghost_name }
-    ensures call { Inside (state S.Store tx.old.conn.now) (state S.Store tx.new.conn.now) result
-        (λ _. Alters meta_tree (Replaces (IsEntryOf name.now) (entry name.now value.now))) }
+    ensures call { Writes meta_tree (Replaces (IsEntryOf name.now) (entry name.now value.now))
+        (state S.Store tx.old.conn.now) (state S.Store tx.new.conn.now) result }
 {
     tx.execute(
         "INSERT OR REPLACE INTO meta VALUES (?1, ?2)",
@@ -30,8 +30,7 @@ pub(crate) fn text_set<S: Alter>(
 pub(crate) fn text_rows<S: Alter>(conn: &mut Connection<S>, name: &str) -> Result<Vec<Row>, Error>
     ensures call { Reading (state S.Store conn.old) (state S.Store conn.new) result
         (λ rows a b. Lists (λ trees. IsValueRow trees name.now) a b rows.items) }
-    ensures err { HasCleanDisk (state S.Store conn.new) → IsStore (state S.Store conn.old)
-        → IfErr result (λ e. fault_of e ≡ RegFault.Store → MayRefuse (state S.Store conn.old) (state S.Store conn.new)) }
+    ensures err { IsReasonedError (state S.Store conn.old) (state S.Store conn.new) result }
 {
     // What is seen outside a transaction is what was committed.
     let _idle = conn.is_autocommit();

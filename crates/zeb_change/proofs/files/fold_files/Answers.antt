@@ -1,16 +1,14 @@
-use Rattle.std.proofs.Common.{◌≡◌, ◌≢◌, ◌∙◌, ℤ, rules, arith, Err, ap, refl, subst, sym}
+use Rattle.std.proofs.Common.{◌≡◌, ◌∙◌, ℤ, rules, arith, Err, ap, refl, subst, sym}
 use Rattle.sqlite.specs.Held.{state}
 use Rattle.sqlite.specs.State.{HasCleanDisk}
-use Rattle.zeb_change.specs.declared.files.Fold.{Fold}
-use Rattle.zeb_change.specs.declared.refusals.Refusal.TheVariants.{Damaged}
 use Rattle.zeb_change.specs.Folding.{Progress, files_folded, splits_of}
-use Rattle.zeb_change.specs.PrivatePending.{WillHold}
+use Rattle.zeb_change.specs.Noted.{IsSettled, Settles}
+use Rattle.zeb_change.specs.Outcomes.{register_refusal}
 use Rattle.zeb_change.specs.Refused.{Meets}
 use Rattle.zeb_change.specs.UnderWay.{IsFolded, conditions_of}
 use Rattle.zeb_change.proofs.CostLemmas.{due_end}
-use Rattle.zeb_change.proofs.Noting.{nothing_count}
-use Rattle.zeb_change.proofs.Settling.{IsSettled, begun, ended, ended_fold, no_damage, refused_fold, settled_due, settled_fails, settled_fold, settled_way}
-use Rattle.zeb_change.proofs.TurnLemmas.{passed_on}
+use Rattle.zeb_change.proofs.NotedChanges.{nothing_count}
+use Rattle.zeb_change.proofs.Settling.{begun, ended, ended_fold, refused_fold, settled_due, settled_fold, settled_way, worked, write_honest, write_refused}
 use Rattle.zeb_change.proofs.files.fold_files.Goals as goal
 
 -- a file that is refused
@@ -52,20 +50,21 @@ returns-in_err-write_pending-clause-folded g c clean mode texts told fine versio
     let old = state g.S.Store c.args.tx.now.conn.now in
     let mid = state g.S.Store c.fold_readers.new.tx.conn.now in
     let new = state g.S.Store c.write_pending.new.tx.conn.now in
+    let between = c.fold_readers.new.fold in
     let pending = c.fold_readers.new.pending in
-    let after : Fold = record { progress = c.write_pending.new.progress; tally = c.fold_readers.new.fold.tally } in
+    let after = worked between c.write_pending.new.work in
     let said = files_folded (conditions_of version setting) setting.kind 1 (splits_of texts) p in
-    let was : HasCleanDisk mid = omega (arith, c.write_pending.ensures.crash.clean) in
+    let was : HasCleanDisk mid = omega (arith, c.write_pending.ensures.call.crash.clean) in
     let stays = c.in_ok-fold_readers.ensures.stays was mode in
     let will = begun format setting.profile.now id records_of c.new-pending.result c.new-pending.ensures old p.base under in
     let holds = (c.in_ok-fold_readers.ensures.honest was mode records_of (p.base, stands.last, will)).1 in
-    let same_id : c.fold_readers.new.fold.progress.database.0 ≡ id = ap (λ d. d.0) c.fold_readers.ensures.database in
-    let refusal = c.in_err-write_pending.field-0.0 in
-    let failed = settled_fails format setting.profile.now id records_of mid pending holds.0 refusal holds.2 c.in_err-write_pending.ensures.fails
-    (λ damaged ahead storable held. c.write_pending.ensures.honest clean stays.mode holds.2.0 (c.in_err-write_pending.was ∙ ap Err damaged) ahead storable
-    (subst (λ (d : ℤ). WillHold format mid.now.trees d pending ahead) (sym same_id) held)) in
-    let result : c.from_residual-in_err-write_pending.result ≡ Err refusal = search rules in
-    passed_on {A = Progress} {X = Unit {0}} (λ q _. IsFolded format setting.profile.now id records_of old new after q) said c.from_residual-in_err-write_pending.result refusal result failed
+    let same_id : between.progress.database.0 ≡ id = ap (λ d. d.0) c.fold_readers.ensures.database in
+    let does = subst (λ (d : ℤ). Settles format g.L.Layout.row_work d mid new pending c.write_pending.new.pending between.progress.work c.write_pending.new.work c.write_pending.result) same_id c.write_pending.ensures.call in
+    let fault = c.in_err-write_pending.field-0.0 in
+    let result : c.from_residual-in_err-write_pending.result ≡ Err (register_refusal fault) = search rules in
+    write_refused format setting.profile.now id records_of mid new pending c.write_pending.new.pending g.L.Layout.row_work between.progress.work c.write_pending.new.work c.write_pending.result does
+    clean stays.mode holds.0 holds.2 fault c.in_err-write_pending.was
+    {A = Progress} (λ q _. IsFolded format setting.profile.now id records_of old new after q) said c.from_residual-in_err-write_pending.result result
 
 pub returns-in_err-write_pending-clause-honest : goal.returns-in_err-write_pending-clause-honest
 returns-in_err-write_pending-clause-honest g c clean mode records_of some =
@@ -74,18 +73,20 @@ returns-in_err-write_pending-clause-honest g c clean mode records_of some =
     let id = c.args.fold.now.progress.database.0 in
     let old = state g.S.Store c.args.tx.now.conn.now in
     let mid = state g.S.Store c.fold_readers.new.tx.conn.now in
+    let new = state g.S.Store c.write_pending.new.tx.conn.now in
+    let between = c.fold_readers.new.fold in
     let pending = c.fold_readers.new.pending in
-    let was : HasCleanDisk mid = omega (arith, c.write_pending.ensures.crash.clean) in
+    let was : HasCleanDisk mid = omega (arith, c.write_pending.ensures.call.crash.clean) in
     let stays = c.in_ok-fold_readers.ensures.stays was mode in
     let will = begun format profile id records_of c.new-pending.result c.new-pending.ensures old some.0 some.2 in
     let holds = (c.in_ok-fold_readers.ensures.honest was mode records_of (some.0, some.1, will)).1 in
-    let same_id : c.fold_readers.new.fold.progress.database.0 ≡ id = ap (λ d. d.0) c.fold_readers.ensures.database in
-    let refusal = c.in_err-write_pending.field-0.0 in
-    let sound : refusal ≢ Damaged = λ damaged. no_damage format profile id records_of mid pending holds.0
-    (λ ahead storable held. c.write_pending.ensures.honest clean stays.mode holds.2.0 (c.in_err-write_pending.was ∙ ap Err damaged) ahead storable
-    (subst (λ (d : ℤ). WillHold format mid.now.trees d pending ahead) (sym same_id) held)) holds.2 in
-    let result : c.from_residual-in_err-write_pending.result ≡ Err refusal = search rules in
-    rw result (λ is. sound cc, tt)
+    let same_id : between.progress.database.0 ≡ id = ap (λ d. d.0) c.fold_readers.ensures.database in
+    let does = subst (λ (d : ℤ). Settles format g.L.Layout.row_work d mid new pending c.write_pending.new.pending between.progress.work c.write_pending.new.work c.write_pending.result) same_id c.write_pending.ensures.call in
+    let fault = c.in_err-write_pending.field-0.0 in
+    let result : c.from_residual-in_err-write_pending.result ≡ Err (register_refusal fault) = search rules in
+    let sound = write_honest format profile id records_of mid new pending c.write_pending.new.pending g.L.Layout.row_work between.progress.work c.write_pending.new.work
+    c.write_pending.result does clean stays.mode holds.0 holds.2 fault c.in_err-write_pending.was c.from_residual-in_err-write_pending.result result in
+    (sound, rw result tt)
 
 -- all files are folded in, and all that is noted is written
 pub returns-clause-folded : goal.returns-clause-folded
@@ -101,16 +102,16 @@ returns-clause-folded g c clean mode texts told fine version records_of p stands
     let pending = c.fold_readers.new.pending in
     let left = c.write_pending.new.pending in
     let between = c.fold_readers.new.fold in
-    let after : Fold = record { progress = c.write_pending.new.progress; tally = between.tally } in
+    let after = worked between c.write_pending.new.work in
     let said = files_folded (conditions_of version setting) setting.kind 1 (splits_of texts) p in
-    let was : HasCleanDisk mid = omega (arith, c.write_pending.ensures.crash.clean) in
+    let was : HasCleanDisk mid = omega (arith, c.write_pending.ensures.call.crash.clean) in
     let stays = c.in_ok-fold_readers.ensures.stays was mode in
     let will = begun format profile id records_of first c.new-pending.ensures old p.base under in
     let holds = (c.in_ok-fold_readers.ensures.honest was mode records_of (p.base, stands.last, will)).1 in
     let same_id : between.progress.database.0 ≡ id = ap (λ d. d.0) c.fold_readers.ensures.database in
-    let settled = subst (λ (d : ℤ). IsSettled format g.L.Layout.row_work d mid new pending left between.progress.work after.progress.work) same_id (c.in_ok-write_pending.ensures.written clean stays.mode holds.2.0) in
+    let settled = subst (λ (d : ℤ). IsSettled format g.L.Layout.row_work d mid new pending left between.progress.work c.write_pending.new.work) same_id (c.in_ok-write_pending.ensures.call.written clean stays.mode holds.2.0) in
     ended_fold format profile id records_of left c.in_ok-write_pending.ensures.all old new first after said
-    (settled_fold format profile id records_of mid new pending left g.L.Layout.row_work between.progress.work after.progress.work settled old first between after said refl c.write_pending.ensures.place.1
+    (settled_fold format profile id records_of mid new pending left g.L.Layout.row_work between.progress.work c.write_pending.new.work settled old first between after said refl refl
     (c.in_ok-fold_readers.ensures.folded was mode texts told fine version records_of p stands will))
 
 pub returns-clause-honest : goal.returns-clause-honest
@@ -124,15 +125,15 @@ returns-clause-honest g c clean mode records_of some =
     let pending = c.fold_readers.new.pending in
     let left = c.write_pending.new.pending in
     let between = c.fold_readers.new.fold in
-    let now = c.write_pending.new.progress.work in
-    let was : HasCleanDisk mid = omega (arith, c.write_pending.ensures.crash.clean) in
+    let now = c.write_pending.new.work in
+    let was : HasCleanDisk mid = omega (arith, c.write_pending.ensures.call.crash.clean) in
     let stays = c.in_ok-fold_readers.ensures.stays was mode in
     let will = begun format profile id records_of c.new-pending.result c.new-pending.ensures old some.0 some.2 in
     let holds = (c.in_ok-fold_readers.ensures.honest was mode records_of (some.0, some.1, will)).1 in
     let same_id : between.progress.database.0 ≡ id = ap (λ d. d.0) c.fold_readers.ensures.database in
-    let settled = subst (λ (d : ℤ). IsSettled format g.L.Layout.row_work d mid new pending left between.progress.work now) same_id (c.in_ok-write_pending.ensures.written clean stays.mode holds.2.0) in
+    let settled = subst (λ (d : ℤ). IsSettled format g.L.Layout.row_work d mid new pending left between.progress.work now) same_id (c.in_ok-write_pending.ensures.call.written clean stays.mode holds.2.0) in
     let way = settled_way format profile id records_of mid new pending left g.L.Layout.row_work between.progress.work now settled holds.0 holds.2 in
-    (λ is. cc, (holds.0, c.write_pending.ensures.place.1 ∙ holds.1, ended format profile id records_of left c.in_ok-write_pending.ensures.all new holds.0 way))
+    (λ is. cc, (holds.0, holds.1, ended format profile id records_of left c.in_ok-write_pending.ensures.all new holds.0 way))
 
 pub returns-clause-work : goal.returns-clause-work
 returns-clause-work g c clean mode texts told version records_of p stands under =
@@ -148,13 +149,13 @@ returns-clause-work g c clean mode texts told version records_of p stands under 
     let left = c.write_pending.new.pending in
     let between = c.fold_readers.new.fold in
     let before = c.args.fold.now.progress.work in
-    let now = c.write_pending.new.progress.work in
-    let was : HasCleanDisk mid = omega (arith, c.write_pending.ensures.crash.clean) in
+    let now = c.write_pending.new.work in
+    let was : HasCleanDisk mid = omega (arith, c.write_pending.ensures.call.crash.clean) in
     let stays = c.in_ok-fold_readers.ensures.stays was mode in
     let will = begun format profile id records_of first c.new-pending.ensures old p.base under in
     let holds = (c.in_ok-fold_readers.ensures.honest was mode records_of (p.base, stands.last, will)).1 in
     let same_id : between.progress.database.0 ≡ id = ap (λ d. d.0) c.fold_readers.ensures.database in
-    let settled = subst (λ (d : ℤ). IsSettled format row_work d mid new pending left between.progress.work now) same_id (c.in_ok-write_pending.ensures.written clean stays.mode holds.2.0) in
+    let settled = subst (λ (d : ℤ). IsSettled format row_work d mid new pending left between.progress.work now) same_id (c.in_ok-write_pending.ensures.call.written clean stays.mode holds.2.0) in
     let read = c.in_ok-fold_readers.ensures.work was mode texts told version records_of p stands will in
     let due = settled_due format profile id records_of mid new pending left row_work between.progress.work now settled holds.0 holds.2 in (
       read.0,

@@ -1,25 +1,23 @@
-use Rattle.std.proofs.Common.{◌≡◌, ◌≢◌, ◌∙◌, ℤ, rules, arith, Err, ap, refl, subst, sym}
+use Rattle.std.proofs.Common.{◌≡◌, ℤ, rules, arith, Err, ap, refl, subst, sym}
 use Rattle.sqlite.specs.Held.{state}
 use Rattle.sqlite.specs.State.{HasCleanDisk}
 use Rattle.zeb_register.specs.declared.registers.Work.{Work}
-use Rattle.zeb_change.specs.declared.files.Fold.{Fold}
-use Rattle.zeb_change.specs.declared.refusals.Refusal.TheVariants.{Damaged}
 use Rattle.zeb_change.specs.Folding.{Progress, folded}
-use Rattle.zeb_change.specs.PrivatePending.{IsDueFor, WillHold}
+use Rattle.zeb_change.specs.Noted.{IsDueFor, IsSettled, Settles}
+use Rattle.zeb_change.specs.Outcomes.{register_refusal}
 use Rattle.zeb_change.specs.PrivateStanding.{WillBeFolded, standing}
 use Rattle.zeb_change.specs.Refused.{Meets}
 use Rattle.zeb_change.specs.UnderWay.{conditions_of}
 use Rattle.zeb_change.proofs.CostLemmas.{due_more}
-use Rattle.zeb_change.proofs.Settling.{IsSettled, no_damage, settled_due, settled_fails, settled_fold, settled_way}
+use Rattle.zeb_change.proofs.Settling.{settled_due, settled_fold, settled_way, worked, write_honest, write_refused}
 use Rattle.zeb_change.proofs.TransactionLemmas.{continues_then}
-use Rattle.zeb_change.proofs.TurnLemmas.{passed_on}
 use Rattle.zeb_change.proofs.files.take_record.Goals as goal
 
 pub returns-clause-stays : goal.returns-clause-stays
 returns-clause-stays g c clean mode =
-    let was : HasCleanDisk (state g.S.Store c.note_record.new.tx.conn.now) = omega (arith, c.write_where_full.ensures.crash.clean) in
+    let was : HasCleanDisk (state g.S.Store c.note_record.new.tx.conn.now) = omega (arith, c.write_where_full.ensures.call.crash.clean) in
     let stays = c.in_ok-note_record.ensures.stays was mode in
-    continues_then _ _ _ stays (c.in_ok-write_where_full.ensures.stays clean stays.mode)
+    continues_then _ _ _ stays (c.in_ok-write_where_full.ensures.call.stays clean stays.mode)
 
 -- a record that is refused
 pub returns-in_err-note_record-clause-folded : goal.returns-in_err-note_record-clause-folded
@@ -47,37 +45,42 @@ returns-in_err-write_where_full-clause-folded g c clean mode version records_of 
     let old = state g.S.Store c.args.tx.now.conn.now in
     let mid = state g.S.Store c.note_record.new.tx.conn.now in
     let new = state g.S.Store c.write_where_full.new.tx.conn.now in
+    let between = c.note_record.new.fold in
     let pending = c.note_record.new.pending in
-    let after : Fold = record { progress = c.write_where_full.new.progress; tally = c.note_record.new.fold.tally } in
+    let after = worked between c.write_where_full.new.work in
     let said = folded (conditions_of version setting) setting.kind c.args.incoming.file c.args.incoming.nth c.args.incoming.bytes.now p in
-    let was : HasCleanDisk mid = omega (arith, c.write_where_full.ensures.crash.clean) in
+    let was : HasCleanDisk mid = omega (arith, c.write_where_full.ensures.call.crash.clean) in
     let stays = c.in_ok-note_record.ensures.stays was mode in
     let holds = (c.in_ok-note_record.ensures.honest was mode format records_of (p.base, stands.last, under)).1 in
-    let same_id : c.note_record.new.fold.progress.database.0 ≡ id = ap (λ d. d.0) c.note_record.ensures.place.0 in
-    let refusal = c.in_err-write_where_full.field-0.0 in
-    let failed = settled_fails format setting.profile.now id records_of mid pending holds.0 refusal holds.2 c.in_err-write_where_full.ensures.fails
-    (λ damaged ahead storable will. c.write_where_full.ensures.honest clean stays.mode holds.2.0 (c.in_err-write_where_full.was ∙ ap Err damaged) ahead storable
-    (subst (λ (d : ℤ). WillHold format mid.now.trees d pending ahead) (sym same_id) will)) in
-    let result : c.from_residual-in_err-write_where_full.result ≡ Err refusal = search rules in
-    passed_on {A = Progress} {X = Unit {0}} (λ q _. WillBeFolded format setting.profile.now id records_of (standing old c.args.pending.now) (standing new c.write_where_full.new.pending) after q)
-    said c.from_residual-in_err-write_where_full.result refusal result failed
+    let same_id : between.progress.database.0 ≡ id = ap (λ d. d.0) c.note_record.ensures.place.0 in
+    let does = subst (λ (d : ℤ). Settles format g.L.Layout.row_work d mid new pending c.write_where_full.new.pending between.progress.work c.write_where_full.new.work c.write_where_full.result) same_id
+    c.write_where_full.ensures.call in
+    let fault = c.in_err-write_where_full.field-0.0 in
+    let result : c.from_residual-in_err-write_where_full.result ≡ Err (register_refusal fault) = search rules in
+    write_refused format setting.profile.now id records_of mid new pending c.write_where_full.new.pending g.L.Layout.row_work between.progress.work c.write_where_full.new.work c.write_where_full.result does
+    clean stays.mode holds.0 holds.2 fault c.in_err-write_where_full.was
+    {A = Progress} (λ q _. WillBeFolded format setting.profile.now id records_of (standing old c.args.pending.now) (standing new c.write_where_full.new.pending) after q)
+    said c.from_residual-in_err-write_where_full.result result
 
 pub returns-in_err-write_where_full-clause-honest : goal.returns-in_err-write_where_full-clause-honest
 returns-in_err-write_where_full-clause-honest g c clean mode records_of some =
     let format = g.L.Layout.format in
     let id = c.args.fold.now.progress.database.0 in
     let mid = state g.S.Store c.note_record.new.tx.conn.now in
+    let new = state g.S.Store c.write_where_full.new.tx.conn.now in
+    let between = c.note_record.new.fold in
     let pending = c.note_record.new.pending in
-    let was : HasCleanDisk mid = omega (arith, c.write_where_full.ensures.crash.clean) in
+    let was : HasCleanDisk mid = omega (arith, c.write_where_full.ensures.call.crash.clean) in
     let stays = c.in_ok-note_record.ensures.stays was mode in
     let holds = (c.in_ok-note_record.ensures.honest was mode format records_of some).1 in
-    let same_id : c.note_record.new.fold.progress.database.0 ≡ id = ap (λ d. d.0) c.note_record.ensures.place.0 in
-    let refusal = c.in_err-write_where_full.field-0.0 in
-    let sound : refusal ≢ Damaged = λ damaged. no_damage format c.args.setting.now.profile.now id records_of mid pending holds.0
-    (λ ahead storable will. c.write_where_full.ensures.honest clean stays.mode holds.2.0 (c.in_err-write_where_full.was ∙ ap Err damaged) ahead storable
-    (subst (λ (d : ℤ). WillHold format mid.now.trees d pending ahead) (sym same_id) will)) holds.2 in
-    let result : c.from_residual-in_err-write_where_full.result ≡ Err refusal = search rules in
-    rw result (λ is. sound cc, tt)
+    let same_id : between.progress.database.0 ≡ id = ap (λ d. d.0) c.note_record.ensures.place.0 in
+    let does = subst (λ (d : ℤ). Settles format g.L.Layout.row_work d mid new pending c.write_where_full.new.pending between.progress.work c.write_where_full.new.work c.write_where_full.result) same_id
+    c.write_where_full.ensures.call in
+    let fault = c.in_err-write_where_full.field-0.0 in
+    let result : c.from_residual-in_err-write_where_full.result ≡ Err (register_refusal fault) = search rules in
+    let sound = write_honest format c.args.setting.now.profile.now id records_of mid new pending c.write_where_full.new.pending g.L.Layout.row_work between.progress.work c.write_where_full.new.work
+    c.write_where_full.result does clean stays.mode holds.0 holds.2 fault c.in_err-write_where_full.was c.from_residual-in_err-write_where_full.result result in
+    (sound, rw result tt)
 
 -- a record is noted, and what is noted is written where it is much
 pub returns-clause-folded : goal.returns-clause-folded
@@ -90,16 +93,16 @@ returns-clause-folded g c clean mode version records_of p stands under =
     let new = state g.S.Store c.write_where_full.new.tx.conn.now in
     let between = c.note_record.new.fold in
     let pending = c.note_record.new.pending in
-    let after : Fold = record { progress = c.write_where_full.new.progress; tally = between.tally } in
+    let after = worked between c.write_where_full.new.work in
     let said = folded (conditions_of version setting) setting.kind c.args.incoming.file c.args.incoming.nth c.args.incoming.bytes.now p in
-    let was : HasCleanDisk mid = omega (arith, c.write_where_full.ensures.crash.clean) in
+    let was : HasCleanDisk mid = omega (arith, c.write_where_full.ensures.call.crash.clean) in
     let stays = c.in_ok-note_record.ensures.stays was mode in
     let holds = (c.in_ok-note_record.ensures.honest was mode format records_of (p.base, stands.last, under)).1 in
     let same_id : between.progress.database.0 ≡ id = ap (λ d. d.0) c.note_record.ensures.place.0 in
-    let settled = subst (λ (d : ℤ). IsSettled format g.L.Layout.row_work d mid new pending c.write_where_full.new.pending between.progress.work after.progress.work) same_id
-    (c.in_ok-write_where_full.ensures.written clean stays.mode holds.2.0) in
-    settled_fold format setting.profile.now id records_of mid new pending c.write_where_full.new.pending g.L.Layout.row_work between.progress.work after.progress.work settled old c.args.pending.now between after said
-    refl c.write_where_full.ensures.place.1 (c.in_ok-note_record.ensures.folded was mode version format records_of p stands under)
+    let settled = subst (λ (d : ℤ). IsSettled format g.L.Layout.row_work d mid new pending c.write_where_full.new.pending between.progress.work c.write_where_full.new.work) same_id
+    (c.in_ok-write_where_full.ensures.call.written clean stays.mode holds.2.0) in
+    settled_fold format setting.profile.now id records_of mid new pending c.write_where_full.new.pending g.L.Layout.row_work between.progress.work c.write_where_full.new.work settled old c.args.pending.now between after said
+    refl refl (c.in_ok-note_record.ensures.folded was mode version format records_of p stands under)
 
 pub returns-clause-honest : goal.returns-clause-honest
 returns-clause-honest g c clean mode records_of some =
@@ -109,17 +112,17 @@ returns-clause-honest g c clean mode records_of some =
     let new = state g.S.Store c.write_where_full.new.tx.conn.now in
     let between = c.note_record.new.fold in
     let pending = c.note_record.new.pending in
-    let was : HasCleanDisk mid = omega (arith, c.write_where_full.ensures.crash.clean) in
+    let was : HasCleanDisk mid = omega (arith, c.write_where_full.ensures.call.crash.clean) in
     let stays = c.in_ok-note_record.ensures.stays was mode in
     let holds = (c.in_ok-note_record.ensures.honest was mode format records_of some).1 in
     let same_id : between.progress.database.0 ≡ id = ap (λ d. d.0) c.note_record.ensures.place.0 in
-    let settled = subst (λ (d : ℤ). IsSettled format g.L.Layout.row_work d mid new pending c.write_where_full.new.pending between.progress.work c.write_where_full.new.progress.work) same_id
-    (c.in_ok-write_where_full.ensures.written clean stays.mode holds.2.0) in (
+    let settled = subst (λ (d : ℤ). IsSettled format g.L.Layout.row_work d mid new pending c.write_where_full.new.pending between.progress.work c.write_where_full.new.work) same_id
+    (c.in_ok-write_where_full.ensures.call.written clean stays.mode holds.2.0) in (
       λ is. cc,
       (
         holds.0,
-        c.write_where_full.ensures.place.1 ∙ holds.1,
-        settled_way format c.args.setting.now.profile.now id records_of mid new pending c.write_where_full.new.pending g.L.Layout.row_work between.progress.work c.write_where_full.new.progress.work settled holds.0 holds.2,
+        holds.1,
+        settled_way format c.args.setting.now.profile.now id records_of mid new pending c.write_where_full.new.pending g.L.Layout.row_work between.progress.work c.write_where_full.new.work settled holds.0 holds.2,
       ),
     )
 
@@ -131,13 +134,13 @@ returns-clause-work g c clean mode records_of p stands under =
     let new = state g.S.Store c.write_where_full.new.tx.conn.now in
     let between = c.note_record.new.fold in
     let pending = c.note_record.new.pending in
-    let now = c.write_where_full.new.progress.work in
-    let was : HasCleanDisk mid = omega (arith, c.write_where_full.ensures.crash.clean) in
+    let now = c.write_where_full.new.work in
+    let was : HasCleanDisk mid = omega (arith, c.write_where_full.ensures.call.crash.clean) in
     let stays = c.in_ok-note_record.ensures.stays was mode in
     let holds = (c.in_ok-note_record.ensures.honest was mode format records_of (p.base, stands.last, under)).1 in
     let same_id : between.progress.database.0 ≡ id = ap (λ d. d.0) c.note_record.ensures.place.0 in
     let settled = subst (λ (d : ℤ). IsSettled format g.L.Layout.row_work d mid new pending c.write_where_full.new.pending between.progress.work now) same_id
-    (c.in_ok-write_where_full.ensures.written clean stays.mode holds.2.0) in
+    (c.in_ok-write_where_full.ensures.call.written clean stays.mode holds.2.0) in
     let noted = c.in_ok-note_record.ensures.cost was mode format records_of p.base under in
     let due = settled_due format c.args.setting.now.profile.now id records_of mid new pending c.write_where_full.new.pending g.L.Layout.row_work between.progress.work now settled holds.0 holds.2 in (
       noted.0,

@@ -5,22 +5,22 @@ use Rattle.zeb_change.specs.Folding.{Changed, deleted}
 use Rattle.zeb_change.specs.Base.{kept_as}
 use Rattle.zeb_change.specs.PrivateRecords.{AreOccurrencesOf}
 use Rattle.zeb_change.specs.PrivateStanding.{WillBeTaken, standing}
-use Rattle.zeb_change.proofs.TurnLemmas.{passed_on, elder_whole, none_rise, withdrawn}
+use Rattle.zeb_change.proofs.TurnLemmas.{passed_on, elder_kept, none_rise, withdrawn}
 use Rattle.zeb_change.proofs.CostLemmas.{old_cost}
 use Rattle.zeb_change.proofs.records.withdraw.Goals as goal
 use Rattle.zeb_register.proofs.FormatLemmas.{registers_stay}
 
 -- the elder's bytes are those of a kept record, so memory ran out
 pub returns-in_err-old-clause-taken : goal.returns-in_err-old-clause-taken
-returns-in_err-old-clause-taken g c clean mode ident absent format records_of base last under there =
+returns-in_err-old-clause-taken g c clean mode absent format records_of base last under there =
     let told : c.from_residual.result ≡ Err c.in_err-old.field-0.0 = search rules in
-    let memory = c.in_err-old.ensures.fails (elder_whole c.args.setting.now.profile.now _ base c.args.elder.now under.2 there) in
+    let memory = c.in_err-old.ensures.fails (elder_kept c.args.setting.now.profile.now _ base c.args.elder.now under.2 there) in
     let now = standing (state g.S.Store c.args.tx.now.conn.now) c.args.pending.now in
     passed_on {A = Changed} (WillBeTaken format c.args.setting.now.profile.now c.args.progress.now.database.0 records_of now now c.args.progress.now.last)
-    (deleted absent ident base (kept_as ident base)) c.from_residual.result c.in_err-old.field-0.0 told (inr (ap why_of memory))
+    (deleted absent c.args.ident.now base (kept_as c.args.ident.now base)) c.from_residual.result c.in_err-old.field-0.0 told (inr (ap why_of memory))
 
 pub returns-clause-taken : goal.returns-clause-taken
-returns-clause-taken g c clean mode ident absent format records_of base last under there =
+returns-clause-taken g c clean mode absent format records_of base last under there =
     let old = state g.S.Store c.args.tx.now.conn.now in
     let mid = state g.S.Store c.record_take.new.tx.conn.now in
     let profile = c.args.setting.now.profile.now in
@@ -28,7 +28,7 @@ returns-clause-taken g c clean mode ident absent format records_of base last und
     let rows = take.rows under.0 in
     let was = subst (AreOccurrencesOf profile c.args.elder.now.bytes.items) (sym c.deref.ensures.value) c.in_ok-old.ensures.found in
     let moved = c.in_ok-note_keys.ensures.moved was.rising none_rise c.args.progress.now.database.0 in
-    withdrawn format (registers_stay format) profile c.args.progress.now.database.0 records_of old mid c.args.pending.now c.note_keys.new.pending base under ident
+    withdrawn format (registers_stay format) profile c.args.progress.now.database.0 records_of old mid c.args.pending.now c.note_keys.new.pending base under c.args.ident.now
     c.args.elder.now there c.deref.result.now was rows absent c.args.progress.now.last last moved
 
 -- just the elder's keys are noted

@@ -1,7 +1,12 @@
-use Rattle.std.proofs.Common.{arith, refl}
-use Rattle.zeb_change.proofs.CostLemmas.{due_noted}
+use Rattle.std.proofs.Common.{rules}
+use Rattle.sqlite.specs.Held.{state}
+use Rattle.zeb_change.proofs.Settling.{still_settled}
 use Rattle.zeb_change.proofs.writing.write_where_full.Goals as goal
 
-pub returns-clause-written : goal.returns-clause-written
-returns-clause-written g c clean mode store =
-    (store, (refl, refl, refl), λ ahead storable holds. (holds, due_noted g.L.Layout.row_work 0 c.args.progress.now.work c.args.pending.now c.args.pending.now (omega arith)))
+pub returns-clause-call : goal.returns-clause-call
+returns-clause-call g c = record {
+  stays = search rules;
+  written = λ clean mode store. still_settled g.L.Layout.format g.L.Layout.row_work c.args.db.0 (state g.S.Store c.args.tx.now.conn.now) c.args.pending.now c.args.work.now store;
+  honest = λ clean mode store told. absurd (cc);
+  crash = search rules;
+}

@@ -1,22 +1,19 @@
 use Rattle.std.proofs.Common.{◌≡◌, [], Err, rules, arith, refl, sym, subst, inl, inr, Option, IsTrue}
-use Rattle.sqlite.specs.Effect.{Database as Contents}
 use Rattle.sqlite.specs.Held.{state}
 use Rattle.sqlite.specs.State.{HasCleanDisk}
 use Rattle.zeb_register.specs.declared.catalog.Database.{Database}
 use Rattle.zeb_change.specs.declared.refusals.Refusal.TheVariants.{Memory}
-use Rattle.zeb_engine.specs.PrivateChanging.{BeginsWith}
+use Rattle.zeb_engine.specs.PrivateChanging.{BeginsWith, comes_to}
 use Rattle.zeb_change.specs.Base.{Base}
-use Rattle.zeb_image.specs.Holdings.{base_named}
 use Rattle.zeb_image.specs.NameOf.{name_bytes}
-use Rattle.zeb_engine.specs.Steps.{changed_by_files, start_of, turned}
 use Rattle.zeb_change.specs.Folding.{splits_of}
 use Rattle.zeb_engine.specs.Works.{IsReady, Serves}
 use Rattle.zeb_change.specs.UnderWay.{conditions_of}
-use Rattle.zeb_engine.proofs.ChangeBegins.{start_met, start_refused}
+use Rattle.zeb_engine.proofs.ChangeBegins.{begins_still, start_refused}
 use Rattle.zeb_engine.proofs.Crashing.{survives_after}
 use Rattle.zeb_engine.proofs.Honest.{start_honest}
 use Rattle.zeb_engine.proofs.Readers.{no_file_failed}
-use Rattle.zeb_engine.proofs.Serving.{keeps_still, early_serves, opened_so}
+use Rattle.zeb_engine.proofs.Serving.{early_serves, opened_so}
 use Rattle.zeb_register.specs.Formats.{version_of}
 use Rattle.zeb_engine.proofs.changes.change_database.Goals as goal
 
@@ -27,7 +24,7 @@ returns-in_err-found-clause-serves g c = λ clean opened texts told fine.
     let setting = c.args.setting in
     let k = conditions_of (version_of g.L.Layout.format) setting in
     let name = name_bytes c.args.name.now in
-    let outcome = turned k (changed_by_files k setting.kind name (splits_of texts)) in
+    let outcome = comes_to (version_of g.L.Layout.format) setting name texts in
     let refusal = c.in_err-found.field-0.0 in
     let result : c.from_residual.result ≡ Err refusal = search rules in
     subst (Serves (IsReady k) outcome old new) (sym result)
@@ -42,26 +39,19 @@ returns-in_err-buffer-clause-serves g c = λ clean opened texts told fine.
     let new = state g.S.Store c.found_for.new.connection in
     let setting = c.args.setting in
     let k = conditions_of (version_of g.L.Layout.format) setting in
-    let outcome = turned k (changed_by_files k setting.kind (name_bytes c.args.name.now) (splits_of texts)) in
+    let outcome = comes_to (version_of g.L.Layout.format) setting (name_bytes c.args.name.now) texts in
     let result : c.from_residual-in_err-buffer.result ≡ Err Memory = search rules in
     subst (Serves (IsReady k) outcome old new) (sym result)
     (early_serves outcome (IsReady k) old new Memory (c.found_for.ensures.same clean) (λ before fits keeps. inl (inr refl)))
 
 pub returns-clause-serves : goal.returns-clause-serves
 returns-clause-serves g c = λ clean opened texts told fine before fits keeps.
-    let old = state g.S.Store c.args.connection.now in
     let mid = state g.S.Store c.found_for.new.connection in
-    let setting = c.args.setting in
-    let k = conditions_of (version_of g.L.Layout.format) setting in
-    let name = name_bytes c.args.name.now in
-    let found = c.in_ok-found.found in
     let first : HasCleanDisk mid = omega (arith, c.transact.ensures.survives.clean) in
     let ready = fits opened in
-    let known = start_met {A = Base} {X = Option Database} (λ base found. BeginsWith setting.kind name found k old.now.trees before × IsTrue mid.is_open) (start_of setting.kind name (base_named name ready.0)) found
-    (c.in_ok-found.ensures.begins first opened k before ready.0 ready.1 keeps) in
-    let nothing = c.found_for.ensures.same first in
-    let begins = subst (λ (d : Contents). BeginsWith setting.kind name found k d.trees before) (sym (nothing known.1.1).1) known.1.0 in
-    c.transact.ensures.serves clean known.1.1 texts told fine before (λ _. begins) (keeps_still before old mid nothing keeps)
+    let known = begins_still (version_of g.L.Layout.format) c.args.setting (name_bytes c.args.name.now) c.in_ok-found.found (state g.S.Store c.args.connection.now) mid before ready.0
+    (c.in_ok-found.ensures.begins first opened (conditions_of (version_of g.L.Layout.format) c.args.setting) before ready.0 ready.1 keeps) (c.found_for.ensures.same first) keeps in
+    c.transact.ensures.serves clean known.0 texts told fine before (λ _. known.1) known.2
 
 pub returns-in_err-found-clause-failed : goal.returns-in_err-found-clause-failed
 returns-in_err-found-clause-failed g c = λ none file at. absurd (no_file_failed g.R.Source.has_failed c.args.readers.now none file at)
@@ -71,21 +61,13 @@ returns-in_err-buffer-clause-failed g c = λ none file at. absurd (no_file_faile
 
 pub returns-clause-survives : goal.returns-clause-survives
 returns-clause-survives g c =
-    let old = state g.S.Store c.args.connection.now in
     let mid = state g.S.Store c.found_for.new.connection in
-    let new = state g.S.Store c.transact.new.connection in
-    let setting = c.args.setting in
-    let name = name_bytes c.args.name.now in
-    let found = c.in_ok-found.found in
-    survives_after old mid new _ _ c.found_for.ensures.crash c.transact.ensures.survives (λ clean db made opened texts told fine before fits keeps.
-    let k = conditions_of (version_of g.L.Layout.format) setting in
+    survives_after (state g.S.Store c.args.connection.now) mid (state g.S.Store c.transact.new.connection) _ _ c.found_for.ensures.crash c.transact.ensures.survives (λ clean db made opened texts told fine before fits keeps.
     let first : HasCleanDisk mid = omega (arith, c.transact.ensures.survives.clean) in
     let ready = fits opened in
-    let known = start_met {A = Base} {X = Option Database} (λ base found. BeginsWith setting.kind name found k old.now.trees before × IsTrue mid.is_open) (start_of setting.kind name (base_named name ready.0)) found
-    (c.in_ok-found.ensures.begins first opened k before ready.0 ready.1 keeps) in
-    let nothing = c.found_for.ensures.same first in
-    let begins = subst (λ (d : Contents). BeginsWith setting.kind name found k d.trees before) (sym (nothing known.1.1).1) known.1.0 in
-    made known.1.1 texts told fine before (λ _. begins) (keeps_still before old mid nothing keeps))
+    let known = begins_still (version_of g.L.Layout.format) c.args.setting (name_bytes c.args.name.now) c.in_ok-found.found (state g.S.Store c.args.connection.now) mid before ready.0
+    (c.in_ok-found.ensures.begins first opened (conditions_of (version_of g.L.Layout.format) c.args.setting) before ready.0 ready.1 keeps) (c.found_for.ensures.same first) keeps in
+    made known.0 texts told fine before (λ _. known.1) known.2)
 
 pub returns-in_err-found-clause-honest : goal.returns-in_err-found-clause-honest
 returns-in_err-found-clause-honest g c clean opened before ready keeps =
@@ -103,31 +85,17 @@ returns-in_err-found-clause-honest g c clean opened before ready keeps =
 
 pub returns-clause-honest : goal.returns-clause-honest
 returns-clause-honest g c clean opened before ready keeps =
-    let old = state g.S.Store c.args.connection.now in
     let mid = state g.S.Store c.found_for.new.connection in
-    let setting = c.args.setting in
-    let k = conditions_of (version_of g.L.Layout.format) setting in
-    let name = name_bytes c.args.name.now in
-    let found = c.in_ok-found.found in
     let first : HasCleanDisk mid = omega (arith, c.transact.ensures.survives.clean) in
-    let known = start_met {A = Base} {X = Option Database} (λ base found. BeginsWith setting.kind name found k old.now.trees before × IsTrue mid.is_open) (start_of setting.kind name (base_named name ready.0)) found
-    (c.in_ok-found.ensures.begins first opened k before ready.0 ready.1 keeps) in
-    let nothing = c.found_for.ensures.same first in
-    let begins = subst (λ (d : Contents). BeginsWith setting.kind name found k d.trees before) (sym (nothing known.1.1).1) known.1.0 in
-    c.transact.ensures.honest clean known.1.1 before begins (keeps_still before old mid nothing keeps)
+    let known = begins_still (version_of g.L.Layout.format) c.args.setting (name_bytes c.args.name.now) c.in_ok-found.found (state g.S.Store c.args.connection.now) mid before ready.0
+    (c.in_ok-found.ensures.begins first opened (conditions_of (version_of g.L.Layout.format) c.args.setting) before ready.0 ready.1 keeps) (c.found_for.ensures.same first) keeps in
+    c.transact.ensures.honest clean known.0 before known.1 known.2
 
 pub returns-clause-work : goal.returns-clause-work
 returns-clause-work g c = λ clean texts told.
-    let old = state g.S.Store c.args.connection.now in
     let mid = state g.S.Store c.found_for.new.connection in
-    let setting = c.args.setting in
-    let k = conditions_of (version_of g.L.Layout.format) setting in
-    let name = name_bytes c.args.name.now in
-    let found = c.in_ok-found.found in
     let first : HasCleanDisk mid = omega (arith, c.transact.ensures.survives.clean) in
     opened_so c.transact.result _ _ (IsTrue mid.is_open) (λ opened. c.transact.ensures.work clean opened texts told) (λ works before opened ready keeps.
-    let known = start_met {A = Base} {X = Option Database} (λ base found. BeginsWith setting.kind name found k old.now.trees before × IsTrue mid.is_open) (start_of setting.kind name (base_named name ready.0)) found
-    (c.in_ok-found.ensures.begins first opened k before ready.0 ready.1 keeps) in
-    let nothing = c.found_for.ensures.same first in
-    let begins = subst (λ (d : Contents). BeginsWith setting.kind name found k d.trees before) (sym (nothing known.1.1).1) known.1.0 in
-    works known.1.1 before begins (keeps_still before old mid nothing keeps))
+    let known = begins_still (version_of g.L.Layout.format) c.args.setting (name_bytes c.args.name.now) c.in_ok-found.found (state g.S.Store c.args.connection.now) mid before ready.0
+    (c.in_ok-found.ensures.begins first opened (conditions_of (version_of g.L.Layout.format) c.args.setting) before ready.0 ready.1 keeps) (c.found_for.ensures.same first) keeps in
+    works known.0 before known.1 known.2)

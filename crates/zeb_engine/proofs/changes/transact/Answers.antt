@@ -1,21 +1,17 @@
 use Rattle.std.proofs.Common.{◌≡◌, ◌≢◌, ◌∙◌, ℕ, List, map, Some, Result, Ok, Err, IsTrue, rules, arith, refl, sym, subst, subst₂}
 use Rattle.sqlite.specs.Held.{Held, state}
-use Rattle.sqlite.specs.State.{HasCleanDisk, Survives}
+use Rattle.sqlite.specs.State.{HasCleanDisk}
 use Rattle.zeb_change.specs.declared.refusals.Refusal.{Refusal}
 use Rattle.zeb_change.specs.declared.refusals.Refusal.TheVariants.{Damaged, ReadFault}
 use Rattle.zeb_engine.specs.declared.replies.Reply.{Reply}
-use Rattle.zeb_engine.specs.PrivateChanging.{BeginsWith}
-use Rattle.zeb_change.specs.Conditions.{Conditions}
+use Rattle.zeb_engine.specs.PrivateChanging.{BeginsWith, MayBegin, comes_to}
 use Rattle.zeb_image.specs.Image.{IsImage}
 use Rattle.zeb_register.specs.Store.{IsStore}
-use Rattle.zeb_engine.specs.Crashes.{Commits}
 use Rattle.zeb_image.specs.NameOf.{name_bytes}
 use Rattle.zeb_change.specs.Reading.{NoneFailed}
-use Rattle.zeb_engine.specs.Steps.{changed_by_files, turned}
-use Rattle.zeb_change.specs.Folding.{splits_of}
 use Rattle.zeb_engine.specs.Works.{Serves}
 use Rattle.zeb_change.specs.UnderWay.{conditions_of}
-use Rattle.zeb_engine.proofs.Crashing.{commit_stands, commit_survives}
+use Rattle.zeb_engine.proofs.Crashing.{told_survives}
 use Rattle.zeb_engine.proofs.Serving.{refusal_serves, reply_serves}
 use Rattle.zeb_register.specs.Formats.{version_of}
 use Rattle.zeb_engine.specs.Costs.{Costs}
@@ -26,10 +22,8 @@ pub returns-in_err-reply-clause-serves : goal.returns-in_err-reply-clause-serves
 returns-in_err-reply-clause-serves g c = λ clean opened texts told fine.
     let begun = c.transaction-tx.ensures.begun in
     let change = c.args.change.now in
-    let k = conditions_of (version_of g.L.Layout.format) change.setting in
-    let name = name_bytes change.name.now in
-    let outcome = turned k (changed_by_files k change.setting.kind name (splits_of texts)) in
-    let fits = BeginsWith change.setting.kind name change.found k in
+    let outcome = comes_to (version_of g.L.Layout.format) change.setting (name_bytes change.name.now) texts in
+    let fits = MayBegin (version_of g.L.Layout.format) change.setting (name_bytes change.name.now) change.found in
     let old = c.args.connection.now in
     let inside = c.transaction-tx.result.conn.now in
     let end = c.drop-tx.new.self.0 in
@@ -45,10 +39,8 @@ pub returns-clause-serves : goal.returns-clause-serves
 returns-clause-serves g c = λ clean opened texts told fine.
     let begun = c.transaction-tx.ensures.begun in
     let change = c.args.change.now in
-    let k = conditions_of (version_of g.L.Layout.format) change.setting in
-    let name = name_bytes change.name.now in
-    let outcome = turned k (changed_by_files k change.setting.kind name (splits_of texts)) in
-    let fits = BeginsWith change.setting.kind name change.found k in
+    let outcome = comes_to (version_of g.L.Layout.format) change.setting (name_bytes change.name.now) texts in
+    let fits = MayBegin (version_of g.L.Layout.format) change.setting (name_bytes change.name.now) change.found in
     let old = c.args.connection.now in
     let inside = c.transaction-tx.result.conn.now in
     let end = c.commit.new.self.0 in
@@ -73,43 +65,19 @@ returns-in_err-commit-clause-failed g c = λ none file at.
 
 pub returns-in_err-commit-clause-survives : goal.returns-in_err-commit-clause-survives
 returns-in_err-commit-clause-survives g c =
-    let begun = c.transaction-tx.ensures.begun in
     let change = c.args.change.now in
     let name = name_bytes change.name.now in
-    let fits = λ (k : Conditions). BeginsWith change.setting.kind name change.found k in
-    let outcome = λ (k : Conditions) (texts : List (List ℕ)). turned k (changed_by_files k change.setting.kind name (splits_of texts)) in
-    let old = c.args.connection.now in
-    let inside = c.transaction-tx.result.conn.now in
-    let mid = state g.S.Store c.apply.new.tx.conn.now in
-    let end = c.commit.new.self.0 in
-    let same : end ≡ c.connection-2-1.given.0 = search rules in
-    subst (λ h. Survives (state g.S.Store old) (state g.S.Store h) (λ db. IsTrue (state g.S.Store old).is_open → (texts : List (List ℕ)) → map g.R.Source.remaining c.args.readers.now ≡ map Some texts
-    → NoneFailed g.R.Source.has_failed c.apply.new.readers → Commits (fits (conditions_of (version_of g.L.Layout.format) change.setting)) (outcome (conditions_of (version_of g.L.Layout.format) change.setting) texts) (state g.S.Store old) db)) same
-    (commit_survives g.S.Store old inside mid (state g.S.Store end) _ begun c.apply.ensures.crash c.commit.ensures.survives (λ clean db is opened texts told fine.
-    let k = conditions_of (version_of g.L.Layout.format) change.setting in
-    let open_inside : IsTrue (state g.S.Store inside).is_open = subst (λ (held : Held _). IsTrue (state g.S.Store held).is_open) (sym begun) opened in
-    let works = c.in_ok-reply.ensures.works (omega (arith, c.commit.ensures.survives.clean)) (rw begun refl) open_inside texts told fine in
-    commit_stands g.L.Layout.format k (outcome k texts) g.S.Store (fits k) old inside mid c.in_ok-reply.reply begun works db is))
+    let own = version_of g.L.Layout.format in
+    told_survives g.L.Layout.format (conditions_of own change.setting) g.S.Store (λ (texts : List (List ℕ)). map g.R.Source.remaining c.args.readers.now ≡ map Some texts) (NoneFailed g.R.Source.has_failed c.apply.new.readers) (MayBegin own change.setting name change.found)
+    (comes_to own change.setting name) c.args.connection.now c.transaction-tx.result.conn.now (state g.S.Store c.apply.new.tx.conn.now) c.commit.new.self.0 c.connection-2-1.given.0 (search rules) c.in_ok-reply.reply c.transaction-tx.ensures.begun c.apply.ensures.crash c.commit.ensures.survives c.in_ok-reply.ensures.works
 
 pub returns-clause-survives : goal.returns-clause-survives
 returns-clause-survives g c =
-    let begun = c.transaction-tx.ensures.begun in
     let change = c.args.change.now in
     let name = name_bytes change.name.now in
-    let fits = λ (k : Conditions). BeginsWith change.setting.kind name change.found k in
-    let outcome = λ (k : Conditions) (texts : List (List ℕ)). turned k (changed_by_files k change.setting.kind name (splits_of texts)) in
-    let old = c.args.connection.now in
-    let inside = c.transaction-tx.result.conn.now in
-    let mid = state g.S.Store c.apply.new.tx.conn.now in
-    let end = c.commit.new.self.0 in
-    let same : end ≡ c.connection-2-1.given.0 = search rules in
-    subst (λ h. Survives (state g.S.Store old) (state g.S.Store h) (λ db. IsTrue (state g.S.Store old).is_open → (texts : List (List ℕ)) → map g.R.Source.remaining c.args.readers.now ≡ map Some texts
-    → NoneFailed g.R.Source.has_failed c.apply.new.readers → Commits (fits (conditions_of (version_of g.L.Layout.format) change.setting)) (outcome (conditions_of (version_of g.L.Layout.format) change.setting) texts) (state g.S.Store old) db)) same
-    (commit_survives g.S.Store old inside mid (state g.S.Store end) _ begun c.apply.ensures.crash c.commit.ensures.survives (λ clean db is opened texts told fine.
-    let k = conditions_of (version_of g.L.Layout.format) change.setting in
-    let open_inside : IsTrue (state g.S.Store inside).is_open = subst (λ (held : Held _). IsTrue (state g.S.Store held).is_open) (sym begun) opened in
-    let works = c.in_ok-reply.ensures.works (omega (arith, c.commit.ensures.survives.clean)) (rw begun refl) open_inside texts told fine in
-    commit_stands g.L.Layout.format k (outcome k texts) g.S.Store (fits k) old inside mid c.in_ok-reply.reply begun works db is))
+    let own = version_of g.L.Layout.format in
+    told_survives g.L.Layout.format (conditions_of own change.setting) g.S.Store (λ (texts : List (List ℕ)). map g.R.Source.remaining c.args.readers.now ≡ map Some texts) (NoneFailed g.R.Source.has_failed c.apply.new.readers) (MayBegin own change.setting name change.found)
+    (comes_to own change.setting name) c.args.connection.now c.transaction-tx.result.conn.now (state g.S.Store c.apply.new.tx.conn.now) c.commit.new.self.0 c.connection-2-1.given.0 (search rules) c.in_ok-reply.reply c.transaction-tx.ensures.begun c.apply.ensures.crash c.commit.ensures.survives c.in_ok-reply.ensures.works
 
 pub returns-in_err-reply-clause-honest : goal.returns-in_err-reply-clause-honest
 returns-in_err-reply-clause-honest g c clean opened before known keeps =

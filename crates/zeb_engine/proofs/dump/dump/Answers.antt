@@ -1,4 +1,4 @@
-use Rattle.std.proofs.Common.{rules, ◌≡◌, ◌∙◌, pos, List, Err, Ok, IsTrue, arith, refl, sym, ap, subst}
+use Rattle.std.proofs.Common.{rules, ◌≡◌, ◌∙◌, pos, Err, Ok, IsTrue, arith, refl, sym, ap, subst}
 use Rattle.sqlite.specs.Held.{state}
 use Rattle.sqlite.specs.State.{HasCleanDisk}
 use Rattle.zeb_register.proofs.Calls.{nothing_then}
@@ -7,14 +7,12 @@ use Rattle.zeb_register.specs.declared.catalog.Database.{Database}
 use Rattle.zeb_engine.specs.declared.replies.Reply.TheVariants.{Dumped}
 use Rattle.zeb_engine.specs.Answers.{dumped}
 use Rattle.zeb_change.specs.Conditions.{conditions}
-use Rattle.zeb_change.specs.Base.{Base}
 use Rattle.zeb_image.specs.NameOf.{name_bytes}
-use Rattle.zeb_engine.specs.Steps.{dumped_by, dumped_in, ready}
+use Rattle.zeb_engine.specs.Steps.{dumped_by, dumped_in}
 use Rattle.zeb_engine.specs.Works.{Always, Serves}
-use Rattle.zeb_engine.proofs.Commanding.{ready_met}
+use Rattle.zeb_engine.proofs.Commanding.{ready_kept}
 use Rattle.zeb_engine.proofs.Dumps.{Dumps, base_kept, dump_fails, dump_told, dump_unknown, unready_dumps}
 use Rattle.zeb_engine.proofs.Held.{looked_up}
-use Rattle.zeb_engine.proofs.Serving.{keeps_still}
 use Rattle.zeb_engine.proofs.Showing.{still_shows}
 use Rattle.zeb_engine.proofs.dump.dump.Goals as goal
 use Rattle.zeb_register.specs.Formats.{version_of}
@@ -39,13 +37,12 @@ returns-in_err-database-clause-serves g c clean limits before fits keeps =
     let s1 = state g.S.Store c.check_ready.new.connection in
     let s2 = state g.S.Store c.existing_database.new.connection in
     let clean1 : HasCleanDisk s1 = omega (arith, c.existing_database.ensures.crash.clean) in
-    let met = ready_met {X = Unit {0}} (λ (bases : List Base) x. IsTrue s0.is_open × IsTrue s1.is_open) (ready k before) tt (c.in_ok-check_ready.ensures.ready clean1 limits before keeps) in
-    let keeps1 = keeps_still before s0 s1 (c.check_ready.ensures.same clean1) keeps in
+    let met = ready_kept k s0 s1 before (c.in_ok-check_ready.ensures.ready clean1 limits before keeps) (c.check_ready.ensures.same clean1) keeps in
     let refusal = c.in_err-database.field-0.0 in
     let told : c.from_residual-in_err-database.result ≡ Err refusal = search rules in
     subst (Dumps g.L.Layout.format k name s0 s2 (nothing_then s0 s1 s2 (c.check_ready.ensures.same clean1) (c.existing_database.ensures.same clean)) before met.0 met.1 keeps) (sym told)
     (dump_unknown g.L.Layout.format k name s0 s2 (nothing_then s0 s1 s2 (c.check_ready.ensures.same clean1) (c.existing_database.ensures.same clean)) before met.0 met.1 keeps
-    {X = Database} (λ base d. HasDatabase s1.now.trees d.id.0 base.name (pos base.last) × (d.last ≡ base.last) × IsTrue s2.is_open) refusal (c.in_err-database.ensures.exists clean met.2.1 k before met.0 met.1 keeps1))
+    {X = Database} (λ base d. HasDatabase s1.now.trees d.id.0 base.name (pos base.last) × (d.last ≡ base.last) × IsTrue s2.is_open) refusal (c.in_err-database.ensures.exists clean met.2.1 k before met.0 met.1 met.3))
 
 pub returns-in_err-bytes-clause-serves : goal.returns-in_err-bytes-clause-serves
 returns-in_err-bytes-clause-serves g c clean limits before fits keeps =
@@ -57,11 +54,10 @@ returns-in_err-bytes-clause-serves g c clean limits before fits keeps =
     let s3 = state g.S.Store c.bytes_of.new.connection in
     let clean2 : HasCleanDisk s2 = omega (arith, c.bytes_of.ensures.crash.clean) in
     let clean1 : HasCleanDisk s1 = omega (arith, clean2, c.existing_database.ensures.crash.clean) in
-    let met = ready_met {X = Unit {0}} (λ (bases : List Base) x. IsTrue s0.is_open × IsTrue s1.is_open) (ready k before) tt (c.in_ok-check_ready.ensures.ready clean1 limits before keeps) in
-    let keeps1 = keeps_still before s0 s1 (c.check_ready.ensures.same clean1) keeps in
+    let met = ready_kept k s0 s1 before (c.in_ok-check_ready.ensures.ready clean1 limits before keeps) (c.check_ready.ensures.same clean1) keeps in
     let database = c.in_ok-database.database in
-    let seen = (keeps1 met.2.1).0 in
-    let base = looked_up g.L.Layout.format k (record { version_is = refl; sound = c.is_of_some_text.ensures }) s1 before met.0 name database (IsTrue s2.is_open) met.1 seen.1 (c.in_ok-database.ensures.exists clean2 met.2.1 k before met.0 met.1 keeps1) in
+    let seen = (met.3 met.2.1).0 in
+    let base = looked_up g.L.Layout.format k (record { version_is = refl; sound = c.is_of_some_text.ensures }) s1 before met.0 name database (IsTrue s2.is_open) met.1 seen.1 (c.in_ok-database.ensures.exists clean2 met.2.1 k before met.0 met.1 met.3) in
     let at = still_shows s1 s2 s1.now.trees (c.existing_database.ensures.same clean2) (λ _. (seen.0, refl)) in
     let kept = base_kept g.L.Layout.format c.args.profile.now s1.now.trees database.id.0 base.0 base.2 in
     let nothing = nothing_then s0 s2 s3 (nothing_then s0 s1 s2 (c.check_ready.ensures.same clean1) (c.existing_database.ensures.same clean2)) (c.bytes_of.ensures.same clean) in
@@ -80,11 +76,10 @@ returns-clause-serves g c clean limits before fits keeps =
     let s3 = state g.S.Store c.bytes_of.new.connection in
     let clean2 : HasCleanDisk s2 = omega (arith, c.bytes_of.ensures.crash.clean) in
     let clean1 : HasCleanDisk s1 = omega (arith, clean2, c.existing_database.ensures.crash.clean) in
-    let met = ready_met {X = Unit {0}} (λ (bases : List Base) x. IsTrue s0.is_open × IsTrue s1.is_open) (ready k before) tt (c.in_ok-check_ready.ensures.ready clean1 limits before keeps) in
-    let keeps1 = keeps_still before s0 s1 (c.check_ready.ensures.same clean1) keeps in
+    let met = ready_kept k s0 s1 before (c.in_ok-check_ready.ensures.ready clean1 limits before keeps) (c.check_ready.ensures.same clean1) keeps in
     let database = c.in_ok-database.database in
-    let seen = (keeps1 met.2.1).0 in
-    let base = looked_up g.L.Layout.format k (record { version_is = refl; sound = c.is_of_some_text.ensures }) s1 before met.0 name database (IsTrue s2.is_open) met.1 seen.1 (c.in_ok-database.ensures.exists clean2 met.2.1 k before met.0 met.1 keeps1) in
+    let seen = (met.3 met.2.1).0 in
+    let base = looked_up g.L.Layout.format k (record { version_is = refl; sound = c.is_of_some_text.ensures }) s1 before met.0 name database (IsTrue s2.is_open) met.1 seen.1 (c.in_ok-database.ensures.exists clean2 met.2.1 k before met.0 met.1 met.3) in
     let at = still_shows s1 s2 s1.now.trees (c.existing_database.ensures.same clean2) (λ _. (seen.0, refl)) in
     let kept = base_kept g.L.Layout.format c.args.profile.now s1.now.trees database.id.0 base.0 base.2 in
     let nothing = nothing_then s0 s2 s3 (nothing_then s0 s1 s2 (c.check_ready.ensures.same clean1) (c.existing_database.ensures.same clean2)) (c.bytes_of.ensures.same clean) in

@@ -3,11 +3,11 @@ use Rattle.sqlite.specs.Held.{state}
 use Rattle.sqlite.specs.State.{HasCleanDisk}
 use Rattle.zeb_register.specs.Formats.{version_of}
 use Rattle.zeb_change.specs.declared.refusals.Refusal.TheVariants.{OldFormat, ProfileChanged}
-use Rattle.zeb_engine.specs.PrivateLooking.{FindsStanding, RefusesLayout, RefusesText, RefusesVersion, TellsStanding, TellsText}
+use Rattle.zeb_engine.specs.PrivateLooking.{FindsStanding, RefusesText, RefusesVersion, TellsStanding, TellsText}
 use Rattle.zeb_engine.specs.declared.looks.Standing.{Standing}
 use Rattle.std.specs.Prelude.{Some}
-use Rattle.zeb_engine.specs.Readiness.{KeepsText}
-use Rattle.zeb_engine.proofs.Looking.{look_settles, profile_as_layout, standing_changed, standing_none, then_ends, then_settles}
+use Rattle.zeb_engine.specs.Readiness.{KeepsText, RefusesUpgrade}
+use Rattle.zeb_engine.proofs.Looking.{look_settles, one_readable, profile_as_layout, standing_changed, standing_none, then_ends, then_settles, upgradable_so}
 use Rattle.std.proofs.Common.{refl}
 use Rattle.zeb_engine.proofs.looks.check_layout.Goals as goal
 
@@ -19,8 +19,8 @@ returns-in_default-clause-look g c clean =
     let found = c.in_ok-version.version in
     let spelled : c.as_str.result.now ≡ string_bytes found = search rules in
     let none = subst (λ v. TellsStanding own v None) spelled c.in_default.ensures in
-    look_settles {X = Standing} (λ trees version. KeepsText trees (codes "version") (string_bytes version)) (FindsStanding own profile) RefusesVersion (RefusesLayout own profile) old (state g.S.Store c.kept_version.new.connection)
-    found (c.in_ok-version.ensures.look clean) (Err OldFormat) (λ store kept. standing_none own profile old.now.trees (string_bytes found) kept old store refl none)
+    look_settles {X = Standing} (λ trees version. KeepsText trees (codes "version") (string_bytes version)) (FindsStanding own profile) RefusesVersion (RefusesUpgrade own profile) old (state g.S.Store c.kept_version.new.connection)
+    found (c.in_ok-version.ensures.look clean) (Err OldFormat) (λ store kept. standing_none own profile old.now.trees (string_bytes found) kept old store refl (one_readable old store (codes "version") found kept) none)
 
 pub returns-in_err-keeps_text-clause-look : goal.returns-in_err-keeps_text-clause-look
 returns-in_err-keeps_text-clause-look g c clean =
@@ -28,12 +28,16 @@ returns-in_err-keeps_text-clause-look g c clean =
     let mid = state g.S.Store c.kept_version.new.connection in
     let own = version_of g.L.Layout.format in
     let profile = c.args.profile.now in
+    let found = c.in_ok-version.version in
     let why = c.in_err-keeps_text.field-0.0 in
+    let spelled : c.as_str.result.now ≡ string_bytes found = search rules in
+    let standing = c.in-Some.standing in
+    let is = subst (λ v. TellsStanding own v (Some standing)) spelled c.in-Some.ensures in
     let first : HasCleanDisk mid = omega (arith, c.keeps_text.ensures.crash.clean) in
     let told : c.from_residual-in_err-keeps_text.result ≡ Err why = search rules in
-    rw told (then_ends (λ trees version. KeepsText trees (codes "version") (string_bytes version)) RefusesVersion old mid c.in_ok-version.version (c.in_ok-version.ensures.look first)
-    {Y = Standing} (TellsText (codes "profile") c.text.result.now) (FindsStanding own profile) (RefusesText (codes "profile")) (RefusesLayout own profile) (state g.S.Store c.keeps_text.new.connection)
-    why (λ store kept is. profile_as_layout own profile old.now.trees why is) (c.in_err-keeps_text.ensures.look clean))
+    rw told (then_ends (λ trees version. KeepsText trees (codes "version") (string_bytes version)) RefusesVersion old mid found (c.in_ok-version.ensures.look first)
+    {Y = Standing} (TellsText (codes "profile") c.text.result.now) (FindsStanding own profile) (RefusesText (codes "profile")) (RefusesUpgrade own profile) (state g.S.Store c.keeps_text.new.connection)
+    why (λ store kept hard. profile_as_layout own profile old.now.trees (upgradable_so own profile old.now.trees (string_bytes found) kept standing is) why hard) (c.in_err-keeps_text.ensures.look clean))
 
 pub returns-clause-look : goal.returns-clause-look
 returns-clause-look g c clean =
@@ -48,7 +52,7 @@ returns-clause-look g c clean =
     let is = subst (λ v. TellsStanding own v (Some standing)) spelled c.in-Some.ensures in
     let no : c.in_ok-keeps_text.field-0 ≡ false = search rules in
     then_settles (λ trees version. KeepsText trees (codes "version") (string_bytes version)) RefusesVersion old mid found (c.in_ok-version.ensures.look first)
-    {Y = Standing} (TellsText (codes "profile") c.text.result.now) (FindsStanding own profile) (RefusesText (codes "profile")) (RefusesLayout own profile) (state g.S.Store c.keeps_text.new.connection)
+    {Y = Standing} (TellsText (codes "profile") c.text.result.now) (FindsStanding own profile) (RefusesText (codes "profile")) (RefusesUpgrade own profile) (state g.S.Store c.keeps_text.new.connection)
     c.in_ok-keeps_text.field-0 (c.in_ok-keeps_text.ensures.look clean) (Err ProfileChanged)
     (λ store kept tells. standing_changed own profile old.now.trees (string_bytes found) kept standing is
     (subst₂ (λ (t : List ℕ) (b : Bool). TellsText (codes "profile") t old.now.trees b) c.text.ensures no tells))

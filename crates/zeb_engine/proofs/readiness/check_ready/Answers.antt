@@ -1,4 +1,4 @@
-use Rattle.std.proofs.Common.{rules, ◌≡◌, ◌∙◌, not, List, Option, Some, None, Result, Ok, Err, String, codes, string_bytes, sym, ap, subst, inr, arith, IsTrue}
+use Rattle.std.proofs.Common.{rules, ◌≡◌, ◌∙◌, not, List, Option, Some, None, Result, Ok, Err, String, codes, string_bytes, sym, ap, subst, inl, inr, arith, IsTrue}
 use Rattle.std.specs.declared.alloc.Global.{Global}
 use Rattle.std.specs.Option.{option_map}
 use Rattle.std.specs.Str.{bytes_eq}
@@ -17,9 +17,10 @@ use Rattle.zeb_engine.proofs.Ready.{version_in, profile_in, image_still, same_in
 use Rattle.zeb_engine.proofs.readiness.check_ready.Goals as goal
 use Rattle.zeb_register.specs.Formats.{version_of}
 use Rattle.sqlite.specs.Effect.{Database}
-use Rattle.zeb_register.specs.Store.{IsValueOf}
+use Rattle.zeb_register.specs.Store.{AreReadableTexts, IsValueOf}
 use Rattle.zeb_register.proofs.Calls.{store_same}
 use Rattle.zeb_engine.specs.Readiness.{KeepsText}
+use Rattle.zeb_engine.proofs.Looking.{one_readable}
 use Rattle.zeb_engine.proofs.ReadyTexts.{fault_texts, other_text, text_found, text_missing}
 
 pub returns-in_err-version-clause-ready : goal.returns-in_err-version-clause-ready
@@ -131,7 +132,9 @@ pub returns-in_err-version-clause-texts : goal.returns-in_err-version-clause-tex
 returns-in_err-version-clause-texts g c clean store =
     let fault = c.in_err-version.field-0.0 in
     let told : c.from_residual.result ≡ Err (register_refusal fault) = search rules in
-    rw told (fault_texts (version_of g.L.Layout.format) c.args.profile.now (state g.S.Store c.args.connection.now).now.trees fault)
+    rw told (fault_texts (version_of g.L.Layout.format) c.args.profile.now (state g.S.Store c.args.connection.now).now.trees fault (λ is.
+    let damaged : ◌≡◌ {A = Result (Option (String Global)) RegFault} (Err fault) (Err register.Damaged) = ap Err is in
+    inl (c.in_err-version.ensures.honest clean store damaged)))
 
 pub returns-in_default-clause-texts : goal.returns-in_default-clause-texts
 returns-in_default-clause-texts g c clean store =
@@ -145,13 +148,25 @@ returns-then-ne-clause-texts g c clean store =
     let kept = text_found old.now.trees (codes "version") c.in_ok-version.field-0 found c.in-Some.is (c.in_ok-version.ensures.value clean store) in
     let tested : c.ne.result ≡ not (bytes_eq c.as_str.result.now c.version.result.now) = search rules in
     let differs = texts_differ c.ne.result c.as_str.result.now c.version.result.now (string_bytes found) version tested c.if-ne.true (search rules) c.version.ensures in
-    ((string_bytes found, kept), other_text old store (codes "version") (string_bytes found) version kept differs)
+    ((string_bytes found, kept), other_text old store (codes "version") (string_bytes found) version kept differs, one_readable old store (codes "version") found kept)
 
 pub returns-in_err-text-clause-texts : goal.returns-in_err-text-clause-texts
 returns-in_err-text-clause-texts g c clean store =
+    let old = state g.S.Store c.args.connection.now in
+    let mid = state g.S.Store c.meta_of.new.conn in
+    let first : HasCleanDisk mid = omega (arith, c.meta_of-2.ensures.call.crash.clean) in
+    let same = (c.in_ok-version.ensures.call.ok first).0.now_is in
+    let found = c.in-Some.version in
+    let version = version_of g.L.Layout.format in
+    let kept = text_found old.now.trees (codes "version") c.in_ok-version.field-0 found c.in-Some.is (c.in_ok-version.ensures.value first store) in
+    let tested : c.ne.result ≡ not (bytes_eq c.as_str.result.now c.version.result.now) = search rules in
+    let agrees = texts_agree c.ne.result c.as_str.result.now c.version.result.now (string_bytes found) version tested c.if-ne.false (search rules) c.version.ensures in
     let fault = c.in_err-text.field-0.0 in
     let told : c.from_residual-in_err-text.result ≡ Err (register_refusal fault) = search rules in
-    rw told (fault_texts (version_of g.L.Layout.format) c.args.profile.now (state g.S.Store c.args.connection.now).now.trees fault)
+    rw told (fault_texts version c.args.profile.now old.now.trees fault (λ is.
+    let damaged : ◌≡◌ {A = Result (Option (String Global)) RegFault} (Err fault) (Err register.Damaged) = ap Err is in
+    let hard = c.in_err-text.ensures.honest clean (store_same old mid same store) damaged in
+    inr (subst (KeepsText old.now.trees (codes "version")) agrees kept, subst (λ (d : Database). ¬ AreReadableTexts d.trees (codes "profile")) same hard)))
 
 pub returns-in_default-2-clause-texts : goal.returns-in_default-2-clause-texts
 returns-in_default-2-clause-texts g c clean store =
@@ -165,7 +180,8 @@ returns-in_default-2-clause-texts g c clean store =
     let tested : c.ne.result ≡ not (bytes_eq c.as_str.result.now c.version.result.now) = search rules in
     let agrees = texts_agree c.ne.result c.as_str.result.now c.version.result.now (string_bytes found) version tested c.if-ne.false (search rules) c.version.ensures in
     let value = subst (λ (d : Database). IsValueOf d.trees (codes "profile") c.in_ok-text.field-0) same (c.in_ok-text.ensures.value clean (store_same old mid same store)) in
-    (subst (KeepsText old.now.trees (codes "version")) agrees kept, text_missing old.now.trees (codes "profile") c.in_ok-text.field-0 c.in_default-2.is value (canonical_text c.args.profile.now))
+    let none = text_missing old.now.trees (codes "profile") c.in_ok-text.field-0 c.in_default-2.is value in
+    (subst (KeepsText old.now.trees (codes "version")) agrees kept, none (canonical_text c.args.profile.now), λ other there. absurd (none other there))
 
 pub returns-then-ne-2-clause-texts : goal.returns-then-ne-2-clause-texts
 returns-then-ne-2-clause-texts g c clean store =
@@ -184,7 +200,7 @@ returns-then-ne-2-clause-texts g c clean store =
     let there = text_found old.now.trees (codes "profile") c.in_ok-text.field-0 text c.in-Some-2.is value in
     let tested2 : c.ne-2.result ≡ not (bytes_eq c.as_str-2.result.now c.text.result.now) = search rules in
     let differs = texts_differ c.ne-2.result c.as_str-2.result.now c.text.result.now (string_bytes text) profile tested2 c.if-ne-2.true (search rules) c.text.ensures in
-    (subst (KeepsText old.now.trees (codes "version")) agrees kept, other_text old store (codes "profile") (string_bytes text) profile there differs)
+    (subst (KeepsText old.now.trees (codes "version")) agrees kept, other_text old store (codes "profile") (string_bytes text) profile there differs, one_readable old store (codes "profile") text there)
 
 pub returns-clause-texts : goal.returns-clause-texts
 returns-clause-texts g c clean store =

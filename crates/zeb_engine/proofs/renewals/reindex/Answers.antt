@@ -1,16 +1,15 @@
-use Rattle.std.proofs.Common.{◌≡◌, Err, refl, rules, ap, arith, subst}
+use Rattle.std.proofs.Common.{◌≡◌, Err, refl, rules, ap, arith, inl, inr, subst}
 use Rattle.std.specs.Option.{option_map}
-use Rattle.std.specs.Prelude.{OnOk}
 use Rattle.sqlite.specs.Effect.{Database}
 use Rattle.sqlite.specs.Held.{state}
 use Rattle.sqlite.specs.State.{HasCleanDisk}
 use Rattle.zeb_profile.specs.Canonical.{pattern_text}
 use Rattle.zeb_register.specs.Formats.{version_of}
 use Rattle.zeb_register.proofs.Calls.{store_same}
-use Rattle.zeb_image.specs.Rebuilding.{AreSound}
 use Rattle.zeb_change.specs.Conditions.{conditions}
+use Rattle.zeb_engine.specs.Checking.{TellsSound}
 use Rattle.zeb_engine.proofs.Crashing.{survives_after}
-use Rattle.zeb_engine.proofs.RenewalAnswers.{reindex_texts, rule_as_reindex, rule_met, rule_unserved}
+use Rattle.zeb_engine.proofs.RenewalAnswers.{rule_met, rule_unserved}
 use Rattle.zeb_engine.proofs.Serving.{keeps_still}
 use Rattle.zeb_engine.proofs.renewals.reindex.Goals as goal
 
@@ -21,11 +20,10 @@ returns-in_err-check_rule-clause-serves g c clean limits =
     let told : c.from_residual.result ≡ Err why = search rules in
     rw told (rule_unserved k c.is_of_some_text.ensures (pattern_text c.identifier_rule-rule.result.now) (ap (option_map pattern_text) c.identifier_rule-rule.ensures) (state g.S.Store c.args.connection.now) (state g.S.Store c.check_rule.new.connection) why (c.in_err-check_rule.ensures.look clean))
 
-pub returns-in_err-check_rule-clause-texts : goal.returns-in_err-check_rule-clause-texts
-returns-in_err-check_rule-clause-texts g c clean store =
-    let why = c.in_err-check_rule.field-0.0 in
-    let told : c.from_residual.result ≡ Err why = search rules in
-    rw told (rule_as_reindex (version_of g.L.Layout.format) c.args.profile.now (state g.S.Store c.args.connection.now).now.trees why ((c.in_err-check_rule.ensures.look clean).told store))
+pub returns-in_err-check_rule-clause-told : goal.returns-in_err-check_rule-clause-told
+returns-in_err-check_rule-clause-told g c clean store =
+    let told : c.from_residual.result ≡ Err c.in_err-check_rule.field-0.0 = search rules in
+    rw told (inl ((c.in_err-check_rule.ensures.look clean).told store))
 
 pub returns-clause-serves : goal.returns-clause-serves
 returns-clause-serves g c clean limits before fits keeps =
@@ -49,16 +47,11 @@ returns-clause-survives g c =
     let met = rule_met k c.is_of_some_text.ensures (pattern_text c.identifier_rule-rule.result.now) (ap (option_map pattern_text) c.identifier_rule-rule.ensures) old mid look before keeps in
     made k look.found.1 before (λ _. (record { version_is = refl; profile_is = refl; sound = c.is_of_some_text.ensures }, met)) (keeps_still before old mid look.same keeps))
 
-pub returns-clause-texts : goal.returns-clause-texts
-returns-clause-texts g c clean store =
-    let first : HasCleanDisk (state g.S.Store c.check_rule.new.connection) = omega (arith, c.transact.ensures.survives.clean) in
-    reindex_texts (version_of g.L.Layout.format) c.args.profile.now (state g.S.Store c.args.connection.now).now.trees ((c.in_ok-check_rule.ensures.look first).told store) c.transact.result c.transact.ensures.ready c.transact.ensures.ruled
-
-pub returns-clause-sound : goal.returns-clause-sound
-returns-clause-sound g c clean store =
+pub returns-clause-told : goal.returns-clause-told
+returns-clause-told g c clean store =
     let old = state g.S.Store c.args.connection.now in
     let mid = state g.S.Store c.check_rule.new.connection in
     let first : HasCleanDisk mid = omega (arith, c.transact.ensures.survives.clean) in
     let look = c.in_ok-check_rule.ensures.look first in
     let still = (look.same look.found.1).1 in
-    subst (λ (d : Database). OnOk c.transact.result (AreSound c.args.profile.now d.trees)) still (c.transact.ensures.sound clean (store_same old mid still store))
+    inr (look.told store, subst (λ (d : Database). TellsSound c.args.profile.now d.trees c.transact.result) still (c.transact.ensures.sound clean (store_same old mid still store)))

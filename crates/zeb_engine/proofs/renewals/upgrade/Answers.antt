@@ -1,4 +1,4 @@
-use Rattle.std.proofs.Common.{◌≡◌, ◌∙◌, true, false, Ok, Err, IsTrue, refl, rules, sym, subst, arith}
+use Rattle.std.proofs.Common.{◌≡◌, ◌∙◌, true, false, Ok, Err, IsTrue, IsUtf8, inl, inr, refl, rules, sym, subst, arith}
 use Rattle.sqlite.specs.Held.{state}
 use Rattle.sqlite.specs.State.{HasCleanDisk}
 use Rattle.zeb_register.specs.Formats.{plain_rows, version_of}
@@ -6,10 +6,11 @@ use Rattle.zeb_register.proofs.Calls.{nothing_then, store_same}
 use Rattle.zeb_change.specs.declared.settings.Limits.{Limits}
 use Rattle.zeb_change.specs.Conditions.{conditions}
 use Rattle.zeb_engine.specs.declared.looks.Standing.{Standing}
-use Rattle.zeb_engine.specs.PrivateLooking.{FindsStanding, IsLook, RefusesLayout}
+use Rattle.zeb_engine.specs.PrivateLooking.{FindsStanding, IsLook}
+use Rattle.zeb_engine.specs.Readiness.{RefusesUpgrade}
 use Rattle.zeb_engine.proofs.Checks.{tells_none, told_image}
 use Rattle.zeb_engine.proofs.Crashing.{survives_after}
-use Rattle.zeb_engine.proofs.RenewalAnswers.{damage_unserved, first_met, first_tells, layout_tells, layout_unserved, not_upgraded, own_serves}
+use Rattle.zeb_engine.proofs.RenewalAnswers.{damage_unserved, first_met, first_tells, layout_unserved, own_not_first, own_serves, own_unrefused}
 use Rattle.zeb_engine.proofs.Serving.{keeps_still}
 use Rattle.zeb_engine.proofs.renewals.upgrade.Goals as goal
 
@@ -25,11 +26,9 @@ returns-in_err-standing-clause-serves g c clean limits =
     rw told (layout_unserved k (state g.S.Store c.args.connection.now) (state g.S.Store c.check_layout.new.connection) why (c.in_err-standing.ensures.look clean))
 
 pub returns-in_err-standing-clause-told : goal.returns-in_err-standing-clause-told
-returns-in_err-standing-clause-told g c clean other store texts =
-    let k = conditions (version_of g.L.Layout.format) c.args.profile.now any_limits in
-    let why = c.in_err-standing.field-0.0 in
-    let told : c.from_residual.result ≡ Err why = search rules in
-    rw told (layout_tells k (state g.S.Store c.args.connection.now) store texts why ((c.in_err-standing.ensures.look clean).told store))
+returns-in_err-standing-clause-told g c clean store =
+    let told : c.from_residual.result ≡ Err c.in_err-standing.field-0.0 = search rules in
+    rw told (inl ((c.in_err-standing.ensures.look clean).told store))
 
 pub returns-in-Upgraded-clause-serves : goal.returns-in-Upgraded-clause-serves
 returns-in-Upgraded-clause-serves g c clean limits =
@@ -38,18 +37,17 @@ returns-in-Upgraded-clause-serves g c clean limits =
     let k = conditions own profile limits in
     let old = state g.S.Store c.args.connection.now in
     let new = state g.S.Store c.check_layout.new.connection in
-    let look = subst (λ (s : Standing). IsLook (FindsStanding own profile) (RefusesLayout own profile) old new (Ok s)) c.in-Upgraded.is (c.in_ok-standing.ensures.look clean) in
+    let look = subst (λ (s : Standing). IsLook (FindsStanding own profile) (RefusesUpgrade own profile) old new (Ok s)) c.in-Upgraded.is (c.in_ok-standing.ensures.look clean) in
     own_serves k old new look
 
 pub returns-in-Upgraded-clause-told : goal.returns-in-Upgraded-clause-told
-returns-in-Upgraded-clause-told g c clean other store texts =
+returns-in-Upgraded-clause-told g c clean store =
     let own = version_of g.L.Layout.format in
     let profile = c.args.profile.now in
-    let k = conditions own profile any_limits in
     let old = state g.S.Store c.args.connection.now in
     let new = state g.S.Store c.check_layout.new.connection in
-    let look = subst (λ (s : Standing). IsLook (FindsStanding own profile) (RefusesLayout own profile) old new (Ok s)) c.in-Upgraded.is (c.in_ok-standing.ensures.look clean) in
-    absurd (not_upgraded k old store texts other (look.told store))
+    let look = subst (λ (s : Standing). IsLook (FindsStanding own profile) (RefusesUpgrade own profile) old new (Ok s)) c.in-Upgraded.is (c.in_ok-standing.ensures.look clean) in
+    inr (inl (look.told store, refl))
 
 pub returns-then-branch-clause-survives : goal.returns-then-branch-clause-survives
 returns-then-branch-clause-survives g c =
@@ -63,7 +61,7 @@ returns-then-branch-clause-survives g c =
     let k = conditions own profile limits in
     let second : HasCleanDisk late = omega (arith, c.transact.ensures.survives.clean) in
     let first : HasCleanDisk mid = omega (arith, c.transact.ensures.survives.clean, c.is_image.ensures.call.crash.clean) in
-    let look = subst (λ (s : Standing). IsLook (FindsStanding own profile) (RefusesLayout own profile) old mid (Ok s)) c.in-First.is (c.in_ok-standing.ensures.look first) in
+    let look = subst (λ (s : Standing). IsLook (FindsStanding own profile) (RefusesUpgrade own profile) old mid (Ok s)) c.in-First.is (c.in_ok-standing.ensures.look first) in
     let met = first_met k old mid look before keeps in
     let yes : IsTrue c.in_ok-is_image-in-First.field-0 = search rules in
     let read = (c.in_ok-is_image-in-First.ensures.call.ok second).1 yes in
@@ -80,7 +78,7 @@ returns-then-branch-clause-serves g c clean limits before fits keeps =
     let late = state g.S.Store c.is_image.new.connection in
     let second : HasCleanDisk late = omega (arith, c.transact.ensures.survives.clean) in
     let first : HasCleanDisk mid = omega (arith, c.transact.ensures.survives.clean, c.is_image.ensures.call.crash.clean) in
-    let look = subst (λ (s : Standing). IsLook (FindsStanding own profile) (RefusesLayout own profile) old mid (Ok s)) c.in-First.is (c.in_ok-standing.ensures.look first) in
+    let look = subst (λ (s : Standing). IsLook (FindsStanding own profile) (RefusesUpgrade own profile) old mid (Ok s)) c.in-First.is (c.in_ok-standing.ensures.look first) in
     let met = first_met k old mid look before keeps in
     let yes : IsTrue c.in_ok-is_image-in-First.field-0 = search rules in
     let read = (c.in_ok-is_image-in-First.ensures.call.ok second).1 yes in
@@ -88,7 +86,7 @@ returns-then-branch-clause-serves g c clean limits before fits keeps =
     c.transact.ensures.serves clean k read.0.is_open before (λ _. (record { version_is = refl; profile_is = refl; sound = c.is_of_some_text.ensures }, (met.0, met.2))) (keeps_still before old late nothing keeps)
 
 pub returns-then-branch-clause-told : goal.returns-then-branch-clause-told
-returns-then-branch-clause-told g c clean other store texts =
+returns-then-branch-clause-told g c clean store =
     let own = version_of g.L.Layout.format in
     let profile = c.args.profile.now in
     let k = conditions own profile any_limits in
@@ -97,16 +95,21 @@ returns-then-branch-clause-told g c clean other store texts =
     let late = state g.S.Store c.is_image.new.connection in
     let second : HasCleanDisk late = omega (arith, c.transact.ensures.survives.clean) in
     let first : HasCleanDisk mid = omega (arith, c.transact.ensures.survives.clean, c.is_image.ensures.call.crash.clean) in
-    let look = subst (λ (s : Standing). IsLook (FindsStanding own profile) (RefusesLayout own profile) old mid (Ok s)) c.in-First.is (c.in_ok-standing.ensures.look first) in
+    let look = subst (λ (s : Standing). IsLook (FindsStanding own profile) (RefusesUpgrade own profile) old mid (Ok s)) c.in-First.is (c.in_ok-standing.ensures.look first) in
     let still = (look.same look.found.1).1 in
     let idle : IsTrue c.is_autocommit-settled.result = search rules in
     let yes : IsTrue c.in_ok-is_image-in-First.field-0 = search rules in
     let image = told_image k (version_of plain_rows) old mid still c.in_ok-is_image-in-First.field-0 (c.in_ok-is_image-in-First.ensures.value second (store_same old mid still store)) yes in
     let read = (c.in_ok-is_image-in-First.ensures.call.ok second).1 yes in
     let nothing = nothing_then old mid late look.same (c.is_image.ensures.call.same second c.check_layout.ensures.idle) in
-    first_tells k old store texts (λ is_open. sym (c.is_autocommit-settled.ensures.settled idle is_open)) image (state g.S.Store c.transact.new.connection) c.transact.result (λ before fits keeps.
-    let met = first_met k old mid look before keeps in
-    c.transact.ensures.serves clean k read.0.is_open before (λ _. (record { version_is = refl; profile_is = refl; sound = c.is_of_some_text.ensures }, (met.0, met.2))) (keeps_still before old late nothing keeps))
+    let texts = look.told store in
+    inr (inr (
+      texts.1,
+      texts.0,
+      first_tells k old store (λ is_open. sym (c.is_autocommit-settled.ensures.settled idle is_open)) image (state g.S.Store c.transact.new.connection) c.transact.result (λ before fits keeps.
+          let met = first_met k old mid look before keeps in
+          c.transact.ensures.serves clean k read.0.is_open before (λ _. (record { version_is = refl; profile_is = refl; sound = c.is_of_some_text.ensures }, (met.0, met.2))) (keeps_still before old late nothing keeps)),
+    ))
 
 pub returns-else-branch-clause-serves : goal.returns-else-branch-clause-serves
 returns-else-branch-clause-serves g c clean limits =
@@ -116,21 +119,66 @@ returns-else-branch-clause-serves g c clean limits =
     let old = state g.S.Store c.args.connection.now in
     let mid = state g.S.Store c.check_layout.new.connection in
     let first : HasCleanDisk mid = omega (arith, c.is_image.ensures.call.crash.clean) in
-    let look = subst (λ (s : Standing). IsLook (FindsStanding own profile) (RefusesLayout own profile) old mid (Ok s)) c.in-First.is (c.in_ok-standing.ensures.look first) in
+    let look = subst (λ (s : Standing). IsLook (FindsStanding own profile) (RefusesUpgrade own profile) old mid (Ok s)) c.in-First.is (c.in_ok-standing.ensures.look first) in
     let no : c.in_ok-is_image-in-First.field-0 ≡ false = search rules in
     damage_unserved k old mid (state g.S.Store c.is_image.new.connection) look (λ store image.
     let is = (c.in_ok-is_image-in-First.ensures.value clean store).1 image in
     let e : true ≡ false = sym is ∙ no in cc)
 
 pub returns-else-branch-clause-told : goal.returns-else-branch-clause-told
-returns-else-branch-clause-told g c clean other store texts =
+returns-else-branch-clause-told g c clean store =
     let own = version_of g.L.Layout.format in
     let profile = c.args.profile.now in
     let k = conditions own profile any_limits in
     let old = state g.S.Store c.args.connection.now in
     let mid = state g.S.Store c.check_layout.new.connection in
     let first : HasCleanDisk mid = omega (arith, c.is_image.ensures.call.crash.clean) in
-    let look = subst (λ (s : Standing). IsLook (FindsStanding own profile) (RefusesLayout own profile) old mid (Ok s)) c.in-First.is (c.in_ok-standing.ensures.look first) in
+    let look = subst (λ (s : Standing). IsLook (FindsStanding own profile) (RefusesUpgrade own profile) old mid (Ok s)) c.in-First.is (c.in_ok-standing.ensures.look first) in
     let still = (look.same look.found.1).1 in
     let no : c.in_ok-is_image-in-First.field-0 ≡ false = search rules in
-    tells_none k (version_of plain_rows) old mid still c.in_ok-is_image-in-First.field-0 (c.in_ok-is_image-in-First.ensures.value clean (store_same old mid still store)) texts no
+    let texts = look.told store in
+    inr (inr (texts.1, texts.0, tells_none k (version_of plain_rows) old mid still c.in_ok-is_image-in-First.field-0 (c.in_ok-is_image-in-First.ensures.value clean (store_same old mid still store)) texts.0 no))
+
+-- ---- where there is nothing to do
+
+pub returns-in_err-standing-clause-stays : goal.returns-in_err-standing-clause-stays
+returns-in_err-standing-clause-stays g c clean store texts =
+    let own = version_of g.L.Layout.format in
+    let profile = c.args.profile.now in
+    let why = c.in_err-standing.field-0.0 in
+    let look = c.in_err-standing.ensures.look clean in
+    let told : c.from_residual.result ≡ Err why = search rules in
+    rw told (look.same, inr (own_unrefused own profile (state g.S.Store c.args.connection.now) store texts (subst IsUtf8 c.version-version.ensures c.version-version.utf8) (subst IsUtf8 c.text-text.ensures c.text-text.utf8) why (look.told store)))
+
+pub returns-in-Upgraded-clause-stays : goal.returns-in-Upgraded-clause-stays
+returns-in-Upgraded-clause-stays g c clean store texts = ((c.in_ok-standing.ensures.look clean).same, inl refl)
+
+pub returns-in_err-is_image-in-First-clause-stays : goal.returns-in_err-is_image-in-First-clause-stays
+returns-in_err-is_image-in-First-clause-stays g c clean store texts =
+    let own = version_of g.L.Layout.format in
+    let profile = c.args.profile.now in
+    let old = state g.S.Store c.args.connection.now in
+    let mid = state g.S.Store c.check_layout.new.connection in
+    let first : HasCleanDisk mid = omega (arith, c.is_image.ensures.call.crash.clean) in
+    let look = subst (λ (s : Standing). IsLook (FindsStanding own profile) (RefusesUpgrade own profile) old mid (Ok s)) c.in-First.is (c.in_ok-standing.ensures.look first) in
+    absurd (own_not_first own profile old store texts (look.told store))
+
+pub returns-then-branch-clause-stays : goal.returns-then-branch-clause-stays
+returns-then-branch-clause-stays g c clean store texts =
+    let own = version_of g.L.Layout.format in
+    let profile = c.args.profile.now in
+    let old = state g.S.Store c.args.connection.now in
+    let mid = state g.S.Store c.check_layout.new.connection in
+    let first : HasCleanDisk mid = omega (arith, c.transact.ensures.survives.clean, c.is_image.ensures.call.crash.clean) in
+    let look = subst (λ (s : Standing). IsLook (FindsStanding own profile) (RefusesUpgrade own profile) old mid (Ok s)) c.in-First.is (c.in_ok-standing.ensures.look first) in
+    absurd (own_not_first own profile old store texts (look.told store))
+
+pub returns-else-branch-clause-stays : goal.returns-else-branch-clause-stays
+returns-else-branch-clause-stays g c clean store texts =
+    let own = version_of g.L.Layout.format in
+    let profile = c.args.profile.now in
+    let old = state g.S.Store c.args.connection.now in
+    let mid = state g.S.Store c.check_layout.new.connection in
+    let first : HasCleanDisk mid = omega (arith, c.is_image.ensures.call.crash.clean) in
+    let look = subst (λ (s : Standing). IsLook (FindsStanding own profile) (RefusesUpgrade own profile) old mid (Ok s)) c.in-First.is (c.in_ok-standing.ensures.look first) in
+    absurd (own_not_first own profile old store texts (look.told store))

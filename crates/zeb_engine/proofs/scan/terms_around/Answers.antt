@@ -7,7 +7,7 @@ use Rattle.zeb_register.specs.Content.{posted}
 use Rattle.zeb_register.proofs.Calls.{store_same}
 use Rattle.zeb_change.specs.Outcomes.{register_refusal}
 use Rattle.zeb_engine.proofs.ListedDatabases.{fault_fails}
-use Rattle.zeb_engine.proofs.ScanReads.{around_reads}
+use Rattle.zeb_engine.proofs.AskedReads.{around_reads}
 use Rattle.zeb_engine.proofs.Scans.{around_lists}
 use Rattle.zeb_engine.proofs.scan.terms_around.Goals as goal
 use Rattle.zeb_register.specs.Formats.{holds_in}

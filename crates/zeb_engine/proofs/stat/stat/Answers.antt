@@ -7,25 +7,23 @@ use Rattle.zeb_register.specs.Content.{posted}
 use Rattle.zeb_register.specs.Kept.{IsRecordCount}
 use Rattle.zeb_register.specs.Store.{HasDatabase}
 use Rattle.zeb_register.specs.declared.catalog.Database.{Database}
+use Rattle.zeb_engine.specs.declared.replies.Reply.{Reply}
 use Rattle.zeb_engine.specs.declared.replies.Reply.TheVariants.{Counted}
 use Rattle.zeb_engine.specs.Answers.{counted, extent_of}
 use Rattle.zeb_change.specs.Conditions.{conditions}
 use Rattle.zeb_engine.specs.Counting.{IsExtent, Paired, Target}
 use Rattle.zeb_change.specs.Occurs.{occurs}
-use Rattle.zeb_change.specs.Base.{Base}
 use Rattle.zeb_image.specs.NameOf.{name_bytes}
 use Rattle.zeb_change.specs.Outcomes.{register_refusal}
-use Rattle.zeb_engine.specs.Steps.{ready}
-use Rattle.zeb_engine.proofs.Commanding.{ready_met}
+use Rattle.zeb_engine.proofs.Commanding.{ready_kept}
 use Rattle.zeb_engine.proofs.Dumps.{as_many}
 use Rattle.zeb_engine.proofs.Held.{looked_up}
 use Rattle.zeb_engine.proofs.ListedDatabases.{fault_fails}
-use Rattle.zeb_engine.proofs.Serving.{keeps_still}
 use Rattle.zeb_engine.proofs.Showing.{still_shows}
 use Rattle.zeb_engine.proofs.Stats.{Counts, count_fails, count_known, count_unknown, extents_as, last_named, unready_counts}
 use Rattle.zeb_engine.proofs.stat.stat.Goals as goal
 use Rattle.zeb_register.specs.Formats.{version_of}
-use Rattle.zeb_engine.proofs.ReadyTexts.{fault_texts, ready_then}
+use Rattle.zeb_engine.proofs.ReadyTexts.{fault_never, ready_then}
 
 pub returns-in_err-check_ready-clause-serves : goal.returns-in_err-check_ready-clause-serves
 returns-in_err-check_ready-clause-serves g c clean limits before keeps =
@@ -47,14 +45,13 @@ returns-in_err-database-clause-serves g c clean limits before keeps =
     let s1 = state g.S.Store c.check_ready.new.connection in
     let s2 = state g.S.Store c.existing_database.new.connection in
     let clean1 : HasCleanDisk s1 = omega (arith, c.existing_database.ensures.crash.clean) in
-    let met = ready_met {X = Unit {0}} (λ (bases : List Base) x. IsTrue s0.is_open × IsTrue s1.is_open) (ready k before) tt (c.in_ok-check_ready.ensures.ready clean1 limits before keeps) in
-    let keeps1 = keeps_still before s0 s1 (c.check_ready.ensures.same clean1) keeps in
+    let met = ready_kept k s0 s1 before (c.in_ok-check_ready.ensures.ready clean1 limits before keeps) (c.check_ready.ensures.same clean1) keeps in
     let refusal = c.in_err-database.field-0.0 in
     let told : c.from_residual-in_err-database.result ≡ Err refusal = search rules in
     let nothing = nothing_then s0 s1 s2 (c.check_ready.ensures.same clean1) (c.existing_database.ensures.same clean) in
     subst (Counts k name s0 s2 nothing before) (sym told)
     (count_unknown k name s0 s2 nothing before met.0 met.1 keeps
-    {X = Database} (λ base d. HasDatabase s1.now.trees d.id.0 base.name (pos base.last) × (d.last ≡ base.last) × IsTrue s2.is_open) refusal (c.in_err-database.ensures.exists clean met.2.1 k before met.0 met.1 keeps1))
+    {X = Database} (λ base d. HasDatabase s1.now.trees d.id.0 base.name (pos base.last) × (d.last ≡ base.last) × IsTrue s2.is_open) refusal (c.in_err-database.ensures.exists clean met.2.1 k before met.0 met.1 met.3))
 
 pub returns-in_err-kept-clause-serves : goal.returns-in_err-kept-clause-serves
 returns-in_err-kept-clause-serves g c clean limits before keeps =
@@ -66,11 +63,10 @@ returns-in_err-kept-clause-serves g c clean limits before keeps =
     let s3 = state g.S.Store c.record_count.new.conn in
     let clean2 : HasCleanDisk s2 = omega (arith, c.record_count.ensures.call.crash.clean) in
     let clean1 : HasCleanDisk s1 = omega (arith, clean2, c.existing_database.ensures.crash.clean) in
-    let met = ready_met {X = Unit {0}} (λ (bases : List Base) x. IsTrue s0.is_open × IsTrue s1.is_open) (ready k before) tt (c.in_ok-check_ready.ensures.ready clean1 limits before keeps) in
-    let keeps1 = keeps_still before s0 s1 (c.check_ready.ensures.same clean1) keeps in
+    let met = ready_kept k s0 s1 before (c.in_ok-check_ready.ensures.ready clean1 limits before keeps) (c.check_ready.ensures.same clean1) keeps in
     let database = c.in_ok-database.database in
-    let seen = (keeps1 met.2.1).0 in
-    let base = looked_up g.L.Layout.format k (record { version_is = refl; sound = c.is_of_some_text.ensures }) s1 before met.0 name database (IsTrue s2.is_open) met.1 seen.1 (c.in_ok-database.ensures.exists clean2 met.2.1 k before met.0 met.1 keeps1) in
+    let seen = (met.3 met.2.1).0 in
+    let base = looked_up g.L.Layout.format k (record { version_is = refl; sound = c.is_of_some_text.ensures }) s1 before met.0 name database (IsTrue s2.is_open) met.1 seen.1 (c.in_ok-database.ensures.exists clean2 met.2.1 k before met.0 met.1 met.3) in
     let there = still_shows s1 s2 s1.now.trees (c.existing_database.ensures.same clean2) (λ _. (seen.0, refl)) base.3 in
     let nothing = nothing_then s0 s2 s3 (nothing_then s0 s1 s2 (c.check_ready.ensures.same clean1) (c.existing_database.ensures.same clean2)) (c.record_count.ensures.call.same clean c.existing_database.ensures.idle) in
     let fault = c.in_err-kept.field-0.0 in
@@ -90,11 +86,10 @@ returns-in_err-holdings-clause-serves g c clean limits before keeps =
     let clean3 : HasCleanDisk s3 = omega (arith, c.holdings_of.ensures.crash.clean) in
     let clean2 : HasCleanDisk s2 = omega (arith, clean3, c.record_count.ensures.call.crash.clean) in
     let clean1 : HasCleanDisk s1 = omega (arith, clean2, c.existing_database.ensures.crash.clean) in
-    let met = ready_met {X = Unit {0}} (λ (bases : List Base) x. IsTrue s0.is_open × IsTrue s1.is_open) (ready k before) tt (c.in_ok-check_ready.ensures.ready clean1 limits before keeps) in
-    let keeps1 = keeps_still before s0 s1 (c.check_ready.ensures.same clean1) keeps in
+    let met = ready_kept k s0 s1 before (c.in_ok-check_ready.ensures.ready clean1 limits before keeps) (c.check_ready.ensures.same clean1) keeps in
     let database = c.in_ok-database.database in
-    let seen = (keeps1 met.2.1).0 in
-    let base = looked_up g.L.Layout.format k (record { version_is = refl; sound = c.is_of_some_text.ensures }) s1 before met.0 name database (IsTrue s2.is_open) met.1 seen.1 (c.in_ok-database.ensures.exists clean2 met.2.1 k before met.0 met.1 keeps1) in
+    let seen = (met.3 met.2.1).0 in
+    let base = looked_up g.L.Layout.format k (record { version_is = refl; sound = c.is_of_some_text.ensures }) s1 before met.0 name database (IsTrue s2.is_open) met.1 seen.1 (c.in_ok-database.ensures.exists clean2 met.2.1 k before met.0 met.1 met.3) in
     let held = base.2 in
     let records_same = c.record_count.ensures.call.same clean3 c.existing_database.ensures.idle in
     let at2 = still_shows s1 s2 s1.now.trees (c.existing_database.ensures.same clean2) (λ _. (seen.0, refl)) in
@@ -118,11 +113,10 @@ returns-clause-serves g c clean limits before keeps =
     let clean3 : HasCleanDisk s3 = omega (arith, c.holdings_of.ensures.crash.clean) in
     let clean2 : HasCleanDisk s2 = omega (arith, clean3, c.record_count.ensures.call.crash.clean) in
     let clean1 : HasCleanDisk s1 = omega (arith, clean2, c.existing_database.ensures.crash.clean) in
-    let met = ready_met {X = Unit {0}} (λ (bases : List Base) x. IsTrue s0.is_open × IsTrue s1.is_open) (ready k before) tt (c.in_ok-check_ready.ensures.ready clean1 limits before keeps) in
-    let keeps1 = keeps_still before s0 s1 (c.check_ready.ensures.same clean1) keeps in
+    let met = ready_kept k s0 s1 before (c.in_ok-check_ready.ensures.ready clean1 limits before keeps) (c.check_ready.ensures.same clean1) keeps in
     let database = c.in_ok-database.database in
-    let seen = (keeps1 met.2.1).0 in
-    let said = c.in_ok-database.ensures.exists clean2 met.2.1 k before met.0 met.1 keeps1 in
+    let seen = (met.3 met.2.1).0 in
+    let said = c.in_ok-database.ensures.exists clean2 met.2.1 k before met.0 met.1 met.3 in
     let base = looked_up g.L.Layout.format k (record { version_is = refl; sound = c.is_of_some_text.ensures }) s1 before met.0 name database (IsTrue s2.is_open) met.1 seen.1 said in
     let held = base.2 in
     let records_same = c.record_count.ensures.call.same clean3 c.existing_database.ensures.idle in
@@ -194,8 +188,11 @@ returns-in_err-database-clause-ready g c clean =
 
 pub returns-in_err-kept-clause-ready : goal.returns-in_err-kept-clause-ready
 returns-in_err-kept-clause-ready g c clean =
-    let told : c.from_residual-in_err-kept.result ≡ Err (register_refusal c.in_err-kept.field-0.0) = search rules in
-    rw told (λ store. fault_texts (version_of g.L.Layout.format) c.args.profile.now (state g.S.Store c.args.connection.now).now.trees c.in_err-kept.field-0.0)
+    let clean2 : HasCleanDisk (state g.S.Store c.existing_database.new.connection) = omega (arith, c.record_count.ensures.call.crash.clean) in
+    let clean1 : HasCleanDisk (state g.S.Store c.check_ready.new.connection) = omega (arith, clean2, c.existing_database.ensures.crash.clean) in
+    let fault = c.in_err-kept.field-0.0 in
+    let told : c.from_residual-in_err-kept.result ≡ Err (register_refusal fault) = search rules in
+    rw told (ready_then (version_of g.L.Layout.format) c.args.profile.now {T = Reply} {X = Unit {0}} (state g.S.Store c.args.connection.now) tt (c.in_ok-check_ready.ensures.texts clean1) (Err (register_refusal fault)) (fault_never {T = Reply} fault))
 
 pub returns-in_err-holdings-clause-ready : goal.returns-in_err-holdings-clause-ready
 returns-in_err-holdings-clause-ready g c clean =

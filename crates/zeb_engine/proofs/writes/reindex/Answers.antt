@@ -1,37 +1,34 @@
-use Rattle.std.proofs.Common.{◌≡◌, codes, Err, IsUtf8, rules, arith, ap, subst}
+use Rattle.std.proofs.Common.{◌≡◌, codes, Err, IsUtf8, inl, refl, rules, arith, ap, subst}
 use Rattle.sqlite.specs.Held.{state}
 use Rattle.sqlite.specs.State.{HasCleanDisk}
 use Rattle.zeb_register.specs.Calls.{Alters}
 use Rattle.zeb_register.specs.Formats.{version_of}
 use Rattle.zeb_register.specs.Sql.{Replaces}
 use Rattle.zeb_register.specs.Store.{IsEntryOf, entry, meta_tree}
-use Rattle.zeb_change.specs.Outcomes.{register_refusal}
 use Rattle.zeb_engine.specs.PrivateWriting.{IsRuled}
 use Rattle.zeb_engine.specs.Steps.{reindexed}
-use Rattle.zeb_engine.proofs.Renewing.{found_ruled, put_fails, rebuild_fails, reindex_works}
+use Rattle.zeb_engine.proofs.Renewing.{found_ruled, put_fails, rebuild_fails, rebuild_tells, reindex_works}
 use Rattle.zeb_engine.proofs.writes.reindex.Goals as goal
 
 pub returns-in_err-rebuild-clause-works : goal.returns-in_err-rebuild-clause-works
 returns-in_err-rebuild-clause-works g c clean inside opened k =
     let old = state g.S.Store c.args.tx.now.conn.now in
-    let own = version_of g.L.Layout.format in
     let profile = c.args.profile.now in
     let fault = c.in_err-rebuild.field-0.0 in
-    let told : c.from_residual.result ≡ Err (register_refusal fault) = search rules in
-    rw told (rebuild_fails profile k (IsRuled own profile k) (reindexed k) old (state g.S.Store c.rebuild.new.tx.conn.now) opened (found_ruled g.L.Layout.format profile k old.now.trees) fault
+    let told : c.from_residual.result ≡ Err fault = search rules in
+    rw told (rebuild_fails profile k (IsRuled (version_of g.L.Layout.format) profile k) (reindexed k) old (state g.S.Store c.rebuild.new.tx.conn.now) opened (found_ruled g.L.Layout.format profile k old.now.trees) fault
     (c.in_err-rebuild.ensures.call.err clean inside) (λ is store. c.in_err-rebuild.ensures.honest clean inside store (ap Err is)))
 
 pub returns-in_err-meta_put-clause-works : goal.returns-in_err-meta_put-clause-works
 returns-in_err-meta_put-clause-works g c clean inside opened k =
     let old = state g.S.Store c.args.tx.now.conn.now in
     let mid = state g.S.Store c.rebuild.new.tx.conn.now in
-    let own = version_of g.L.Layout.format in
     let profile = c.args.profile.now in
     let fault = c.in_err-meta_put.field-0.0 in
     let cleaner : HasCleanDisk mid = omega (arith, c.meta_put.ensures.call.crash.clean) in
     let first = c.in_ok-rebuild.ensures.call.ok cleaner inside in
-    let told : c.from_residual-in_err-meta_put.result ≡ Err (register_refusal fault) = search rules in
-    rw told (put_fails profile k (IsRuled own profile k) (reindexed k) old mid opened (found_ruled g.L.Layout.format profile k old.now.trees) (state g.S.Store c.meta_put.new.tx.conn.now) fault
+    let told : c.from_residual-in_err-meta_put.result ≡ Err fault = search rules in
+    rw told (put_fails profile k (IsRuled (version_of g.L.Layout.format) profile k) (reindexed k) old mid opened (found_ruled g.L.Layout.format profile k old.now.trees) (state g.S.Store c.meta_put.new.tx.conn.now) fault
     (λ is. c.in_err-meta_put.ensures.honest (ap Err is)) first (c.in_err-meta_put.ensures.call.err clean first.mode))
 
 pub returns-clause-works : goal.returns-clause-works
@@ -46,7 +43,19 @@ returns-clause-works g c clean inside opened k =
     let readable = subst IsUtf8 c.text.ensures c.text.utf8 in
     reindex_works g.L.Layout.format profile k old mid new first (c.in_ok-rebuild.ensures.built cleaner inside) readable alters
 
+pub returns-in_err-rebuild-clause-sound : goal.returns-in_err-rebuild-clause-sound
+returns-in_err-rebuild-clause-sound g c clean inside store =
+    let fault = c.in_err-rebuild.field-0.0 in
+    let told : c.from_residual.result ≡ Err fault = search rules in
+    rw told (rebuild_tells c.args.profile.now (state g.S.Store c.args.tx.now.conn.now).now.trees fault (λ is both. c.in_err-rebuild.ensures.damaged clean inside store (ap Err is) both.0 both.1))
+
+pub returns-in_err-meta_put-clause-sound : goal.returns-in_err-meta_put-clause-sound
+returns-in_err-meta_put-clause-sound g c clean inside store =
+    let fault = c.in_err-meta_put.field-0.0 in
+    let told : c.from_residual-in_err-meta_put.result ≡ Err fault = search rules in
+    rw told (rebuild_tells c.args.profile.now (state g.S.Store c.args.tx.now.conn.now).now.trees fault (λ is. absurd (c.in_err-meta_put.ensures.honest (ap Err is))))
+
 pub returns-clause-sound : goal.returns-clause-sound
 returns-clause-sound g c clean inside store =
     let cleaner : HasCleanDisk (state g.S.Store c.rebuild.new.tx.conn.now) = omega (arith, c.meta_put.ensures.call.crash.clean) in
-    c.in_ok-rebuild.ensures.checked cleaner inside store
+    inl (c.in_ok-rebuild.ensures.checked cleaner inside store, refl)

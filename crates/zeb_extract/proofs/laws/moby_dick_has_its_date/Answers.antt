@@ -1,7 +1,7 @@
-use Rattle.std.proofs.Common.{ap, arith}
+use Rattle.std.proofs.Common.{ap, arith, refl}
 use Rattle.zeb_extract.proofs.Example.{date_found, no_other}
 use Rattle.zeb_extract.specs.declared.keys.Occurrence.{Occurrence}
 use Rattle.zeb_extract.proofs.laws.moby_dick_has_its_date.Goals as goal
 
 pub returns : goal.returns
-returns c = record { found = date_found; no_other = no_other; not_elsewhere = λ is. absurd (omega (arith, ap (λ (o : Occurrence). o.seq) (no_other _ is))) }
+returns c = record { profile = refl; found = date_found; no_other = no_other; not_elsewhere = λ is. absurd (omega (arith, ap (λ (o : Occurrence). o.seq) (no_other _ is))) }

@@ -1,5 +1,6 @@
+use Rattle.std.proofs.Common.{refl}
 use Rattle.zeb_extract.proofs.Analysis.{called, rising, members}
 use Rattle.zeb_extract.proofs.laws.moby_dick_is_analysed.Goals as goal
 
 pub returns : goal.returns
-returns c = record { called = called; rising = rising; members = members }
+returns c = record { profile = refl; called = called; rising = rising; members = members }

@@ -1,18 +1,20 @@
-use Rattle.std.proofs.Common.{◌≡◌, pos, Some, None, Err, refl, sym, subst, arith, rules, string_bytes}
+use Rattle.std.proofs.Common.{◌≡◌, pos, Some, None, Result, Ok, Err, OnOk, refl, sym, subst, arith, rules, string_bytes}
 use Rattle.sqlite.specs.Effect.{Database}
 use Rattle.sqlite.specs.Held.{state}
 use Rattle.sqlite.specs.State.{HasCleanDisk, State}
 use Rattle.sqlite.specs.Tree.{Trees}
 use Rattle.zeb_register.specs.Calls.{OnlyReads}
-use Rattle.zeb_register.specs.Formats.{holds_in}
 use Rattle.zeb_register.specs.Kept.{IsFirstFrom}
 use Rattle.zeb_register.specs.Store.{KeepsLists}
 use Rattle.zeb_register.specs.declared.faults.RegFault.TheVariants.{Damaged}
 use Rattle.zeb_register.proofs.Calls.{store_same}
 use Rattle.zeb_register.proofs.RowsAreLists.{one_number}
-use Rattle.zeb_change.specs.Inside.{Continues}
+use Rattle.zeb_change.specs.Inside.{Continues, Stays}
+use Rattle.zeb_change.specs.Noted.{WillHold}
 use Rattle.zeb_change.proofs.ChangeKeysContent.{keeps_then}
-use Rattle.zeb_change.proofs.TransactionLemmas.{continues_then}
+use Rattle.zeb_change.proofs.CostLemmas.{ok_so}
+use Rattle.zeb_change.proofs.Leading.{held_whole, will_begin}
+use Rattle.zeb_change.proofs.TransactionLemmas.{continues_then, kept_then}
 use Rattle.zeb_image.proofs.RebuiltPostings.{all_posted, all_sound, first_lacks, first_still, next_posted, next_sound, none_posted, readable_still}
 use Rattle.zeb_image.proofs.rebuilding.database_post.Goals as goal
 
@@ -22,6 +24,15 @@ read_on old new on = record {
   mode = on.mode;
   stays_open = λ _. on.is_open;
 }
+
+-- what follows where a call is accepted of which two things are said
+ok_both : {T E : Type 0} (result : Result T E) (One Two Three : Type 0) → (One → Two → Three) → OnOk result One → OnOk result Two → OnOk result Three
+ok_both (Ok value) One Two Three so one two = so one two
+ok_both (Err fault) One Two Three so one two = one
+
+stays_then : {T E : Type 0} (old mid new : State) (result : Result T E) → Continues old mid → Stays mid new result → Stays old new result
+stays_then old mid new (Ok value) one two = continues_then old mid new one two
+stays_then old mid new (Err fault) one two = kept_then old mid new one two
 
 same_lists : (lists : Trees) (old new : State) → new.now ≡ old.now → KeepsLists lists old.now.trees → KeepsLists lists new.now.trees
 same_lists lists old new same keeps = subst (λ (db : Database). KeepsLists lists db.trees) (sym same) keeps
@@ -35,7 +46,7 @@ loop-turn-init g c = record {
   kept = λ clean mode store. (store, (refl, refl, refl));
   checked = λ clean mode store n ident bytes low there. absurd (omega (arith, low));
   posted = λ clean mode store before had storable lacks.
-      record { content = before; held = had; storable = storable; is = none_posted c.args.profile.now _ c.args.db.0 before lacks };
+      record { content = before; held = will_begin g.L.Layout.format _ c.args.db.0 c.new-pending.result before c.new-pending.ensures had storable; storable = storable; is = none_posted c.args.profile.now _ c.args.db.0 before lacks };
 }
 
 pub loop-turn-preserved : goal.loop-turn-preserved
@@ -43,32 +54,33 @@ loop-turn-preserved g c =
     let old = state g.S.Store c.args.tx.now.conn.now in
     let now = state g.S.Store c.loop-turn.tx.conn.now in
     let mid = state g.S.Store c.record_from_inside.new.tx.conn.now in
-    let new = state g.S.Store c.record_post.new.tx.conn.now in
+    let new = state g.S.Store c.write_where_full.new.tx.conn.now in
+    let format = g.L.Layout.format in
     let id = c.args.db.0 in
     let profile = c.args.profile.now in
     let found = c.in-Some.record in
-    let clean_mid = λ (clean : HasCleanDisk new). (let e : HasCleanDisk mid = omega (arith, c.record_post.ensures.crash.clean) in e) in
-    let clean_now = λ (clean : HasCleanDisk new). (let e : HasCleanDisk now = omega (arith, c.record_post.ensures.crash.clean, c.record_from_inside.ensures.call.crash.clean) in e) in
+    let clean_mid = λ (clean : HasCleanDisk new). (let e : HasCleanDisk mid = omega (arith, c.write_where_full.ensures.call.crash.clean) in e) in
+    let clean_now = λ (clean : HasCleanDisk new). (let e : HasCleanDisk now = omega (arith, c.write_where_full.ensures.call.crash.clean, c.record_from_inside.ensures.call.crash.clean) in e) in
     record {
       same = search rules;
       crash = search rules;
       stays = λ clean mode.
           let was = c.loop-turn.invariant.stays (clean_now clean) mode in
           let read = read_on now mid (c.in_ok-record.ensures.call.ok (clean_mid clean) was.mode) in
-          continues_then old mid new (continues_then old now mid was read) (c.in_ok-record_post.ensures.stays clean read.mode);
-      small = omega (arith, c.in_ok-record_post.ensures.number);
+          continues_then old mid new (continues_then old now mid was read) (c.in_ok-write_where_full.ensures.call.stays clean read.mode);
+      small = omega (arith, c.in_ok-record_note.ensures.number);
       kept = λ clean mode store.
           let was = c.loop-turn.invariant.stays (clean_now clean) mode in
           let kept = c.loop-turn.invariant.kept (clean_now clean) mode store in
           let on = c.in_ok-record.ensures.call.ok (clean_mid clean) was.mode in
-          let then_kept = c.in_ok-record_post.ensures.kept clean on.mode (store_same now mid on.now_is kept.0) in
-          (then_kept.0, keeps_then old.now.trees mid.now.trees new.now.trees (same_lists old.now.trees now mid on.now_is kept.1) then_kept.1);
+          let settled = c.in_ok-write_where_full.ensures.call.written clean on.mode (store_same now mid on.now_is kept.0) in
+          (settled.0, keeps_then old.now.trees mid.now.trees new.now.trees (same_lists old.now.trees now mid on.now_is kept.1) settled.1);
       checked = λ clean mode store.
           let was = c.loop-turn.invariant.stays (clean_now clean) mode in
           let kept = c.loop-turn.invariant.kept (clean_now clean) mode store in
           let value = subst (IsFirstFrom now.now.trees id c.loop-turn.next) c.in-Some.is (c.in_ok-record.ensures.value (clean_mid clean) was.mode kept.0 (omega (arith, c.loop-turn.invariant.small))) in
           let first = first_still old.now.trees now.now.trees kept.1 id c.loop-turn.next (Some found) value in
-          next_sound profile old.now.trees id c.loop-turn.next (c.loop-turn.invariant.checked (clean_now clean) mode store) found first (one_number old store id (pos found.sysno)) c.in_ok-record_post.ensures.sound;
+          next_sound profile old.now.trees id c.loop-turn.next (c.loop-turn.invariant.checked (clean_now clean) mode store) found first (one_number old store id (pos found.sysno)) c.in_ok-record_note.ensures.sound;
       posted = λ clean mode store before had storable lacks.
           let was = c.loop-turn.invariant.stays (clean_now clean) mode in
           let kept = c.loop-turn.invariant.kept (clean_now clean) mode store in
@@ -76,46 +88,104 @@ loop-turn-preserved g c =
           let value = subst (IsFirstFrom now.now.trees id c.loop-turn.next) c.in-Some.is (c.in_ok-record.ensures.value (clean_mid clean) was.mode kept.0 (omega (arith, c.loop-turn.invariant.small))) in
           let first = first_still old.now.trees now.now.trees kept.1 id c.loop-turn.next (Some found) value in
           let such = c.loop-turn.invariant.posted (clean_now clean) mode store before had storable lacks in
-          let held = subst (λ (db : Database). holds_in g.L.Layout.format db.trees such.content) (sym on.now_is) such.held in
-          let now_such = c.in_ok-record_post.ensures.posted clean on.mode (store_same now mid on.now_is kept.0) such.content held such.storable
+          let held = subst (λ (db : Database). WillHold format db.trees id c.loop-turn.pending such.content) (sym on.now_is) such.held in
+          let noted = c.in_ok-record_note.ensures.posted format mid.now.trees id such.content held such.storable
           (first_lacks profile old.now.trees id c.loop-turn.next before such.content such.is found first) in
+          let settled = c.in_ok-write_where_full.ensures.call.written clean on.mode (store_same now mid on.now_is kept.0) in
           record {
-            content = now_such.content;
-            held = now_such.held;
-            storable = now_such.storable;
-            is = next_posted profile old.now.trees id c.loop-turn.next before such.content such.is found first (one_number old store id (pos found.sysno)) now_such.content now_such.is;
+            content = noted.content;
+            held = (settled.2 noted.content noted.storable noted.held).0;
+            storable = noted.storable;
+            is = next_posted profile old.now.trees id c.loop-turn.next before such.content such.is found first (one_number old store id (pos found.sysno)) noted.content noted.is;
           };
     }
 
-pub returns-in_default-clause-checked : goal.returns-in_default-clause-checked
-returns-in_default-clause-checked g c = λ clean mode store.
+-- ---- behind the last record
+
+pub returns-in_default-clause-stays : goal.returns-in_default-clause-stays
+returns-in_default-clause-stays g c clean mode =
     let old = state g.S.Store c.args.tx.now.conn.now in
     let now = state g.S.Store c.loop-turn.tx.conn.now in
-    let clean_now : HasCleanDisk now = omega (arith, c.record_from_inside.ensures.call.crash.clean) in
+    let mid = state g.S.Store c.record_from_inside.new.tx.conn.now in
+    let new = state g.S.Store c.write_pending.new.tx.conn.now in
+    let clean_mid : HasCleanDisk mid = omega (arith, c.write_pending.ensures.call.crash.clean) in
+    let clean_now : HasCleanDisk now = omega (arith, c.write_pending.ensures.call.crash.clean, c.record_from_inside.ensures.call.crash.clean) in
+    let was = c.loop-turn.invariant.stays clean_now mode in
+    let read = read_on now mid (c.in_ok-record.ensures.call.ok clean_mid was.mode) in
+    stays_then old mid new c.write_pending.result (continues_then old now mid was read) (c.write_pending.ensures.call.stays clean read.mode)
+
+pub returns-in_default-clause-kept : goal.returns-in_default-clause-kept
+returns-in_default-clause-kept g c clean mode store =
+    let old = state g.S.Store c.args.tx.now.conn.now in
+    let now = state g.S.Store c.loop-turn.tx.conn.now in
+    let mid = state g.S.Store c.record_from_inside.new.tx.conn.now in
+    let new = state g.S.Store c.write_pending.new.tx.conn.now in
+    let clean_mid : HasCleanDisk mid = omega (arith, c.write_pending.ensures.call.crash.clean) in
+    let clean_now : HasCleanDisk now = omega (arith, c.write_pending.ensures.call.crash.clean, c.record_from_inside.ensures.call.crash.clean) in
     let was = c.loop-turn.invariant.stays clean_now mode in
     let kept = c.loop-turn.invariant.kept clean_now mode store in
-    let value = subst (IsFirstFrom now.now.trees c.args.db.0 c.loop-turn.next) c.in_default.is (c.in_ok-record.ensures.value clean was.mode kept.0 (omega (arith, c.loop-turn.invariant.small))) in
-    all_sound c.args.profile.now old.now.trees c.args.db.0 c.loop-turn.next (c.loop-turn.invariant.checked clean_now mode store)
-    (first_still old.now.trees now.now.trees kept.1 c.args.db.0 c.loop-turn.next None value)
+    let on = c.in_ok-record.ensures.call.ok clean_mid was.mode in
+    ok_so c.write_pending.result _ _ (λ settled. (settled.0, keeps_then old.now.trees mid.now.trees new.now.trees (same_lists old.now.trees now mid on.now_is kept.1) settled.1))
+    (c.write_pending.ensures.call.written clean on.mode (store_same now mid on.now_is kept.0))
 
-pub returns-in_default-clause-posted : goal.returns-in_default-clause-posted
-returns-in_default-clause-posted g c = λ clean mode store before had storable lacks.
+pub returns-in_default-clause-checked : goal.returns-in_default-clause-checked
+returns-in_default-clause-checked g c clean mode store =
     let old = state g.S.Store c.args.tx.now.conn.now in
     let now = state g.S.Store c.loop-turn.tx.conn.now in
+    let mid = state g.S.Store c.record_from_inside.new.tx.conn.now in
+    let id = c.args.db.0 in
+    let clean_mid : HasCleanDisk mid = omega (arith, c.write_pending.ensures.call.crash.clean) in
+    let clean_now : HasCleanDisk now = omega (arith, c.write_pending.ensures.call.crash.clean, c.record_from_inside.ensures.call.crash.clean) in
+    let was = c.loop-turn.invariant.stays clean_now mode in
+    let kept = c.loop-turn.invariant.kept clean_now mode store in
+    let on = c.in_ok-record.ensures.call.ok clean_mid was.mode in
+    let value = subst (IsFirstFrom now.now.trees id c.loop-turn.next) c.in_default.is (c.in_ok-record.ensures.value clean_mid was.mode kept.0 (omega (arith, c.loop-turn.invariant.small))) in
+    let sound = all_sound c.args.profile.now old.now.trees id c.loop-turn.next (c.loop-turn.invariant.checked clean_now mode store) (first_still old.now.trees now.now.trees kept.1 id c.loop-turn.next None value) in
+    ok_so c.write_pending.result _ _ (λ settled. sound) (c.write_pending.ensures.call.written clean on.mode (store_same now mid on.now_is kept.0))
+
+-- what is noted is the content that the registers hold then
+pub returns-in_default-clause-posted : goal.returns-in_default-clause-posted
+returns-in_default-clause-posted g c clean mode store =
+    let old = state g.S.Store c.args.tx.now.conn.now in
+    let now = state g.S.Store c.loop-turn.tx.conn.now in
+    let mid = state g.S.Store c.record_from_inside.new.tx.conn.now in
+    let new = state g.S.Store c.write_pending.new.tx.conn.now in
+    let format = g.L.Layout.format in
     let id = c.args.db.0 in
     let profile = c.args.profile.now in
-    let clean_now : HasCleanDisk now = omega (arith, c.record_from_inside.ensures.call.crash.clean) in
+    let clean_mid : HasCleanDisk mid = omega (arith, c.write_pending.ensures.call.crash.clean) in
+    let clean_now : HasCleanDisk now = omega (arith, c.write_pending.ensures.call.crash.clean, c.record_from_inside.ensures.call.crash.clean) in
     let was = c.loop-turn.invariant.stays clean_now mode in
     let kept = c.loop-turn.invariant.kept clean_now mode store in
-    let on = c.in_ok-record.ensures.call.ok clean was.mode in
-    let value = subst (IsFirstFrom now.now.trees id c.loop-turn.next) c.in_default.is (c.in_ok-record.ensures.value clean was.mode kept.0 (omega (arith, c.loop-turn.invariant.small))) in
+    let on = c.in_ok-record.ensures.call.ok clean_mid was.mode in
+    let value = subst (IsFirstFrom now.now.trees id c.loop-turn.next) c.in_default.is (c.in_ok-record.ensures.value clean_mid was.mode kept.0 (omega (arith, c.loop-turn.invariant.small))) in
+    let none = first_still old.now.trees now.now.trees kept.1 id c.loop-turn.next None value in
+    ok_both c.write_pending.result _ _ _ (λ settled all before had storable lacks.
     let such = c.loop-turn.invariant.posted clean_now mode store before had storable lacks in
+    let held = subst (λ (db : Database). WillHold format db.trees id c.loop-turn.pending such.content) (sym on.now_is) such.held in
     record {
       content = such.content;
-      held = subst (λ (db : Database). holds_in g.L.Layout.format db.trees such.content) (sym on.now_is) such.held;
+      held = held_whole format new.now.trees id c.write_pending.new.pending such.content all (settled.2 such.content such.storable held).0;
       storable = such.storable;
-      is = all_posted profile old.now.trees id c.loop-turn.next before such.content such.is (first_still old.now.trees now.now.trees kept.1 id c.loop-turn.next None value);
-    }
+      is = all_posted profile old.now.trees id c.loop-turn.next before such.content such.is none;
+    })
+    (c.write_pending.ensures.call.written clean on.mode (store_same now mid on.now_is kept.0)) c.write_pending.ensures.all
+
+-- the registers hold what the noted changes say
+pub returns-in_default-clause-damaged : goal.returns-in_default-clause-damaged
+returns-in_default-clause-damaged g c clean mode store told before had storable lacks readable sound =
+    let now = state g.S.Store c.loop-turn.tx.conn.now in
+    let mid = state g.S.Store c.record_from_inside.new.tx.conn.now in
+    let clean_mid : HasCleanDisk mid = omega (arith, c.write_pending.ensures.call.crash.clean) in
+    let clean_now : HasCleanDisk now = omega (arith, c.write_pending.ensures.call.crash.clean, c.record_from_inside.ensures.call.crash.clean) in
+    let was = c.loop-turn.invariant.stays clean_now mode in
+    let kept = c.loop-turn.invariant.kept clean_now mode store in
+    let on = c.in_ok-record.ensures.call.ok clean_mid was.mode in
+    let such = c.loop-turn.invariant.posted clean_now mode store before had storable lacks in
+    let held = subst (λ (db : Database). WillHold g.L.Layout.format db.trees c.args.db.0 c.loop-turn.pending such.content) (sym on.now_is) such.held in
+    c.write_pending.ensures.call.honest clean on.mode (store_same now mid on.now_is kept.0) told such.content such.storable held
+
+-- ---- before it
 
 -- what can be read is read
 pub returns-in_err-record-clause-damaged : goal.returns-in_err-record-clause-damaged
@@ -128,25 +198,41 @@ returns-in_err-record-clause-damaged g c = λ clean mode store told before had s
     let fault : c.record_from_inside.result ≡ Err Damaged = search rules in
     c.record_from_inside.ensures.honest clean was.mode kept.0 fault (readable_still old.now.trees now.now.trees kept.1 c.args.db.0 readable)
 
--- the record has no posting yet, and so it isn't sound
-pub returns-in_err-record_post-clause-damaged : goal.returns-in_err-record_post-clause-damaged
-returns-in_err-record_post-clause-damaged g c = λ clean mode store told before had storable lacks readable sound.
+-- a record that isn't sound
+pub returns-in_err-record_note-clause-damaged : goal.returns-in_err-record_note-clause-damaged
+returns-in_err-record_note-clause-damaged g c = λ clean mode store told before had storable lacks readable sound.
+    let old = state g.S.Store c.args.tx.now.conn.now in
+    let now = state g.S.Store c.loop-turn.tx.conn.now in
+    let id = c.args.db.0 in
+    let found = c.in-Some.record in
+    let clean_now : HasCleanDisk now = omega (arith, c.record_from_inside.ensures.call.crash.clean) in
+    let was = c.loop-turn.invariant.stays clean_now mode in
+    let kept = c.loop-turn.invariant.kept clean_now mode store in
+    let value = subst (IsFirstFrom now.now.trees id c.loop-turn.next) c.in-Some.is (c.in_ok-record.ensures.value clean was.mode kept.0 (omega (arith, c.loop-turn.invariant.small))) in
+    let first = first_still old.now.trees now.now.trees kept.1 id c.loop-turn.next (Some found) value in
+    let fault : c.record_note.result ≡ Err Damaged = search rules in
+    c.record_note.ensures.damaged fault (sound found.sysno (string_bytes found.ident) found.bytes.items first.0)
+
+-- the registers hold what the noted changes say
+pub returns-in_err-write_where_full-clause-damaged : goal.returns-in_err-write_where_full-clause-damaged
+returns-in_err-write_where_full-clause-damaged g c = λ clean mode store told before had storable lacks readable sound.
     let old = state g.S.Store c.args.tx.now.conn.now in
     let now = state g.S.Store c.loop-turn.tx.conn.now in
     let mid = state g.S.Store c.record_from_inside.new.tx.conn.now in
+    let format = g.L.Layout.format in
     let id = c.args.db.0 in
     let profile = c.args.profile.now in
     let found = c.in-Some.record in
-    let clean_mid : HasCleanDisk mid = omega (arith, c.record_post.ensures.crash.clean) in
-    let clean_now : HasCleanDisk now = omega (arith, c.record_post.ensures.crash.clean, c.record_from_inside.ensures.call.crash.clean) in
+    let clean_mid : HasCleanDisk mid = omega (arith, c.write_where_full.ensures.call.crash.clean) in
+    let clean_now : HasCleanDisk now = omega (arith, c.write_where_full.ensures.call.crash.clean, c.record_from_inside.ensures.call.crash.clean) in
     let was = c.loop-turn.invariant.stays clean_now mode in
     let kept = c.loop-turn.invariant.kept clean_now mode store in
     let on = c.in_ok-record.ensures.call.ok clean_mid was.mode in
     let value = subst (IsFirstFrom now.now.trees id c.loop-turn.next) c.in-Some.is (c.in_ok-record.ensures.value clean_mid was.mode kept.0 (omega (arith, c.loop-turn.invariant.small))) in
     let first = first_still old.now.trees now.now.trees kept.1 id c.loop-turn.next (Some found) value in
     let such = c.loop-turn.invariant.posted clean_now mode store before had storable lacks in
-    let held = subst (λ (db : Database). holds_in g.L.Layout.format db.trees such.content) (sym on.now_is) such.held in
-    let fault : c.record_post.result ≡ Err Damaged = search rules in
-    c.record_post.ensures.damaged clean on.mode (store_same now mid on.now_is kept.0) fault such.content held such.storable
-    (first_lacks profile old.now.trees id c.loop-turn.next before such.content such.is found first)
-    (sound found.sysno (string_bytes found.ident) found.bytes.items first.0)
+    let held = subst (λ (db : Database). WillHold format db.trees id c.loop-turn.pending such.content) (sym on.now_is) such.held in
+    let noted = c.in_ok-record_note.ensures.posted format mid.now.trees id such.content held such.storable
+    (first_lacks profile old.now.trees id c.loop-turn.next before such.content such.is found first) in
+    let fault : c.write_where_full.result ≡ Err Damaged = search rules in
+    c.write_where_full.ensures.call.honest clean on.mode (store_same now mid on.now_is kept.0) fault noted.content noted.storable noted.held

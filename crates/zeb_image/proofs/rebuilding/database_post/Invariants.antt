@@ -5,7 +5,7 @@ use Rattle.zeb_register.specs.Content.{Content, IsStorable}
 use Rattle.zeb_register.specs.Formats.{holds_in}
 use Rattle.zeb_register.specs.Store.{HasRecord, IsStore, KeepsLists}
 use Rattle.zeb_change.specs.Inside.{Continues}
-use Rattle.zeb_image.specs.PrivateRebuilding.{HoldsSuch, LacksDatabase}
+use Rattle.zeb_image.specs.PrivateRebuilding.{LacksDatabase, WillHoldSuch}
 use Rattle.zeb_image.specs.Rebuilding.{IsSound}
 use Rattle.zeb_image.proofs.RebuiltPostings.{IsPostedBelow}
 use Rattle.zeb_image.proofs.rebuilding.database_post.Given as goal
@@ -24,5 +24,5 @@ invariant-loop-turn g l =
           → (n : ℕ) (ident bytes : List ℕ) → n < l.next → HasRecord old.now.trees l.db.0 (pos n) ident bytes → IsSound l.profile (record { sysno = n; ident = ident; bytes = bytes });
       posted : HasCleanDisk now → IsTrue old.in_transaction → IsStore old
           → (before : Content) → holds_in g.L.Layout.format old.now.trees before → IsStorable before → LacksDatabase l.db.0 before
-          → HoldsSuch g.L.Layout.format now.now.trees (IsPostedBelow l.profile old.now.trees l.db.0 l.next before);
+          → WillHoldSuch g.L.Layout.format now.now.trees l.db.0 l.pending (IsPostedBelow l.profile old.now.trees l.db.0 l.next before);
     }

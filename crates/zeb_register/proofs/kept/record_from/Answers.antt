@@ -1,11 +1,8 @@
-use Rattle.std.proofs.Common.{rules, ◌≡◌, ◌∙◌, [], ◌∷◌, sym, ap, subst, slice_get, take, Some, None, pos, w64, to_z, of_z}
-use Rattle.std.proofs.Math.Facts.{to_z-of_z}
+use Rattle.std.proofs.Common.{rules, ◌≡◌, ◌∙◌, sym, ap, slice_get, take, Some, None}
 use Rattle.std.specs.Option.{option_copied}
 use Rattle.sqlite.specs.Held.{state}
-use Rattle.sqlite.specs.declared.types.Value.TheVariants.{Int}
-use Rattle.zeb_register.specs.RowStatements.{IsRestAtLeast}
-use Rattle.zeb_register.specs.Sql.{IsListOf}
 use Rattle.zeb_register.specs.Store.{records_tree}
+use Rattle.zeb_register.proofs.Columns.{column_is, rows_at_least}
 use Rattle.zeb_register.proofs.RecordLemmas.{first_record, first_shown, none_left}
 use Rattle.zeb_register.proofs.kept.record_from.Goals as goal
 
@@ -13,9 +10,7 @@ pub returns-in_err-record_of-in-Some-clause-honest : goal.returns-in_err-record_
 returns-in_err-record_of-in-Some-clause-honest g c clean store is readable =
     let s = state g.S.Store c.args.conn.now in
     let raw = (c.in_ok-rows.ensures.call.ok clean).1 store in
-    let known : to_z w64 (of_z w64 c.column.result) ≡ c.args.db.0 = to_z-of_z {w = w64} {z = c.column.result} c.column.ensures.fits ∙ c.column.ensures.value in
-    let number : to_z w64 (of_z w64 c.in-Ok.start) ≡ pos c.args.start = to_z-of_z {w = w64} {z = c.in-Ok.start} c.in-Ok.ensures.ok.1 ∙ c.in-Ok.ensures.ok.0 in
-    let are = subst (λ n. IsListOf (IsRestAtLeast records_tree (Int c.args.db.0 ∷ []) n s.now.trees) raw.0) number (subst (λ d. IsListOf (IsRestAtLeast records_tree (Int d ∷ []) (to_z w64 (of_z w64 c.in-Ok.start)) s.now.trees) raw.0) known raw.1) in
+    let are = rows_at_least s.now.trees records_tree _ _ _ _ raw.0 (column_is c.column.ensures.fits c.column.ensures.value) (column_is c.in-Ok.ensures.ok.1 c.in-Ok.ensures.ok.0) raw.1 in
     let got : slice_get (take 1 raw.0) 0 ≡ Some c.in-Some.row.now = ap (λ l. slice_get l 0) (sym raw.2) ∙ sym (c.first.ensures.value ∙ ap (λ l. slice_get l 0) c.deref.ensures.value) ∙ ap option_copied c.in-Some.is in
     c.in_err-record_of-in-Some.ensures.honest (search rules) (first_shown s c.args.db.0 store c.args.start raw.0 are c.in-Some.row.now got readable)
 
@@ -23,9 +18,7 @@ pub returns-in-Some-clause-value : goal.returns-in-Some-clause-value
 returns-in-Some-clause-value g c clean store small =
     let s = state g.S.Store c.args.conn.now in
     let raw = (c.in_ok-rows.ensures.call.ok clean).1 store in
-    let known : to_z w64 (of_z w64 c.column.result) ≡ c.args.db.0 = to_z-of_z {w = w64} {z = c.column.result} c.column.ensures.fits ∙ c.column.ensures.value in
-    let number : to_z w64 (of_z w64 c.in-Ok.start) ≡ pos c.args.start = to_z-of_z {w = w64} {z = c.in-Ok.start} c.in-Ok.ensures.ok.1 ∙ c.in-Ok.ensures.ok.0 in
-    let are = subst (λ n. IsListOf (IsRestAtLeast records_tree (Int c.args.db.0 ∷ []) n s.now.trees) raw.0) number (subst (λ d. IsListOf (IsRestAtLeast records_tree (Int d ∷ []) (to_z w64 (of_z w64 c.in-Ok.start)) s.now.trees) raw.0) known raw.1) in
+    let are = rows_at_least s.now.trees records_tree _ _ _ _ raw.0 (column_is c.column.ensures.fits c.column.ensures.value) (column_is c.in-Ok.ensures.ok.1 c.in-Ok.ensures.ok.0) raw.1 in
     let got : slice_get (take 1 raw.0) 0 ≡ Some c.in-Some.row.now = ap (λ l. slice_get l 0) (sym raw.2) ∙ sym (c.first.ensures.value ∙ ap (λ l. slice_get l 0) c.deref.ensures.value) ∙ ap option_copied c.in-Some.is in
     first_record s c.args.db.0 store c.args.start raw.0 are c.in-Some.row.now c.in_ok-record_of-in-Some.field-0 got c.in_ok-record_of-in-Some.ensures.ok
 
@@ -33,8 +26,6 @@ pub returns-clause-value : goal.returns-clause-value
 returns-clause-value g c clean store small =
     let s = state g.S.Store c.args.conn.now in
     let raw = (c.in_ok-rows.ensures.call.ok clean).1 store in
-    let known : to_z w64 (of_z w64 c.column.result) ≡ c.args.db.0 = to_z-of_z {w = w64} {z = c.column.result} c.column.ensures.fits ∙ c.column.ensures.value in
-    let number : to_z w64 (of_z w64 c.in-Ok.start) ≡ pos c.args.start = to_z-of_z {w = w64} {z = c.in-Ok.start} c.in-Ok.ensures.ok.1 ∙ c.in-Ok.ensures.ok.0 in
-    let are = subst (λ n. IsListOf (IsRestAtLeast records_tree (Int c.args.db.0 ∷ []) n s.now.trees) raw.0) number (subst (λ d. IsListOf (IsRestAtLeast records_tree (Int d ∷ []) (to_z w64 (of_z w64 c.in-Ok.start)) s.now.trees) raw.0) known raw.1) in
+    let are = rows_at_least s.now.trees records_tree _ _ _ _ raw.0 (column_is c.column.ensures.fits c.column.ensures.value) (column_is c.in-Ok.ensures.ok.1 c.in-Ok.ensures.ok.0) raw.1 in
     let got : slice_get (take 1 raw.0) 0 ≡ None = ap (λ l. slice_get l 0) (sym raw.2) ∙ sym (c.first.ensures.value ∙ ap (λ l. slice_get l 0) c.deref.ensures.value) ∙ ap option_copied c.in-None.is in
     none_left s c.args.db.0 store c.args.start raw.0 are got

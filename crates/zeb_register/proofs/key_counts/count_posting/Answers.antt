@@ -15,30 +15,25 @@ pub overflow_add-last : goal.overflow_add-last
 overflow_add-last c =
     let items = c.args.counts.now.items in
     let long : vec_len c.args.counts.now ≡ length items = c.args.counts.now.ok.0 in
-    let some : 0 < vec_len c.args.counts.now = c.in-Some.ensures.variant.0 (search rules) in
-    omega (arith, c.requires.room c.in-Some.last.now (has_at items (vec_len c.args.counts.now - 1) c.in-Some.last.now c.in-Some.ensures.value (omega (arith, long, some))))
+    omega (arith, c.requires.room c.in-Some.last.now (has_at items (vec_len c.args.counts.now - 1) c.in-Some.last.now c.in-Some.ensures.value (omega (arith, long, c.in-Some.ensures.variant.0 (search rules)))))
 
 pub returns-then-sysno-newest-clause-counted : goal.returns-then-sysno-newest-clause-counted
 returns-then-sysno-newest-clause-counted c =
     let items = c.args.counts.now.items in
     let last = c.in-Some.last.now in
     let n = vec_len c.args.counts.now - 1 in
-    let some : 0 < vec_len c.args.counts.now = c.in-Some.ensures.variant.0 (search rules) in
-    let long : length items ≡ suc n = omega (arith, c.args.counts.now.ok.0, some) in
+    let long : length items ≡ suc n = omega (arith, c.args.counts.now.ok.0, c.in-Some.ensures.variant.0 (search rules)) in
     let view : items ≡ take n items ++ last ∷ [] = last_view n items last long c.in-Some.ensures.value in
-    let same : last.key ≡ c.args.key.now = c.is_same.ensures.same c.if-is_same.true in
-    inl (take n items, last, view, same, inr (c.if-sysno-newest.true, last_set n items (count_with last.key (last.records + 1)) long))
+    inl (take n items, last, view, c.is_same.ensures.same c.if-is_same.true, inr (c.if-sysno-newest.true, last_set n items (count_with last.key (last.records + 1)) long))
 
 pub returns-else-sysno-newest-clause-counted : goal.returns-else-sysno-newest-clause-counted
 returns-else-sysno-newest-clause-counted c =
     let items = c.args.counts.now.items in
     let last = c.in-Some.last.now in
     let n = vec_len c.args.counts.now - 1 in
-    let some : 0 < vec_len c.args.counts.now = c.in-Some.ensures.variant.0 (search rules) in
-    let long : length items ≡ suc n = omega (arith, c.args.counts.now.ok.0, some) in
+    let long : length items ≡ suc n = omega (arith, c.args.counts.now.ok.0, c.in-Some.ensures.variant.0 (search rules)) in
     let view : items ≡ take n items ++ last ∷ [] = last_view n items last long c.in-Some.ensures.value in
-    let same : last.key ≡ c.args.key.now = c.is_same.ensures.same c.if-is_same.true in
-    inl (take n items, last, view, same, inl (c.if-sysno-newest.false, last_set n items last long ∙ sym view))
+    inl (take n items, last, view, c.is_same.ensures.same c.if-is_same.true, inl (c.if-sysno-newest.false, last_set n items last long ∙ sym view))
 
 pub returns-clause-counted : goal.returns-clause-counted
 returns-clause-counted c =
@@ -48,8 +43,7 @@ returns-clause-counted c =
       | in-Some+else-is_same w ↦
           let last = w.in-Some.last.now in
           let n = vec_len c.args.counts.now - 1 in
-          let some : 0 < vec_len c.args.counts.now = w.in-Some.ensures.variant.0 (search rules) in
-          let long : length items ≡ suc n = omega (arith, c.args.counts.now.ok.0, some) in
+          let long : length items ≡ suc n = omega (arith, c.args.counts.now.ok.0, w.in-Some.ensures.variant.0 (search rules)) in
           let view : items ≡ take n items ++ last ∷ [] = last_view n items last long w.in-Some.ensures.value in
           inr (
             λ front other is same.

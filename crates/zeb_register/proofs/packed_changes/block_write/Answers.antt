@@ -1,27 +1,51 @@
-use Rattle.std.proofs.Common.{◌∙◌, sym, subst}
+use Rattle.std.proofs.Common.{◌∙◌, ◌++◌, [], ◌∷◌, pos, rules, sym, subst}
+use Rattle.sqlite.specs.declared.types.Value.TheVariants.{Blob, Int}
 use Rattle.sqlite.specs.Held.{state}
 use Rattle.zeb_blocks.specs.Blocks.{BlockSpells}
-use Rattle.zeb_register.proofs.Calls.{inside_so}
+use Rattle.zeb_register.specs.Calls.{Alters}
+use Rattle.zeb_register.specs.PackedChanges.{IsBlockOf}
+use Rattle.zeb_register.specs.PlainRows.{code_of_register, key_row}
+use Rattle.zeb_register.specs.RowStatements.{Gains, Renews}
+use Rattle.zeb_register.specs.Sql.{Loses}
+use Rattle.zeb_register.specs.Store.{blocks_tree}
+use Rattle.zeb_register.proofs.Columns.{column_is}
 use Rattle.zeb_register.proofs.PackedWrites.{none_of, puts_inserted, puts_no_list, puts_renewed}
 use Rattle.zeb_register.proofs.packed_changes.block_write.Goals as goal
 
 pub returns-then-is_empty-clause-call : goal.returns-then-is_empty-clause-call
-returns-then-is_empty-clause-call g c =
-    let first = state g.S.Store c.args.tx.now.conn.now in
-    let second = state g.S.Store c.block_take.new.tx.conn.now in
-    let none = none_of c.args.list.now (sym c.is_empty.ensures ∙ c.if-is_empty.true) in
-    inside_so first second c.block_take.result _ _ (λ _ done. puts_no_list c.args.db.0 c.args.key.now c.args.block c.args.list.now c.args.is_there first second none done) c.block_take.ensures.call
+returns-then-is_empty-clause-call g c = record {
+  ok = λ clean inside. let first = state g.S.Store c.args.tx.now.conn.now in
+      let second = state g.S.Store c.block_remove.new.tx.conn.now in
+      let key = c.args.key.now in
+      let none = none_of c.args.list.now (sym c.is_empty.ensures ∙ c.if-is_empty.true) in
+      puts_no_list c.args.db.0 key c.args.block c.args.list.now c.args.is_there first second none
+      (subst (λ n. Alters blocks_tree (Loses (IsBlockOf c.args.db.0 (pos key.index) (pos (code_of_register key.register)) key.term n)) first second) (column_is c.in_ok-number.ensures.ok.1 c.in_ok-number.ensures.ok.0) (c.in_ok-block_remove.ensures.call.ok clean inside));
+  err = search rules;
+  crash = search rules;
+}
 
 pub returns-then-is_there-clause-call : goal.returns-then-is_there-clause-call
-returns-then-is_there-clause-call g c =
-    let first = state g.S.Store c.args.tx.now.conn.now in
-    let second = state g.S.Store c.block_renew.new.tx.conn.now in
-    let spells = subst (BlockSpells c.args.block c.args.list.now) (sym c.deref.ensures.value) c.in_ok-bytes.ensures in
-    inside_so first second c.block_renew.result _ _ (λ _ done. puts_renewed c.args.db.0 c.args.key.now c.args.block c.args.list.now c.args.is_there first second c.if-is_there.true c.deref.result.now spells done) c.block_renew.ensures.call
+returns-then-is_there-clause-call g c = record {
+  ok = λ clean inside. let first = state g.S.Store c.args.tx.now.conn.now in
+      let second = state g.S.Store c.block_set.new.tx.conn.now in
+      let key = c.args.key.now in
+      let bytes = c.deref.result.now in
+      let spells = subst (BlockSpells c.args.block c.args.list.now) (sym c.deref.ensures.value) c.in_ok-bytes.ensures in
+      puts_renewed c.args.db.0 key c.args.block c.args.list.now c.args.is_there first second c.if-is_there.true bytes spells
+      (subst (λ n. Alters blocks_tree (Renews (IsBlockOf c.args.db.0 (pos key.index) (pos (code_of_register key.register)) key.term n) (key_row c.args.db.0 key ++ Int n ∷ Blob bytes ∷ [])) first second) (column_is c.in_ok-number.ensures.ok.1 c.in_ok-number.ensures.ok.0) (c.in_ok-block_set.ensures.call.ok clean inside));
+  err = search rules;
+  crash = search rules;
+}
 
 pub returns-clause-call : goal.returns-clause-call
-returns-clause-call g c =
-    let first = state g.S.Store c.args.tx.now.conn.now in
-    let second = state g.S.Store c.block_insert.new.tx.conn.now in
-    let spells = subst (BlockSpells c.args.block c.args.list.now) (sym c.deref-2.ensures.value) c.in_ok-bytes.ensures in
-    inside_so first second c.block_insert.result _ _ (λ _ done. puts_inserted c.args.db.0 c.args.key.now c.args.block c.args.list.now c.args.is_there first second c.if-is_there.false c.deref-2.result.now spells done) c.block_insert.ensures.call
+returns-clause-call g c = record {
+  ok = λ clean inside. let first = state g.S.Store c.args.tx.now.conn.now in
+      let second = state g.S.Store c.block_add.new.tx.conn.now in
+      let key = c.args.key.now in
+      let bytes = c.deref-2.result.now in
+      let spells = subst (BlockSpells c.args.block c.args.list.now) (sym c.deref-2.ensures.value) c.in_ok-bytes.ensures in
+      puts_inserted c.args.db.0 key c.args.block c.args.list.now c.args.is_there first second c.if-is_there.false bytes spells
+      (subst (λ n. Alters blocks_tree (Gains (key_row c.args.db.0 key ++ Int n ∷ Blob bytes ∷ [])) first second) (column_is c.in_ok-number.ensures.ok.1 c.in_ok-number.ensures.ok.0) (c.in_ok-block_add.ensures.call.ok clean inside));
+  err = search rules;
+  crash = search rules;
+}

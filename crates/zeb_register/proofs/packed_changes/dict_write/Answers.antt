@@ -1,25 +1,44 @@
-use Rattle.std.proofs.Common.{◌≢◌, arith}
+use Rattle.std.proofs.Common.{◌≢◌, ◌++◌, [], ◌∷◌, arith, rules, subst}
+use Rattle.sqlite.specs.declared.types.Value.TheVariants.{Int}
 use Rattle.sqlite.specs.Held.{state}
-use Rattle.zeb_register.proofs.Calls.{inside_so}
+use Rattle.zeb_register.specs.Calls.{Alters}
+use Rattle.zeb_register.specs.PackedChanges.{IsDictIn}
+use Rattle.zeb_register.specs.PlainRows.{key_row}
+use Rattle.zeb_register.specs.RowStatements.{Gains, Renews}
+use Rattle.zeb_register.specs.Store.{dict_tree}
+use Rattle.zeb_register.proofs.Columns.{column_is}
 use Rattle.zeb_register.proofs.PackedWrites.{number_inserted, number_renewed, puts_no_number}
 use Rattle.zeb_register.proofs.packed_changes.dict_write.Goals as goal
 
 pub returns-then-records-eq0-clause-call : goal.returns-then-records-eq0-clause-call
-returns-then-records-eq0-clause-call g c =
-    let first = state g.S.Store c.args.tx.now.conn.now in
-    let second = state g.S.Store c.dict_take.new.tx.conn.now in
-    inside_so first second c.dict_take.result _ _ (λ _ done. puts_no_number c.args.db.0 c.args.key.now c.args.records c.args.is_there first second c.if-records-eq0.true done) c.dict_take.ensures.call
+returns-then-records-eq0-clause-call g c = record {
+  ok = λ clean inside. let first = state g.S.Store c.args.tx.now.conn.now in
+      let second = state g.S.Store c.dict_remove.new.tx.conn.now in
+      puts_no_number c.args.db.0 c.args.key.now c.args.records c.args.is_there first second c.if-records-eq0.true (c.in_ok-dict_remove.ensures.call.ok clean inside);
+  err = search rules;
+  crash = search rules;
+}
 
 pub returns-then-is_there-clause-call : goal.returns-then-is_there-clause-call
-returns-then-is_there-clause-call g c =
-    let first = state g.S.Store c.args.tx.now.conn.now in
-    let second = state g.S.Store c.dict_renew.new.tx.conn.now in
-    let some : c.args.records ≢ 0 = λ none. absurd (omega (arith, c.if-records-eq0.false, none)) in
-    inside_so first second c.dict_renew.result _ _ (λ _ done. number_renewed c.args.db.0 c.args.key.now c.args.records c.args.is_there first second c.if-is_there.true some done) c.dict_renew.ensures.call
+returns-then-is_there-clause-call g c = record {
+  ok = λ clean inside. let first = state g.S.Store c.args.tx.now.conn.now in
+      let second = state g.S.Store c.dict_set.new.tx.conn.now in
+      let key = c.args.key.now in
+      let some : c.args.records ≢ 0 = λ none. absurd (omega (arith, c.if-records-eq0.false, none)) in
+      number_renewed c.args.db.0 key c.args.records c.args.is_there first second c.if-is_there.true some
+      (subst (λ n. Alters dict_tree (Renews (IsDictIn c.args.db.0 key) (key_row c.args.db.0 key ++ Int n ∷ [])) first second) (column_is c.in_ok-number.ensures.ok.1 c.in_ok-number.ensures.ok.0) (c.in_ok-dict_set.ensures.call.ok clean inside));
+  err = search rules;
+  crash = search rules;
+}
 
 pub returns-clause-call : goal.returns-clause-call
-returns-clause-call g c =
-    let first = state g.S.Store c.args.tx.now.conn.now in
-    let second = state g.S.Store c.dict_insert.new.tx.conn.now in
-    let some : c.args.records ≢ 0 = λ none. absurd (omega (arith, c.if-records-eq0.false, none)) in
-    inside_so first second c.dict_insert.result _ _ (λ _ done. number_inserted c.args.db.0 c.args.key.now c.args.records c.args.is_there first second c.if-is_there.false some done) c.dict_insert.ensures.call
+returns-clause-call g c = record {
+  ok = λ clean inside. let first = state g.S.Store c.args.tx.now.conn.now in
+      let second = state g.S.Store c.dict_add.new.tx.conn.now in
+      let key = c.args.key.now in
+      let some : c.args.records ≢ 0 = λ none. absurd (omega (arith, c.if-records-eq0.false, none)) in
+      number_inserted c.args.db.0 key c.args.records c.args.is_there first second c.if-is_there.false some
+      (subst (λ n. Alters dict_tree (Gains (key_row c.args.db.0 key ++ Int n ∷ [])) first second) (column_is c.in_ok-number.ensures.ok.1 c.in_ok-number.ensures.ok.0) (c.in_ok-dict_add.ensures.call.ok clean inside));
+  err = search rules;
+  crash = search rules;
+}

@@ -1,11 +1,10 @@
-use Rattle.std.proofs.Common.{◌≡◌, ◌∙◌, ℕ, ℤ, List, Some, None, ap, pos, slice_get, subst, sym, to_z, of_z, w64}
-use Rattle.std.proofs.Math.Facts.{to_z-of_z}
+use Rattle.std.proofs.Common.{◌≡◌, ◌∙◌, Some, None, ap, slice_get, sym}
 use Rattle.std.proofs.lemmas.Result.{IfOk-weaker}
 use Rattle.std.specs.Option.{option_copied}
 use Rattle.sqlite.specs.Held.{state}
-use Rattle.zeb_register.specs.PlainRows.{code_of_register, key_row}
+use Rattle.zeb_register.specs.PlainRows.{key_row}
 use Rattle.zeb_register.specs.Sql.{IsListOf}
-use Rattle.zeb_register.specs.Store.{IsRest, dict_tree, key_of}
+use Rattle.zeb_register.specs.Store.{IsRest, dict_tree}
 use Rattle.zeb_register.proofs.LookUps.{first_is}
 use Rattle.zeb_register.proofs.PackedReads.{no_row, row_counts, row_number}
 use Rattle.zeb_register.proofs.packed_changes.key_records.Goals as goal
@@ -13,45 +12,24 @@ use Rattle.zeb_register.proofs.packed_changes.key_records.Goals as goal
 pub returns-in-Some-clause-value : goal.returns-in-Some-clause-value
 returns-in-Some-clause-value g c clean inside store =
     let trees = (state g.S.Store c.args.tx.now.conn.now).now.trees in
-    let items = c.in_ok-rows.rows.items in
     let key = c.args.key.now in
-    let got : slice_get items 0 ≡ Some c.in-Some.row.now = sym (c.first.ensures.value ∙ ap (λ l. slice_get l 0) c.deref.ensures.value) ∙ ap option_copied c.in-Some.is in
-    let db : to_z w64 (of_z w64 c.column.result) ≡ c.args.db.0 = to_z-of_z {w = w64} {z = c.column.result} c.column.ensures.fits ∙ c.column.ensures.value in
-    let code : to_z w64 (of_z w64 c.code_of-register.result) ≡ pos (code_of_register key.register) = to_z-of_z {w = w64} {z = c.code_of-register.result} c.code_of-register.ensures.fits ∙ c.code_of-register.ensures.value in
-    let P : ℤ → ℤ → List ℕ → Type 0 = λ d r t. IsListOf (IsRest dict_tree (key_of d (pos key.index) r t) trees) items in
-    let held : IsListOf (IsRest dict_tree (key_row c.args.db.0 key) trees) items =
-    subst (λ t. P c.args.db.0 (pos (code_of_register key.register)) t) c.as_str.ensures
-    (subst (λ r. P c.args.db.0 r c.as_str.result.now) code
-    (subst (λ d. P d (to_z w64 (of_z w64 c.code_of-register.result)) c.as_str.result.now) db ((c.in_ok-rows.ensures.call.ok clean inside).1 store))) in
-    IfOk-weaker c.records_at.result _ _ (λ records shown content holds. row_counts trees content c.args.db.0 key holds c.in-Some.row.now records (first_is _ items c.in-Some.row.now held got) shown.0) c.records_at.ensures.ok
+    let got : slice_get c.in_ok-rows.rows.items 0 ≡ Some c.in-Some.row.now = sym (c.first.ensures.value ∙ ap (λ l. slice_get l 0) c.deref.ensures.value) ∙ ap option_copied c.in-Some.is in
+    let held : IsListOf (IsRest dict_tree (key_row c.args.db.0 key) trees) c.in_ok-rows.rows.items = (c.in_ok-rows.ensures.call.ok clean inside).1 store in
+    IfOk-weaker c.records_at.result _ _ (λ records shown content holds. row_counts trees content c.args.db.0 key holds c.in-Some.row.now records (first_is _ c.in_ok-rows.rows.items c.in-Some.row.now held got) shown.0) c.records_at.ensures.ok
 
 pub returns-in-Some-clause-honest : goal.returns-in-Some-clause-honest
 returns-in-Some-clause-honest g c clean inside store is content storable holds =
     let trees = (state g.S.Store c.args.tx.now.conn.now).now.trees in
-    let items = c.in_ok-rows.rows.items in
     let key = c.args.key.now in
-    let got : slice_get items 0 ≡ Some c.in-Some.row.now = sym (c.first.ensures.value ∙ ap (λ l. slice_get l 0) c.deref.ensures.value) ∙ ap option_copied c.in-Some.is in
-    let db : to_z w64 (of_z w64 c.column.result) ≡ c.args.db.0 = to_z-of_z {w = w64} {z = c.column.result} c.column.ensures.fits ∙ c.column.ensures.value in
-    let code : to_z w64 (of_z w64 c.code_of-register.result) ≡ pos (code_of_register key.register) = to_z-of_z {w = w64} {z = c.code_of-register.result} c.code_of-register.ensures.fits ∙ c.code_of-register.ensures.value in
-    let P : ℤ → ℤ → List ℕ → Type 0 = λ d r t. IsListOf (IsRest dict_tree (key_of d (pos key.index) r t) trees) items in
-    let held : IsListOf (IsRest dict_tree (key_row c.args.db.0 key) trees) items =
-    subst (λ t. P c.args.db.0 (pos (code_of_register key.register)) t) c.as_str.ensures
-    (subst (λ r. P c.args.db.0 r c.as_str.result.now) code
-    (subst (λ d. P d (to_z w64 (of_z w64 c.code_of-register.result)) c.as_str.result.now) db ((c.in_ok-rows.ensures.call.ok clean inside).1 store))) in
-    let able = row_number trees content c.args.db.0 key holds c.in-Some.row.now storable (first_is _ items c.in-Some.row.now held got) in
+    let got : slice_get c.in_ok-rows.rows.items 0 ≡ Some c.in-Some.row.now = sym (c.first.ensures.value ∙ ap (λ l. slice_get l 0) c.deref.ensures.value) ∙ ap option_copied c.in-Some.is in
+    let held : IsListOf (IsRest dict_tree (key_row c.args.db.0 key) trees) c.in_ok-rows.rows.items = (c.in_ok-rows.ensures.call.ok clean inside).1 store in
+    let able = row_number trees content c.args.db.0 key holds c.in-Some.row.now storable (first_is _ c.in_ok-rows.rows.items c.in-Some.row.now held got) in
     c.records_at.ensures.honest is able.0 able.1
 
 pub returns-clause-value : goal.returns-clause-value
 returns-clause-value g c clean inside store content holds =
     let trees = (state g.S.Store c.args.tx.now.conn.now).now.trees in
-    let items = c.in_ok-rows.rows.items in
     let key = c.args.key.now in
-    let none : slice_get items 0 ≡ None = sym (c.first.ensures.value ∙ ap (λ l. slice_get l 0) c.deref.ensures.value) ∙ ap option_copied c.in-None.is in
-    let db : to_z w64 (of_z w64 c.column.result) ≡ c.args.db.0 = to_z-of_z {w = w64} {z = c.column.result} c.column.ensures.fits ∙ c.column.ensures.value in
-    let code : to_z w64 (of_z w64 c.code_of-register.result) ≡ pos (code_of_register key.register) = to_z-of_z {w = w64} {z = c.code_of-register.result} c.code_of-register.ensures.fits ∙ c.code_of-register.ensures.value in
-    let P : ℤ → ℤ → List ℕ → Type 0 = λ d r t. IsListOf (IsRest dict_tree (key_of d (pos key.index) r t) trees) items in
-    let held : IsListOf (IsRest dict_tree (key_row c.args.db.0 key) trees) items =
-    subst (λ t. P c.args.db.0 (pos (code_of_register key.register)) t) c.as_str.ensures
-    (subst (λ r. P c.args.db.0 r c.as_str.result.now) code
-    (subst (λ d. P d (to_z w64 (of_z w64 c.code_of-register.result)) c.as_str.result.now) db ((c.in_ok-rows.ensures.call.ok clean inside).1 store))) in
-    no_row trees content c.args.db.0 key holds items held none
+    let none : slice_get c.in_ok-rows.rows.items 0 ≡ None = sym (c.first.ensures.value ∙ ap (λ l. slice_get l 0) c.deref.ensures.value) ∙ ap option_copied c.in-None.is in
+    let held : IsListOf (IsRest dict_tree (key_row c.args.db.0 key) trees) c.in_ok-rows.rows.items = (c.in_ok-rows.ensures.call.ok clean inside).1 store in
+    no_row trees content c.args.db.0 key holds c.in_ok-rows.rows.items held none

@@ -1,8 +1,9 @@
-use Rattle.std.proofs.Common.{◌==◌, arith, not, refl, rules, subst, sym}
+use Rattle.std.proofs.Common.{◌==◌, IsTrue, arith, not, refl, rules, subst, sym}
 use Rattle.std.proofs.lemmas.Result.{IfOk-weaker}
 use Rattle.sqlite.specs.Effect.{Database}
 use Rattle.sqlite.specs.Held.{state}
 use Rattle.sqlite.specs.State.{HasCleanDisk}
+use Rattle.zeb_register.specs.Calls.{GoesOn}
 use Rattle.zeb_register.specs.Content.{posted}
 use Rattle.zeb_register.specs.Occurring.{HasKey}
 use Rattle.zeb_register.specs.PackedBlocks.{HoldsBlocks}
@@ -17,27 +18,21 @@ use Rattle.zeb_register.proofs.PackedWrites.{all_lists, all_put, dict_told}
 use Rattle.zeb_register.proofs.packed_runs.changes_put.Goals as goal
 
 pub returns-clause-call : goal.returns-clause-call
-returns-clause-call g c = record {
-  ok = λ clean inside. let first = state g.S.Store c.args.tx.now.conn.now in
-      let second = state g.S.Store c.key_records.new.tx.conn.now in
-      let third = state g.S.Store c.runs_put.new.tx.conn.now in
-      let fourth = state g.S.Store c.dict_write.new.tx.conn.now in
-      let clean2 : HasCleanDisk third = omega (arith, c.dict_write.ensures.call.crash.clean) in
-      let clean1 : HasCleanDisk second = omega (arith, c.dict_write.ensures.call.crash.clean, c.runs_put.ensures.call.crash.clean) in
-      let reads = c.in_ok-records.ensures.call.ok clean1 inside in
-      let goes = goes_then first second third (reads_goes first second reads) (c.in_ok-after.ensures.call.ok clean2 reads.mode reads.is_open) in
-      IfOk-weaker c.dict_write.result _ _ (λ _ done. goes_then first third fourth goes done.on) (c.dict_write.ensures.call.ok clean goes.mode);
-  err = λ clean inside. let first = state g.S.Store c.args.tx.now.conn.now in
-      let second = state g.S.Store c.key_records.new.tx.conn.now in
-      let third = state g.S.Store c.runs_put.new.tx.conn.now in
-      let fourth = state g.S.Store c.dict_write.new.tx.conn.now in
-      let clean2 : HasCleanDisk third = omega (arith, c.dict_write.ensures.call.crash.clean) in
-      let clean1 : HasCleanDisk second = omega (arith, c.dict_write.ensures.call.crash.clean, c.runs_put.ensures.call.crash.clean) in
-      let reads = c.in_ok-records.ensures.call.ok clean1 inside in
-      let goes = goes_then first second third (reads_goes first second reads) (c.in_ok-after.ensures.call.ok clean2 reads.mode reads.is_open) in
-      on_err_so c.dict_write.result _ _ (λ kept. goes_keeps first third fourth goes kept) (c.dict_write.ensures.call.err clean goes.mode);
-  crash = search rules;
-}
+returns-clause-call g c =
+    let first = state g.S.Store c.args.tx.now.conn.now in
+    let third = state g.S.Store c.runs_put.new.tx.conn.now in
+    let done_before = λ (clean : HasCleanDisk (state g.S.Store c.dict_write.new.tx.conn.now)) (inside : IsTrue first.in_transaction). (
+    let clean2 : HasCleanDisk third = omega (arith, c.dict_write.ensures.call.crash.clean) in
+    let clean1 : HasCleanDisk (state g.S.Store c.key_records.new.tx.conn.now) = omega (arith, c.dict_write.ensures.call.crash.clean, c.runs_put.ensures.call.crash.clean) in
+    let reads = c.in_ok-records.ensures.call.ok clean1 inside in
+    let goes : GoesOn first third = goes_then _ _ _ (reads_goes _ _ reads) (c.in_ok-after.ensures.call.ok clean2 reads.mode reads.is_open) in
+    goes) in record {
+      ok = λ clean inside. let goes = done_before clean inside in
+          IfOk-weaker c.dict_write.result _ _ (λ _ done. goes_then _ _ _ goes done.on) (c.dict_write.ensures.call.ok clean goes.mode);
+      err = λ clean inside. let goes = done_before clean inside in
+          on_err_so c.dict_write.result _ _ (λ kept. goes_keeps _ _ _ goes kept) (c.dict_write.ensures.call.err clean goes.mode);
+      crash = search rules;
+    }
 
 pub returns-clause-change : goal.returns-clause-change
 returns-clause-change g c clean inside store =

@@ -1,11 +1,10 @@
-use Rattle.std.proofs.Common.{◌≡◌, ◌∙◌, map, ap, subst, pos, w64, to_z, of_z}
-use Rattle.std.proofs.Math.Facts.{to_z-of_z}
+use Rattle.std.proofs.Common.{◌∙◌, map, ap, subst}
 use Rattle.std.proofs.lemmas.Result.{IfOk-weaker}
 use Rattle.sqlite.specs.Held.{state}
 use Rattle.sqlite_rules.specs.Lists.{Has}
 use Rattle.zeb_register.specs.Sql.{IsListOf}
-use Rattle.zeb_register.specs.Store.{IsRest, postings_tree, key_of}
-use Rattle.zeb_register.specs.PlainRows.{code_of_register, key_row}
+use Rattle.zeb_register.specs.Store.{IsRest, postings_tree}
+use Rattle.zeb_register.specs.PlainRows.{key_row}
 use Rattle.zeb_register.specs.RowPlaces.{first_three}
 use Rattle.zeb_register.specs.Occurring.{key_in}
 use Rattle.zeb_register.proofs.ContentLemmas.{list_read, rows_numbered}
@@ -16,12 +15,8 @@ returns-clause-value g c clean store =
     let trees = (state g.S.Store c.args.conn.now).now.trees in
     let items = c.in_ok-rows.rows.items in
     let key = key_in c.args.index c.args.register c.args.term.now in
-    let known : to_z w64 (of_z w64 c.column.result) ≡ c.args.db.0 = to_z-of_z {w = w64} {z = c.column.result} c.column.ensures.fits ∙ c.column.ensures.value in
-    let code : to_z w64 (of_z w64 c.code_of.result) ≡ pos (code_of_register c.args.register) = to_z-of_z {w = w64} {z = c.code_of.result} c.code_of.ensures.fits ∙ c.code_of.ensures.value in
     let raw = (c.in_ok-rows.ensures.call.ok clean).1 store in
-    let held : IsListOf (IsRest postings_tree (key_row c.args.db.0 key) trees) items =
-    subst (λ r. IsListOf (IsRest postings_tree (key_of c.args.db.0 (pos c.args.index) r c.args.term.now) trees) items) code
-    (subst (λ d. IsListOf (IsRest postings_tree (key_of d (pos c.args.index) (to_z w64 (of_z w64 c.code_of.result)) c.args.term.now) trees) items) known raw) in
+    let held : IsListOf (IsRest postings_tree (key_row c.args.db.0 key) trees) items = raw in
     IfOk-weaker c.postings_of.result _ _ (λ list shown content holds. list_read trees content c.args.db.0 key items list.items holds held (shown ∙ ap (map first_three) c.deref.ensures.value)) c.postings_of.ensures.ok
 
 pub returns-clause-honest : goal.returns-clause-honest
@@ -29,10 +24,6 @@ returns-clause-honest g c clean store is content holds =
     let trees = (state g.S.Store c.args.conn.now).now.trees in
     let items = c.in_ok-rows.rows.items in
     let key = key_in c.args.index c.args.register c.args.term.now in
-    let known : to_z w64 (of_z w64 c.column.result) ≡ c.args.db.0 = to_z-of_z {w = w64} {z = c.column.result} c.column.ensures.fits ∙ c.column.ensures.value in
-    let code : to_z w64 (of_z w64 c.code_of.result) ≡ pos (code_of_register c.args.register) = to_z-of_z {w = w64} {z = c.code_of.result} c.code_of.ensures.fits ∙ c.code_of.ensures.value in
     let raw = (c.in_ok-rows.ensures.call.ok clean).1 store in
-    let held : IsListOf (IsRest postings_tree (key_row c.args.db.0 key) trees) items =
-    subst (λ r. IsListOf (IsRest postings_tree (key_of c.args.db.0 (pos c.args.index) r c.args.term.now) trees) items) code
-    (subst (λ d. IsListOf (IsRest postings_tree (key_of d (pos c.args.index) (to_z w64 (of_z w64 c.code_of.result)) c.args.term.now) trees) items) known raw) in
+    let held : IsListOf (IsRest postings_tree (key_row c.args.db.0 key) trees) items = raw in
     c.postings_of.ensures.honest is (λ row here. rows_numbered trees content c.args.db.0 key items holds held row (subst (λ l. Has l row) c.deref.ensures.value here))

@@ -1,5 +1,4 @@
-use Rattle.std.proofs.Common.{◌≡◌, ◌∙◌, false, pos, subst, w64, to_z, of_z}
-use Rattle.std.proofs.Math.Facts.{to_z-of_z}
+use Rattle.std.proofs.Common.{◌≡◌, false, pos, subst}
 use Rattle.std.proofs.lemmas.Result.{IfOk-weaker}
 use Rattle.std.specs.Ordering.{is_lt, nat_cmp}
 use Rattle.std.specs.Cmp.Lexicographic.{slice_cmp}
@@ -14,22 +13,14 @@ pub returns-clause-value : goal.returns-clause-value
 returns-clause-value g c clean store =
     let trees = (state g.S.Store c.args.conn.now).now.trees in
     let items = c.in_ok-rows.rows.items in
-    let known : to_z w64 (of_z w64 c.column.result) ≡ c.args.db.0 = to_z-of_z {w = w64} {z = c.column.result} c.column.ensures.fits ∙ c.column.ensures.value in
-    let code : to_z w64 (of_z w64 c.code_of.result) ≡ pos (code_of_register c.args.register) = to_z-of_z {w = w64} {z = c.code_of.result} c.code_of.ensures.fits ∙ c.code_of.ensures.value in
     let raw = (c.in_ok-rows.ensures.call.ok clean).1 store in
-    let shown : ShowsLeast (λ t. HasTerm trees c.args.db.0 (pos c.args.index) (pos (code_of_register c.args.register)) t × (is_lt (slice_cmp nat_cmp t c.args.start.now) ≡ false)) items =
-    subst (λ r. ShowsLeast (λ t. HasTerm trees c.args.db.0 (pos c.args.index) r t × (is_lt (slice_cmp nat_cmp t c.args.start.now) ≡ false)) items) code
-    (subst (λ d. ShowsLeast (λ t. HasTerm trees d (pos c.args.index) (to_z w64 (of_z w64 c.code_of.result)) t × (is_lt (slice_cmp nat_cmp t c.args.start.now) ≡ false)) items) known raw) in
+    let shown : ShowsLeast (λ t. HasTerm trees c.args.db.0 (pos c.args.index) (pos (code_of_register c.args.register)) t × (is_lt (slice_cmp nat_cmp t c.args.start.now) ≡ false)) items = raw in
     IfOk-weaker c.term_of.result _ _ (λ term shows content holds. least_shown trees content c.args.db.0 c.args.index c.args.register holds c.args.start.now items term shown (subst (λ rows. ShowsTerm rows term) c.deref.ensures.value shows)) c.term_of.ensures.ok
 
 pub returns-clause-honest : goal.returns-clause-honest
 returns-clause-honest g c clean store is content texts holds =
     let trees = (state g.S.Store c.args.conn.now).now.trees in
     let items = c.in_ok-rows.rows.items in
-    let known : to_z w64 (of_z w64 c.column.result) ≡ c.args.db.0 = to_z-of_z {w = w64} {z = c.column.result} c.column.ensures.fits ∙ c.column.ensures.value in
-    let code : to_z w64 (of_z w64 c.code_of.result) ≡ pos (code_of_register c.args.register) = to_z-of_z {w = w64} {z = c.code_of.result} c.code_of.ensures.fits ∙ c.code_of.ensures.value in
     let raw = (c.in_ok-rows.ensures.call.ok clean).1 store in
-    let shown : ShowsLeast (λ t. HasTerm trees c.args.db.0 (pos c.args.index) (pos (code_of_register c.args.register)) t × (is_lt (slice_cmp nat_cmp t c.args.start.now) ≡ false)) items =
-    subst (λ r. ShowsLeast (λ t. HasTerm trees c.args.db.0 (pos c.args.index) r t × (is_lt (slice_cmp nat_cmp t c.args.start.now) ≡ false)) items) code
-    (subst (λ d. ShowsLeast (λ t. HasTerm trees d (pos c.args.index) (to_z w64 (of_z w64 c.code_of.result)) t × (is_lt (slice_cmp nat_cmp t c.args.start.now) ≡ false)) items) known raw) in
+    let shown : ShowsLeast (λ t. HasTerm trees c.args.db.0 (pos c.args.index) (pos (code_of_register c.args.register)) t × (is_lt (slice_cmp nat_cmp t c.args.start.now) ≡ false)) items = raw in
     c.term_of.ensures.honest is (λ row here. least_readable trees content c.args.db.0 c.args.index c.args.register holds texts c.args.start.now items shown row (subst (λ l. Has l row) c.deref.ensures.value here))

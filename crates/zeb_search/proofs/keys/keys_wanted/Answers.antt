@@ -1,6 +1,19 @@
+use Rattle.std.proofs.Common.{rules, ◌≡◌, ◌↔◌, ◌∙◌, ◌++◌, ◌∷◌, [], ℕ, List, ap, sym, subst}
+use Rattle.zeb_extract.specs.declared.keys.Key.{Key}
 use Rattle.zeb_register.specs.Content.{posted}
-use Rattle.zeb_search.proofs.TermLemmas.{keys_are}
+use Rattle.zeb_register.specs.Occurring.{key_in}
+use Rattle.zeb_search.specs.ListRows.{AreKeysOf}
+use Rattle.zeb_search.specs.PrivateTerms.{IsWanted}
+use Rattle.zeb_search.proofs.TermLemmas.{keys_are, named_key}
 use Rattle.zeb_search.proofs.keys.keys_wanted.Goals as goal
+
+pub returns-in-Some-clause-value : goal.returns-in-Some-clause-value
+returns-in-Some-clause-value g c clean store content has =
+    let O = posted content c.args.database.0 in
+    let one : (term : List ℕ) → IsWanted c.args.wanted term ↔ (term ≡ c.in-Some.term) = search rules in
+    let key : Key = key_in c.args.index c.args.register c.in-Some.term in
+    let keys : c.push.new.self.items ≡ key ∷ [] = c.in_ok-push.ensures.items ∙ ap (λ (l : List Key). l ++ key ∷ []) c.new-keys.ensures.items in
+    subst (AreKeysOf O c.args.index c.args.register (IsWanted c.args.wanted)) (sym keys) (named_key O c.args.index c.args.register c.args.wanted c.in-Some.term one)
 
 pub returns-clause-value : goal.returns-clause-value
 returns-clause-value g c clean store content has =

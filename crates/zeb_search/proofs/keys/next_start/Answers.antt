@@ -1,8 +1,9 @@
-use Rattle.std.proofs.Common.{◌∙◌, ◌++◌, ◌∷◌, [], ap, sym, subst, inr, length, ◌-◌}
+use Rattle.std.proofs.Common.{◌∙◌, ◌++◌, ◌∷◌, [], ap, sym, subst, inr, length, take, ◌-◌}
 use Rattle.sqlite_rules.specs.Lists.{Has}
 use Rattle.sqlite.proofs.RunLemmas.{has_got}
 use Rattle.zeb_register.specs.declared.registers.TermCount.{TermCount}
 use Rattle.zeb_search.specs.PrivateTerms.{EndsAt}
+use Rattle.zeb_search.proofs.RisingTexts.{last_got}
 use Rattle.zeb_search.proofs.keys.next_start.Goals as goal
 
 pub returns-then-ends_at : goal.returns-then-ends_at
@@ -14,5 +15,4 @@ returns-then-ends_at c =
 pub returns : goal.returns
 returns c =
     let last : TermCount = c.in-Some.last.now in
-    let has : Has c.args.page.now last = has_got c.args.page.now (length c.args.page.now - 1) last (sym c.in-Some.ensures.value) in
-    (last, has, c.in_ok-text_above.ensures ∙ ap (λ t. t ++ 0 ∷ []) c.as_str-term.ensures)
+    (take (length c.args.page.now - 1) c.args.page.now, last, last_got c.args.page.now last (sym c.in-Some.ensures.value), c.in_ok-text_above.ensures ∙ ap (λ t. t ++ 0 ∷ []) c.as_str-term.ensures)

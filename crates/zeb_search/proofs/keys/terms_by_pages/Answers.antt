@@ -6,18 +6,21 @@ use Rattle.zeb_register.specs.declared.registers.TermCount.{TermCount}
 use Rattle.zeb_register.specs.Content.{posted}
 use Rattle.zeb_register.specs.Formats.{holds_in}
 use Rattle.zeb_register.specs.Occurring.{AreTermsFrom}
+use Rattle.zeb_search.specs.Counted.{NoRows}
 use Rattle.zeb_search.specs.PrivateTerms.{HasWanted, LeadsTo}
 use Rattle.zeb_search.proofs.PageLemmas.{HasUpTo, none_so_far, next_page, last_page}
 use Rattle.zeb_search.proofs.ReadLemmas.{clean_before, one_read, read_still, read_then, still_store, still_trees}
 use Rattle.zeb_search.proofs.TermLemmas.{all_has_wanted}
-use Rattle.zeb_search.proofs.CountedLemmas.{counted_then, counts_still, page_counts, if_ok_counted}
+use Rattle.zeb_search.proofs.CountedLemmas.{counted_still, counted_then, if_ok_counted, no_rows_then, page_counts}
 use Rattle.zeb_search.proofs.keys.terms_by_pages.Goals as goal
 
 pub loop-done-init : goal.loop-done-init
 loop-done-init g c = record {
   read = read_still (state g.S.Store c.args.connection.now);
-  found = λ clean store content has. none_so_far (posted content c.args.database.0) c.args.index c.args.register c.args.wanted c.new-terms.result.items (string_bytes c.in_ok-start.start) c.in_ok-start.ensures;
-  counted = λ clean store content has. counts_still ⊥ c.args.work.now;
+  found = λ clean store content has.
+      subst (λ (l : List TermCount). HasUpTo (posted content c.args.database.0) c.args.index c.args.register c.args.wanted l (string_bytes c.in_ok-start.start)) (sym c.new-terms.ensures.items)
+      (none_so_far (posted content c.args.database.0) c.args.index c.args.register c.args.wanted (string_bytes c.in_ok-start.start) c.in_ok-start.ensures);
+  counted = counted_still g.L.Layout.format ⊥ NoRows (state g.S.Store c.args.connection.now) c.args.work.now (λ content. refl);
   no_work = λ _. refl;
 }
 
@@ -42,8 +45,8 @@ loop-done-preserved g c =
           let before = c.loop-done.invariant.found first store content has in
           subst (λ (l : List TermCount). HasUpTo O c.args.index c.args.register c.args.wanted l (string_bytes c.in-Some.next)) (sym c.in_ok-append.ensures.items)
           (next_page O c.args.index c.args.register c.args.wanted terms start 256 page (omega arith) are before c.in-Some.next leads);
-      counted = counted_then g.L.Layout.format ⊥ ⊥ ⊥ old now new c.args.work.now c.loop-done.work c.terms_from.new.work (λ h. h) (λ h. h) c.loop-done.invariant.read c.terms_from.ensures.call.crash
-          c.loop-done.invariant.counted (λ clean store content has. page_counts ⊥ (g.L.Layout.row_work * (256 + 1)) c.loop-done.work c.terms_from.new.work (λ h. h) (c.in_ok-page.ensures.work clean store content has));
+      counted = counted_then g.L.Layout.format ⊥ ⊥ ⊥ NoRows NoRows NoRows old now new c.args.work.now c.loop-done.work c.terms_from.new.work (λ h. h) (λ h. h) no_rows_then c.loop-done.invariant.read c.terms_from.ensures.call.crash
+          c.loop-done.invariant.counted (λ clean store content has. (0, refl, page_counts ⊥ (g.L.Layout.row_work * (256 + 1)) c.loop-done.work c.terms_from.new.work (λ h. h) (c.in_ok-page.ensures.work clean store content has)));
       no_work = λ none. c.terms_from.ensures.no_work none ∙ c.loop-done.invariant.no_work none;
     }
 
@@ -80,6 +83,6 @@ returns-clause-work g c =
     let old = state g.S.Store c.args.connection.now in
     let now = state g.S.Store c.loop-done.connection in
     let new = state g.S.Store c.terms_of.new.conn in
-    on_ok_weaker c.terms_of.result (counted_then g.L.Layout.format ⊥ ⊥ ⊥ old now new c.args.work.now c.loop-done.work c.terms_of.new.work (λ h. h) (λ h. h) c.loop-done.invariant.read c.terms_of.ensures.call.crash
+    on_ok_weaker c.terms_of.result (counted_then g.L.Layout.format ⊥ ⊥ ⊥ NoRows NoRows NoRows old now new c.args.work.now c.loop-done.work c.terms_of.new.work (λ h. h) (λ h. h) no_rows_then c.loop-done.invariant.read c.terms_of.ensures.call.crash
     c.loop-done.invariant.counted)
     (if_ok_counted c.terms_of.result g.L.Layout.format ⊥ now new c.loop-done.work c.terms_of.new.work (λ (list : Vec TermCount Global). g.L.Layout.row_work * length list.items) (λ h. h) c.terms_of.ensures.work)

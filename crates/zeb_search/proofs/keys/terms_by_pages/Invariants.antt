@@ -6,7 +6,7 @@ use Rattle.zeb_register.specs.Formats.{holds_in}
 use Rattle.zeb_register.specs.Store.{IsStore}
 use Rattle.zeb_search.proofs.PageLemmas.{HasUpTo}
 use Rattle.zeb_search.proofs.ReadLemmas.{IsRead}
-use Rattle.zeb_search.specs.Counted.{Counted}
+use Rattle.zeb_search.specs.Counted.{Counted, NoRows}
 use Rattle.zeb_search.proofs.keys.terms_by_pages.Given as goal
 
 abbrev pub invariant-loop-done : goal.invariant-loop-done
@@ -17,6 +17,6 @@ invariant-loop-done g l =
       read : IsRead old now;
       found : HasCleanDisk now → IsStore old → (content : Content) → holds_in g.L.Layout.format old.now.trees content
           → HasUpTo (posted content l.fn.database.0) l.index l.register l.wanted l.terms.items (string_bytes l.start);
-      counted : Counted g.L.Layout.format ⊥ old now l.fn.work l.work;
+      counted : Counted g.L.Layout.format ⊥ NoRows old now l.fn.work l.work;
       no_work : g.L.Layout.row_work ≡ 0 → l.work ≡ l.fn.work;
     }

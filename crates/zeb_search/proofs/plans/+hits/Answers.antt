@@ -1,11 +1,14 @@
-use Rattle.std.proofs.Common.{rules, ◌≡◌, Err, ap, subst, sym}
+use Rattle.std.proofs.Common.{rules, ◌≡◌, Err, ap, refl, subst, sym}
 use Rattle.sqlite.specs.Held.{state}
 use Rattle.zeb_register.specs.Formats.{holds_in}
 use Rattle.zeb_register.specs.declared.RegFault.{RegFault}
 use Rattle.zeb_register.specs.declared.RegFault.TheVariants as fault
 use Rattle.zeb_query.specs.declared.plans.PairPlan.{PairPlan}
-use Rattle.zeb_query.specs.Plans.{plan_value}
+use Rattle.zeb_query.specs.Plans.{PairOf, plan_value}
+use Rattle.zeb_search.specs.Counted.{Counted, NamesEntries}
+use Rattle.zeb_search.specs.ListRows.{PlanRows}
 use Rattle.zeb_search.specs.Registers.{NamesReadable}
+use Rattle.zeb_search.proofs.CountedLemmas.{counted_then}
 use Rattle.zeb_search.proofs.ReadLemmas.{as_read, clean_before, still_store, still_trees}
 use Rattle.zeb_search.proofs.plans.+hits.Goals as goal
 
@@ -25,3 +28,24 @@ returns-in_err-right-in-Pair-clause-honest g t c clean store told readable conte
 
 pub returns-in-Near-clause-work : goal.returns-in-Near-clause-work
 returns-in-Near-clause-work g t c = rw c.in-Near.is c.near_hits.ensures.work
+
+pub returns-in-Term-clause-work : goal.returns-in-Term-clause-work
+returns-in-Term-clause-work g t c = rw c.in-Term.is c.term_hits.ensures.work
+
+pub returns-in_ok-joined-in-Pair-clause-work : goal.returns-in_ok-joined-in-Pair-clause-work
+returns-in_ok-joined-in-Pair-clause-work g t c =
+    let old = state g.S.Store c.args.connection.now in
+    let mid = state g.S.Store c.hits.new.connection in
+    let new = state g.S.Store c.hits-in-Pair.new.connection in
+    let rows = g.L.Layout.block_rows in
+    let db = c.args.database.0 in
+    let pair : PairPlan = c.in-Pair.pair.value in
+    let left = plan_value pair.left in
+    let right = plan_value pair.right in
+    let of_left = subst (λ (p : PairPlan). Counted g.L.Layout.format (NamesEntries (plan_value p.left)) (λ content. PlanRows rows content db (plan_value p.left)) old mid c.args.work.now c.hits.new.work)
+    c.deref.ensures c.in_ok-left-in-Pair.ensures.work in
+    let of_right = subst (λ (p : PairPlan). Counted g.L.Layout.format (NamesEntries (plan_value p.right)) (λ content. PlanRows rows content db (plan_value p.right)) mid new c.hits.new.work c.hits-in-Pair.new.work)
+    c.deref-in-Pair.ensures c.in_ok-right-in-Pair.ensures.work in
+    rw c.in-Pair.is (counted_then g.L.Layout.format (NamesEntries left) (NamesEntries right) (NamesEntries left × NamesEntries right) (λ content. PlanRows rows content db left) (λ content. PlanRows rows content db right)
+    (λ content. PlanRows rows content db (PairOf pair.operator left right)) old mid new c.args.work.now c.hits.new.work c.hits-in-Pair.new.work (λ h. h.0) (λ h. h.1)
+    (λ content m n first second. (m, n, first, second, refl)) (as_read old mid c.in_ok-left-in-Pair.left c.in_ok-left-in-Pair.ensures.call) c.hits-in-Pair.ensures.call.crash of_left of_right)

@@ -11,6 +11,15 @@ pub returns-in-None-pattern-clause-value : goal.returns-in-None-pattern-clause-v
 returns-in-None-pattern-clause-value g c clean store content has =
     no_pattern (state g.S.Store c.args.connection.now).now.trees content c.args.database.0 c.args.term.now c.new-in-None-pattern.result.items c.new-in-None-pattern.ensures.items c.in-Complete.index c.in-Complete.pattern c.in-Complete.is c.in-None-pattern.is
 
+pub returns-in-Always-clause-work : goal.returns-in-Always-clause-work
+returns-in-Always-clause-work g c = rw c.in-Always.is c.numbers_wanted.ensures.work
+
+pub returns-in-Number-clause-work : goal.returns-in-Number-clause-work
+returns-in-Number-clause-work g c = rw c.in-Number.is c.numbers_wanted-in-Number.ensures.work
+
+pub returns-in-Some-clause-work : goal.returns-in-Some-clause-work
+returns-in-Some-clause-work g c = rw (c.in-Ordered.is, c.in-Some.is, ← c.as_str.ensures.value) c.numbers_wanted-in-Some.ensures.work
+
 pub returns-in-Some-pattern-clause-work : goal.returns-in-Some-pattern-clause-work
 returns-in-Some-pattern-clause-work g c = rw (c.in-Complete.is, c.in-Some-pattern.is) c.numbers_wanted-in-Some-pattern.ensures.work
 

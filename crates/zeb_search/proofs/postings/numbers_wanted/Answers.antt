@@ -5,9 +5,10 @@ use Rattle.zeb_extract.specs.declared.keys.Key.{Key}
 use Rattle.zeb_register.specs.Content.{posting_cmp, Posting}
 use Rattle.zeb_register.specs.Formats.{holds_in}
 use Rattle.zeb_search.specs.Lists.{AreNumbers, ArePostings}
-use Rattle.zeb_search.specs.PrivateTerms.{HasPosting, IsPostingOf, IsWanted}
+use Rattle.zeb_search.specs.PrivateTerms.{HasPosting, IsPostingOf, IsWanted, NamesEntry}
 use Rattle.zeb_search.proofs.PostingLemmas.{entry_numbers}
 use Rattle.zeb_search.proofs.ReadLemmas.{as_read, clean_before, still_store, still_trees}
+use Rattle.zeb_search.proofs.RowCounts.{keys_counted}
 use Rattle.zeb_search.proofs.postings.numbers_wanted.Goals as goal
 
 pub returns-clause-value : goal.returns-clause-value
@@ -24,3 +25,11 @@ returns-clause-value g c clean store content has =
     let rising = subst (IsStrictlySortedBy posting_cmp) (sym c.deref-2.ensures.value) list.rising in
     let numbers = subst (λ (l : List Posting). AreNumbers (HasPosting l) c.in_ok-numbers_of.field-0.items) c.deref-2.ensures.value (c.in_ok-numbers_of.ensures rising) in
     entry_numbers content db c.args.index c.args.register (IsWanted c.args.wanted) keys (c.in_ok-keys.ensures.value first store content has) postings c.in_ok-numbers_of.field-0.items list numbers
+
+pub returns-clause-work : goal.returns-clause-work
+returns-clause-work g c =
+    let old = state g.S.Store c.args.connection.now in
+    let mid = state g.S.Store c.keys_wanted.new.connection in
+    keys_counted g.L.Layout.format (NamesEntry c.args.wanted) g.L.Layout.block_rows c.args.database.0 c.args.index c.args.register (IsWanted c.args.wanted) c.in_ok-keys.keys.items _ c.deref.ensures.value
+    old mid (state g.S.Store c.postings_of.new.connection) c.args.work.now c.keys_wanted.new.work c.postings_of.new.work (as_read old mid c.in_ok-keys.keys c.in_ok-keys.ensures.call) c.postings_of.ensures.call.crash
+    c.in_ok-keys.ensures.work c.in_ok-keys.ensures.value c.in_ok-postings.ensures.work

@@ -1,6 +1,7 @@
 use Rattle.std.proofs.Common.{List, sym, subst}
 use Rattle.std.proofs.lemmas.Result.{IfOk-weaker, on_ok_weaker}
 use Rattle.sqlite.specs.Held.{state}
+use Rattle.zeb_profile.specs.declared.Register.TheVariants as register
 use Rattle.zeb_extract.specs.declared.keys.Key.{Key}
 use Rattle.zeb_register.specs.Formats.{holds_in}
 use Rattle.zeb_search.specs.Lists.{ArePostings}
@@ -8,7 +9,8 @@ use Rattle.zeb_search.specs.PrivateTerms.{IsPostingOf}
 use Rattle.zeb_search.proofs.PostingLemmas.{word_places}
 use Rattle.zeb_search.proofs.ReadLemmas.{as_read, clean_before, still_store, still_trees}
 use Rattle.zeb_search.specs.Counted.{HasNoStar}
-use Rattle.zeb_search.proofs.CountedLemmas.{counted_then}
+use Rattle.zeb_search.specs.Holds.{Fits}
+use Rattle.zeb_search.proofs.RowCounts.{keys_counted}
 use Rattle.zeb_search.proofs.postings.places_of_words.Goals as goal
 
 pub returns-clause-value : goal.returns-clause-value
@@ -28,7 +30,7 @@ pub returns-clause-work : goal.returns-clause-work
 returns-clause-work g c =
     let old = state g.S.Store c.args.connection.now in
     let mid = state g.S.Store c.keys_wanted.new.connection in
-    let new = state g.S.Store c.postings_of.new.connection in
     on_ok_weaker c.postings_of.result
-    (counted_then g.L.Layout.format (HasNoStar c.args.pattern.now) (Unit {0}) (HasNoStar c.args.pattern.now) old mid new c.args.work.now c.keys_wanted.new.work c.postings_of.new.work (λ h. h) (λ _. tt)
-    (as_read old mid c.in_ok-keys.keys c.in_ok-keys.ensures.call) c.postings_of.ensures.call.crash c.in_ok-keys.ensures.work) c.postings_of.ensures.work
+    (keys_counted g.L.Layout.format (HasNoStar c.args.pattern.now) g.L.Layout.block_rows c.args.database.0 c.args.index register.Word (Fits c.args.pattern.now) c.in_ok-keys.keys.items _ c.deref.ensures.value
+    old mid (state g.S.Store c.postings_of.new.connection) c.args.work.now c.keys_wanted.new.work c.postings_of.new.work (as_read old mid c.in_ok-keys.keys c.in_ok-keys.ensures.call) c.postings_of.ensures.call.crash
+    c.in_ok-keys.ensures.work c.in_ok-keys.ensures.value) c.postings_of.ensures.work

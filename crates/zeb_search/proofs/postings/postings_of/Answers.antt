@@ -1,13 +1,16 @@
-use Rattle.std.proofs.Common.{◌≡◌, ◌∙◌, ◌+◌, ◌++◌, List, arith, get_or, ap, sym, subst, take}
+use Rattle.std.proofs.Common.{◌≡◌, ◌∙◌, ◌+◌, ◌++◌, List, arith, get_or, ap, ap₂, sym, subst, take}
 use Rattle.sqlite.specs.Held.{state}
 use Rattle.sqlite_rules.specs.Lists.{Has}
 use Rattle.zeb_query.proofs.HoldingLemmas.{take_whole}
 use Rattle.zeb_extract.specs.declared.keys.Key.{Key}
 use Rattle.zeb_register.specs.Content.{Posting}
 use Rattle.zeb_register.specs.Formats.{holds_in}
+use Rattle.zeb_search.specs.Counted.{Counted}
+use Rattle.zeb_search.specs.ListRows.{rows_under}
 use Rattle.zeb_search.proofs.Gathering.{Gathers, gathers_next}
 use Rattle.zeb_search.proofs.ReadLemmas.{clean_before, one_read, read_then, still_store, still_trees}
 use Rattle.zeb_search.proofs.CountedLemmas.{counted_then, list_counts}
+use Rattle.zeb_search.proofs.RowCounts.{rows_more}
 use Rattle.zeb_search.proofs.postings.postings_of.Goals as goal
 
 pub loop-key-preserved : goal.loop-key-preserved
@@ -30,8 +33,16 @@ loop-key-preserved g c =
           subst (Gathers R (take (index + 1) keys)) (sym all)
           (gathers_next R keys index c.key-item.result c.loop-key.postings.items list c.loop-key-test.true (c.loop-key.invariant.gathered first store content has)
           (λ p. (subst (λ (l : List Posting). Has l p) same, subst (λ (l : List Posting). Has l p) (sym same))));
-      counted = counted_then g.L.Layout.format (Unit {0}) (Unit {0}) (Unit {0}) old now new c.args.work.now c.loop-key.work c.key_list.new.work (λ h. h) (λ h. h) c.loop-key.invariant.read c.key_list.ensures.call.crash
-          c.loop-key.invariant.counted (λ clean store content has. list_counts (Unit {0}) (g.L.Layout.block_rows list) c.loop-key.work c.key_list.new.work (c.in_ok-list.ensures.work clean store content has));
+      counted =
+          let rows = g.L.Layout.block_rows in
+          let db = c.args.database.0 in
+          let key = c.key-item.result in
+          counted_then g.L.Layout.format (Unit {0}) (Unit {0}) (Unit {0}) (λ content n. n ≡ rows_under rows content db (take index keys)) (λ content n. n ≡ rows (content db (get_or keys index key)))
+          (λ content n. n ≡ rows_under rows content db (take (index + 1) keys)) old now new c.args.work.now c.loop-key.work c.key_list.new.work (λ h. h) (λ h. h)
+          (λ content m n before here. ap₂ (λ a b. a + b) before here ∙ sym (rows_more rows content db keys index key c.loop-key-test.true)) c.loop-key.invariant.read c.key_list.ensures.call.crash c.loop-key.invariant.counted
+          (λ clean store content has.
+          let value = c.in_ok-list.ensures.value clean store content has in
+          (rows list, ap rows (value ∙ ap (content db) c.key-item.is), list_counts (Unit {0}) (rows list) c.loop-key.work c.key_list.new.work (c.in_ok-list.ensures.work clean store content has)));
       no_work = λ none. c.key_list.ensures.no_work none ∙ c.loop-key.invariant.no_work none;
     }
 
@@ -43,3 +54,9 @@ returns-clause-value g c clean store content has =
       rising = c.postings_in_order.ensures.rising;
       each = λ p. (λ there. (gathered p).0 ((c.postings_in_order.ensures.each p).0 there), λ of. (c.postings_in_order.ensures.each p).1 ((gathered p).1 of));
     }
+
+pub returns-clause-work : goal.returns-clause-work
+returns-clause-work g c =
+    let whole = take_whole c.args.keys.now c.loop-key.key-index (omega (arith, c.loop-key-test.false)) in
+    subst (λ (l : List Key). Counted g.L.Layout.format (Unit {0}) (λ content n. n ≡ rows_under g.L.Layout.block_rows content c.args.database.0 l) (state g.S.Store c.args.connection.now) (state g.S.Store c.loop-key.connection)
+    c.args.work.now c.loop-key.work) whole c.loop-key.invariant.counted

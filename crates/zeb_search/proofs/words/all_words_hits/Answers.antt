@@ -1,19 +1,23 @@
-use Rattle.std.proofs.Common.{List, arith, subst, sym, take, ◌∙◌, refl, inl, inr}
+use Rattle.std.proofs.Common.{List, [], ◌≡◌, ◌++◌, ◌∷◌, ◌+◌, ap, arith, subst, sym, take, ◌∙◌, refl, inl, inr}
+use Rattle.std.proofs.lemmas.List.{take_more}
 use Rattle.sqlite.specs.Held.{state}
 use Rattle.zeb_query.proofs.HoldingLemmas.{take_whole}
 use Rattle.zeb_query.specs.declared.plans.Operator.TheVariants as operator
 use Rattle.zeb_register.specs.Content.{posted}
 use Rattle.zeb_register.specs.Formats.{holds_in}
 use Rattle.zeb_text.specs.Symbols.{Symbol}
-use Rattle.zeb_search.specs.Holds.{HasMatch}
+use Rattle.zeb_profile.specs.declared.Register.TheVariants as register
+use Rattle.zeb_search.specs.Holds.{Fits, HasMatch}
+use Rattle.zeb_search.specs.ListRows.{EntryRows, WordRows}
 use Rattle.zeb_search.specs.Lists.{AreNumbers}
 use Rattle.zeb_search.proofs.JustLemmas.{joined_numbers}
 use Rattle.zeb_search.proofs.PlanLemmas.{EachMatches, each_matches_more, each_matches_none, each_matches_whole, none_found}
 use Rattle.zeb_search.proofs.ReadLemmas.{as_read, clean_before, read_then, still_store, still_trees}
 use Rattle.sqlite_rules.specs.Lists.{Has}
 use Rattle.sqlite_rules.proofs.ListLemmas.{has_at}
-use Rattle.zeb_search.specs.Counted.{HasNoStar, HaveNoStar}
-use Rattle.zeb_search.proofs.CountedLemmas.{counted_then, counts_for}
+use Rattle.zeb_search.specs.Counted.{Counted, HasNoStar, HaveNoStar}
+use Rattle.zeb_search.proofs.CountedLemmas.{counted_for, counted_then}
+use Rattle.zeb_search.proofs.RowCounts.{one_pattern, pattern_behind}
 use Rattle.zeb_search.proofs.words.all_words_hits.Goals as goal
 
 pub returns-in_default-clause-value : goal.returns-in_default-clause-value
@@ -29,9 +33,15 @@ loop-other-init g c = record {
     λ clean store content has.
         each_matches_none (posted content c.args.database.0) c.args.index c.in-Some.pattern.now c.in_ok-hits.hits.items (c.in_ok-hits.ensures.value clean store content has),
   );
-  counted = λ clean store content has.
-      counts_for (HasNoStar c.in-Some.pattern.now) (HaveNoStar c.args.patterns.now) c.args.work.now c.numbers_wanted.new.work
-      (λ h. h c.in-Some.pattern.now (subst (λ (l : List (List Symbol)). Has l c.in-Some.pattern.now) (sym c.in-Some.ensures.cases.0) (inl refl))) (c.in_ok-hits.ensures.work clean store content has);
+  counted = λ first is.
+      let pattern = c.in-Some.pattern.now in
+      let same : pattern ≡ first = (let e : pattern ∷ c.in-Some.others.now ≡ first ∷ c.in-Some.others.now = sym c.in-Some.ensures.cases.0 ∙ is in cc) in
+      let rows = g.L.Layout.block_rows in
+      counted_for g.L.Layout.format (HasNoStar pattern) (HaveNoStar c.args.patterns.now) (λ content. EntryRows rows content c.args.database.0 c.args.index register.Word (Fits pattern))
+      (λ content. WordRows rows content c.args.database.0 c.args.index (first ∷ [])) (state g.S.Store c.args.connection.now) (state g.S.Store c.numbers_wanted.new.connection) c.args.work.now c.numbers_wanted.new.work
+      (λ h. h pattern (subst (λ (l : List (List Symbol)). Has l pattern) (sym c.in-Some.ensures.cases.0) (inl refl)))
+      (λ content n entries.
+      subst (λ (p : List Symbol). WordRows rows content c.args.database.0 c.args.index (p ∷ []) n) same (one_pattern rows content c.args.database.0 c.args.index pattern n entries)) c.in_ok-hits.ensures.work;
   no_work = c.numbers_wanted.ensures.no_work;
 }
 
@@ -44,6 +54,10 @@ loop-other-preserved g c =
     let index = c.loop-other.other-index in
     let pattern = c.other-item.result in
     let first = c.loop-other.invariant.found.0 in
+    let rows = g.L.Layout.block_rows in
+    let db = c.args.database.0 in
+    let more : take (index + 1) others ≡ take index others ++ pattern ∷ [] =
+    take_more others index pattern c.loop-other-test.true ∙ ap (λ p. take index others ++ p ∷ []) (sym c.other-item.is) in
     record {
       read = read_then old now new c.loop-other.invariant.read (as_read now new c.in_ok-found.found c.in_ok-found.ensures.call);
       found = (
@@ -59,9 +73,14 @@ loop-other-preserved g c =
             (joined_numbers operator.And (λ n. EachMatches O c.args.index (take index others) n × HasMatch O c.args.index first n) (HasMatch O c.args.index pattern) c.loop-other.hits.items c.in_ok-found.found.items
             c.deref.result.now c.deref-in-loop-other.result.now c.in_ok-hits-2.hits.items c.deref.ensures.value c.deref-in-loop-other.ensures.value before here c.in_ok-hits-2.ensures),
       );
-      counted = counted_then g.L.Layout.format (HaveNoStar c.args.patterns.now) (HasNoStar pattern) (HaveNoStar c.args.patterns.now) old now new c.args.work.now c.loop-other.work c.numbers_wanted-in-loop-other.new.work
-          (λ h. h) (λ h. h pattern (subst (λ (l : List (List Symbol)). Has l pattern) (sym c.loop-other.invariant.found.1) (inr (has_at others index pattern c.loop-other-test.true c.other-item.is)))) c.loop-other.invariant.read c.numbers_wanted-in-loop-other.ensures.call.crash
-          c.loop-other.invariant.counted c.in_ok-found.ensures.work;
+      counted = λ first is.
+          counted_then g.L.Layout.format (HaveNoStar c.args.patterns.now) (HasNoStar pattern) (HaveNoStar c.args.patterns.now) (λ content. WordRows rows content db c.args.index (first ∷ take index others))
+          (λ content. EntryRows rows content db c.args.index register.Word (Fits pattern)) (λ content. WordRows rows content db c.args.index (first ∷ take (index + 1) others)) old now new c.args.work.now c.loop-other.work c.numbers_wanted-in-loop-other.new.work
+          (λ h. h) (λ h. h pattern (subst (λ (l : List (List Symbol)). Has l pattern) (sym c.loop-other.invariant.found.1) (inr (has_at others index pattern c.loop-other-test.true c.other-item.is))))
+          (λ content m n before here.
+          subst (λ (l : List (List Symbol)). WordRows rows content db c.args.index (first ∷ l) (m + n)) (sym more) (pattern_behind rows content db c.args.index (first ∷ take index others) pattern m n before here))
+          c.loop-other.invariant.read c.numbers_wanted-in-loop-other.ensures.call.crash
+          (c.loop-other.invariant.counted first is) c.in_ok-found.ensures.work;
       no_work = λ none. c.numbers_wanted-in-loop-other.ensures.no_work none ∙ c.loop-other.invariant.no_work none;
     }
 
@@ -73,3 +92,12 @@ returns-clause-value g c clean store content has =
     let whole = take_whole others c.loop-other.other-index (omega (arith, c.loop-other-test.false)) in
     each_matches_whole O c.args.index c.args.patterns.now first others c.loop-other.hits.items c.loop-other.invariant.found.1
     (subst (λ (l : List (List Symbol)). AreNumbers (λ n. EachMatches O c.args.index l n × HasMatch O c.args.index first n) c.loop-other.hits.items) whole (c.loop-other.invariant.found.2 clean store content has))
+
+pub returns-clause-work : goal.returns-clause-work
+returns-clause-work g c =
+    let first = c.loop-other.invariant.found.0 in
+    let others = c.in-Some.others.now in
+    let whole = take_whole others c.loop-other.other-index (omega (arith, c.loop-other-test.false)) in
+    let all : first ∷ take c.loop-other.other-index others ≡ c.args.patterns.now = ap (λ (l : List (List Symbol)). first ∷ l) whole ∙ sym c.loop-other.invariant.found.1 in
+    subst (λ (l : List (List Symbol)). Counted g.L.Layout.format (HaveNoStar c.args.patterns.now) (λ content. WordRows g.L.Layout.block_rows content c.args.database.0 c.args.index l) (state g.S.Store c.args.connection.now)
+    (state g.S.Store c.loop-other.connection) c.args.work.now c.loop-other.work) all (c.loop-other.invariant.counted first c.loop-other.invariant.found.1)

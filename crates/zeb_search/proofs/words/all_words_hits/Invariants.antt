@@ -6,6 +6,7 @@ use Rattle.zeb_register.specs.Formats.{holds_in}
 use Rattle.zeb_register.specs.Store.{IsStore}
 use Rattle.zeb_text.specs.Symbols.{Symbol}
 use Rattle.zeb_search.specs.Holds.{HasMatch}
+use Rattle.zeb_search.specs.ListRows.{WordRows}
 use Rattle.zeb_search.specs.Lists.{AreNumbers}
 use Rattle.zeb_search.proofs.PlanLemmas.{EachMatches}
 use Rattle.zeb_search.proofs.ReadLemmas.{IsRead}
@@ -21,6 +22,7 @@ invariant-loop-other g l =
       found : (first : List Symbol) × (l.fn.patterns ≡ first ∷ l.others)
           × (HasCleanDisk now → IsStore old → (content : Content) → holds_in g.L.Layout.format old.now.trees content
           → AreNumbers (λ n. EachMatches (posted content l.fn.database.0) l.index (take l.other-index l.others) n × HasMatch (posted content l.fn.database.0) l.index first n) l.hits.items);
-      counted : Counted g.L.Layout.format (HaveNoStar l.fn.patterns) old now l.fn.work l.work;
+      counted : (first : List Symbol) → l.fn.patterns ≡ first ∷ l.others
+          → Counted g.L.Layout.format (HaveNoStar l.fn.patterns) (λ content. WordRows g.L.Layout.block_rows content l.fn.database.0 l.index (first ∷ take l.other-index l.others)) old now l.fn.work l.work;
       no_work : g.L.Layout.row_work ≡ 0 → l.work ≡ l.fn.work;
     }

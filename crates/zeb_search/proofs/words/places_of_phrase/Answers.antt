@@ -1,16 +1,20 @@
-use Rattle.std.proofs.Common.{◌≡◌, ◌∙◌, ◌++◌, ◌∷◌, [], List, ap, subst, sym, refl, inl}
-use Rattle.std.proofs.lemmas.List.{append_assoc}
+use Rattle.std.proofs.Common.{◌≡◌, ◌∙◌, ◌++◌, ◌∷◌, ◌+◌, [], List, ap, subst, sym, refl, inl}
+use Rattle.std.proofs.lemmas.List.{append_assoc, append_cancel_left}
 use Rattle.sqlite.specs.Held.{state}
 use Rattle.zeb_register.specs.Content.{posted}
 use Rattle.zeb_register.specs.Formats.{holds_in}
 use Rattle.zeb_text.specs.Symbols.{Symbol}
+use Rattle.zeb_profile.specs.declared.Register.TheVariants as register
+use Rattle.zeb_search.specs.Holds.{Fits}
+use Rattle.zeb_search.specs.ListRows.{EntryRows, WordRows}
 use Rattle.zeb_search.specs.Lists.{ArePostings}
 use Rattle.zeb_search.proofs.PlanLemmas.{AreWordsAt, IsWordAt, none_found, some_patterns, word_before, IsStart, no_patterns, one_word}
 use Rattle.zeb_search.proofs.ReadLemmas.{as_read, clean_before, read_then, still_store, still_trees}
 use Rattle.sqlite_rules.specs.Lists.{Has}
 use Rattle.sqlite_rules.proofs.ListLemmas.{has_right}
-use Rattle.zeb_search.specs.Counted.{HasNoStar, HaveNoStar}
-use Rattle.zeb_search.proofs.CountedLemmas.{counted_then, counts_for}
+use Rattle.zeb_search.specs.Counted.{Counted, HasNoStar, HaveNoStar}
+use Rattle.zeb_search.proofs.CountedLemmas.{counted_for, counted_then}
+use Rattle.zeb_search.proofs.RowCounts.{one_pattern, pattern_before}
 use Rattle.zeb_search.proofs.JustLemmas.{just_same}
 use Rattle.zeb_search.proofs.words.places_of_phrase.Goals as goal
 
@@ -26,6 +30,8 @@ loop-pattern-preserved g c =
     let pattern = c.in-Some-split_last.pattern.now in
     let before = c.in-Some-split_last.before.now in
     let rest = c.loop-pattern.invariant.behind.0 in
+    let rows = g.L.Layout.block_rows in
+    let db = c.args.database.0 in
     let joined : c.args.patterns.now ≡ before ++ (pattern ∷ rest) =
     c.loop-pattern.invariant.behind.2 ∙ ap (λ (l : List (List Symbol)). l ++ rest) c.in-Some-split_last.ensures.cases.0 ∙ append_assoc before (pattern ∷ []) rest in
     record {
@@ -42,9 +48,14 @@ loop-pattern-preserved g c =
             let places = subst (ArePostings (AreWordsAt O c.args.index rest)) (sym c.deref-in-Some-split_last.ensures.value) (c.loop-pattern.invariant.behind.3 clean1 store content has) in
             word_before O c.args.index pattern rest c.deref.result.now c.deref-in-Some-split_last.result.now c.in_ok-places-2.places.items starts places (c.in_ok-places-2.ensures starts.rising places.rising),
       );
-      counted = counted_then g.L.Layout.format (HaveNoStar c.args.patterns.now) (HasNoStar pattern) (HaveNoStar c.args.patterns.now) old now new c.args.work.now c.loop-pattern.work c.places_of_words-in-Some-split_last.new.work
-          (λ h. h) (λ h. h pattern (subst (λ (l : List (List Symbol)). Has l pattern) (sym joined) (has_right before (pattern ∷ rest) pattern (inl refl)))) c.loop-pattern.invariant.read c.places_of_words-in-Some-split_last.ensures.call.crash
-          c.loop-pattern.invariant.counted c.in_ok-starts.ensures.work;
+      counted = λ behind is.
+          let same : pattern ∷ rest ≡ behind = append_cancel_left before (pattern ∷ rest) behind (sym joined ∙ is) in
+          counted_then g.L.Layout.format (HaveNoStar c.args.patterns.now) (HasNoStar pattern) (HaveNoStar c.args.patterns.now) (λ content. WordRows rows content db c.args.index rest)
+          (λ content. EntryRows rows content db c.args.index register.Word (Fits pattern)) (λ content. WordRows rows content db c.args.index behind) old now new c.args.work.now c.loop-pattern.work c.places_of_words-in-Some-split_last.new.work
+          (λ h. h) (λ h. h pattern (subst (λ (l : List (List Symbol)). Has l pattern) (sym joined) (has_right before (pattern ∷ rest) pattern (inl refl))))
+          (λ content m n words entries. subst (λ (l : List (List Symbol)). WordRows rows content db c.args.index l (m + n)) same (pattern_before rows content db c.args.index pattern rest m n words entries))
+          c.loop-pattern.invariant.read c.places_of_words-in-Some-split_last.ensures.call.crash
+          (c.loop-pattern.invariant.counted rest c.loop-pattern.invariant.behind.2) c.in_ok-starts.ensures.work;
       no_work = λ none. c.places_of_words-in-Some-split_last.ensures.no_work none ∙ c.loop-pattern.invariant.no_work none;
     }
 
@@ -62,9 +73,13 @@ loop-pattern-init g c =
         c.in-Some.ensures.cases.0,
         λ clean store content has. one_word (posted content c.args.database.0) c.args.index last c.in_ok-places.places.items (c.in_ok-places.ensures.value clean store content has),
       );
-      counted = λ clean store content has.
-          counts_for (HasNoStar last) (HaveNoStar c.args.patterns.now) c.args.work.now c.places_of_words.new.work
-          (λ h. h last (subst (λ (l : List (List Symbol)). Has l last) (sym c.in-Some.ensures.cases.0) (has_right others (last ∷ []) last (inl refl)))) (c.in_ok-places.ensures.work clean store content has);
+      counted = λ behind is.
+          let rows = g.L.Layout.block_rows in
+          let db = c.args.database.0 in
+          let same : last ∷ [] ≡ behind = append_cancel_left others (last ∷ []) behind (sym c.in-Some.ensures.cases.0 ∙ is) in
+          counted_for g.L.Layout.format (HasNoStar last) (HaveNoStar c.args.patterns.now) (λ content. EntryRows rows content db c.args.index register.Word (Fits last)) (λ content. WordRows rows content db c.args.index behind) old new
+          c.args.work.now c.places_of_words.new.work (λ h. h last (subst (λ (l : List (List Symbol)). Has l last) (sym c.in-Some.ensures.cases.0) (has_right others (last ∷ []) last (inl refl))))
+          (λ content n entries. subst (λ (l : List (List Symbol)). WordRows rows content db c.args.index l n) same (one_pattern rows content db c.args.index last n entries)) c.in_ok-places.ensures.work;
       no_work = c.places_of_words.ensures.no_work;
     }
 
@@ -77,3 +92,11 @@ returns-clause-value g c clean store content has =
     c.loop-pattern.invariant.behind.2 ∙ ap (λ (l : List (List Symbol)). l ++ rest) (no_patterns c.loop-pattern.others.now c.in_default-split_last.ensures.cases) in
     subst (λ (l : List (List Symbol)). ArePostings (IsStart O c.args.index l) places) (sym whole)
     (just_same (AreWordsAt O c.args.index rest) (IsStart O c.args.index rest) places (λ p. (λ h. (c.loop-pattern.invariant.behind.1, h), λ h. h.1)) (c.loop-pattern.invariant.behind.3 clean store content has))
+
+pub returns-clause-work : goal.returns-clause-work
+returns-clause-work g c =
+    let rest = c.loop-pattern.invariant.behind.0 in
+    let whole : c.args.patterns.now ≡ rest =
+    c.loop-pattern.invariant.behind.2 ∙ ap (λ (l : List (List Symbol)). l ++ rest) (no_patterns c.loop-pattern.others.now c.in_default-split_last.ensures.cases) in
+    subst (λ (l : List (List Symbol)). Counted g.L.Layout.format (HaveNoStar c.args.patterns.now) (λ content. WordRows g.L.Layout.block_rows content c.args.database.0 c.args.index l) (state g.S.Store c.args.connection.now)
+    (state g.S.Store c.loop-pattern.connection) c.args.work.now c.loop-pattern.work) (sym whole) (c.loop-pattern.invariant.counted rest c.loop-pattern.invariant.behind.2)

@@ -5,6 +5,7 @@ use Rattle.zeb_register.specs.Content.{Content, posted}
 use Rattle.zeb_register.specs.Formats.{holds_in}
 use Rattle.zeb_register.specs.Store.{IsStore}
 use Rattle.zeb_text.specs.Symbols.{Symbol}
+use Rattle.zeb_search.specs.ListRows.{WordRows}
 use Rattle.zeb_search.specs.Lists.{ArePostings}
 use Rattle.zeb_search.proofs.PlanLemmas.{AreWordsAt}
 use Rattle.zeb_search.proofs.ReadLemmas.{IsRead}
@@ -20,7 +21,8 @@ invariant-loop-pattern g l =
       behind : (rest : List (List Symbol)) × (rest ≢ []) × (l.fn.patterns ≡ l.others ++ rest)
           × (HasCleanDisk now → IsStore old → (content : Content) → holds_in g.L.Layout.format old.now.trees content
           → ArePostings (AreWordsAt (posted content l.fn.database.0) l.index rest) l.places.items);
-      counted : Counted g.L.Layout.format (HaveNoStar l.fn.patterns) old now l.fn.work l.work;
+      counted : (rest : List (List Symbol)) → l.fn.patterns ≡ l.others ++ rest
+          → Counted g.L.Layout.format (HaveNoStar l.fn.patterns) (λ content. WordRows g.L.Layout.block_rows content l.fn.database.0 l.index rest) old now l.fn.work l.work;
       no_work : g.L.Layout.row_work ≡ 0 → l.work ≡ l.fn.work;
     }
 

@@ -6,7 +6,7 @@ use Rattle.zeb_extract.specs.declared.keys.Key.{Key}
 use Rattle.zeb_extract.specs.Order.{key_order}
 use Rattle.zeb_change.specs.declared.pending.KeyChange.{KeyChange}
 use Rattle.zeb_change.specs.declared.pending.Pending.{Pending}
-use Rattle.zeb_change.proofs.Noting.{absent, behind, noted_by}
+use Rattle.zeb_change.proofs.NotedChanges.{absent, behind, noted_by}
 use Rattle.zeb_change.proofs.CostLemmas.{ok_so}
 use Rattle.zeb_change.proofs.pending.Pending.note.Goals as goal
 

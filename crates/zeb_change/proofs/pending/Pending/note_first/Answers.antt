@@ -3,7 +3,7 @@ use Rattle.zeb_extract.specs.declared.keys.Key.{Key}
 use Rattle.zeb_change.specs.declared.pending.KeyChange.{KeyChange}
 use Rattle.zeb_change.specs.declared.pending.Pending.{Pending}
 use Rattle.zeb_change.specs.PrivatePending.{IsNotNoted, IsNotedAlso}
-use Rattle.zeb_change.proofs.Noting.{first}
+use Rattle.zeb_change.proofs.NotedChanges.{first}
 use Rattle.zeb_change.proofs.pending.Pending.note_first.Goals as goal
 
 pub returns : goal.returns

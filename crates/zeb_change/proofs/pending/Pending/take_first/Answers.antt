@@ -1,5 +1,5 @@
 use Rattle.zeb_change.specs.declared.pending.Pending.{Pending}
-use Rattle.zeb_change.proofs.Noting.{out}
+use Rattle.zeb_change.proofs.NotedChanges.{out}
 use Rattle.zeb_change.proofs.pending.Pending.take_first.Goals as goal
 
 pub returns-in-Some-clause-taken : goal.returns-in-Some-clause-taken

@@ -1,10 +1,10 @@
 use Rattle.std.proofs.Common.{◌≡◌, rules, ◌∙◌, not, inl, inr, sym, subst, ap, IsTrue}
-use Rattle.sqlite.specs.Effect.{Database}
+use Rattle.sqlite.specs.Effect.{Database, IsDatabase}
 use Rattle.sqlite.specs.Held.{state}
 use Rattle.zeb_register.specs.Calls.{ChangesNothing}
 use Rattle.zeb_register.specs.Tables.{store_schema}
 use Rattle.zeb_register.specs.Store.{IsStore}
-use Rattle.zeb_engine.specs.Adopting.{HoldsNothing, StaysOpen}
+use Rattle.zeb_engine.specs.Adopting.{HoldsNothing, MayBeTaken, StaysOpen}
 use Rattle.zeb_image.specs.Holdings.{Holdings}
 use Rattle.zeb_image.specs.Image.{IsImage}
 use Rattle.zeb_engine.proofs.Crashing.{adopted_commits, adopted_keeps, opened_bears, survives_as}
@@ -55,3 +55,21 @@ returns-clause-crash g c clean =
 pub returns-in-Err-clause-crash_refused : goal.returns-in-Err-clause-crash_refused
 returns-in-Err-clause-crash_refused g c clean =
     adopted_keeps (state g.S.Store c.args.connection) (state g.S.Store c.make_absent_tables.new.connection) clean (returns-in-Err-clause-survives_refused g c)
+
+pub returns-clause-ours : goal.returns-clause-ours
+returns-clause-ours g c clean =
+    let old = state g.S.Store c.args.connection in
+    let new = state g.S.Store c.make_absent_tables.new.connection in
+    let taken : MayBeTaken old = search rules in
+    let opened : StaysOpen old new = search rules in
+    elim taken.tables [
+      | inl none ↦
+          let told = c.in_default.ensures.made clean none in
+          let empty : HoldsNothing new = search rules in
+          record { is = empty.store.is; sound = empty.store.sound }
+      | inr own ↦
+          let told = c.in_default.ensures.there clean own in
+          let nothing : ChangesNothing old new = search rules in
+          let same : new.now ≡ old.now = (nothing opened.1).1 in
+          record { is = ap (λ (d : Database). d.schema) same ∙ own; sound = subst IsDatabase (sym same) (taken.live opened.0).0 }
+    ]

@@ -13,7 +13,7 @@ use Rattle.zeb_engine.specs.Readiness.{LooksFirst}
 use Rattle.zeb_engine.specs.Works.{Always, Asks, Serves, ServesBy}
 use Rattle.zeb_engine.proofs.Commanding.{analysis_answers, analysis_serves, asks_serve, ends_serve, find_alone, find_serves, scan_alone, scan_serves}
 use Rattle.zeb_engine.proofs.Crashing.{ends_commit, none_commits, survives_as}
-use Rattle.zeb_engine.proofs.ScanReads.{command_reads}
+use Rattle.zeb_engine.proofs.AskedReads.{find_command_reads, scan_command_reads}
 use Rattle.zeb_engine.proofs.Serving.{on_ok}
 use Rattle.zeb_engine.proofs.Unasked.{reads_command}
 use Rattle.zeb_engine.specs.Costs.{CostsAlone, no_work}
@@ -407,45 +407,51 @@ returns-in-Change-clause-work g c clean =
     let costs = subst (λ files. CostsAlone row_work k c.in-Change.kind (name_bytes c.in-Change.database) (map (λ file. file.items) files) old c.change.result work) same_files of_name in
     rw c.in-Change.is costs
 
-pub returns-in-Scan-clause-scan_work : goal.returns-in-Scan-clause-scan_work
-returns-in-Scan-clause-scan_work g c clean =
+pub returns-in-Scan-clause-read_work : goal.returns-in-Scan-clause-read_work
+returns-in-Scan-clause-read_work g c clean =
     let many = c.in-Scan.number-1-own.given.0.1.1.0 in
     let at = c.in-Scan.position-1-own.given.0.1.1.1.0 in
     let same_number : many ≡ c.in-Scan.number = search rules in
     let same_position : at ≡ c.in-Scan.position = search rules in
     let fresh : c.default-self.result ≡ no_work = search rules in
-    rw c.in-Scan.is (command_reads g.L.Layout.format g.L.Layout.row_work (state g.S.Store c.args.self.now.connection) c.scan.result c.in-Scan.database c.in-Scan.query c.in-Scan.number c.in-Scan.position many at
+    rw c.in-Scan.is (scan_command_reads g.L.Layout.format g.L.Layout.row_work g.L.Layout.block_rows c.args.self.now.profile (state g.S.Store c.args.self.now.connection) c.scan.result c.in-Scan.database c.in-Scan.query c.in-Scan.number c.in-Scan.position many at
     c.default-self.result c.scan.new.self.work fresh same_number same_position (c.scan.ensures.work clean))
 
-pub returns-in-Init-clause-scan_work : goal.returns-in-Init-clause-scan_work
-returns-in-Init-clause-scan_work g c clean = rw c.in-Init.is tt
+pub returns-in-Init-clause-read_work : goal.returns-in-Init-clause-read_work
+returns-in-Init-clause-read_work g c clean = rw c.in-Init.is tt
 
-pub returns-in-Create-clause-scan_work : goal.returns-in-Create-clause-scan_work
-returns-in-Create-clause-scan_work g c clean = rw c.in-Create.is tt
+pub returns-in-Create-clause-read_work : goal.returns-in-Create-clause-read_work
+returns-in-Create-clause-read_work g c clean = rw c.in-Create.is tt
 
-pub returns-in-Drop-clause-scan_work : goal.returns-in-Drop-clause-scan_work
-returns-in-Drop-clause-scan_work g c clean = rw c.in-Drop.is tt
+pub returns-in-Drop-clause-read_work : goal.returns-in-Drop-clause-read_work
+returns-in-Drop-clause-read_work g c clean = rw c.in-Drop.is tt
 
-pub returns-in-Change-clause-scan_work : goal.returns-in-Change-clause-scan_work
-returns-in-Change-clause-scan_work g c clean = rw c.in-Change.is tt
+pub returns-in-Change-clause-read_work : goal.returns-in-Change-clause-read_work
+returns-in-Change-clause-read_work g c clean = rw c.in-Change.is tt
 
-pub returns-in-Find-clause-scan_work : goal.returns-in-Find-clause-scan_work
-returns-in-Find-clause-scan_work g c clean = rw c.in-Find.is tt
+pub returns-in-Find-clause-read_work : goal.returns-in-Find-clause-read_work
+returns-in-Find-clause-read_work g c clean =
+    let same_query : c.in-Find.query-1-own.given.0.1.0 ≡ c.in-Find.query = search rules in
+    let fresh : c.default-self.result ≡ no_work = search rules in
+    let of = c.in-Find.database-in-Find-1-own.given.0.0 in
+    let same_name : of ≡ c.in-Find.database = search rules in
+    rw c.in-Find.is (find_command_reads g.L.Layout.format g.L.Layout.row_work g.L.Layout.block_rows c.args.self.now.profile (state g.S.Store c.args.self.now.connection) c.find.result c.in-Find.database c.in-Find.query
+    c.in-Find.first c.in-Find.count (name_bytes of) c.as_str.result.now c.default-self.result c.find.new.self.work (ap name_bytes same_name) (c.as_str.ensures.value ∙ ap string_bytes same_query) fresh (c.find.ensures.work clean))
 
-pub returns-in-Check-clause-scan_work : goal.returns-in-Check-clause-scan_work
-returns-in-Check-clause-scan_work g c clean = rw c.in-Check.is tt
+pub returns-in-Check-clause-read_work : goal.returns-in-Check-clause-read_work
+returns-in-Check-clause-read_work g c clean = rw c.in-Check.is tt
 
-pub returns-in-Upgrade-clause-scan_work : goal.returns-in-Upgrade-clause-scan_work
-returns-in-Upgrade-clause-scan_work g c clean = rw c.in-Upgrade.is tt
+pub returns-in-Upgrade-clause-read_work : goal.returns-in-Upgrade-clause-read_work
+returns-in-Upgrade-clause-read_work g c clean = rw c.in-Upgrade.is tt
 
-pub returns-in-Reindex-clause-scan_work : goal.returns-in-Reindex-clause-scan_work
-returns-in-Reindex-clause-scan_work g c clean = rw c.in-Reindex.is tt
+pub returns-in-Reindex-clause-read_work : goal.returns-in-Reindex-clause-read_work
+returns-in-Reindex-clause-read_work g c clean = rw c.in-Reindex.is tt
 
-pub returns-in-Stat-clause-scan_work : goal.returns-in-Stat-clause-scan_work
-returns-in-Stat-clause-scan_work g c clean = rw c.in-Stat.is tt
+pub returns-in-Stat-clause-read_work : goal.returns-in-Stat-clause-read_work
+returns-in-Stat-clause-read_work g c clean = rw c.in-Stat.is tt
 
-pub returns-in-Dump-clause-scan_work : goal.returns-in-Dump-clause-scan_work
-returns-in-Dump-clause-scan_work g c clean = rw c.in-Dump.is tt
+pub returns-in-Dump-clause-read_work : goal.returns-in-Dump-clause-read_work
+returns-in-Dump-clause-read_work g c clean = rw c.in-Dump.is tt
 
-pub returns-in-Analyse-clause-scan_work : goal.returns-in-Analyse-clause-scan_work
-returns-in-Analyse-clause-scan_work g c clean = rw c.in-Analyse.is tt
+pub returns-in-Analyse-clause-read_work : goal.returns-in-Analyse-clause-read_work
+returns-in-Analyse-clause-read_work g c clean = rw c.in-Analyse.is tt

@@ -1,21 +1,20 @@
-use Rattle.std.proofs.Common.{◌≡◌, [], Err, IsErrAnd, IsTrue, List, inl, inr, refl, rules, arith, sym, subst}
+use Rattle.std.proofs.Common.{◌≡◌, [], Err, IsErrAnd, inl, inr, refl, rules, arith, sym, subst}
 use Rattle.sqlite.specs.Held.{state}
 use Rattle.sqlite.specs.State.{HasCleanDisk}
 use Rattle.zeb_change.specs.Conditions.{conditions}
-use Rattle.zeb_change.specs.Base.{Base}
 use Rattle.zeb_image.specs.NameOf.{name_bytes}
 use Rattle.zeb_engine.specs.Readiness.{IsRefusedOver}
 use Rattle.zeb_change.specs.Reading.{NamesFailed}
-use Rattle.zeb_engine.specs.Steps.{TakesFiles, changed_by_files, ready, turned}
+use Rattle.zeb_engine.specs.Steps.{TakesFiles, changed_by_files, turned}
 use Rattle.zeb_change.specs.Folding.{splits_of}
 use Rattle.zeb_engine.specs.Works.{ServesBy}
-use Rattle.zeb_engine.proofs.Commanding.{ends_serve, ready_met, unready_serves}
+use Rattle.zeb_engine.proofs.Commanding.{ends_serve, ready_kept, unready_serves}
 use Rattle.zeb_engine.proofs.Crashing.{survives_after}
 use Rattle.zeb_engine.proofs.Honest.{start_honest}
 use Rattle.zeb_engine.proofs.Turns.{turn_refused}
 use Rattle.zeb_change.specs.Refused.{why_of}
 use Rattle.zeb_engine.proofs.Readers.{no_file_failed, named_or_none}
-use Rattle.zeb_engine.proofs.Serving.{keeps_still, on_ok}
+use Rattle.zeb_engine.proofs.Serving.{on_ok}
 use Rattle.zeb_register.specs.declared.registers.Work.{Work}
 use Rattle.zeb_engine.specs.Costs.{Costs, no_work}
 use Rattle.zeb_engine.proofs.session.Session.change_from.Goals as goal
@@ -44,8 +43,8 @@ returns-clause-serves g c = λ clean texts told fine.
     let outcome = turned k (changed_by_files k c.args.kind (name_bytes c.args.database.now) (splits_of texts)) in
     let first : HasCleanDisk mid = omega (arith, c.change_database.ensures.survives.clean) in
     ends_serve outcome old new c.change_database.result (λ before fits keeps.
-    let met = ready_met {X = Unit {0}} (λ (bases : List Base) x. IsTrue old.is_open × IsTrue mid.is_open) (ready k before) tt (c.in_ok-check_ready.ensures.ready first limits before keeps) in
-    c.change_database.ensures.serves clean met.2.1 texts told fine before (λ _. (met.0, met.1)) (keeps_still before old mid (c.check_ready.ensures.same first) keeps))
+    let met = ready_kept k old mid before (c.in_ok-check_ready.ensures.ready first limits before keeps) (c.check_ready.ensures.same first) keeps in
+    c.change_database.ensures.serves clean met.2.1 texts told fine before (λ _. (met.0, met.1)) met.3)
 
 pub returns-clause-survives : goal.returns-clause-survives
 returns-clause-survives g c =
@@ -57,8 +56,8 @@ returns-clause-survives g c =
     survives_after old mid new _ _ c.check_ready.ensures.crash c.change_database.ensures.survives (λ clean db made texts told fine before keeps.
     let outcome = turned k (changed_by_files k c.args.kind (name_bytes c.args.database.now) (splits_of texts)) in
     let first : HasCleanDisk mid = omega (arith, c.change_database.ensures.survives.clean) in
-    let met = ready_met {X = Unit {0}} (λ (bases : List Base) x. IsTrue old.is_open × IsTrue mid.is_open) (ready k before) tt (c.in_ok-check_ready.ensures.ready first limits before keeps) in
-    let done = made met.2.1 texts told fine before (λ _. (met.0, met.1)) (keeps_still before old mid (c.check_ready.ensures.same first) keeps) in
+    let met = ready_kept k old mid before (c.in_ok-check_ready.ensures.ready first limits before keeps) (c.check_ready.ensures.same first) keeps in
+    let done = made met.2.1 texts told fine before (λ _. (met.0, met.1)) met.3 in
     ((outcome before).0, (outcome before).1, (refl, refl), done.0, done.1))
 
 pub returns-in_err-check_readers-clause-serves : goal.returns-in_err-check_readers-clause-serves
@@ -89,7 +88,7 @@ returns-in_err-check_readers-clause-ready g c clean store =
     let trees = (state g.S.Store c.args.self.now.connection).now.trees in
     let version = version_of g.L.Layout.format in
     let result : c.from_residual.result ≡ Err c.in_err-check_readers.field-0.0 = search rules in
-    rw result (subst (IsRefusedOver version c.args.self.now.profile trees) (sym c.in_err-check_readers.ensures.named.2) tt)
+    rw result (subst (IsRefusedOver version c.args.self.now.profile trees) (sym c.in_err-check_readers.ensures.named.3) tt)
 
 pub returns-in_err-check_ready-clause-honest : goal.returns-in_err-check_ready-clause-honest
 returns-in_err-check_ready-clause-honest g c clean before keeps =
@@ -111,9 +110,8 @@ returns-clause-honest g c clean before keeps =
     let old = state g.S.Store c.args.self.now.connection in
     let mid = state g.S.Store c.check_ready.new.connection in
     let first : HasCleanDisk mid = omega (arith, c.change_database.ensures.survives.clean) in
-    let met = ready_met {X = Unit {0}} (λ (bases : List Base) x. IsTrue old.is_open × IsTrue mid.is_open) (ready k before) tt (c.in_ok-check_ready.ensures.ready first limits before keeps) in
-    let same = c.check_ready.ensures.same first in
-    c.change_database.ensures.honest clean met.2.1 before (met.0, met.1) (keeps_still before old mid same keeps)
+    let met = ready_kept k old mid before (c.in_ok-check_ready.ensures.ready first limits before keeps) (c.check_ready.ensures.same first) keeps in
+    c.change_database.ensures.honest clean met.2.1 before (met.0, met.1) met.3
 
 pub returns-clause-work : goal.returns-clause-work
 returns-clause-work g c = λ clean texts told.
@@ -124,6 +122,6 @@ returns-clause-work g c = λ clean texts told.
     let first : HasCleanDisk mid = omega (arith, c.change_database.ensures.survives.clean) in
     let fresh : c.default-self.result ≡ no_work = search rules in
     on_ok c.change_database.result _ _ (λ works before keeps.
-    let met = ready_met {X = Unit {0}} (λ (bases : List Base) x. IsTrue old.is_open × IsTrue mid.is_open) (ready k before) tt (c.in_ok-check_ready.ensures.ready first limits before keeps) in
+    let met = ready_kept k old mid before (c.in_ok-check_ready.ensures.ready first limits before keeps) (c.check_ready.ensures.same first) keeps in
     subst (λ (work : Work). Costs g.L.Layout.row_work k c.args.kind (name_bytes c.args.database.now) texts work c.change_database.new.work before) fresh
-    (works before met.2.1 (met.0, met.1) (keeps_still before old mid (c.check_ready.ensures.same first) keeps))) (c.change_database.ensures.work clean texts told)
+    (works before met.2.1 (met.0, met.1) met.3)) (c.change_database.ensures.work clean texts told)

@@ -1,14 +1,17 @@
-use Rattle.std.proofs.Common.{◌≡◌, false, List, Err, IsTrue, rules, arith, sym, subst}
+use Rattle.std.proofs.Common.{◌≡◌, false, List, Err, IsTrue, rules, arith, sym, subst, inr}
 use Rattle.sqlite.specs.Held.{state}
 use Rattle.sqlite.specs.State.{HasCleanDisk}
 use Rattle.zeb_register.specs.Formats.{version_of}
 use Rattle.zeb_register.proofs.Calls.{store_same}
 use Rattle.zeb_change.specs.Base.{Base}
 use Rattle.zeb_change.specs.Conditions.{conditions}
+use Rattle.zeb_change.specs.Outcomes.{register_refusal}
+use Rattle.zeb_engine.specs.declared.replies.Reply.{Reply}
 use Rattle.zeb_engine.specs.Steps.{checked, ready}
 use Rattle.zeb_engine.specs.Works.{Always, Serves}
 use Rattle.zeb_engine.proofs.Checks.{damage_serves, tells_none, tells_some, unready_tells}
 use Rattle.zeb_engine.proofs.Commanding.{ready_met, unready_checks}
+use Rattle.zeb_engine.proofs.ReadyTexts.{fault_never, ready_then}
 use Rattle.zeb_engine.proofs.session.Session.check.Goals as goal
 
 pub returns-in_err-check_ready-clause-serves : goal.returns-in_err-check_ready-clause-serves
@@ -39,6 +42,13 @@ returns-in_err-check_ready-clause-checked g c clean store texts =
     rw told (unready_tells k old store texts (λ is_open. sym (c.is_autocommit-settled.ensures.settled idle is_open)) {X = Unit {0}} (λ (bases : List Base) x. IsTrue old.is_open × IsTrue mid.is_open) refusal
     (λ before keeps. c.in_err-check_ready.ensures.ready clean limits before keeps) c.in_err-check_ready.ensures.few (c.in_err-check_ready.ensures.texts clean store))
 
+pub returns-in_err-is_image-clause-ready : goal.returns-in_err-is_image-clause-ready
+returns-in_err-is_image-clause-ready g c clean =
+    let first : HasCleanDisk (state g.S.Store c.check_ready.new.connection) = omega (arith, c.is_image.ensures.call.crash.clean) in
+    let fault = c.in_err-is_image.field-0.0 in
+    let told : c.from_residual-in_err-is_image.result ≡ Err (register_refusal fault) = search rules in
+    rw told (ready_then (version_of g.L.Layout.format) c.args.self.now.profile {T = Reply} {X = Unit {0}} (state g.S.Store c.args.self.now.connection) tt (c.in_ok-check_ready.ensures.texts first) (Err (register_refusal fault)) (fault_never {T = Reply} fault))
+
 pub returns-then-branch-clause-checked : goal.returns-then-branch-clause-checked
 returns-then-branch-clause-checked g c clean store texts =
     let own = version_of g.L.Layout.format in
@@ -61,6 +71,11 @@ returns-else-branch-clause-serves g c clean =
     let no : c.in_ok-is_image.field-0 ≡ false = search rules in
     damage_serves k old mid new (λ before keeps. ready_met {X = Unit {0}} (λ (bases : List Base) x. IsTrue old.is_open × IsTrue mid.is_open) (ready k before) tt (c.in_ok-check_ready.ensures.ready first limits before keeps))
     (c.check_ready.ensures.same first) c.in_ok-is_image.field-0 (c.in_ok-is_image.ensures.value clean) no
+
+pub returns-else-branch-clause-ready : goal.returns-else-branch-clause-ready
+returns-else-branch-clause-ready g c clean store =
+    let first : HasCleanDisk (state g.S.Store c.check_ready.new.connection) = omega (arith, c.is_image.ensures.call.crash.clean) in
+    inr (c.in_ok-check_ready.ensures.texts first store)
 
 pub returns-else-branch-clause-checked : goal.returns-else-branch-clause-checked
 returns-else-branch-clause-checked g c clean store texts =

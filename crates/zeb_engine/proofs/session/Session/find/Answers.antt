@@ -11,7 +11,10 @@ use Rattle.zeb_engine.specs.Steps.{ready}
 use Rattle.zeb_engine.specs.Works.{Finds}
 use Rattle.zeb_engine.specs.Alone.{FindSays}
 use Rattle.zeb_engine.specs.Steps.{FindAnswers}
+use Rattle.zeb_query.specs.Plans.{PlanValue}
+use Rattle.zeb_engine.specs.Reads.{IsPlanOf, PlanReads}
 use Rattle.zeb_engine.proofs.Asked.{alone_after, ready_asked, unready_asked}
+use Rattle.zeb_engine.proofs.AskedReads.{told_after}
 use Rattle.zeb_engine.proofs.Commanding.{ready_met}
 use Rattle.zeb_engine.proofs.Serving.{keeps_still}
 use Rattle.zeb_engine.proofs.session.Session.find.Goals as goal
@@ -73,3 +76,14 @@ pub returns-clause-ready : goal.returns-clause-ready
 returns-clause-ready g c clean =
     let first : HasCleanDisk (state g.S.Store c.check_ready.new.connection) = omega (arith, c.find.ensures.crash.clean) in
     ready_then (version_of g.L.Layout.format) c.args.self.now.profile {X = Unit {0}} (state g.S.Store c.args.self.now.connection) tt (c.in_ok-check_ready.ensures.texts first) c.find.result c.find.ensures.ready
+
+pub returns-clause-work : goal.returns-clause-work
+returns-clause-work g c clean =
+    let old = state g.S.Store c.args.self.now.connection in
+    let mid = state g.S.Store c.check_ready.new.connection in
+    let new = state g.S.Store c.find.new.connection in
+    let clean1 : HasCleanDisk mid = omega (arith, c.find.ensures.crash.clean) in
+    told_after g.L.Layout.format
+    (λ trees content. (plan : PlanValue) × IsPlanOf c.args.self.now.profile c.args.question.query.now plan
+    × PlanReads g.L.Layout.block_rows plan (name_bytes c.args.database.now) trees content c.args.self.now.work c.find.new.work) old mid new c.find.result
+    (c.check_ready.ensures.same clean1) (c.find.ensures.open clean) (c.find.ensures.work clean)

@@ -1,4 +1,4 @@
-use Rattle.std.proofs.Common.{◌≡◌, Err, IsTrue, List, rules, arith, sym, subst}
+use Rattle.std.proofs.Common.{◌≡◌, ◌≤◌, ◌*◌, ◌+◌, Err, IsTrue, List, rules, arith, sym, subst}
 use Rattle.sqlite.specs.Held.{state}
 use Rattle.sqlite.specs.State.{HasCleanDisk}
 use Rattle.zeb_register.proofs.Calls.{nothing_then}
@@ -13,10 +13,11 @@ use Rattle.zeb_engine.specs.Steps.{ready}
 use Rattle.zeb_engine.specs.Works.{ScansFrom}
 use Rattle.zeb_engine.proofs.Commanding.{ready_met}
 use Rattle.zeb_engine.proofs.Asked.{alone_after, ready_asked, unready_asked}
-use Rattle.zeb_engine.proofs.ScanReads.{reads_after}
+use Rattle.zeb_engine.proofs.AskedReads.{told_after}
 use Rattle.zeb_engine.proofs.Serving.{keeps_still}
 use Rattle.zeb_engine.proofs.session.Session.scan.Goals as goal
 use Rattle.zeb_register.specs.Formats.{version_of}
+use Rattle.zeb_register.specs.Tallies.{ReadsTerms}
 use Rattle.zeb_engine.proofs.ReadyTexts.{ready_then}
 
 pub returns-in_err-check_ready-clause-serves : goal.returns-in_err-check_ready-clause-serves
@@ -81,5 +82,8 @@ returns-clause-work g c clean =
     let mid = state g.S.Store c.check_ready.new.connection in
     let new = state g.S.Store c.scan.new.connection in
     let clean1 : HasCleanDisk mid = omega (arith, c.scan.ensures.crash.clean) in
-    reads_after g.L.Layout.format g.L.Layout.row_work c.args.around.number c.args.around.position old mid new c.scan.result c.args.self.now.work c.scan.new.work
+    let number = c.args.around.number in
+    let position = c.args.around.position in
+    told_after g.L.Layout.format
+    (λ trees content. 1 ≤ position → position ≤ number → ReadsTerms (g.L.Layout.row_work * (number + 1)) c.args.self.now.work c.scan.new.work) old mid new c.scan.result
     (c.check_ready.ensures.same clean1) (c.scan.ensures.«open» clean) (c.scan.ensures.work clean)

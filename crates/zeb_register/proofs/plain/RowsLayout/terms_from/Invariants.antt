@@ -14,11 +14,11 @@ invariant-loop-done g l =
     let old = state g.S.Store l.fn.conn in
     let now = state g.S.Store l.conn in
     record {
+      long : length l.counts.items ≡ l._done;
       idle : l.fn.conn.in_transaction ≡ false → l.conn.in_transaction ≡ false;
       ok : HasCleanDisk now → IsUnchanged old now;
       same : HasCleanDisk now → l.fn.conn.in_transaction ≡ false → ChangesNothing old now;
       crash : Survives old now (λ _. ⊥);
-      long : length l.counts.items ≡ l._done;
       rest : HasCleanDisk now → IsStore old → (content : Content) → HoldsRows old.now.trees content → (all : List TermCount) → AreTermsOf (posted content l.db.0) l.index l.register all
           → filter (is_from l.start) all ≡ l.counts.items ++ filter (is_from (string_bytes l.next)) all;
     }

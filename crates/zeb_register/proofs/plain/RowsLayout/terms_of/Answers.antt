@@ -1,15 +1,11 @@
-use Rattle.std.proofs.Common.{◌≡◌, ◌∙◌, pos, sym, subst, w64, to_z, of_z}
-use Rattle.std.proofs.Math.Facts.{to_z-of_z}
+use Rattle.std.proofs.Common.{sym, subst}
 use Rattle.std.proofs.lemmas.Result.{IfOk-weaker}
 use Rattle.std.specs.List.Sorted.{IsStrictlySortedBy}
 use Rattle.sqlite.specs.Held.{state}
 use Rattle.sqlite.specs.Order.{row_cmp}
-use Rattle.sqlite.specs.declared.types.Value.TheVariants.{Int}
-use Rattle.std.proofs.Common.{[], ◌∷◌}
 use Rattle.sqlite_rules.specs.Lists.{Has}
 use Rattle.zeb_register.specs.Sql.{IsListOf}
 use Rattle.zeb_register.specs.Store.{IsRest, postings_tree}
-use Rattle.zeb_register.specs.PlainRows.{code_of_register}
 use Rattle.zeb_register.specs.Occurring.{AreCounts}
 use Rattle.zeb_register.specs.RowTerms.{IsShown}
 use Rattle.zeb_register.proofs.TermRows.{counts_are, rows_readable, register_front}
@@ -19,12 +15,8 @@ pub returns-clause-value : goal.returns-clause-value
 returns-clause-value g c clean store =
     let trees = (state g.S.Store c.args.conn.now).now.trees in
     let items = c.in_ok-rows.rows.items in
-    let known : to_z w64 (of_z w64 c.column.result) ≡ c.args.db.0 = to_z-of_z {w = w64} {z = c.column.result} c.column.ensures.fits ∙ c.column.ensures.value in
-    let code : to_z w64 (of_z w64 c.code_of.result) ≡ pos (code_of_register c.args.register) = to_z-of_z {w = w64} {z = c.code_of.result} c.code_of.ensures.fits ∙ c.code_of.ensures.value in
     let raw = (c.in_ok-rows.ensures.call.ok clean).1 store in
-    let held : IsListOf (IsRest postings_tree (register_front c.args.db.0 c.args.index c.args.register) trees) items =
-    subst (λ r. IsListOf (IsRest postings_tree (Int c.args.db.0 ∷ Int (pos c.args.index) ∷ Int r ∷ []) trees) items) code
-    (subst (λ d. IsListOf (IsRest postings_tree (Int d ∷ Int (pos c.args.index) ∷ Int (to_z w64 (of_z w64 c.code_of.result)) ∷ []) trees) items) known raw) in
+    let held : IsListOf (IsRest postings_tree (register_front c.args.db.0 c.args.index c.args.register) trees) items = raw in
     let rising : IsStrictlySortedBy row_cmp c.deref.result.now = subst (IsStrictlySortedBy row_cmp) (sym c.deref.ensures.value) held.rising in
     IfOk-weaker c.count_terms.result _ _ (λ list counted content holds. counts_are trees content c.args.db.0 c.args.index c.args.register holds items held list.items (subst (λ l. AreCounts (IsShown l) list.items) c.deref.ensures.value (counted rising))) c.count_terms.ensures.ok
 
@@ -32,10 +24,6 @@ pub returns-clause-honest : goal.returns-clause-honest
 returns-clause-honest g c clean store is content texts holds =
     let trees = (state g.S.Store c.args.conn.now).now.trees in
     let items = c.in_ok-rows.rows.items in
-    let known : to_z w64 (of_z w64 c.column.result) ≡ c.args.db.0 = to_z-of_z {w = w64} {z = c.column.result} c.column.ensures.fits ∙ c.column.ensures.value in
-    let code : to_z w64 (of_z w64 c.code_of.result) ≡ pos (code_of_register c.args.register) = to_z-of_z {w = w64} {z = c.code_of.result} c.code_of.ensures.fits ∙ c.code_of.ensures.value in
     let raw = (c.in_ok-rows.ensures.call.ok clean).1 store in
-    let held : IsListOf (IsRest postings_tree (register_front c.args.db.0 c.args.index c.args.register) trees) items =
-    subst (λ r. IsListOf (IsRest postings_tree (Int c.args.db.0 ∷ Int (pos c.args.index) ∷ Int r ∷ []) trees) items) code
-    (subst (λ d. IsListOf (IsRest postings_tree (Int d ∷ Int (pos c.args.index) ∷ Int (to_z w64 (of_z w64 c.code_of.result)) ∷ []) trees) items) known raw) in
+    let held : IsListOf (IsRest postings_tree (register_front c.args.db.0 c.args.index c.args.register) trees) items = raw in
     c.count_terms.ensures.honest is (λ row here. rows_readable trees content c.args.db.0 c.args.index c.args.register holds items held texts row (subst (λ l. Has l row) c.deref.ensures.value here))

@@ -1,17 +1,14 @@
-use Rattle.std.proofs.Common.{rules, ◌≡◌, ◌∙◌, map, pos, sym, subst, arith, w64, to_z, of_z}
-use Rattle.std.proofs.Math.Facts.{to_z-of_z}
+use Rattle.std.proofs.Common.{rules, inl, map, sym, subst, arith}
 use Rattle.std.proofs.lemmas.List.{length-map}
 use Rattle.std.specs.List.Sorted.{IsStrictlySortedBy}
 use Rattle.sqlite.specs.Held.{state}
 use Rattle.sqlite.specs.Order.{row_cmp}
-use Rattle.sqlite.specs.declared.types.Value.TheVariants.{Int}
-use Rattle.std.proofs.Common.{[], ◌∷◌}
 use Rattle.sqlite_rules.specs.Lists.{Has}
 use Rattle.zeb_register.specs.Sql.{IsListOf}
 use Rattle.zeb_register.specs.Store.{IsRest, postings_tree}
-use Rattle.zeb_register.specs.PlainRows.{code_of_register}
 use Rattle.zeb_register.specs.Occurring.{AreCounts}
 use Rattle.zeb_register.specs.RowTerms.{IsShown}
+use Rattle.zeb_register.proofs.CountLemmas.{none_in_sum}
 use Rattle.zeb_register.proofs.TermRows.{counts_are, rows_readable, spot_at, spots_are, register_front}
 use Rattle.zeb_register.proofs.plain.RowsLayout.totals.Goals as goal
 
@@ -19,24 +16,16 @@ pub returns-in_err-counts-clause-honest : goal.returns-in_err-counts-clause-hone
 returns-in_err-counts-clause-honest g c clean store is content texts holds =
     let trees = (state g.S.Store c.args.conn.now).now.trees in
     let items = c.in_ok-rows.rows.items in
-    let known : to_z w64 (of_z w64 c.column.result) ≡ c.args.db.0 = to_z-of_z {w = w64} {z = c.column.result} c.column.ensures.fits ∙ c.column.ensures.value in
-    let code : to_z w64 (of_z w64 c.code_of.result) ≡ pos (code_of_register c.args.register) = to_z-of_z {w = w64} {z = c.code_of.result} c.code_of.ensures.fits ∙ c.code_of.ensures.value in
     let raw = (c.in_ok-rows.ensures.call.ok clean).1 store in
-    let held : IsListOf (IsRest postings_tree (register_front c.args.db.0 c.args.index c.args.register) trees) items =
-    subst (λ r. IsListOf (IsRest postings_tree (Int c.args.db.0 ∷ Int (pos c.args.index) ∷ Int r ∷ []) trees) items) code
-    (subst (λ d. IsListOf (IsRest postings_tree (Int d ∷ Int (pos c.args.index) ∷ Int (to_z w64 (of_z w64 c.code_of.result)) ∷ []) trees) items) known raw) in
+    let held : IsListOf (IsRest postings_tree (register_front c.args.db.0 c.args.index c.args.register) trees) items = raw in
     c.in_err-counts.ensures.honest (search rules) (λ row here. rows_readable trees content c.args.db.0 c.args.index c.args.register holds items held texts row (subst (λ l. Has l row) c.deref.ensures.value here))
 
 pub returns-clause-value : goal.returns-clause-value
 returns-clause-value g c clean store content holds =
     let trees = (state g.S.Store c.args.conn.now).now.trees in
     let items = c.in_ok-rows.rows.items in
-    let known : to_z w64 (of_z w64 c.column.result) ≡ c.args.db.0 = to_z-of_z {w = w64} {z = c.column.result} c.column.ensures.fits ∙ c.column.ensures.value in
-    let code : to_z w64 (of_z w64 c.code_of.result) ≡ pos (code_of_register c.args.register) = to_z-of_z {w = w64} {z = c.code_of.result} c.code_of.ensures.fits ∙ c.code_of.ensures.value in
     let raw = (c.in_ok-rows.ensures.call.ok clean).1 store in
-    let held : IsListOf (IsRest postings_tree (register_front c.args.db.0 c.args.index c.args.register) trees) items =
-    subst (λ r. IsListOf (IsRest postings_tree (Int c.args.db.0 ∷ Int (pos c.args.index) ∷ Int r ∷ []) trees) items) code
-    (subst (λ d. IsListOf (IsRest postings_tree (Int d ∷ Int (pos c.args.index) ∷ Int (to_z w64 (of_z w64 c.code_of.result)) ∷ []) trees) items) known raw) in
+    let held : IsListOf (IsRest postings_tree (register_front c.args.db.0 c.args.index c.args.register) trees) items = raw in
     let rising : IsStrictlySortedBy row_cmp c.deref.result.now = subst (IsStrictlySortedBy row_cmp) (sym c.deref.ensures.value) held.rising in
     let terms = c.in_ok-counts.counts.items in
     let are = counts_are trees content c.args.db.0 c.args.index c.args.register holds items held terms (subst (λ l. AreCounts (IsShown l) terms) c.deref.ensures.value (c.in_ok-counts.ensures.ok rising)) in
@@ -48,4 +37,14 @@ returns-clause-value g c clean store content holds =
       spots = map spot_at items;
       stand = spots;
       occurrences = omega (arith, c.len-2.ensures, c.in_ok-rows.rows.ok.0, length-map items spot_at);
+    }
+
+pub returns-clause-work : goal.returns-clause-work
+returns-clause-work g c clean store content holds all are =
+    let none = none_in_sum all in
+    record {
+      reads_terms = inl (omega arith);
+      writes_terms = inl (omega arith);
+      reads_blocks = inl (omega (arith, none));
+      writes_blocks = inl (omega arith);
     }

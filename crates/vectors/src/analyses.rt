@@ -1,0 +1,189 @@
+//! Files whose analysis is known from outside.
+use std::alloc::{AllocError, Global};
+use std::test::Fail;
+use zeb_analysis::{AnalysisFault, analyse, analysis_lines};
+use zeb_extract::IdentFault;
+use zeb_marc::MarcFault;
+use zeb_profile::Profile;
+
+/// Title words and phrases, numbers of the date, and any word of a data field.
+const PROFILE: &str = "store books.db
+identifier 001
+att 4 Title
+att 31 Date
+att 1016 Any
+melm 245$a Title:w,Title:p
+melm 245 Title:w
+melm 260$c Date:n
+all Any
+";
+
+/// `a1`, titled `Moby Dick : or, the whale /`, of 1851.
+const MOBY: &str = "\
+00109nam a2200061 a 4500001000300000245003300003260001100036\x1ea1\x1e10\x1faMoby Dick :\x1fbor, the whale /\x1e  \x1fcc1851.\x1e\x1d";
+
+/// A record without a field.
+const BARE: &str = "00026nam a2200025 a 4500\x1e\x1d";
+
+/// The first 60 bytes of `MOBY`.
+const CUT: &str = "00109nam a2200061 a 4500001000300000245003300003260001100036";
+
+/// `MOBY` as it is printed.
+const MOBY_LINES: &str = "record 1 1 a1
+Title:w 2 2 dick
+Title:w 2 1 moby
+Title:w 3 1 or
+Title:w 3 2 the
+Title:w 3 3 whale
+Title:p 2 1 moby dick
+Date:n 4 1 1851
+Any:w 4 1 c1851
+Any:w 2 2 dick
+Any:w 2 1 moby
+Any:w 3 1 or
+Any:w 3 2 the
+Any:w 3 3 whale
+";
+
+/// The names of a profile's indexes, each at its number.
+fn names_of(alloc: Global, profile: &Profile) -> Result<Vec<String>, AllocError> {
+    let mut names = Vec::new(alloc);
+    for index in 0..profile.index_count() {
+        let name = profile.index_name(index).unwrap_or("no index");
+        names.push(String::from_str(alloc, name)?)?;
+    }
+    Ok(names)
+}
+
+/// Files of these records, each given by its parts.
+fn files_of(alloc: Global, files: &[&[&str]]) -> Result<Vec<Vec<u8>>, AllocError> {
+    let mut found = Vec::new(alloc);
+    for parts in files {
+        let mut bytes = Vec::new(alloc);
+        for part in *parts {
+            bytes.extend_from_slice(part.as_bytes())?;
+        }
+        found.push(bytes)?;
+    }
+    Ok(found)
+}
+
+/// Files and a limit, and why their analysis ends.
+#[derive(Clone, Copy)]
+struct Refused<'a> {
+    files: &'a [&'a [&'a str]],
+    limit: u64,
+    fault: AnalysisFault,
+}
+
+#[test]
+fn the_sample_record_is_printed(rt: HostRuntime) -> Result<(), Fail> {
+    let profile = Profile::read(rt.alloc(), PROFILE)?;
+    let names = names_of(rt.alloc(), &profile)?;
+    let files = files_of(rt.alloc(), &[&[MOBY]])?;
+    let analyses = analyse(rt.alloc(), &profile, 1, &files)?;
+    assert_eq!(rt; analyses.len(), 1);
+    let first = analyses.first().ok_or("no analysis")?;
+    let lines = analysis_lines(rt.alloc(), &names, first)?;
+    assert_eq!(rt; lines.as_str(), MOBY_LINES);
+    Ok(())
+}
+
+/// Records are counted in their file, with separators passed over.
+#[test]
+fn records_have_their_places(rt: HostRuntime) -> Result<(), Fail> {
+    let profile = Profile::read(rt.alloc(), PROFILE)?;
+    let files = files_of(rt.alloc(), &[&[MOBY, "\r\n", MOBY, "\n"], &[], &[MOBY]])?;
+    let mut places = String::new(rt.alloc());
+    for analysis in &analyse(rt.alloc(), &profile, 3, &files)? {
+        let (file, nth) = (analysis.file, analysis.nth);
+        write!(places, "{file} {nth}, ")?;
+    }
+    assert_eq!(rt; places.as_str(), "1 1, 1 2, 3 1, ");
+    Ok(())
+}
+
+/// Each row is files that are refused, and by what.
+#[test]
+fn the_first_that_refuses_ends_it(rt: HostRuntime) -> Result<(), Fail> {
+    let cut = AnalysisFault::Marc {
+        file: 1,
+        nth: 2,
+        fault: MarcFault::Truncated,
+    };
+    let unnamed = AnalysisFault::Ident {
+        file: 2,
+        nth: 1,
+        fault: IdentFault::NoIdentifier,
+    };
+    let rows = [
+        Refused {
+            files: &[&[MOBY, CUT]],
+            limit: 9,
+            fault: cut,
+        },
+        // The limit is of records, and what stands behind the last one is none.
+        Refused {
+            files: &[&[MOBY, CUT]],
+            limit: 1,
+            fault: cut,
+        },
+        Refused {
+            files: &[&[MOBY], &[BARE]],
+            limit: 2,
+            fault: unnamed,
+        },
+        // A record too many isn't looked at.
+        Refused {
+            files: &[&[MOBY], &[BARE]],
+            limit: 1,
+            fault: AnalysisFault::TooManyRecords,
+        },
+    ];
+    let profile = Profile::read(rt.alloc(), PROFILE)?;
+    for row in &rows {
+        let files = files_of(rt.alloc(), row.files)?;
+        match analyse(rt.alloc(), &profile, row.limit, &files) {
+            Ok(_) => assert!(rt; false),
+            Err(fault) => assert_eq!(rt; fault, row.fault),
+        }
+    }
+    Ok(())
+}
+
+#[test]
+fn faults_have_their_texts(rt: HostRuntime) -> Result<(), Fail> {
+    let fault = AnalysisFault::Marc {
+        file: 1,
+        nth: 2,
+        fault: MarcFault::Truncated,
+    };
+    let text = format!(in rt.alloc(); "{fault}")?;
+    assert_eq!(rt; text.as_str(), "file 1 record 2: Truncated");
+    Ok(())
+}
+
+/// Whichever allocation is refused (tests/each_allocation.py of the repository refuses each in turn), the answer is the
+/// ordinary one or want of memory.
+#[test]
+fn memory_or_the_ordinary_answer(rt: HostRuntime) -> Result<(), Fail> {
+    let Ok(profile) = Profile::read(rt.alloc(), PROFILE) else {
+        return Ok(());
+    };
+    let Ok(names) = names_of(rt.alloc(), &profile) else {
+        return Ok(());
+    };
+    let Ok(files) = files_of(rt.alloc(), &[&[MOBY]]) else {
+        return Ok(());
+    };
+    match analyse(rt.alloc(), &profile, 1, &files) {
+        Ok(analyses) => {
+            let first = analyses.first().ok_or("no analysis")?;
+            if let Ok(lines) = analysis_lines(rt.alloc(), &names, first) {
+                assert_eq!(rt; lines.as_str(), MOBY_LINES);
+            }
+        }
+        Err(fault) => assert_eq!(rt; fault, AnalysisFault::Memory),
+    }
+    Ok(())
+}

@@ -1,0 +1,18 @@
+//! Tests of the crates that know nothing of a store, over their public names alone, and no product code: worked answers, texts read by
+//! another program's tables, faults, readers that fail, and want of memory.
+#![tactic(auto)]
+
+#[cfg(test)]
+mod analyses;
+#[cfg(test)]
+mod extraction;
+#[cfg(test)]
+mod profiles;
+#[cfg(test)]
+mod queries;
+#[cfg(test)]
+mod records;
+#[cfg(test)]
+mod streams;
+#[cfg(test)]
+mod texts;

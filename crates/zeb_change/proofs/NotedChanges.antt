@@ -1,0 +1,135 @@
+-- The changes that are noted of each key, and how many there are, as a change is noted and as a key's changes are taken out.
+use Rattle.std.proofs.Common.{◌≡◌, ◌≢◌, ◌∙◌, ◌+◌, Bool, true, false, List, [], ◌∷◌, ◌++◌, length, length-append, Option, Some, None, refl, sym, ap, subst, arith}
+use Rattle.std.specs.declared.alloc.Global.{Global}
+use Rattle.std.specs.declared.vec.Vec.{Vec}
+use Rattle.std.specs.declared.cmp.Ordering.{Ordering}
+use Rattle.std.specs.declared.cmp.Ordering.TheVariants.{Less, Equal, Greater}
+use Rattle.std.specs.Ordering.{is_eq}
+use Rattle.std.specs.Map.{lookup, set_value}
+use Rattle.std.specs.BTreeMap.{BTreeMap, get, insert_entry, is_at, Updates, WritesThrough}
+use Rattle.zeb_extract.specs.declared.keys.Key.{Key}
+use Rattle.zeb_extract.specs.Order.{key_order}
+use Rattle.zeb_extract.proofs.Rising.{keys_apart}
+use Rattle.zeb_change.specs.declared.pending.KeyChange.{KeyChange}
+use Rattle.zeb_change.specs.declared.pending.Pending.{Pending}
+use Rattle.zeb_change.specs.Noted.{IsNothingNoted, changes_among, changes_in, noted_at, noted_count}
+use Rattle.zeb_change.specs.PrivatePending.{IsNotNoted, IsNotedAlso, IsTakenOut}
+
+abbrev Changes : Type 0
+Changes = Vec KeyChange Global
+
+-- ---- how many
+
+set_more : (test : Key → Bool) (es : List (Key × Changes)) (v w : Changes) → lookup test es ≡ Some v → length w.items ≡ length v.items + 1
+    → changes_among (set_value test es w) ≡ changes_among es + 1
+set_more test [] v w found more = absurd (cc)
+set_more test (e ∷ es) v w found more = by (test e.0) refl (λ later. set_more test es v w later more)
+  where
+    by : (b : Bool) → test e.0 ≡ b → (lookup test es ≡ Some v → changes_among (set_value test es w) ≡ changes_among es + 1) → changes_among (set_value test (e ∷ es) w) ≡ changes_among (e ∷ es) + 1
+    by true is rest =
+        let here : Some e.1 ≡ Some v = sym (rw is refl) ∙ found in
+        let same : e.1 ≡ v = cc in
+        let many : length w.items ≡ length e.1.items + 1 = more ∙ ap (λ (u : Changes). length u.items + 1) (sym same) in
+        rw is (omega (arith, many))
+    by false is rest =
+        let later : lookup test es ≡ Some v = sym (rw is refl) ∙ found in
+        let tail = rest later in
+        rw is (omega (arith, tail))
+
+insert_more : (es : List (Key × Changes)) (key : Key) (v : Changes) → lookup (is_at (key_order key)) es ≡ None → length v.items ≡ 1
+    → changes_among (insert_entry key_order es key v) ≡ changes_among es + 1
+insert_more [] key v none one = omega (arith, one)
+insert_more (e ∷ es) key v none one = by (key_order key e.0) refl (λ later. insert_more es key v later one)
+  where
+    by : (o : Ordering) → key_order key e.0 ≡ o → (lookup (is_at (key_order key)) es ≡ None → changes_among (insert_entry key_order es key v) ≡ changes_among es + 1)
+        → changes_among (insert_entry key_order (e ∷ es) key v) ≡ changes_among (e ∷ es) + 1
+    by Less is rest = rw is (omega (arith, one))
+    by Equal is rest = let e : Some e.1 ≡ None = sym (rw is refl) ∙ none in absurd (cc)
+    by Greater is rest =
+        let later : lookup (is_at (key_order key)) es ≡ None = sym (rw is refl) ∙ none in
+        let tail = rest later in
+        rw is (omega (arith, tail))
+
+-- ---- at which key
+
+apart_at : (key k : Key) → k ≢ key → is_at (key_order key) k ≡ false
+apart_at key k differs = by (key_order key k) refl
+  where
+    by : (o : Ordering) → key_order key k ≡ o → is_eq o ≡ false
+    by Less is = refl
+    by Equal is = absurd (differs (sym (keys_apart key k is)))
+    by Greater is = refl
+
+-- a key has a change already
+noted_behind : (key : Key) (change : KeyChange) (v w : Changes) (old new : Pending) → get key_order old.changes key ≡ Some v → w.items ≡ v.items ++ change ∷ []
+    → WritesThrough key_order (key_order key) old.changes w new.changes → IsNotedAlso key change old new
+noted_behind key change v w old new found more writes =
+    let updates = writes.3 (rw found refl) in
+    record {
+      here = ap changes_in updates.1 ∙ more ∙ ap (λ (o : Option Changes). changes_in o ++ change ∷ []) (sym found);
+      others = λ k differs. ap changes_in (updates.2 k (apart_at key k differs));
+      count = ap changes_among writes.0
+          ∙ set_more (is_at (key_order key)) old.changes.entries v w found (ap length more ∙ length-append v.items (change ∷ []));
+    }
+
+-- what is noted is told by the map
+pub noted_by : (key : Key) (change : KeyChange) (old old' new : Pending) → old'.changes ≡ old.changes → IsNotedAlso key change old new → IsNotedAlso key change old' new
+noted_by key change old old' new same is = record {
+  here = is.here ∙ ap (λ (m : BTreeMap Key Changes). changes_in (get key_order m key) ++ change ∷ []) (sym same);
+  others = λ k differs. is.others k differs ∙ ap (λ (m : BTreeMap Key Changes). changes_in (get key_order m k)) (sym same);
+  count = is.count ∙ ap (λ (m : BTreeMap Key Changes). changes_among m.entries + 1) (sym same);
+}
+
+-- it has none
+noted_first : (key : Key) (change : KeyChange) (v : Changes) (old new : Pending) → IsNotNoted key old → v.items ≡ change ∷ []
+    → new.changes.entries ≡ insert_entry key_order old.changes.entries key v → Updates key_order old.changes new.changes key (Some v) → IsNotedAlso key change old new
+noted_first key change v old new none one entries updates = record {
+  here = ap changes_in updates.1 ∙ one ∙ ap (λ (o : Option Changes). changes_in o ++ change ∷ []) (sym none);
+  others = λ k differs. ap changes_in (updates.2 k (apart_at key k differs));
+  count = ap changes_among entries ∙ insert_more old.changes.entries key v none (ap length one);
+}
+
+-- the first key's changes are taken out
+first_out : (key : Key) (v : Changes) (old new : Pending) → old.changes.entries ≡ (key, v) ∷ new.changes.entries → get key_order old.changes key ≡ Some v
+    → Updates key_order old.changes new.changes key None → IsTakenOut key v.items old new
+first_out key v old new entries found updates = record {
+  here = ap changes_in found;
+  gone = ap changes_in updates.1;
+  others = λ k differs. ap changes_in (updates.2 k (apart_at key k differs));
+  count = ap changes_among entries;
+  fewer = ap length entries ∙ omega arith;
+}
+
+-- ---- by the order of keys that the program goes by
+
+module _ (cmp : Key → Key → Ordering) (law : (a b : Key) → cmp a b ≡ key_order a b) where
+  same_order : cmp ≡ key_order
+  same_order = λ i a b. law a b i
+
+  pub behind : (key : Key) (change : KeyChange) (v w : Changes) (old new : Pending) → get cmp old.changes key ≡ Some v → w.items ≡ v.items ++ change ∷ []
+      → WritesThrough cmp (cmp key) old.changes w new.changes → IsNotedAlso key change old new
+  behind key change v w old new found more writes =
+      noted_behind key change v w old new (subst (λ R. get R old.changes key ≡ Some v) same_order found) more
+      (subst (λ R. WritesThrough R (R key) old.changes w new.changes) same_order writes)
+
+  pub first : (key : Key) (change : KeyChange) (v : Changes) (old new : Pending) → IsNotNoted key old → v.items ≡ change ∷ []
+      → new.changes.entries ≡ insert_entry cmp old.changes.entries key v → Updates cmp old.changes new.changes key (Some v) → IsNotedAlso key change old new
+  first key change v old new none one entries updates =
+      noted_first key change v old new none one (subst (λ R. new.changes.entries ≡ insert_entry R old.changes.entries key v) same_order entries)
+      (subst (λ R. Updates R old.changes new.changes key (Some v)) same_order updates)
+
+  pub absent : (key : Key) (old : Pending) → get cmp old.changes key ≡ None → IsNotNoted key old
+  absent key old none = subst (λ R. get R old.changes key ≡ None) same_order none
+
+  pub out : (key : Key) (v : Changes) (old new : Pending) → old.changes.entries ≡ (key, v) ∷ new.changes.entries → get cmp old.changes key ≡ Some v
+      → Updates cmp old.changes new.changes key None → IsTakenOut key v.items old new
+  out key v old new entries found updates =
+      first_out key v old new entries (subst (λ R. get R old.changes key ≡ Some v) same_order found)
+      (subst (λ R. Updates R old.changes new.changes key None) same_order updates)
+
+-- where nothing is noted, no change is
+pub nothing_at : (pending : Pending) → IsNothingNoted pending → (key : Key) → noted_at pending key ≡ []
+nothing_at pending none key = ap (λ (es : List (Key × Changes)). changes_in (lookup (is_at (key_order key)) es)) none
+
+pub nothing_count : (pending : Pending) → IsNothingNoted pending → noted_count pending ≡ 0
+nothing_count pending none = ap changes_among none

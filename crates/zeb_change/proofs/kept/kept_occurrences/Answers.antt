@@ -1,0 +1,18 @@
+use Rattle.std.proofs.Common.{◌↔◌, List, subst}
+use Rattle.std.specs.List.{Contains}
+use Rattle.zeb_marc.specs.Contents.{units_of}
+use Rattle.zeb_marc.specs.Directory.{FieldText}
+use Rattle.zeb_marc.specs.Records.{fields_of}
+use Rattle.zeb_profile.specs.Indexes.{unit_targets}
+use Rattle.zeb_extract.specs.declared.keys.Occurrence.{Occurrence}
+use Rattle.zeb_extract.specs.Occurrences.{IsOccurrence}
+use Rattle.zeb_change.proofs.kept.kept_occurrences.Goals as goal
+
+pub returns-clause-found : goal.returns-clause-found
+returns-clause-found c =
+    let found = c.in_ok-occurrences.ensures in
+    record {
+      rising = found.rising;
+      each = subst (λ (fields : List FieldText). (o : Occurrence) → Contains c.in_ok-occurrences.field-0.items o ↔ IsOccurrence (unit_targets c.args.profile.now) (units_of fields) o)
+          c.in-Ok.ensures.fields_are found.members;
+    }

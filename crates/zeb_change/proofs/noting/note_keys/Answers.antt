@@ -1,0 +1,85 @@
+use Rattle.std.proofs.Common.{◌≡◌, ◌∙◌, ◌++◌, ◌∷◌, List, [], arith, ap, drop, length, length-append, map, refl, suc, subst, sym, take}
+use Rattle.std.proofs.Math.Seq.{split_at}
+use Rattle.std.proofs.lemmas.Iterator.Adapters.{YieldsList-from_vec}
+use Rattle.std.proofs.lemmas.Iterator.Consumers.{YieldsList-end, YieldsList-so_far, YieldsList-turn}
+use Rattle.zeb_register.proofs.ContentChanges.{changed_at, change_is}
+use Rattle.zeb_change.specs.declared.changed_keys.ChangedKey.{ChangedKey}
+use Rattle.zeb_change.specs.declared.pending.KeyChange.{KeyChange}
+use Rattle.zeb_change.specs.PrivateChangedKeys.{AreChangedKeys, key_in}
+use Rattle.zeb_change.specs.Noted.{LeadsTo}
+use Rattle.zeb_change.proofs.ChangeKeysContent.{moved, moved_is, moved_more, moved_none, moved_rises, one_reposted, still_old}
+use Rattle.zeb_change.proofs.CostLemmas.{keys_cost}
+use Rattle.zeb_change.proofs.Idle.{none_changed}
+use Rattle.zeb_change.proofs.Leading.{leads_more}
+use Rattle.zeb_change.proofs.noting.note_keys.Goals as goal
+
+map_same : {A : Type 0} (xs : List A) → map (λ y. y) xs ≡ xs
+map_same [] = refl
+map_same (x ∷ xs) = ap (λ (ys : List _). x ∷ ys) (map_same xs)
+
+pub loop-changed-init : goal.loop-changed-init
+loop-changed-init c = record {
+  leads = λ elder newer db behind before leads up was. subst (LeadsTo db c.args.pending.now behind) (sym (moved_none db c.args.sysno before)) leads;
+  idle = λ none. refl;
+  count = omega arith;
+}
+
+pub loop-changed-preserved : goal.loop-changed-preserved
+loop-changed-preserved c =
+    let sysno = c.args.sysno in
+    let all = c.in_ok-changed_keys.changed_keys in
+    let gives = c.into_iter-changed-iterator.ensures.into_iter_gives in
+    let chain = YieldsList-from_vec {s = c.into_iter-changed-iterator.result} all.items gives.0 (gives.1 ∙ all.ok.0) in
+    let item = c.in-Some.changed in
+    let done = c.loop-changed.yielded in
+    let turn = YieldsList-turn chain done c.loop-changed.changed-iterator c.loop-changed.yielded_by c.next.result c.next.new.self item c.in-Some.is c.next.ensures.steps in
+    let front : take (length done) all.items ≡ done = sym (YieldsList-so_far chain done c.loop-changed.changed-iterator c.loop-changed.yielded_by) ∙ map_same done in
+    let rest = drop (suc (length done)) all.items in
+    let split : all.items ≡ done ++ item ∷ rest =
+    split_at all.items (length done) item turn.0 ∙ ap (λ (x : ChangedKey). take (length done) all.items ++ x ∷ rest) (sym turn.1) ∙ ap (λ (l : List ChangedKey). l ++ item ∷ rest) front in
+    let change : KeyChange = record { sysno = sysno; old = item.old; new = item.new } in
+    record {
+      leads = λ elder newer db behind before leads up was.
+          let are = c.in_ok-changed_keys.ensures elder newer in
+          let so_far = c.loop-changed.invariant.leads elder newer db behind before leads up was in
+          let now = moved db sysno done before in
+          let rising = moved_rises db sysno done before up in
+          let stood = still_old db sysno c.args.elder.now c.args.newer.now done rest item before up (subst (AreChangedKeys c.args.elder.now c.args.newer.now) split are) was in
+          let old_rises = (are.old item (length done, turn.0, sym turn.1)).rising in
+          subst (LeadsTo db c.note.new.self behind) (sym (moved_more db sysno done item before))
+          (leads_more db (key_in item) change c.loop-changed.pending c.note.new.self behind now (changed_at db (key_in item) sysno item.new.items now) so_far rising c.in_ok-note.ensures old_rises stood
+          (change_is db (key_in item) sysno item.new.items now rising));
+      idle = λ none. absurd (omega (arith, ap length none, length-append done (item ∷ [])));
+      count = omega (arith, c.loop-changed.invariant.count, c.in_ok-note.ensures.count, length-append done (item ∷ []));
+    }
+
+pub returns-clause-moved : goal.returns-clause-moved
+returns-clause-moved c elder newer db behind before after leads up was reposted =
+    let sysno = c.args.sysno in
+    let items = c.in_ok-changed_keys.changed_keys in
+    let gives = c.into_iter-changed-iterator.ensures.into_iter_gives in
+    let chain = YieldsList-from_vec {s = c.into_iter-changed-iterator.result} items.items gives.0 (gives.1 ∙ items.ok.0) in
+    let done = c.loop-changed.yielded in
+    let all : done ≡ items.items = sym (map_same done) ∙ (YieldsList-end chain done c.loop-changed.changed-iterator c.loop-changed.yielded_by c.next.result c.next.new.self c.in-None.is c.next.ensures.steps).0 in
+    let held = c.loop-changed.invariant.leads elder newer db behind before leads up was in
+    let is = moved_is db sysno c.args.elder.now c.args.newer.now items.items before up (c.in_ok-changed_keys.ensures elder newer) was in
+    subst (LeadsTo db c.loop-changed.pending behind) (ap (λ (l : List ChangedKey). moved db sysno l before) all ∙ one_reposted db sysno c.args.newer.now before _ after is reposted) held
+
+pub returns-clause-idle : goal.returns-clause-idle
+returns-clause-idle c elder newer same =
+    let items = c.in_ok-changed_keys.changed_keys in
+    let gives = c.into_iter-changed-iterator.ensures.into_iter_gives in
+    let chain = YieldsList-from_vec {s = c.into_iter-changed-iterator.result} items.items gives.0 (gives.1 ∙ items.ok.0) in
+    let done = c.loop-changed.yielded in
+    let all : done ≡ items.items = sym (map_same done) ∙ (YieldsList-end chain done c.loop-changed.changed-iterator c.loop-changed.yielded_by c.next.result c.next.new.self c.in-None.is c.next.ensures.steps).0 in
+    c.loop-changed.invariant.idle (all ∙ none_changed c.args.elder.now c.args.newer.now items.items (c.in_ok-changed_keys.ensures elder newer) same)
+
+-- just the changed keys were noted, each once
+pub returns-clause-cost : goal.returns-clause-cost
+returns-clause-cost c elder newer =
+    let items = c.in_ok-changed_keys.changed_keys in
+    let gives = c.into_iter-changed-iterator.ensures.into_iter_gives in
+    let chain = YieldsList-from_vec {s = c.into_iter-changed-iterator.result} items.items gives.0 (gives.1 ∙ items.ok.0) in
+    let done = c.loop-changed.yielded in
+    let many = (YieldsList-end chain done c.loop-changed.changed-iterator c.loop-changed.yielded_by c.next.result c.next.new.self c.in-None.is c.next.ensures.steps).1 in
+    (length items.items, keys_cost c.args.elder.now c.args.newer.now items.items (c.in_ok-changed_keys.ensures elder newer), omega (arith, c.loop-changed.invariant.count, many))

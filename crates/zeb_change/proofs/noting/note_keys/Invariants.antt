@@ -1,0 +1,15 @@
+use Rattle.std.proofs.Common.{◌≡◌, ◌+◌, ℤ, [], length}
+use Rattle.zeb_extract.specs.Order.{IsRising as AreRising}
+use Rattle.zeb_register.specs.Content.{Content, IsRising}
+use Rattle.zeb_change.specs.Reposted.{ArePostingsOf}
+use Rattle.zeb_change.specs.Noted.{LeadsTo, noted_count}
+use Rattle.zeb_change.proofs.ChangeKeysContent.{moved}
+use Rattle.zeb_change.proofs.noting.note_keys.Given as goal
+
+abbrev pub invariant-loop-changed : goal.invariant-loop-changed
+invariant-loop-changed l = record {
+  leads : AreRising l.elder → AreRising l.newer → (db : ℤ) (behind before : Content) → LeadsTo db l.fn.pending behind before → IsRising before → ArePostingsOf l.sysno l.elder (before db)
+      → LeadsTo db l.pending behind (moved db l.sysno l.yielded before);
+  idle : l.yielded ≡ [] → l.pending ≡ l.fn.pending;
+  count : noted_count l.pending ≡ noted_count l.fn.pending + length l.yielded;
+}

@@ -1,0 +1,85 @@
+-- Changes of keys that are noted and not yet written: what the registers hold once they are.
+use Rattle.std.specs.Prelude.{◌≡◌, ◌≢◌, ◌+◌, ℕ, ℤ, List, [], ◌∷◌, length, Option, Some, None, IsTrue, Result, Err, OnOk}
+use Rattle.std.specs.declared.alloc.Global.{Global}
+use Rattle.std.specs.declared.vec.Vec.{Vec}
+use Rattle.std.specs.BTreeMap.{get}
+use Rattle.std.specs.List.Sorted.{IsStrictlySortedBy}
+use Rattle.sqlite.specs.State.{HasCleanDisk, State, Survives}
+use Rattle.sqlite.specs.Tree.{Trees}
+use Rattle.zeb_extract.specs.declared.keys.Key.{Key}
+use Rattle.zeb_extract.specs.Order.{key_order}
+use Rattle.zeb_register.specs.declared.faults.RegFault.{RegFault}
+use Rattle.zeb_register.specs.declared.faults.RegFault.TheVariants.{Damaged}
+use Rattle.zeb_register.specs.declared.registers.Work.{Work}
+use Rattle.zeb_register.specs.Content.{ArePlacesOf, Content, IsListChanged, IsStorable, Posting, place_cmp}
+use Rattle.zeb_register.specs.Formats.{Format, holds_in}
+use Rattle.zeb_register.specs.Store.{IsStore, KeepsLists}
+use Rattle.zeb_change.specs.declared.pending.KeyChange.{KeyChange}
+use Rattle.zeb_change.specs.declared.pending.Pending.{Pending}
+use Rattle.zeb_change.specs.Costs.{IsWorkFor}
+use Rattle.zeb_change.specs.Inside.{Stays}
+
+-- ---- what is noted
+
+abbrev pub changes_in : Option (Vec KeyChange Global) → List KeyChange
+changes_in None = []
+changes_in (Some changes) = changes.items
+
+-- the changes of a key, in the order in which they were noted
+abbrev pub noted_at : Pending → Key → List KeyChange
+noted_at pending key = changes_in (get key_order pending.changes key)
+
+abbrev pub changes_among : List (Key × Vec KeyChange Global) → ℕ
+changes_among [] = 0
+changes_among (entry ∷ entries) = length entry.1.items + changes_among entries
+
+-- how many changes are noted
+abbrev pub noted_count : Pending → ℕ
+noted_count pending = changes_among pending.changes.entries
+
+abbrev pub IsNothingNoted : Pending → Type 0
+IsNothingNoted pending = pending.changes.entries ≡ []
+
+-- ---- what the changes make of contents
+
+-- changes of one list in turn, each of which says what stood there, rising
+abbrev pub AreTurns : List KeyChange → List Posting → List Posting → Type 0
+AreTurns [] old new = new ≡ old
+AreTurns (change ∷ changes) old new =
+    (next : List Posting) × IsStrictlySortedBy place_cmp change.old.items × ArePlacesOf change.sysno change.old.items old
+    × IsListChanged change.sysno change.new.items old next × AreTurns changes next new
+
+-- the noted changes make the content ahead of the one behind, in one database
+pub record LeadsTo (db : ℤ) (pending : Pending) (behind ahead : Content) : Type 0 where
+  pub each : (key : Key) → AreTurns (noted_at pending key) (behind db key) (ahead db key)
+  pub others : (d : ℤ) (key : Key) → d ≢ db → ahead d key ≡ behind d key
+
+-- the registers hold this content once the noted changes are written
+pub record WillHold (format : Format) (trees : Trees) (db : ℤ) (pending : Pending) (ahead : Content) : Type 0 where
+  pub behind : Content
+  pub held : holds_in format trees behind
+  pub storable : IsStorable behind
+  pub leads : LeadsTo db pending behind ahead
+
+-- ---- what is written of them
+
+-- So many changes came up. Those that were written are counted, and the others are noted.
+abbrev pub IsDueFor : ℕ → ℕ → Work → Work → Pending → Pending → Type 0
+IsDueFor row_work n old new before after =
+    (written : ℕ) × IsWorkFor row_work written old new × (written + noted_count after ≡ noted_count before + n)
+
+-- Some of what is noted is written, and the rest is noted still: the registers will hold what they would have held.
+abbrev pub IsSettled : (format : Format) → ℕ → ℤ → State → State → Pending → Pending → Work → Work → Type 0
+IsSettled format row_work db old new before after work worked =
+    IsStore new × KeepsLists old.now.trees new.now.trees
+    × ((ahead : Content) → IsStorable ahead → WillHold format old.now.trees db before ahead
+    → WillHold format new.now.trees db after ahead × IsDueFor row_work 0 work worked before after)
+
+-- What a call does that writes noted changes. It tells damage only of registers that don't hold what the changes say stood there.
+pub record Settles {T : Type 0} (format : Format) (row_work : ℕ) (db : ℤ) (old new : State) (before after : Pending) (work worked : Work) (result : Result T RegFault) : Type 0 where
+  pub stays : HasCleanDisk new → IsTrue old.in_transaction → Stays old new result
+  pub written : HasCleanDisk new → IsTrue old.in_transaction → IsStore old
+      → OnOk result (IsSettled format row_work db old new before after work worked)
+  pub honest : HasCleanDisk new → IsTrue old.in_transaction → IsStore old → result ≡ Err Damaged
+      → (ahead : Content) → IsStorable ahead → ¬ WillHold format old.now.trees db before ahead
+  pub crash : Survives old new (λ _. ⊥)

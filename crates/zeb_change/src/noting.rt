@@ -1,0 +1,48 @@
+//! What becomes of the keys of one record, noted to be written later.
+
+ghost use Rattle.std.specs.Prelude.{◌≡◌, ◌+◌, ℕ, ℤ, OnOk};
+ghost use Rattle.std.specs.List.{Contains};
+ghost use Rattle.zeb_extract.specs.Order.{IsRising as AreRising};
+ghost use Rattle.zeb_register.specs.Content.{Content, IsRising};
+ghost use Rattle.zeb_change.specs.Costs.{IsRecordCost};
+ghost use Rattle.zeb_change.specs.Noted.{LeadsTo, noted_count};
+ghost use Rattle.zeb_change.specs.Reposted.{ArePostingsOf, AreTheSame, IsReposted};
+
+use crate::changed_keys::changed_keys;
+use crate::pending::{KeyChange, Pending};
+use std::alloc::{AllocError, Global};
+use zeb_extract::Occurrence;
+
+/// Notes what becomes of just those keys whose places differ between two rising lists of occurrences, in the record with this number: the
+/// elder list stands in the registers once what was noted before is written, and the newer one is to stand there. Where there is no elder
+/// record, or no newer one, its list is empty.
+///
+/// An error is want of memory. Some of the keys may be noted then.
+pub fn note_keys(
+    alloc: Global,
+    pending: &mut Pending,
+    sysno: u64,
+    elder: &[Occurrence],
+    newer: &[Occurrence],
+) -> Result<(), AllocError>
+    ensures moved { AreRising elder.now → AreRising newer.now
+        → OnOk result ((db : ℤ) (behind before after : Content) → LeadsTo db pending.old behind before → IsRising before
+        → ArePostingsOf sysno elder.now (before db) → IsReposted db sysno newer.now before after
+        → LeadsTo db pending.new behind after) }
+    ensures idle { AreRising elder.now → AreRising newer.now → AreTheSame elder.now newer.now
+        → OnOk result (pending.new ≡ pending.old) }
+    ensures cost { AreRising elder.now → AreRising newer.now
+        → OnOk result ((n : ℕ) × IsRecordCost (Contains elder.now) (Contains newer.now) n
+        × (noted_count pending.new ≡ noted_count pending.old + n)) }
+{
+    let changed_keys = changed_keys(alloc, elder, newer)?;
+    for changed in changed_keys {
+        let change = KeyChange {
+            sysno,
+            old: changed.old,
+            new: changed.new,
+        };
+        pending.note(changed.key, change)?;
+    }
+    Ok(())
+}

@@ -1,0 +1,30 @@
+use Rattle.std.proofs.Common.{◌≡◌, ◌⊎◌, ◌<◌, ◌^◌, false, length, take}
+use Rattle.std.specs.List.{sum_by}
+use Rattle.sqlite.specs.Held.{state}
+use Rattle.sqlite.specs.State.{HasCleanDisk, IsUnchanged, Survives}
+use Rattle.zeb_register.specs.declared.registers.TermCount.{TermCount}
+use Rattle.zeb_register.specs.Calls.{ChangesNothing}
+use Rattle.zeb_register.specs.Content.{Content}
+use Rattle.zeb_register.specs.Occurring.{capped, key_in}
+use Rattle.zeb_register.specs.PackedBlocks.{HoldsBlocks, blocks_of}
+use Rattle.zeb_register.specs.Store.{IsStore}
+use Rattle.zeb_register.specs.Tallies.{Rises}
+use Rattle.zeb_register.proofs.blocks.BlocksLayout.totals.Given as goal
+
+abbrev pub invariant-loop-term : goal.invariant-loop-term
+invariant-loop-term g l =
+    let old = state g.S.Store l.fn.conn in
+    let now = state g.S.Store l.conn in
+    record {
+      clean : HasCleanDisk now → HasCleanDisk (state g.S.Store l.initial.conn);
+      idle : l.fn.conn.in_transaction ≡ false → l.conn.in_transaction ≡ false;
+      ok : HasCleanDisk now → IsUnchanged old now;
+      same : HasCleanDisk now → l.fn.conn.in_transaction ≡ false → ChangesNothing old now;
+      crash : Survives old now (λ _. ⊥);
+      counted : HasCleanDisk now → IsStore old → (content : Content) → HoldsBlocks old.now.trees content
+          → l.occurrences ≡ capped (sum_by (λ (t : TermCount). length (content l.db.0 (key_in l.index l.register t.term))) (take l.term-index l.term-items));
+      others : l.work ≡ record l.initial.work { block_read = l.work.block_read };
+      fits : (l.work.block_read ≡ l.initial.work.block_read) ⊎ (l.work.block_read < 2 ^ 64);
+      blocks : HasCleanDisk now → IsStore old → (content : Content) → HoldsBlocks old.now.trees content
+          → Rises (sum_by (λ (t : TermCount). blocks_of (content l.db.0 (key_in l.index l.register t.term))) (take l.term-index l.term-items)) l.initial.work.block_read l.work.block_read;
+    }

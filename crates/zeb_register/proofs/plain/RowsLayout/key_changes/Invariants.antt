@@ -1,0 +1,22 @@
+use Rattle.std.proofs.Common.{◌≡◌, ◌<◌, IsTrue, IsUtf8, take}
+use Rattle.sqlite.specs.Held.{state}
+use Rattle.sqlite.specs.State.{HasCleanDisk, Survives}
+use Rattle.zeb_register.specs.Calls.{GoesOn}
+use Rattle.zeb_register.specs.Content.{AreChangedAt, Content}
+use Rattle.zeb_register.specs.PlainRows.{HoldsRows}
+use Rattle.zeb_register.specs.Store.{IsStore, KeepsLists}
+use Rattle.zeb_register.proofs.plain.RowsLayout.key_changes.Given as goal
+
+abbrev pub invariant-loop-change : goal.invariant-loop-change
+invariant-loop-change g l =
+    let old = state g.S.Store l.fn.tx.conn.now in
+    let now = state g.S.Store l.tx.conn.now in
+    record {
+      same : l.tx.conn.ghost_name ≡ l.fn.tx.conn.ghost_name;
+      crash : Survives old now (λ _. ⊥);
+      on : HasCleanDisk now → IsTrue old.in_transaction → GoesOn old now;
+      kept : HasCleanDisk now → IsTrue old.in_transaction → IsStore old → IsStore now × KeepsLists old.now.trees now.now.trees;
+      put : HasCleanDisk now → IsTrue old.in_transaction → IsStore old → (before : Content) → HoldsRows old.now.trees before
+          → (next : Content) × AreChangedAt l.db.0 l.key (take l.change-index l.changes) before next × HoldsRows now.now.trees next;
+      text : 0 < l.change-index → IsUtf8 l.key.term;
+    }

@@ -1,0 +1,113 @@
+-- What the clauses of many calls on the tables have in common. Each of these unfolds by itself.
+--
+-- What a call returns is known where the disk has given back what was written to it. `OnStore` is said of a call outside a transaction
+-- on the tables of a store, `InStore` of one inside a transaction.
+use Rattle.std.specs.Prelude.{◌≡◌, ◌↔◌, ℕ, Bool, IsTrue, Result, Err, IfErr, IfOk, OnOk}
+use Rattle.sqlite.specs.declared.error.Error.{Error}
+use Rattle.sqlite.specs.Schema.{Schema}
+use Rattle.sqlite.specs.Tree.{Trees}
+use Rattle.sqlite.specs.State.{State, HasCleanDisk}
+use Rattle.zeb_register.specs.declared.faults.RegFault.{RegFault}
+use Rattle.zeb_register.specs.declared.faults.RegFault.TheVariants.{Damaged, Store}
+use Rattle.zeb_register.specs.Calls.{Alters, Inside, MayRefuse}
+use Rattle.zeb_register.specs.Content.{Content, IsStorable}
+use Rattle.zeb_register.specs.Faults.{fault_of}
+use Rattle.zeb_register.specs.Sql.{KeepsTables}
+use Rattle.zeb_register.specs.Store.{IsStore, Changes, KeepsLists}
+
+-- this is said of the tables as they were before the call
+abbrev pub OnStore : State → State → (Trees → Type 0) → Type 0
+OnStore old new Said = HasCleanDisk new → IsStore old → Said old.now.trees
+
+abbrev pub InStore : State → State → (Trees → Type 0) → Type 0
+InStore old new Said = HasCleanDisk new → IsTrue old.in_transaction → IsStore old → Said old.now.trees
+
+-- ---- what an accepted call does
+
+-- inside a transaction, which goes on, one table is written so
+abbrev pub Writes : {A E : Type 0} → ℕ → (ℕ → Trees → Trees → Type 0) → State → State → Result A E → Type 0
+Writes tree Rows old new result = Inside old new result (λ _. Alters tree Rows)
+
+-- ---- what an accepted call tells
+
+-- the answer tells this of the tables
+abbrev pub Tells : {A E : Type 0} → State → State → Result A E → (Trees → A → Type 0) → Type 0
+Tells old new result Told = OnStore old new (λ trees. IfOk result (Told trees))
+
+abbrev pub TellsInside : {A E : Type 0} → State → State → Result A E → (Trees → A → Type 0) → Type 0
+TellsInside old new result Told = InStore old new (λ trees. IfOk result (Told trees))
+
+-- the answer tells whether this holds of the tables, where what the call is given is so
+abbrev pub TellsWhether : {E : Type 0} → (Trees → Type 0) → Type 0 → State → State → Result Bool E → Type 0
+TellsWhether Holds Given old new result = OnStore old new (λ trees. Given → IfOk result (λ answer. IsTrue answer ↔ Holds trees))
+
+-- the one table is changed so by an accepted call inside a transaction
+abbrev pub ChangesTable : {A E : Type 0} → ℕ → State → State → Result A E → (A → ℕ → Trees → Trees → Type 0) → Type 0
+ChangesTable tree old new result Rows = InStore old new (λ _. IfOk result (λ answer. Changes tree (Rows answer) old new))
+
+-- ---- why a call is refused
+
+-- Damaged is answered only where the tables are not so
+abbrev pub IsHonest : {A : Type 0} → State → State → Result A RegFault → (Trees → Type 0) → Type 0
+IsHonest old new result Sound = OnStore old new (λ trees. result ≡ Err Damaged → ¬ Sound trees)
+
+abbrev pub IsHonestInside : {A : Type 0} → State → State → Result A RegFault → (Trees → Type 0) → Type 0
+IsHonestInside old new result Sound = InStore old new (λ trees. result ≡ Err Damaged → ¬ Sound trees)
+
+-- Damaged is answered only on a connection that was open
+abbrev pub IsOpenDamage : {A : Type 0} → State → State → Result A RegFault → Type 0
+IsOpenDamage old new result = HasCleanDisk new → result ≡ Err Damaged → IsTrue old.is_open
+
+abbrev pub IsOpenDamageInside : {A : Type 0} → State → State → Result A RegFault → Type 0
+IsOpenDamageInside old new result = HasCleanDisk new → IsTrue old.in_transaction → result ≡ Err Damaged → IsTrue old.is_open
+
+-- on the tables of a store a failure of it has a reason
+abbrev pub IsReasoned : {A : Type 0} → State → State → Result A RegFault → Type 0
+IsReasoned old new result = HasCleanDisk new → IsStore old → result ≡ Err Store → MayRefuse old new
+
+-- the same, of a statement whose error is told as that refusal
+abbrev pub IsReasonedError : {A : Type 0} → State → State → Result A Error → Type 0
+IsReasonedError old new result = OnStore old new (λ _. IfErr result (λ e. fault_of e ≡ Store → MayRefuse old new))
+
+-- ---- calls on tables that hold a content in some format
+
+module _ (Holds : Trees → Content → Type 0) where
+  -- the answer tells this of the content
+  abbrev pub TellsHeld : {A E : Type 0} → State → State → Result A E → (Content → A → Type 0) → Type 0
+  TellsHeld old new result Told = Tells old new result (λ trees answer. (content : Content) → Holds trees content → Told content answer)
+
+  abbrev pub TellsHeldInside : {A E : Type 0} → State → State → Result A E → (Content → A → Type 0) → Type 0
+  TellsHeldInside old new result Told = TellsInside old new result (λ trees answer. (content : Content) → Holds trees content → Told content answer)
+
+  -- Damaged is answered only where no content is held
+  abbrev pub IsHonestOfHeld : {A : Type 0} → State → State → Result A RegFault → Type 0
+  IsHonestOfHeld old new result = OnStore old new (λ trees. result ≡ Err Damaged → (content : Content) → ¬ Holds trees content)
+
+  -- Damaged is answered only where no content is held that every layout can store
+  abbrev pub IsHonestStorable : {A : Type 0} → State → State → Result A RegFault → Type 0
+  IsHonestStorable old new result = OnStore old new (λ trees. result ≡ Err Damaged
+      → (content : Content) → IsStorable content → ¬ Holds trees content)
+
+  -- an accepted call finds that the content is so
+  abbrev pub FindsHeld : {A E : Type 0} → State → State → Result A E → (Content → Type 0) → Type 0
+  FindsHeld old new result Found = InStore old new (λ trees. OnOk result ((content : Content) → Holds trees content → Found content))
+
+  -- an accepted call makes this change of the content, and leaves the lists as they were
+  abbrev pub ChangesHeld : {A E : Type 0} → State → State → Result A E → (Content → Content → Type 0) → Type 0
+  ChangesHeld old new result IsChange = InStore old new (λ trees. OnOk result (IsStore new × KeepsLists trees new.now.trees
+      × ((before after : Content) → Holds trees before → IsChange before after → Holds new.now.trees after)))
+
+  -- where what the call is given is so, Damaged is answered only where this holds of a content that every layout can store
+  abbrev pub DamagedHeld : {A : Type 0} → State → State → Result A RegFault → Type 0 → (Content → Type 0) → Type 0
+  DamagedHeld old new result Given Lost = InStore old new (λ trees. result ≡ Err Damaged → Given
+      → (content : Content) → IsStorable content → Holds trees content → Lost content)
+
+-- ---- calls that make tables
+
+-- on a database of this schema an accepted call inside a transaction has done this
+abbrev pub DoneUnder : {A E : Type 0} → Schema → State → State → Result A E → (State → State → Type 0) → Type 0
+DoneUnder schema old new result Done = HasCleanDisk new → IsTrue old.in_transaction → old.now.schema ≡ schema → OnOk result (Done old new)
+
+-- an accepted call inside a transaction keeps each table that is there, with its rows
+abbrev pub KeepsAllTables : {A E : Type 0} → State → State → Result A E → Type 0
+KeepsAllTables old new result = HasCleanDisk new → IsTrue old.in_transaction → OnOk result (KeepsTables old.now new.now)

@@ -1,0 +1,32 @@
+-- Steps of private functions, which no public clause speaks of: the columns with which rows of a register, of a key and of a numbered key begin.
+use Rattle.std.specs.Prelude.{ℕ, ℤ, pos, List, [], ◌∷◌, ◌++◌}
+use Rattle.sqlite.specs.declared.types.Value.TheVariants.{Int}
+use Rattle.sqlite.specs.Order.{Row}
+use Rattle.sqlite.specs.Tree.{Trees}
+use Rattle.zeb_register.specs.declared.statements.keys.KeyOf.{KeyOf}
+use Rattle.zeb_register.specs.declared.statements.keys.RegisterOf.{RegisterOf}
+use Rattle.zeb_register.specs.PackedChanges.{IsBlockOf, IsDictIn}
+use Rattle.zeb_register.specs.PlainRows.{code_of_register, key_row}
+use Rattle.zeb_register.specs.RowTerms.{HasTerm}
+
+abbrev pub register_columns : RegisterOf → Row
+register_columns at = Int at.db.0 ∷ Int (pos at.index) ∷ Int (pos (code_of_register at.register)) ∷ []
+
+-- a posting of the register under the term
+abbrev pub HasTermOf : RegisterOf → Trees → List ℕ → Type 0
+HasTermOf at trees = HasTerm trees at.db.0 (pos at.index) (pos (code_of_register at.register))
+
+abbrev pub key_columns : KeyOf → Row
+key_columns at = key_row at.db.0 at.key.now
+
+-- a row of the key
+abbrev pub IsOfKey : KeyOf → Row → Type 0
+IsOfKey at = IsDictIn at.db.0 at.key.now
+
+-- the same with the number of a block or a record
+abbrev pub numbered_columns : KeyOf → ℤ → Row
+numbered_columns at number = key_columns at ++ Int number ∷ []
+
+-- a row of the key with this number
+abbrev pub IsOfNumbered : KeyOf → ℤ → Row → Type 0
+IsOfNumbered at = IsBlockOf at.db.0 (pos at.key.now.index) (pos (code_of_register at.key.now.register)) at.key.now.term

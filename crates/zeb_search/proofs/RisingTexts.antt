@@ -1,0 +1,61 @@
+-- Lists of which the texts rise.
+use Rattle.std.proofs.Common.{◌≡◌, ◌++◌, ◌∷◌, ◌-◌, [], ℕ, suc, List, Ordering, Less, Some, length, map, slice_get, arith, sym, subst, subst₂, take}
+use Rattle.std.specs.Ordering.{nat_cmp}
+use Rattle.std.specs.Cmp.Lexicographic.{slice_cmp, nat_list_cmp_total}
+use Rattle.std.specs.List.Sorted.{IsStrictlySortedBy}
+use Rattle.std.proofs.lemmas.List.{map-append}
+use Rattle.std.proofs.lemmas.Option.{get_or_from_slice_get, slice_get_within}
+use Rattle.sqlite_rules.specs.Lists.{Has}
+use Rattle.sqlite_rules.proofs.ListLemmas.{all_from, all_has}
+use Rattle.sqlite_rules.proofs.ProbeLemmas.{has_mapped, mapped_has}
+use Rattle.zeb_register.specs.declared.registers.TermCount.{TermCount}
+use Rattle.zeb_register.specs.Occurring.{term_cmp}
+use Rattle.zeb_register.proofs.RisingLists.{before_last, front_rises, joined_rises}
+use Rattle.zeb_register.proofs.TermRows.{last_view}
+use Rattle.zeb_search.specs.Comparing.{Precedes}
+use Rattle.zeb_search.specs.Lists.{Rise}
+use Rattle.zeb_search.specs.PrivateTerms.{TermsRise}
+
+rises_mapped : {X K : Type 0} (f : X → K) (R : K → K → Ordering) (xs : List X) → IsStrictlySortedBy (λ x y. R (f x) (f y)) xs → IsStrictlySortedBy R (map f xs)
+unfolding IsStrictlySortedBy
+rises_mapped f R [] up = tt
+rises_mapped f R (x ∷ xs) up = (
+  all_from (λ k. R (f x) k ≡ Less) (map f xs) (λ k there.
+      let from = has_mapped f xs k there in
+      subst (λ j. R (f x) j ≡ Less) (sym from.2) (all_has (λ y. R (f x) (f y) ≡ Less) xs from.0 up.0 from.1)),
+  rises_mapped f R xs up.1,
+)
+
+pub terms_rise : (terms : List TermCount) → IsStrictlySortedBy term_cmp terms → TermsRise terms
+terms_rise terms up = rises_mapped (λ (t : TermCount). t.term) (slice_cmp nat_cmp) terms up
+
+module _ {X : Type 0} (text : X → List ℕ) where
+  pub none_rises : Rise text []
+  unfolding IsStrictlySortedBy
+  none_rises = tt
+
+  pub one_rises : (x : X) → Rise text (x ∷ [])
+  unfolding IsStrictlySortedBy
+  one_rises x = (tt, tt)
+
+  cut_mapped : (xs ys : List X) → Rise text (xs ++ ys) → IsStrictlySortedBy (slice_cmp nat_cmp) (map text xs ++ map text ys)
+  cut_mapped xs ys up = subst (IsStrictlySortedBy (slice_cmp nat_cmp)) (map-append text xs ys) up
+
+  pub front_rise : (xs ys : List X) → Rise text (xs ++ ys) → Rise text xs
+  front_rise xs ys up = front_rises nat_list_cmp_total (map text xs) (map text ys) (cut_mapped xs ys up)
+
+  -- one list behind the other
+  pub joined_rise : (xs ys : List X) → Rise text xs → Rise text ys → ((x y : X) → Has xs x → Has ys y → Precedes (text x) (text y)) → Rise text (xs ++ ys)
+  joined_rise xs ys up down lower = subst (IsStrictlySortedBy (slice_cmp nat_cmp)) (sym (map-append text xs ys)) (joined_rises nat_list_cmp_total (map text xs) (map text ys) up down (λ s t here there.
+      let x = has_mapped text xs s here in
+      let y = has_mapped text ys t there in
+      subst₂ Precedes (sym x.2) (sym y.2) (lower x.0 y.0 x.1 y.1)))
+
+  pub before_last_text : (xs : List X) (x : X) → Rise text (xs ++ x ∷ []) → (z : X) → Has xs z → Precedes (text z) (text x)
+  before_last_text xs x up z there = before_last nat_list_cmp_total (map text xs) (text x) (cut_mapped xs (x ∷ []) up) (text z) (mapped_has text xs z there)
+
+-- the last of a list, as `last` gets it
+pub last_got : {X : Type 0} (xs : List X) (x : X) → slice_get xs (length xs - 1) ≡ Some x → xs ≡ take (length xs - 1) xs ++ x ∷ []
+last_got xs x got =
+    let within = slice_get_within xs (length xs - 1) x got in
+    last_view (length xs - 1) xs x (let long : length xs ≡ suc (length xs - 1) = omega (arith, within) in long) (sym (get_or_from_slice_get xs (length xs - 1) x x got))
