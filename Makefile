@@ -31,6 +31,9 @@ run: bin/zebraidx
 quick:
 	@tools/quick
 
+# So many proofs side by side. Without it `rt ci` goes by an estimate of their memory, several times too high, and leaves processors idle.
+check cost: export RT_JOBS ?= $(shell nproc)
+
 check:
 	tools/quick --texts
 	rt ci
