@@ -19,3 +19,4 @@ pub mod ProfilesBack
 pub mod SaysProps
 pub mod Comments
 pub mod FirstFault
+pub mod KnownKeys

@@ -1,5 +1,5 @@
 -- Reading words one after another.
-use Rattle.std.proofs.Common.{◌≡◌, ℕ, ◌+◌, ◌<◌, ◌≤◌, List, [], ◌∷◌, ◌++◌, length, drop, get_or, map, suc, true, refl, arith, rules, add-one, drop-cons, Result, Ok, Err, Bor, if◌then◌else◌}
+use Rattle.std.proofs.Common.{◌≡◌, ℕ, ◌+◌, ◌<◌, ◌≤◌, List, [], ◌∷◌, ◌++◌, length, drop, get_or, map, suc, true, false, refl, ◌∙◌, arith, rules, add-one, drop-cons, Result, Ok, Err, Bor, if◌then◌else◌}
 use Rattle.std.specs.List.{list_all, list_any}
 use Rattle.std.specs.Char.{is_ascii_digit}
 use Rattle.std.specs.Str.Parse.{digits_value, ParsesUnsigned}
@@ -22,3 +22,14 @@ pub targets_after-drop : (left : List Target) (parts : List (Bor (List ℕ))) (i
     → targets_after left (map (λ part. part.now) (drop i parts))
     ≡ (target_of (get_or parts i d).now >>= λ target. if list_any (same_target target) left then Err DuplicateTarget else targets_after (left ++ target ∷ []) (map (λ part. part.now) (drop (i + 1) parts)))
 targets_after-drop left parts i d h = let e : i + 1 ≡ suc i = add-one i in rw (drop-cons parts i d, e) refl
+
+-- it is among those to its left, or it comes behind them
+pub targets_after-again : (left : List Target) (parts : List (Bor (List ℕ))) (i : ℕ) (d : Bor (List ℕ)) (target : Target) → i < length parts
+    → target_of (get_or parts i d).now ≡ Ok target → list_any (same_target target) left ≡ true
+    → targets_after left (map (λ part. part.now) (drop i parts)) ≡ Err DuplicateTarget
+targets_after-again left parts i d target h reads among = targets_after-drop left parts i d h ∙ rw (reads, among) refl
+
+pub targets_after-further : (left : List Target) (parts : List (Bor (List ℕ))) (i : ℕ) (d : Bor (List ℕ)) (target : Target) → i < length parts
+    → target_of (get_or parts i d).now ≡ Ok target → list_any (same_target target) left ≡ false
+    → targets_after left (map (λ part. part.now) (drop i parts)) ≡ targets_after (left ++ target ∷ []) (map (λ part. part.now) (drop (i + 1) parts))
+targets_after-further left parts i d target h reads new = targets_after-drop left parts i d h ∙ rw (reads, new) refl

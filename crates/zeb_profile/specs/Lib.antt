@@ -3,6 +3,7 @@ pub mod Directives
 pub mod Examples
 pub mod Faults
 pub mod Indexes
+pub mod Keys
 pub mod Laws
 pub mod Lines
 pub mod Outcomes

@@ -1,9 +1,10 @@
-ghost use Rattle.std.specs.Prelude.{◌≡◌, ◌∷◌, [], List, ℕ, map, Ok, Err, IfOk, option_map, Option};
-ghost use Rattle.std.specs.List.{list_any, list_all, slice_split};
+ghost use Rattle.std.specs.Prelude.{◌≡◌, ◌∷◌, [], List, ℕ, map, Ok, Err, IfOk, option_map, Option, string_bytes};
+ghost use Rattle.std.specs.List.{list_all, slice_split};
 ghost use Rattle.std.specs.Char.{is_ascii_digit};
+ghost use Rattle.zeb_profile.specs.Keys.{target_key};
 ghost use Rattle.zeb_profile.specs.Outcomes.{Gives};
 ghost use Rattle.zeb_profile.specs.Lines.{words_of, trimmed};
-ghost use Rattle.zeb_profile.specs.Words.{target_of, targets_of as targets_in_word, number_of, same_target, is_comma};
+ghost use Rattle.zeb_profile.specs.Words.{target_of, targets_of as targets_in_word, number_of, is_comma};
 ghost use Rattle.zeb_profile.specs.Directives.{one_word, two_words, store_of, identifier_of, att_of, melm_of, all_of, directive_of};
 ghost use Rattle.zeb_profile.specs.Profiles.{targets_in, clash as clash_of, is_identifier as identifier_test, is_store as store_test};
 
@@ -11,6 +12,7 @@ use crate::lines::{first_word, trim};
 use crate::names::Name;
 use crate::{ProfileFaultKind, Register, UnitPattern};
 use std::alloc::{AllocError, Global};
+use std::collections::BTreeSet;
 use std::marker::Model;
 
 /// One target of a `melm` or `all` line: an index by its name, and a register.
@@ -86,14 +88,17 @@ impl TargetList {
         &self.items
     }
 
+    /// Reads targets with commas between. A target is looked up among those to its left by its key, so that the time
+    /// for a line grows little faster than the line.
     fn read(alloc: Global, word: &str) -> Result<TargetList, ProfileFaultKind>
         ensures { Gives (λ list. list) result (targets_in_word word.now) }
     {
         let parts = split_commas(alloc, word)?;
         let mut items: Vec<Target> = Vec::new(alloc);
+        let mut known: BTreeSet<String> = BTreeSet::new(alloc);
         for part in &parts {
             let target = Target::read(alloc, part)?;
-            if contains_target(&items, &target) {
+            if !known.insert(target.key(alloc)?)? {
                 return Err(ProfileFaultKind::DuplicateTarget);
             }
             items.push(target)?;
@@ -108,18 +113,14 @@ fn split_commas(alloc: Global, word: &str) -> Result<Vec<&str>, AllocError>
     word.split(',').collect(alloc)
 }
 
-fn contains_target(targets: &[Target], target: &Target) -> bool
-    ensures { result ≡ list_any (same_target target.now) targets.now }
-{
-    targets.iter().any(|other| target.is_same(other))
-}
-
 impl Target {
-    /// Whether the two are one index and register.
-    pub fn is_same(&self, other: &Target) -> bool
-        ensures { result ≡ same_target self.now other.now }
+    /// A text that two targets share just where they are one index and register.
+    fn key(&self, alloc: Global) -> Result<String, AllocError>
+        ensures { IfOk result (λ key. string_bytes key ≡ target_key self.now) }
     {
-        self.name.is_same(other.name.as_str()) && self.register.is_same(other.register)
+        let name = self.name.key(alloc)?;
+        let register = self.register;
+        format!(in alloc; "{register}{name}")
     }
 
     /// Reads a target, `NAME` or `NAME:REGISTER`; without a register it is that of words.

@@ -1,5 +1,6 @@
-ghost use Rattle.std.specs.Prelude.{◌≡◌, List, ℕ, IfOk};
+ghost use Rattle.std.specs.Prelude.{◌≡◌, List, ℕ, IfOk, string_bytes};
 ghost use Rattle.std.specs.List.{list_all};
+ghost use Rattle.zeb_profile.specs.Keys.{name_key};
 ghost use Rattle.zeb_profile.specs.Outcomes.{Gives};
 ghost use Rattle.zeb_profile.specs.Words.{is_name as name_test, is_name_byte as name_byte_test, name_of, same_name as names_agree};
 
@@ -52,6 +53,13 @@ impl Name {
         ensures { result ≡ names_agree text.now self.now }
     {
         text.eq_ignore_ascii_case(&self.text)
+    }
+
+    /// The name's letters in lower case: names are the same just where these texts are equal.
+    pub fn key(&self, alloc: Global) -> Result<String, AllocError>
+        ensures { IfOk result (λ key. string_bytes key ≡ name_key self.now) }
+    {
+        self.text.to_ascii_lowercase(alloc)
     }
 
     pub fn copy(&self, alloc: Global) -> Result<Name, AllocError>
