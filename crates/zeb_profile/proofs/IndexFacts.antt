@@ -1,8 +1,8 @@
 -- Places and first finds in a list.
-use Rattle.std.proofs.Common.{◌≡◌, ℕ, ◌+◌, ◌<◌, List, [], ◌∷◌, ◌++◌, length, drop, get_or, suc, add-one, drop-cons, true, false, Bool, Some, None, unwrap_or, refl, arith, sym, inl, inr, not}
-use Rattle.std.specs.List.{position, position_or_len, find, flat_map}
+use Rattle.std.proofs.Common.{◌≡◌, ℕ, ◌+◌, ◌<◌, List, ◌++◌, length, drop, get_or, suc, add-one, drop-cons, true, false, Bool, Some, None, unwrap_or, refl, arith, inl, inr, not}
+use Rattle.std.specs.List.{position, position_or_len, flat_map}
 use Rattle.std.proofs.lemmas.List.Sums.{position_or_len_is, prefix_len-le-length}
-use Rattle.std.proofs.lemmas.Bool.{cases_lt, cases_Bool, lt-ltb, le-ltb}
+use Rattle.std.proofs.lemmas.Bool.{cases_lt, lt-ltb, le-ltb}
 use Rattle.zeb_profile.specs.declared.directives.Placed.{Placed}
 use Rattle.zeb_profile.specs.Indexes.{names_in}
 use Rattle.zeb_profile.specs.Profiles.{directives_in}
@@ -26,32 +26,10 @@ unwrap_position p xs =
           rw (le-ltb (position_or_len p xs) (length xs) h) whole
     ]
 
-find-append_some : {X : Type 0} (p : X → Bool) (xs ys : List X) (x : X) → find p xs ≡ Some x → find p (xs ++ ys) ≡ Some x
-find-append_some p [] ys x h = absurd (cc)
-find-append_some p (y ∷ xs) ys x h =
-    elim (cases_Bool (p y)) [
-      | inl e ↦ rw e (rw e at h)
-      | inr e ↦ rw e (find-append_some p xs ys x (rw e at h))
-    ]
-
-find-append_none : {X : Type 0} (p : X → Bool) (xs ys : List X) → find p xs ≡ None → find p (xs ++ ys) ≡ find p ys
-find-append_none p [] ys h = refl
-find-append_none p (y ∷ xs) ys h =
-    elim (cases_Bool (p y)) [
-      | inl e ↦ let bad : Some y ≡ None = rw e at h in absurd (cc)
-      | inr e ↦ rw e (find-append_none p xs ys (rw e at h))
-    ]
-
 -- the names of the lines from the i-th on
 abbrev pub names_from : ℕ → List Placed → List (List ℕ)
 names_from i placed = flat_map names_in (directives_in (drop i placed))
 
-pub find_name_here : (p : List ℕ → Bool) (placed : List Placed) (i : ℕ) (d : Placed) (x : List ℕ) → i < length placed
-    → find p (names_in (get_or placed i d).directive) ≡ Some x → find p (names_from i placed) ≡ Some x
-find_name_here p placed i d x within h = rw (drop-cons placed i d) (find-append_some p (names_in (get_or placed i d).directive) (flat_map names_in (directives_in (drop (suc i) placed))) x h)
-
-pub find_name_later : (p : List ℕ → Bool) (placed : List Placed) (i : ℕ) (d : Placed) → i < length placed
-    → find p (names_in (get_or placed i d).directive) ≡ None → find p (names_from (i + 1) placed) ≡ find p (names_from i placed)
-find_name_later p placed i d within h =
-    let e : i + 1 ≡ suc i = add-one i in
-    rw (e, drop-cons placed i d) (sym (find-append_none p (names_in (get_or placed i d).directive) (flat_map names_in (directives_in (drop (suc i) placed))) h))
+-- those of the i-th line come first
+pub names_from-next : (i : ℕ) (placed : List Placed) (d : Placed) → i < length placed → names_from i placed ≡ names_in (get_or placed i d).directive ++ names_from (i + 1) placed
+names_from-next i placed d h = let e : i + 1 ≡ suc i = add-one i in rw (e, drop-cons placed i d) refl

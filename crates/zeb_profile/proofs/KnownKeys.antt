@@ -15,10 +15,10 @@ use Rattle.zeb_profile.specs.declared.directives.Target.{Target}
 use Rattle.zeb_profile.specs.declared.registers.Register.{Register}
 use Rattle.zeb_profile.specs.declared.registers.Register.TheVariants.{Word, Phrase, Number}
 use Rattle.zeb_profile.specs.Canonical.{register_text}
-use Rattle.zeb_profile.specs.Keys.{name_key, target_key}
+use Rattle.zeb_profile.specs.Keys.{HoldsKeys, name_key, target_key}
 use Rattle.zeb_profile.specs.Words.{same_name, same_register, same_target}
 
-bytes_eq-sym : (a b : List ℕ) → bytes_eq a b ≡ bytes_eq b a
+pub bytes_eq-sym : (a b : List ℕ) → bytes_eq a b ≡ bytes_eq b a
 bytes_eq-sym a b =
     elim (cases_Bool (bytes_eq a b)) [
       | inl e ↦ e ∙ sym ((bytes_eq-Decides b a).1 (sym ((bytes_eq-Decides a b).0 e)))
@@ -45,10 +45,6 @@ insert_took added false among a n e = sym e
 insert_took added true among a n e = absurd (cc)
 
 module _ {Y : Type 0} where
-  -- the set has just the keys of the list
-  abbrev pub HoldsKeys : BTreeSet (String Y) → List (List ℕ) → Type 0
-  HoldsKeys set keys = (key : List ℕ) → contains_text set key ≡ list_any (bytes_eq key) keys
-
   -- with one key more the set has the keys of the list with that key behind
   pub holds_keys-push : (old new : BTreeSet (String Y)) (keys : List (List ℕ)) (key : List ℕ) → HoldsKeys old keys
       → UpdatesBy string_cmp (λ k. slice_cmp nat_cmp key (string_bytes k)) old new true → HoldsKeys new (keys ++ key ∷ [])

@@ -20,3 +20,5 @@ pub mod SaysProps
 pub mod Comments
 pub mod FirstFault
 pub mod KnownKeys
+pub mod NumberedKeys
+pub mod Spellings

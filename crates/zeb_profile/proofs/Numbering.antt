@@ -13,7 +13,7 @@ use Rattle.zeb_profile.specs.Profiles.{all_targets, directives_in, targets_in}
 use Rattle.zeb_profile.specs.Words.{same_name}
 
 -- ---- names are the same by their lower case
-same_lower : (a b : List ℕ) → same_name a b ≡ true → str_to_ascii_lowercase a ≡ str_to_ascii_lowercase b
+pub same_lower : (a b : List ℕ) → same_name a b ≡ true → str_to_ascii_lowercase a ≡ str_to_ascii_lowercase b
 same_lower a b h = (bytes_eq-Decides (str_to_ascii_lowercase a) (str_to_ascii_lowercase b)).0 h
 
 lower_same : (a b : List ℕ) → str_to_ascii_lowercase a ≡ str_to_ascii_lowercase b → same_name a b ≡ true
@@ -129,3 +129,7 @@ pub index_names-numbered : (placed : List Placed) → fold (numbered (first_spel
 index_names-numbered placed =
     let spell = first_spelling (directives_in placed) in
     numbered_all spell (first_spelling-same (directives_in placed)) [] (names_after 0 placed) ∙ ap (map spell) (all_new (distinct_names (names_after 0 placed)))
+
+-- a spelling that is the first one is the same name
+pub spelling-same : (spell : List ℕ → List ℕ) (directives : List Directive) → ((name : List ℕ) → spell name ≡ first_spelling directives name) → (name : List ℕ) → same_name (spell name) name ≡ true
+spelling-same spell directives same name = rw (same name) (first_spelling-same directives name)

@@ -1,7 +1,12 @@
 -- The keys by which names and targets are looked up while a profile is read: a name in lower case, and a target as its
 -- register's letter with the key of its name behind it.
-use Rattle.std.specs.Prelude.{ℕ, List, ◌++◌}
-use Rattle.std.specs.Str.{str_to_ascii_lowercase}
+use Rattle.std.specs.Prelude.{◌≡◌, ℕ, List, ◌++◌, Option, option_map, unwrap_or, String}
+use Rattle.std.specs.Borrow.{Bor}
+use Rattle.std.specs.BTreeMap.{BTreeMap, get_by_text}
+use Rattle.std.specs.BTreeSet.{BTreeSet, contains_text}
+use Rattle.std.specs.List.{find, list_any}
+use Rattle.std.specs.Option.{option_or}
+use Rattle.std.specs.Str.{bytes_eq, str_to_ascii_lowercase}
 use Rattle.zeb_profile.specs.Canonical.{register_text}
 use Rattle.zeb_profile.specs.declared.directives.Target.{Target}
 
@@ -10,3 +15,24 @@ name_key name = str_to_ascii_lowercase name
 
 abbrev pub target_key : Target → List ℕ
 target_key target = register_text target.register ++ name_key target.name
+
+module _ {Y : Type 0} where
+  -- the set has just the keys of the list
+  abbrev pub HoldsKeys : BTreeSet (String Y) → List (List ℕ) → Type 0
+  HoldsKeys set keys = (key : List ℕ) → contains_text set key ≡ list_any (bytes_eq key) keys
+
+  -- the spelling that is noted at a key
+  abbrev pub spelled_at : BTreeMap (String Y) (Bor (List ℕ)) → List ℕ → Option (List ℕ)
+  spelled_at spellings key = option_map (λ spelling. spelling.now) (get_by_text spellings key)
+
+  -- a name as it is noted, or as it stands where none is noted
+  abbrev pub spelled : BTreeMap (String Y) (Bor (List ℕ)) → List ℕ → List ℕ
+  spelled spellings name = unwrap_or (spelled_at spellings (name_key name)) name
+
+  -- what is noted at a key, or else the first of these names that has it
+  abbrev pub spelled_with : BTreeMap (String Y) (Bor (List ℕ)) → List (List ℕ) → List ℕ → Option (List ℕ)
+  spelled_with spellings names key = option_or (spelled_at spellings key) (find (λ name. bytes_eq key (name_key name)) names)
+
+  -- of these names each whose key has no spelling yet is noted at its key
+  abbrev pub NotesSpellings : BTreeMap (String Y) (Bor (List ℕ)) → BTreeMap (String Y) (Bor (List ℕ)) → List (List ℕ) → Type 0
+  NotesSpellings old new names = (key : List ℕ) → spelled_at new key ≡ spelled_with old names key

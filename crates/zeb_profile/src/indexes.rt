@@ -1,90 +1,119 @@
-ghost use Rattle.std.specs.Prelude.{◌≡◌, ◌<◌, ◌≤◌, ◌^◌, ◌++◌, [], List, ℕ, length, map, not, IfOk, OnOk, if◌then◌else◌, option_map, Option};
-ghost use Rattle.std.specs.List.{list_any, position, position_or_len, find, flat_map};
+ghost use Rattle.std.specs.Prelude.{◌≡◌, ◌<◌, ◌^◌, ◌∷◌, [], List, ℕ, length, map, IfOk, OnOk, true, unwrap_or};
+ghost use Rattle.std.specs.List.{position};
 ghost use Rattle.zeb_profile.specs.Indexes.{index_names as index_names_of, first_spelling as first_spelling_of, names_in, numbered, pair_of};
-ghost use Rattle.zeb_profile.specs.Profiles.{directives_in, all_targets};
+ghost use Rattle.zeb_profile.specs.Keys.{HoldsKeys, NotesSpellings, name_key, spelled, spelled_at};
+ghost use Rattle.zeb_profile.specs.Profiles.{directives_in};
 ghost use Rattle.zeb_profile.specs.Words.{same_name};
 
 use crate::directives::{Directive, Placed, Target};
 use crate::names::Name;
 use std::alloc::{AllocError, Global};
+use std::collections::{BTreeMap, BTreeSet};
 
-/// The names of the indexes by number. A table has room for 2 ^ 32 - 1 names.
+/// The names of the indexes by number. A table has room for 2 ^ 32 - 1 names. Names are looked up by their keys, so that
+/// the time grows little faster than the profile.
 pub(crate) fn index_names(alloc: Global, placed: &[Placed]) -> Result<Vec<Name>, AllocError>
     ensures names { IfOk result (λ names. names.items ≡ index_names_of (directives_in placed.now)) }
     ensures bound { IfOk result (λ names. length names.items < 2 ^ 32) }
 {
+    let spellings = first_spellings(alloc, placed)?;
+    let mut keys: BTreeSet<String> = BTreeSet::new(alloc);
     let mut names: Vec<Name> = Vec::new(alloc);
     for line in placed {
         for target in line.directive.targets() {
-            number_name(alloc, &mut names, placed, &target.name)?;
+            number_name(alloc, &mut names, &mut keys, &spellings, &target.name)?;
         }
     }
     Ok(names)
 }
 
-/// Gives a name the next number, unless it has one.
-fn number_name(
+/// Gives a name the next number, unless its key is among the keys of the names that have one.
+fn number_name<'a>(
     alloc: Global,
     names: &mut Vec<Name>,
-    placed: &[Placed],
-    name: &Name,
+    keys: &mut BTreeSet<String>,
+    spellings: &BTreeMap<String, &'a Name>,
+    name: &'a Name,
 ) -> Result<(), AllocError>
-    requires { length names.old.items < 2 ^ 32 }
-    ensures names { OnOk result (names.new.items ≡ numbered (first_spelling_of (directives_in placed.now)) names.old.items name.now) }
+    requires bound { length names.old.items < 2 ^ 32 }
+    requires keys { HoldsKeys keys.old (map name_key names.old.items) }
+    requires spelling { same_name (spelled spellings.now name.now) name.now ≡ true }
+    ensures names { OnOk result (names.new.items ≡ numbered (spelled spellings.now) names.old.items name.now) }
+    ensures keys { OnOk result (HoldsKeys keys.new (map name_key names.new.items)) }
     ensures bound { length names.new.items < 2 ^ 32 }
 {
-    if has_name(names, name) {
+    let key = name.key(alloc)?;
+    let spelling = spelling_of(spellings, key.as_str(), name);
+    if !keys.insert(key)? {
         return Ok(());
     }
     if names.len() >= u32::MAX as usize {
         return Err(AllocError);
     }
-    names.push(first_spelling(placed, name).copy(alloc)?)?;
+    names.push(spelling.copy(alloc)?)?;
     Ok(())
 }
 
-fn has_name(names: &[Name], name: &Name) -> bool
-    ensures { result ≡ list_any (same_name name.now) names.now }
+/// The spelling that is noted at the key of a name, or else the name.
+fn spelling_of<'a>(spellings: &BTreeMap<String, &'a Name>, key: &str, name: &'a Name) -> &'a Name
+    ensures { result.now ≡ unwrap_or (spelled_at spellings.now key.now) name.now }
 {
-    names.iter().any(|known| name.is_same(known.as_str()))
-}
-
-/// A name as the first line that has it spells it.
-fn first_spelling<'a>(placed: &'a [Placed], name: &'a Name) -> &'a Name
-    ensures { result.now ≡ first_spelling_of (directives_in placed.now) name.now }
-{
-    for line in placed {
-        if let Some(spelling) = spelling_in(&line.directive, name) {
-            return spelling;
-        }
+    match spellings.get(key) {
+        Some(spelling) => spelling,
+        None => name,
     }
-    name
 }
 
-fn spelling_in<'a>(directive: &'a Directive, name: &Name) -> Option<&'a Name>
-    ensures { option_map (λ spelling. spelling.now) result ≡ find (same_name name.now) (names_in directive.now) }
+/// Each name as the first line that has it spells it, at its key.
+fn first_spellings(alloc: Global, placed: &[Placed]) -> Result<BTreeMap<String, &Name>, AllocError>
+    ensures { IfOk result (λ spellings. (name : List ℕ) → spelled spellings name ≡ first_spelling_of (directives_in placed.now) name) }
+{
+    let mut spellings: BTreeMap<String, &Name> = BTreeMap::new(alloc);
+    for line in placed {
+        note_spellings(alloc, &mut spellings, &line.directive)?;
+    }
+    Ok(spellings)
+}
+
+/// Notes the spellings of a line's names, each at its key unless one is noted there.
+fn note_spellings<'a>(
+    alloc: Global,
+    spellings: &mut BTreeMap<String, &'a Name>,
+    directive: &'a Directive,
+) -> Result<(), AllocError>
+    ensures { OnOk result (NotesSpellings spellings.old spellings.new (names_in directive.now)) }
 {
     match directive {
-        Directive::Att(_, spelling) => {
-            if name.is_same(spelling.as_str()) {
-                Some(spelling)
-            } else {
-                None
-            }
-        }
-        _ => spelling_among(directive.targets(), name),
+        Directive::Att(_, name) => note_spelling(alloc, spellings, name),
+        _ => note_target_spellings(alloc, spellings, directive.targets()),
     }
 }
 
-fn spelling_among<'a>(targets: &'a [Target], name: &Name) -> Option<&'a Name>
-    ensures { option_map (λ spelling. spelling.now) result ≡ find (same_name name.now) (map (λ target. target.name) targets.now) }
+fn note_target_spellings<'a>(
+    alloc: Global,
+    spellings: &mut BTreeMap<String, &'a Name>,
+    targets: &'a [Target],
+) -> Result<(), AllocError>
+    ensures { OnOk result (NotesSpellings spellings.old spellings.new (map (λ target. target.name) targets.now)) }
 {
     for target in targets {
-        if name.is_same(target.name.as_str()) {
-            return Some(&target.name);
-        }
+        note_spelling(alloc, spellings, &target.name)?;
     }
-    None
+    Ok(())
+}
+
+fn note_spelling<'a>(
+    alloc: Global,
+    spellings: &mut BTreeMap<String, &'a Name>,
+    name: &'a Name,
+) -> Result<(), AllocError>
+    ensures { OnOk result (NotesSpellings spellings.old spellings.new (name.now ∷ [])) }
+{
+    let key = name.key(alloc)?;
+    if !spellings.contains_key(key.as_str()) {
+        spellings.insert(key, name)?;
+    }
+    Ok(())
 }
 
 /// The number of the first name that is this one.

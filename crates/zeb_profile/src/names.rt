@@ -41,14 +41,7 @@ impl Name {
         &self.text
     }
 
-    /// Whether the two names are the same, ASCII letters compared without regard to their case.
-    pub fn is_same(&self, other: &str) -> bool
-        ensures { result ≡ names_agree self.now other.now }
-    {
-        self.text.eq_ignore_ascii_case(other)
-    }
-
-    /// The same of a text: `text` is compared with the name.
+    /// Whether a text spells the name, ASCII letters compared without regard to their case.
     pub fn is_spelled(&self, text: &str) -> bool
         ensures { result ≡ names_agree text.now self.now }
     {

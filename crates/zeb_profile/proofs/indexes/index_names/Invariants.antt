@@ -1,18 +1,20 @@
 use Rattle.std.proofs.Common.{◌≡◌, ◌+◌, ◌<◌, ◌^◌, ◌++◌, [], drop, map, length}
 use Rattle.std.specs.List.{fold}
-use Rattle.zeb_profile.specs.Indexes.{first_spelling, numbered}
-use Rattle.zeb_profile.specs.Profiles.{directives_in}
+use Rattle.zeb_profile.specs.Indexes.{numbered}
+use Rattle.zeb_profile.specs.Keys.{HoldsKeys, name_key, spelled}
 use Rattle.zeb_profile.proofs.Numbering.{names_after}
 use Rattle.zeb_profile.proofs.indexes.index_names.Given as goal
 
 abbrev pub invariant-loop-line : goal.invariant-loop-line
 invariant-loop-line l = record {
   bound : length l.names.items < 2 ^ 32;
-  names : fold (numbered (first_spelling (directives_in l.placed))) l.names.items (names_after l.line-index l.placed) ≡ fold (numbered (first_spelling (directives_in l.placed))) [] (names_after 0 l.placed);
+  keys : HoldsKeys l.keys (map name_key l.names.items);
+  names : fold (numbered (spelled l.spellings)) l.names.items (names_after l.line-index l.placed) ≡ fold (numbered (spelled l.spellings)) [] (names_after 0 l.placed);
 }
 
 abbrev pub invariant-loop-target : goal.invariant-loop-target
 invariant-loop-target l = record {
   bound : length l.names.items < 2 ^ 32;
-  names : fold (numbered (first_spelling (directives_in l.placed))) l.names.items (map (λ target. target.name) (drop l.target-index l.target-items) ++ names_after (l.line-index + 1) l.placed) ≡ fold (numbered (first_spelling (directives_in l.placed))) [] (names_after 0 l.placed);
+  keys : HoldsKeys l.keys (map name_key l.names.items);
+  names : fold (numbered (spelled l.spellings)) l.names.items (map (λ target. target.name) (drop l.target-index l.target-items) ++ names_after (l.line-index + 1) l.placed) ≡ fold (numbered (spelled l.spellings)) [] (names_after 0 l.placed);
 }

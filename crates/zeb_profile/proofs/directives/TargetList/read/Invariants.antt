@@ -1,7 +1,6 @@
 use Rattle.std.proofs.Common.{◌≡◌, [], map, drop}
-use Rattle.zeb_profile.specs.Keys.{target_key}
+use Rattle.zeb_profile.specs.Keys.{HoldsKeys, target_key}
 use Rattle.zeb_profile.specs.Words.{targets_after}
-use Rattle.zeb_profile.proofs.KnownKeys.{HoldsKeys}
 use Rattle.zeb_profile.proofs.directives.TargetList.read.Given as goal
 
 abbrev pub invariant-loop-part : goal.invariant-loop-part

@@ -1,0 +1,10 @@
+use Rattle.std.proofs.Common.{◌≡◌, List, ℕ}
+use Rattle.zeb_profile.specs.Keys.{spelled_with}
+use Rattle.zeb_profile.proofs.IndexFacts.{names_from}
+use Rattle.zeb_profile.specs.Keys.{name_key}
+use Rattle.std.specs.List.{find}
+use Rattle.std.specs.Str.{bytes_eq}
+use Rattle.zeb_profile.proofs.indexes.first_spellings.Given as goal
+
+abbrev pub invariant-loop-line : goal.invariant-loop-line
+invariant-loop-line l = (key : List ℕ) → spelled_with l.spellings (names_from l.line-index l.placed) key ≡ find (λ name. bytes_eq key (name_key name)) (names_from 0 l.placed)

@@ -1,0 +1,13 @@
+use Rattle.std.proofs.Common.{◌≡◌, false, string_bytes}
+use Rattle.std.specs.BTreeMap.{get_by_text}
+use Rattle.std.specs.Option.{is_some}
+use Rattle.zeb_profile.specs.Keys.{name_key}
+use Rattle.zeb_profile.proofs.Spellings.{notes_new}
+use Rattle.zeb_profile.proofs.indexes.note_spelling.Goals as goal
+
+pub returns-in_ok-insert : goal.returns-in_ok-insert
+returns-in_ok-insert c =
+    let keyed : string_bytes c.in_ok-key.key ≡ name_key c.args.name.now = c.in_ok-key.ensures in
+    let unknown : is_some (get_by_text c.args.spellings.now (name_key c.args.name.now)) ≡ false =
+    rw (← keyed, ← c.as_str.ensures.value, ← c.contains_key.ensures) c.if-not-contains_key.true in
+    notes_new c.args.spellings.now c.insert.new.self c.args.name c.in_ok-key.key keyed unknown c.in_ok-insert.ensures.updates

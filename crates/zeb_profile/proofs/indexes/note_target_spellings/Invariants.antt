@@ -1,0 +1,6 @@
+use Rattle.std.proofs.Common.{◌≡◌, List, ℕ, drop, map}
+use Rattle.zeb_profile.specs.Keys.{spelled_with}
+use Rattle.zeb_profile.proofs.indexes.note_target_spellings.Given as goal
+
+abbrev pub invariant-loop-target : goal.invariant-loop-target
+invariant-loop-target l = (key : List ℕ) → spelled_with l.spellings (map (λ target. target.name) (drop l.target-index l.targets)) key ≡ spelled_with l.fn.spellings (map (λ target. target.name) l.targets) key
