@@ -25,11 +25,11 @@ bytes_eq-sym a b =
       | inr e ↦ e ∙ sym (false_from_ne_true (bytes_eq b a) (λ h. absurd (cc (e, (bytes_eq-Decides a b).1 (sym ((bytes_eq-Decides b a).0 h))))))
     ]
 
-or_false : (b : Bool) → (b || false) ≡ b
+pub or_false : (b : Bool) → (b || false) ≡ b
 or_false true = refl
 or_false false = refl
 
-or_as_cond : (a b : Bool) → cond b true a ≡ (a || b)
+pub or_as_cond : (a b : Bool) → cond b true a ≡ (a || b)
 or_as_cond true true = refl
 or_as_cond true false = refl
 or_as_cond false true = refl

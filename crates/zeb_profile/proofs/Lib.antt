@@ -22,3 +22,5 @@ pub mod FirstFault
 pub mod KnownKeys
 pub mod NumberedKeys
 pub mod Spellings
+pub mod Clashes
+pub mod TargetKeys

@@ -1,7 +1,8 @@
 -- The lines that say something, from one of them on.
-use Rattle.std.proofs.Common.{◌≡◌, ℕ, ◌+◌, ◌<◌, List, [], ◌∷◌, length, drop, get_or, map, suc, add-one, drop-cons, Bor, cond, refl, true, ap, sym, ◌∙◌, Err, ◌≢◌}
+use Rattle.std.proofs.Common.{◌≡◌, ℕ, ◌+◌, ◌<◌, List, [], ◌∷◌, ◌++◌, length, drop, get_or, map, suc, add-one, drop-cons, Bor, cond, refl, true, false, ap, sym, ◌∙◌, Ok, Err, ◌≢◌}
 use Rattle.std.specs.List.{enumerate_from, filter}
 use Rattle.std.specs.Str.Lines.{lines as lines_of}
+use Rattle.zeb_profile.specs.declared.directives.Directive.{Directive}
 use Rattle.zeb_profile.specs.declared.directives.Placed.{Placed}
 use Rattle.zeb_profile.specs.declared.faults.ProfileFault.{ProfileFault}
 use Rattle.zeb_profile.specs.declared.faults.ProfileFaultKind.{ProfileFaultKind}
@@ -17,6 +18,22 @@ telling_from i lines = filter (λ line. says_something line.1) (enumerate_from (
 pub telling_from-next : (i : ℕ) (lines : List (Bor (List ℕ))) (d : Bor (List ℕ)) → i < length lines
     → telling_from i lines ≡ cond (says_something (trimmed (get_or lines i d).now)) ((i + 1, trimmed (get_or lines i d).now) ∷ telling_from (i + 1) lines) (telling_from (i + 1) lines)
 telling_from-next i lines d h = let e : i + 1 ≡ suc i = add-one i in rw (drop-cons lines i d, e) refl
+
+-- a line that says nothing is passed over
+pub read_past : (placed : List Placed) (lines : List (Bor (List ℕ))) (i : ℕ) (d : Bor (List ℕ)) → i < length lines → says_something (trimmed (get_or lines i d).now) ≡ false
+    → placed_after placed (telling_from (i + 1) lines) ≡ placed_after placed (telling_from i lines)
+read_past placed lines i d within silent =
+    let next : telling_from i lines ≡ telling_from (i + 1) lines = telling_from-next i lines d within ∙ rw silent refl in
+    sym (ap (placed_after placed) next)
+
+-- one that says a directive comes behind the others
+pub read_on : (placed : List Placed) (lines : List (Bor (List ℕ))) (i : ℕ) (d : Bor (List ℕ)) (directive : Directive) → i < length lines → says_something (trimmed (get_or lines i d).now) ≡ true
+    → directive_after (directives_in placed) (trimmed (get_or lines i d).now) ≡ Ok directive
+    → placed_after (placed ++ record { line = i + 1; directive = directive } ∷ []) (telling_from (i + 1) lines) ≡ placed_after placed (telling_from i lines)
+read_on placed lines i d directive within tells says =
+    let next : telling_from i lines ≡ (i + 1, trimmed (get_or lines i d).now) ∷ telling_from (i + 1) lines = telling_from-next i lines d within ∙ rw tells refl in
+    let read : placed_after placed ((i + 1, trimmed (get_or lines i d).now) ∷ telling_from (i + 1) lines) ≡ placed_after (placed ++ record { line = i + 1; directive = directive } ∷ []) (telling_from (i + 1) lines) = rw says refl in
+    sym (ap (placed_after placed) next ∙ read)
 
 -- the first faulty line ends the reading
 pub placed_lines_fails : (text : List ℕ) (lines : List (Bor (List ℕ))) (placed : List Placed) (i : ℕ) (d : Bor (List ℕ)) (kind : ProfileFaultKind) (fault : ProfileFault)

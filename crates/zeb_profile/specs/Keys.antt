@@ -1,6 +1,6 @@
 -- The keys by which names and targets are looked up while a profile is read: a name in lower case, and a target as its
 -- register's letter with the key of its name behind it.
-use Rattle.std.specs.Prelude.{◌≡◌, ℕ, List, ◌++◌, Option, option_map, unwrap_or, String}
+use Rattle.std.specs.Prelude.{◌≡◌, ℕ, Bool, false, not, ◌||◌, List, ◌++◌, Option, option_map, unwrap_or, String}
 use Rattle.std.specs.Borrow.{Bor}
 use Rattle.std.specs.BTreeMap.{BTreeMap, get_by_text}
 use Rattle.std.specs.BTreeSet.{BTreeSet, contains_text}
@@ -8,6 +8,8 @@ use Rattle.std.specs.List.{find, list_any}
 use Rattle.std.specs.Option.{option_or}
 use Rattle.std.specs.Str.{bytes_eq, str_to_ascii_lowercase}
 use Rattle.zeb_profile.specs.Canonical.{register_text}
+use Rattle.zeb_profile.specs.declared.directives.Directive.{Directive}
+use Rattle.zeb_profile.specs.declared.directives.Directive.TheVariants.{Att}
 use Rattle.zeb_profile.specs.declared.directives.Target.{Target}
 
 abbrev pub name_key : List ℕ → List ℕ
@@ -20,6 +22,19 @@ module _ {Y : Type 0} where
   -- the set has just the keys of the list
   abbrev pub HoldsKeys : BTreeSet (String Y) → List (List ℕ) → Type 0
   HoldsKeys set keys = (key : List ℕ) → contains_text set key ≡ list_any (bytes_eq key) keys
+
+  -- whether a key is in the set or that of one of these names
+  abbrev pub held_with : BTreeSet (String Y) → List (List ℕ) → List ℕ → Bool
+  held_with set names key = contains_text set key || list_any (λ name. bytes_eq key (name_key name)) names
+
+  -- the keys of these names are put into the set
+  abbrev pub AddsKeys : BTreeSet (String Y) → BTreeSet (String Y) → List (List ℕ) → Type 0
+  AddsKeys old new names = (key : List ℕ) → contains_text new key ≡ held_with old names key
+
+  -- whether a directive ties a use attribute to a name whose key is not in the set
+  abbrev pub ties_beside : BTreeSet (String Y) → Directive → Bool
+  ties_beside set (Att number name) = not (contains_text set (name_key name))
+  ties_beside set _ = false
 
   -- the spelling that is noted at a key
   abbrev pub spelled_at : BTreeMap (String Y) (Bor (List ℕ)) → List ℕ → Option (List ℕ)

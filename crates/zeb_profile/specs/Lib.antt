@@ -8,5 +8,6 @@ pub mod Laws
 pub mod Lines
 pub mod Outcomes
 pub mod Profiles
+pub mod Repeats
 pub mod TargetsLeft
 pub mod Words

@@ -6,7 +6,7 @@ ghost use Rattle.zeb_profile.specs.Outcomes.{Gives};
 ghost use Rattle.zeb_profile.specs.Lines.{words_of, trimmed};
 ghost use Rattle.zeb_profile.specs.Words.{target_of, targets_of as targets_in_word, number_of, is_comma};
 ghost use Rattle.zeb_profile.specs.Directives.{one_word, two_words, store_of, identifier_of, att_of, melm_of, all_of, directive_of};
-ghost use Rattle.zeb_profile.specs.Profiles.{targets_in, clash as clash_of, is_identifier as identifier_test, is_store as store_test};
+ghost use Rattle.zeb_profile.specs.Profiles.{targets_in, is_identifier as identifier_test, is_store as store_test};
 
 use crate::lines::{first_word, trim};
 use crate::names::Name;
@@ -177,23 +177,6 @@ impl Directive {
         ensures { result ≡ store_test self.now }
     {
         matches!(self, Directive::Store(_))
-    }
-
-    /// The fault of this directive behind an earlier one that it may not repeat.
-    pub fn clash(&self, earlier: &Directive) -> Option<ProfileFaultKind>
-        ensures { result ≡ clash_of earlier.now self.now }
-    {
-        match (earlier, self) {
-            (Directive::Store(_), Directive::Store(_)) => Some(ProfileFaultKind::TwoStores),
-            (Directive::Identifier(_), Directive::Identifier(_)) => {
-                Some(ProfileFaultKind::TwoIdentifiers)
-            }
-            (Directive::Att(one, _), Directive::Att(other, _)) if *one == *other => {
-                Some(ProfileFaultKind::DuplicateUse)
-            }
-            (Directive::All(_), Directive::All(_)) => Some(ProfileFaultKind::TwoAlls),
-            _ => None,
-        }
     }
 }
 

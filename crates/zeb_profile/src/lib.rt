@@ -15,6 +15,7 @@ mod names;
 mod patterns;
 mod reading;
 mod registers;
+mod repeats;
 mod searches;
 mod unit_targets;
 

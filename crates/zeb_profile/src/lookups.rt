@@ -59,7 +59,7 @@ impl Profile {
         ensures { GivesPlaced (λ profile. profile) result (profile_of text.now) }
     {
         let placed = read_lines(alloc, text)?;
-        if let Some(fault) = lack_of(&placed) {
+        if let Some(fault) = lack_of(alloc, &placed)? {
             return Err(fault);
         }
         let names = index_names(alloc, &placed)?;

@@ -1,15 +1,20 @@
-ghost use Rattle.std.specs.Prelude.{◌≡◌, ◌≢◌, [], List, ℕ, map, Ok, Err, option_map, IfOk, Option, OnErr, MatchResult, length, ◌<◌, ◌^◌};
+ghost use Rattle.std.specs.Prelude.{◌≡◌, ◌∷◌, [], map, IfOk, OnOk, option_map};
 ghost use Rattle.std.specs.List.{list_any, find};
 ghost use Rattle.std.specs.Str.Lines.{lines as lines_of};
+ghost use Rattle.zeb_profile.specs.declared.directives.Directive.{Directive as Told};
+ghost use Rattle.zeb_profile.specs.Keys.{AddsKeys, ties_beside};
 ghost use Rattle.zeb_profile.specs.Lines.{says_something as tells};
 ghost use Rattle.zeb_profile.specs.Outcomes.{Gives, GivesPlaced};
-ghost use Rattle.zeb_profile.specs.Profiles.{first_clash as first_clash_of, directive_after, directives_in, placed_lines, has_index, ties_unknown as ties_unknown_index, all_targets, is_identifier, is_store, lack_of as lack};
-ghost use Rattle.zeb_profile.specs.Words.{same_name};
+ghost use Rattle.zeb_profile.specs.Profiles.{directives_in, placed_lines, ties_unknown as ties_unknown_index, is_identifier, is_store, lack_of as lack};
+ghost use Rattle.zeb_profile.specs.Repeats.{NotesAlso, directive_beside};
 
 use crate::directives::{Directive, Placed, Target};
 use crate::lines::trim;
+use crate::names::Name;
+use crate::repeats::Repeats;
 use crate::{ProfileFault, ProfileFaultKind};
 use std::alloc::{AllocError, Global};
+use std::collections::BTreeSet;
 
 /// The directives of a text with their lines, or the fault of the first faulty line. What all lines together lack is
 /// not asked.
@@ -18,11 +23,12 @@ pub(crate) fn read_lines(alloc: Global, text: &str) -> Result<Vec<Placed>, Profi
 {
     let lines = split_lines(alloc, text)?;
     let mut placed: Vec<Placed> = Vec::new(alloc);
+    let mut repeats = Repeats::new(alloc);
     for (index, line) in lines.iter().enumerate() {
         let content = trim(line);
         if says_something(content) {
             let line = index as u64 + 1;
-            match read_line(alloc, &placed, content) {
+            match read_line(alloc, &mut repeats, content) {
                 Err(kind) => return Err(ProfileFault::at_line(line, kind)),
                 Ok(directive) => {
                     placed.push(Placed { line, directive })?;
@@ -46,90 +52,109 @@ fn says_something(content: &str) -> bool
     !(content.is_empty() || content.starts_with('#'))
 }
 
-/// Reads a line behind the earlier ones.
-fn read_line(alloc: Global, earlier: &[Placed], line: &str) -> Result<Directive, ProfileFaultKind>
-    ensures { Gives (λ directive. directive) result (directive_after (directives_in earlier.now) line.now) }
+/// Reads a line behind the earlier ones, and notes what no later line may repeat.
+fn read_line(
+    alloc: Global,
+    repeats: &mut Repeats,
+    line: &str,
+) -> Result<Directive, ProfileFaultKind>
+    ensures gives { Gives (λ directive. directive) result (directive_beside repeats.old line.now) }
+    ensures notes { IfOk result (λ directive. NotesAlso directive repeats.old repeats.new) }
 {
     let directive = Directive::read(alloc, line)?;
-    match first_clash(earlier, &directive) {
+    match repeats.clash(&directive) {
         Some(kind) => Err(kind),
-        None => Ok(directive),
-    }
-}
-
-fn first_clash(earlier: &[Placed], directive: &Directive) -> Option<ProfileFaultKind>
-    ensures { result ≡ first_clash_of (directives_in earlier.now) directive.now }
-{
-    for placed in earlier {
-        let kind = directive.clash(&placed.directive);
-        if kind.is_some() {
-            return kind;
+        None => {
+            repeats.note(&directive)?;
+            Ok(directive)
         }
     }
-    None
 }
 
 /// What the lines of a profile lack together: the index of a use attribute, the identifier, the store.
-pub(crate) fn lack_of(placed: &[Placed]) -> Option<ProfileFault>
-    ensures { result ≡ lack placed.now }
+pub(crate) fn lack_of(alloc: Global, placed: &[Placed]) -> Result<Option<ProfileFault>, AllocError>
+    ensures { IfOk result (λ found. found ≡ lack placed.now) }
 {
-    if let Some(line) = unknown_use(placed) {
-        return Some(ProfileFault {
+    if let Some(line) = unknown_use(alloc, placed)? {
+        return Ok(Some(ProfileFault {
             line,
             kind: ProfileFaultKind::UnknownIndex,
-        });
+        }));
     }
     if !has_identifier(placed) {
-        return Some(ProfileFault {
+        return Ok(Some(ProfileFault {
             line: 0,
             kind: ProfileFaultKind::NoIdentifier,
-        });
+        }));
     }
     if !has_store(placed) {
-        return Some(ProfileFault {
+        return Ok(Some(ProfileFault {
             line: 0,
             kind: ProfileFaultKind::NoStore,
-        });
+        }));
     }
-    None
+    Ok(None)
 }
 
-/// The first line that ties a use attribute to an index that no line has as a target.
-fn unknown_use(placed: &[Placed]) -> Option<u64>
-    ensures { result ≡ option_map (λ line. line.line) (find (λ line. ties_unknown_index (directives_in placed.now) line.directive) placed.now) }
+/// The first line that ties a use attribute to an index that no line has as a target. The targets' names are looked up
+/// by their keys, so that the time grows little faster than the profile.
+fn unknown_use(alloc: Global, placed: &[Placed]) -> Result<Option<u64>, AllocError>
+    ensures { IfOk result (λ found. found ≡ option_map (λ line. line.line) (find (λ line. ties_unknown_index (directives_in placed.now) line.directive) placed.now)) }
 {
+    let keys = target_keys(alloc, placed)?;
     for line in placed {
-        if ties_unknown(placed, &line.directive) {
-            return Some(line.line);
+        if ties_unknown(alloc, &keys, &line.directive)? {
+            return Ok(Some(line.line));
         }
     }
-    None
+    Ok(None)
 }
 
-fn ties_unknown(placed: &[Placed], directive: &Directive) -> bool
-    ensures { result ≡ ties_unknown_index (directives_in placed.now) directive.now }
+fn ties_unknown(
+    alloc: Global,
+    keys: &BTreeSet<String>,
+    directive: &Directive,
+) -> Result<bool, AllocError>
+    ensures { IfOk result (λ unknown. unknown ≡ ties_beside keys.now directive.now) }
 {
     match directive {
-        Directive::Att(_, name) => !has_target(placed, name.as_str()),
-        _ => false,
-    }
-}
-
-fn has_target(placed: &[Placed], name: &str) -> bool
-    ensures { result ≡ has_index (directives_in placed.now) name.now }
-{
-    for line in placed {
-        if names_target(line.directive.targets(), name) {
-            return true;
+        Directive::Att(_, name) => {
+            let key = name.key(alloc)?;
+            Ok(!keys.contains(key.as_str()))
         }
+        _ => Ok(false),
     }
-    false
 }
 
-fn names_target(targets: &[Target], name: &str) -> bool
-    ensures { result ≡ list_any (λ target. same_name name.now target.name) targets.now }
+/// The keys of the names of all targets.
+fn target_keys(alloc: Global, placed: &[Placed]) -> Result<BTreeSet<String>, AllocError>
+    ensures { IfOk result (λ keys. (directive : Told) → ties_beside keys directive ≡ ties_unknown_index (directives_in placed.now) directive) }
 {
-    targets.iter().any(|target| target.name.is_spelled(name))
+    let mut keys: BTreeSet<String> = BTreeSet::new(alloc);
+    for line in placed {
+        add_target_keys(alloc, &mut keys, line.directive.targets())?;
+    }
+    Ok(keys)
+}
+
+fn add_target_keys(
+    alloc: Global,
+    keys: &mut BTreeSet<String>,
+    targets: &[Target],
+) -> Result<(), AllocError>
+    ensures { OnOk result (AddsKeys keys.old keys.new (map (λ target. target.name) targets.now)) }
+{
+    for target in targets {
+        add_key(alloc, keys, &target.name)?;
+    }
+    Ok(())
+}
+
+fn add_key(alloc: Global, keys: &mut BTreeSet<String>, name: &Name) -> Result<(), AllocError>
+    ensures { OnOk result (AddsKeys keys.old keys.new (name.now ∷ [])) }
+{
+    keys.insert(name.key(alloc)?)?;
+    Ok(())
 }
 
 fn has_identifier(placed: &[Placed]) -> bool

@@ -7,7 +7,7 @@ use Rattle.zeb_profile.proofs.lookups.Profile.read.Goals as goal
 
 pub invariant_of-result : goal.invariant_of-result
 invariant_of-result c =
-    let none : lack_of c.in_ok-placed.placed.items ≡ None = rw (← c.deref.ensures.value, ← c.lack_of.ensures) c.in_default.is in
+    let none : lack_of c.in_ok-placed.placed.items ≡ None = rw (← c.deref.ensures.value, ← c.in_ok-fault.ensures) c.in_default.is in
     let found = no_lack c.in_ok-placed.placed.items none in
     let same : c.in_ok-directives.directives.items ≡ directives_in c.in_ok-placed.placed.items = search rules in
     let said : profile_of c.args.text.now ≡ Ok (directives_in c.in_ok-placed.placed.items) = rw (c.in_ok-placed.ensures, none) refl in
