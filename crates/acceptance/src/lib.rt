@@ -9,6 +9,8 @@ mod commands;
 #[cfg(test)]
 mod disks;
 #[cfg(test)]
+mod paths;
+#[cfg(test)]
 mod query_lists;
 #[cfg(test)]
 mod samples;
@@ -18,3 +20,5 @@ mod slow_find;
 mod tables;
 #[cfg(test)]
 mod texts;
+#[cfg(test)]
+mod words;

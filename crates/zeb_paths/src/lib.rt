@@ -5,8 +5,6 @@ mod disk;
 mod paths;
 mod shelf;
 mod tally;
-#[cfg(test)]
-mod tests;
 mod walk;
 
 pub use disk::{Disk, FileReader};

@@ -4,8 +4,6 @@
 mod laws;
 mod program;
 mod reading;
-#[cfg(test)]
-mod tests;
 mod words;
 
 pub use laws::words_name_one_command;

@@ -1,12 +1,12 @@
 //! Walks over paths in memory, and the paths of the file system.
 
-use crate::{Disk, PathKind, Paths, Shelf, Shelved, Walk, WalkFault};
 use sqlite::MemStore;
 use std::alloc::{AllocGlobal, Global};
 use std::process::Abort;
 use std::test::Fail;
 use std::{env, fs};
 use zeb_marc::Source;
+use zeb_paths::{Disk, PathKind, Paths, Shelf, Shelved, Walk, WalkFault};
 
 /// The paths of the files of a shelf, each of one byte.
 const PATHS: [&str; 9] = [
@@ -114,7 +114,7 @@ fn reads_the_file_system(rt: HostRuntime) -> Result<(), Fail> {
     let alloc = rt.alloc();
     let temporary = env::temp_dir(&rt)?;
     let root = format!(in alloc;
-        "{}/zeb_paths-{}",
+        "{}/paths-{}",
         temporary.as_str(),
         std::process::id(rt.process())
     )?;

@@ -1,8 +1,8 @@
 //! Words, and what is read of them.
 
-use crate::{Act, Usage, Words, read_words};
 use std::alloc::{AllocError, AllocGlobal};
 use std::process::Abort;
+use zeb_words::{Act, Usage, Words, read_words};
 
 /// Lines of words with one space between, and what is read: the profile's file, the database and the command, or why there is none.
 const ROWS: [(&str, &str); 39] = [
