@@ -162,7 +162,7 @@ impl<S: Alter, L: Layout> Session<S, L> {
         connection
     }
 
-    /// How many rows of the registers the last command read and wrote.
+    /// The work on the registers that the last command counted: a change, a find, a scan and a stat count theirs, all others none.
     pub fn work(&self) -> Work
         ensures { result ≡ self.now.work }
     {

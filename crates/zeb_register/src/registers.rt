@@ -47,8 +47,10 @@ pub struct Totals {
     pub occurrences: u64,
 }
 
-/// How many rows of the packed tables were read and written: of `dict`, one row for each term, and of `blocks`, one for each block of
-/// a term's postings. A count stays at its type's greatest value once it is there.
+/// Work on the packed tables: on `dict`, which has one row for each term, and on `blocks`, which has one for each block of a term's
+/// postings. A look-up counts the rows that it reads. A change counts, in each of the four, one for each key whose places it changes;
+/// a row that several records of one command change is read and written once, and so its counts are bounds from above. A count stays
+/// at its type's greatest value once it is there.
 #[derive(Clone, Copy, Debug, Default, PartialEq, Eq)]
 pub struct Work {
     pub dict_read: u64,
