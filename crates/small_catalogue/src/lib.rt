@@ -1,0 +1,64 @@
+//! A catalogue of one database in a file, over the engine as a library: opened, updated from readers, and asked.
+#![tactic(auto)]
+
+ghost use Rattle.std.specs.Prelude.{◌≡◌, IfOk, OnErr};
+ghost use Rattle.sqlite.specs.Held.{state};
+ghost use Rattle.sqlite.specs.State.{HasCleanDisk};
+ghost use Rattle.zeb_register.specs.Calls.{ChangesNothing};
+
+use sqlite::{Alter, Connection, File, FileStore, Unknown};
+use std::alloc::Global;
+use zeb_engine::{Command, DbName, Kind, Limits, Refusal, Reply, Session};
+use zeb_marc::Source;
+use zeb_profile::Profile;
+use zeb_register::{Blocks, Layout};
+
+/// How many of the records found are shown.
+const SHOWN: u32 = 10;
+
+/// Opens the register in the file that the profile names, and makes its tables where the file has none. Refused (`Store`, `Memory`)
+/// where the file can't be opened, another program holds it, or it has other tables.
+pub fn open(rt: &HostRuntime, profile: Profile) -> Result<Session<FileStore<File>, Blocks>, Refusal>
+    ensures given { IfOk result (λ session. session.profile ≡ profile) }
+{
+    match Connection::open_from(rt, profile.store_path(), false, Unknown) {
+        Err((error, _)) => Err(error.into()),
+        Ok(connection) => {
+            match Session::adopt(rt.alloc(), connection, profile, Limits::GREATEST) {
+                Err((_, refusal)) => Err(refusal),
+                Ok(session) => Ok(session),
+            }
+        }
+    }
+}
+
+/// Takes in all records of the readers, or none: a new one gets the next number, and one that is there keeps its own.
+pub fn take_in<S: Alter, L: Layout, R: Source>(
+    session: &mut Session<S, L>,
+    database: &DbName,
+    readers: &mut [R],
+) -> Result<Reply, Refusal>
+    ensures refused { HasCleanDisk (state S.Store session.new.connection)
+        → OnErr result (ChangesNothing (state S.Store session.old.connection) (state S.Store session.new.connection)) }
+{
+    session.update_from(database, Kind::Update, readers)
+}
+
+/// The records on which a query holds: how many, and the first ten of them.
+pub fn find<S: Alter, L: Layout>(
+    alloc: Global,
+    session: &mut Session<S, L>,
+    database: DbName,
+    query: &str,
+) -> Result<Reply, Refusal>
+    ensures reads { HasCleanDisk (state S.Store session.new.connection)
+        → ChangesNothing (state S.Store session.old.connection) (state S.Store session.new.connection) }
+{
+    let query = String::from_str(alloc, query)?;
+    session.command(&Command::Find {
+        database,
+        query,
+        first: 1,
+        count: SHOWN,
+    })
+}
