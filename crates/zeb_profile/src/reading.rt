@@ -99,7 +99,8 @@ pub(crate) fn lack_of(alloc: Global, placed: &[Placed]) -> Result<Option<Profile
 /// The first line that ties a use attribute to an index that no line has as a target. The targets' names are looked up
 /// by their keys, so that the time grows little faster than the profile.
 fn unknown_use(alloc: Global, placed: &[Placed]) -> Result<Option<u64>, AllocError>
-    ensures { IfOk result (λ found. found ≡ option_map (λ line. line.line) (find (λ line. ties_unknown_index (directives_in placed.now) line.directive) placed.now)) }
+    ensures { IfOk result (λ found. found ≡ option_map (λ line. line.line)
+        (find (λ line. ties_unknown_index (directives_in placed.now) line.directive) placed.now)) }
 {
     let keys = target_keys(alloc, placed)?;
     for line in placed {
