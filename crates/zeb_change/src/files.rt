@@ -50,7 +50,7 @@ fn read_record<R: Source>(
     }
 }
 
-/// Refused with `ReadFault` where a reader has failed already, by the number of such a file, counted from 1: no record is
+/// Refused with `ReadFault` where a reader has failed already, by the number of the first such file, counted from 1: no record is
 /// to be read then. Nothing is read.
 pub fn check_readers<R: Source>(readers: &[R]) -> Result<(), Refusal>
     ensures none { OnOk result (NoneFailed R.has_failed readers.now) }
