@@ -1,4 +1,4 @@
-// Patterns: texts in which stars may stand.
+//! Patterns: texts in which stars may stand.
 ghost use Rattle.std.specs.Prelude.{◌≡◌, ◌++◌, ◌⊎◌, ◌↔◌, ℕ, List, [], ◌∷◌, chars};
 ghost use Rattle.std.specs.Prelude.{IfOk, IfSome, IsTrue, IsUtf8, MatchOption, OnOk};
 ghost use Rattle.zeb_text.specs.Symbols.{Star, Symbol, literal, starred, texts_of};
