@@ -59,8 +59,7 @@ impl Pattern {
     }
 
     /// Whether the text is the pattern with some text in place of each star. The pieces between the stars are looked for
-    /// in order, each from where the one before it ends, so the time is linear in the text and the pattern. No memory is
-    /// taken.
+    /// in order, each from where the one before it ends. How long that takes isn't proved. No memory is taken.
     pub fn matches(&self, text: &str) -> bool
         ensures { IsTrue result ↔ Matches self.now (chars text.now) }
     {
