@@ -1,4 +1,4 @@
-# make            builds bin/zebraidx, which proves it first: about half an hour the first time, seconds to minutes after an edit
+# make            builds bin/zebraidx, which proves it first: half an hour to an hour the first time, on four processors; seconds to minutes after an edit
 # make run        runs the first example
 # make quick      the daily check: layout, edits, names, pages, and the proofs of the crates that changed
 # make check      the gate: every proof, every test and the edits of must-fail/, from nothing; some hours of processor time
