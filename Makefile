@@ -1,4 +1,4 @@
-# make            builds bin/zebraidx, which proves it first: about half an hour the first time, seconds to minutes after an edit
+# make            builds bin/zebraidx, which proves it first: half an hour to an hour the first time, on four processors; seconds to minutes after an edit
 # make run        runs the first example
 # make quick      the daily check: layout, edits, names, pages, and the proofs of the crates that changed
 # make check      the gate: every proof, every test and the edits of must-fail/, from nothing; some hours of processor time
@@ -9,7 +9,7 @@
 # make cost       the gate, with the processor minutes of each crate written into docs/TESTING.md
 # make bench      times of the register's calls and of an update's statements, and how commands grow: RECORDS=1000 for fewer than 10,000
 # make bench-zebra  this program beside Zebra, in times and in hits; installs Debian's idzebra-2.0: RECORDS=10000 for more than 2,000
-# make man        the manual pages in bin/man, from docs/MANUAL.md; installs Debian's lowdown where it isn't there
+# make man        the manual pages in bin/man, from docs/MANUAL.md and VERSION; installs Debian's lowdown where it isn't there
 # make install    PREFIX=/usr/local: the program, its manual and pages, examples, completions of bash and zsh; make uninstall takes them away
 # make clean      removes what these made
 PREFIX ?= /usr/local
@@ -76,7 +76,7 @@ install: bin/zebraidx man
 	install -D -m 755 bin/zebraidx $(DESTDIR)$(PREFIX)/bin/zebraidx
 	install -D -m 644 -t $(MAN)/man1 bin/man/zebraidx.1
 	install -D -m 644 -t $(MAN)/man5 bin/man/zebraidx.cfg.5
-	install -D -m 644 -t $(DOC) docs/MANUAL.md docs/ZEBRA.md LICENSE
+	install -D -m 644 -t $(DOC) docs/MANUAL.md docs/ZEBRA.md LICENSE VERSION
 	install -D -m 644 -t $(DOC)/examples examples/*
 	install -D -m 644 completions/zebraidx.bash $(BASH_COMPLETIONS)/zebraidx
 	install -D -m 644 -t $(ZSH_COMPLETIONS) completions/_zebraidx

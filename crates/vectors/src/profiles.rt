@@ -1,3 +1,5 @@
+//! Tests of profiles: how a text is read, also while a request for memory is refused.
+
 mod faults;
 mod lookups;
 mod marc21;

@@ -1,4 +1,4 @@
-// The three numbers by which a posting is told from the one before it.
+//! The three numbers by which a posting is told from the one before it.
 ghost use Rattle.std.specs.Prelude.{◌≡◌, ◌≢◌, ◌++◌, ℕ, List, MatchOption, OnErr, OnOk, SomeIff};
 
 use crate::numbers::write_number;

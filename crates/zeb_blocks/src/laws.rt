@@ -1,4 +1,4 @@
-// What holds of blocks, whatever their lists: each law is the contract of a function that does nothing.
+//! What holds of blocks, whatever their lists: each law is the contract of a function that does nothing.
 ghost use Rattle.std.specs.Prelude.{◌≡◌, ◌≢◌, ◌^◌, ◌-◌, ◌≤◌, ◌<◌, ◌∷◌, ◌++◌, [], ℕ, List, length};
 ghost use Rattle.zeb_blocks.specs.declared.postings.Posting.{Posting};
 ghost use Rattle.zeb_blocks.specs.Blocks.{BlockSpells, LiesIn};

@@ -1,4 +1,4 @@
-// Numbers in bytes: ULEB128 (DWARF 5, 7.6), in its shortest form alone.
+//! Numbers in bytes: ULEB128 (DWARF 5, 7.6), in its shortest form alone.
 ghost use Rattle.std.specs.Prelude.{◌≡◌, ◌≢◌, ◌^◌, ◌+◌, ◌*◌, ◌%◌, ◌<◌, ◌++◌, ℕ, List, OnErr, OnOk, SomeIff, MatchOption};
 ghost use Rattle.zeb_blocks.specs.Numbers.{uleb};
 

@@ -1,4 +1,4 @@
-// A posting, one place at which a key stands, and the blocks of postings.
+//! A posting, one place at which a key stands, and the blocks of postings.
 ghost use Rattle.std.specs.Prelude.{◌^◌, ◌*◌, ◌<◌, SomeIff};
 
 /// How many system numbers belong to one block.

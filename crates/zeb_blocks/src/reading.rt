@@ -1,4 +1,4 @@
-// Reading a block: its postings, one after the other, out of its bytes.
+//! Reading a block: its postings, one after the other, out of its bytes.
 ghost use Rattle.std.specs.Prelude.{◌≡◌, ◌≢◌, ◌++◌, ◌^◌, ◌<◌, ℕ, List, IfOk, OnErr, MatchOption, length};
 ghost use Rattle.std.specs.Iterator.{YieldsFirst, item_count};
 ghost use Rattle.zeb_blocks.specs.declared.postings.Posting.{Posting};

@@ -1,4 +1,4 @@
-// Worked blocks both ways, bytes that are refused, and the longest numbers.
+//! Worked blocks both ways, bytes that are refused, and the longest numbers.
 ghost use Rattle.std.specs.Prelude.{◌≡◌};
 ghost use Rattle.zeb_blocks.specs.Blocks.{BlockSpells};
 ghost use Rattle.zeb_blocks.specs.Worked.{at};

@@ -23,10 +23,9 @@ use zeb_profile::{Profile, Register};
 /// number register the key of each of its numbers, at the number's number. Words and numbers count from 1 in their
 /// unit. Bytes that are no UTF-8 are read as U+FFFD (Unicode, section 3.9, best practice).
 ///
-/// Each unit's text is folded once, whatever the number of its targets, and `n` occurrences are put in order by about
-/// `n log n` comparisons.
-///
-/// `AllocError` comes where memory was refused, and then alone.
+/// Three things no clause says, and so they aren't proved: each unit's text is folded once, whatever the number of its
+/// targets; `n` occurrences are put in order by about `n log n` comparisons; and `AllocError` comes only where memory was
+/// refused.
 pub fn occurrences(
     alloc: Global,
     marc: &Marc<'_>,

@@ -1,4 +1,4 @@
-// Numbers of ASCII digits.
+//! Numbers of ASCII digits.
 ghost use Rattle.std.specs.Prelude.{◌≡◌, ◌≤◌, length, true, false, MatchOption, IfSome, ◌<◌};
 ghost use Rattle.zeb_marc.specs.Leader.{are_digits, number_of};
 

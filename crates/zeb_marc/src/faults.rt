@@ -1,3 +1,5 @@
+//! The faults of records and streams, and their printed names.
+
 use std::fmt;
 
 /// Why bytes are no record, and what else can go wrong in reading records from a stream. Positions count from 0 (ISO 2709;

@@ -1,4 +1,4 @@
-// What holds of records and streams, whatever their bytes.
+//! What holds of records and streams, whatever their bytes.
 ghost use Rattle.std.specs.Prelude.{◌≡◌, ◌+◌, ◌<◌, ◌≤◌, ◌^◌, ◌↔◌, ◌∷◌, ◌++◌, [], ℕ, List, Option, Result, Some, None, codes, length, slice_get};
 ghost use Rattle.std.specs.List.{AllByRecursion};
 ghost use Rattle.zeb_marc.specs.declared.faults.MarcFault.{MarcFault};

@@ -1,4 +1,4 @@
-// The leader of a record: ISO 2709, "Record label".
+//! The leader of a record: ISO 2709, "Record label".
 ghost use Rattle.std.specs.Prelude.{◌≡◌, ◌≤◌, ◌<◌, true, false, length, IfOk, MatchOption};
 ghost use Rattle.std.specs.Bool.{OnTrue};
 ghost use Rattle.zeb_marc.specs.Leader.{base_address, counts, announced_checks, ends_directory, has_base_address, has_counts, layout_checks, record_length, Answers};

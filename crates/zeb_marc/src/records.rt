@@ -1,4 +1,4 @@
-// A record: ISO 2709, "Structure of a record".
+//! A record: ISO 2709, "Structure of a record".
 ghost use Rattle.std.specs.Prelude.{◌≡◌, ◌≤◌, length, None, MatchResult};
 ghost use Rattle.zeb_marc.specs.Leader.{first_failing};
 ghost use Rattle.zeb_marc.specs.Directory.{directory_checks, fields_in};

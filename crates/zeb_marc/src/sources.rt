@@ -1,4 +1,4 @@
-// Where records are read from.
+//! Where records are read from.
 ghost use Rattle.std.specs.Prelude.{◌≡◌, List, ℕ, Option, Bool, true, false, Some, is_ok, if◌then◌else◌};
 ghost use Rattle.std.specs.Io.{ReadsAtMost};
 ghost use Rattle.std.specs.Io.KnownBytes.{ReadConsumes};

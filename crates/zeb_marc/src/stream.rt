@@ -1,4 +1,4 @@
-// A stream of records: ISO 2709, where each record begins with its length.
+//! A stream of records: ISO 2709, where each record begins with its length.
 ghost use Rattle.std.specs.Prelude.{◌≡◌, ◌≤◌, ◌∷◌, ◌↔◌, [], ℕ, List, length, take, vec_len, Some, false, true, IfOk, IfErr, IsErrOf, MatchResult};
 ghost use Rattle.zeb_marc.specs.Splits.{is_separator, next_of, Gives, IsSlice};
 ghost use Rattle.zeb_marc.specs.Reading.{ByteGives, FailsIf, FillGives, IsFillFault, IsSkipFault, IsStreamFault, Keeps, SkipGives, SliceGives};

@@ -1,3 +1,5 @@
+//! The canonical text of a profile, written line by line.
+
 ghost use Rattle.std.specs.Prelude.{◌≡◌, ◌++◌, List, ℕ, map, IfOk, OnOk, string_bytes};
 ghost use Rattle.std.specs.List.{flat_map};
 ghost use Rattle.zeb_profile.specs.Canonical.{canonical_line, canonical_text, pattern_text, target_text, targets_text};

@@ -1,3 +1,5 @@
+//! What one line of a profile says: the directives, and how each is read from its words.
+
 ghost use Rattle.std.specs.Prelude.{◌≡◌, ◌∷◌, [], List, ℕ, map, Ok, Err, IfOk, option_map, Option, string_bytes};
 ghost use Rattle.std.specs.List.{list_all, slice_split};
 ghost use Rattle.std.specs.Char.{is_ascii_digit};

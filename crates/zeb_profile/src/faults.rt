@@ -1,3 +1,5 @@
+//! The faults of a profile, their printed names, and how want of memory becomes one.
+
 ghost use Rattle.zeb_profile.specs.declared.faults.ProfileFaultKind.TheVariants.{Memory};
 ghost use Rattle.std.specs.Prelude.{◌≡◌, ◌≢◌};
 

@@ -1,3 +1,5 @@
+//! The indexes of a profile: their names by number, and the number of a name.
+
 ghost use Rattle.std.specs.Prelude.{◌≡◌, ◌<◌, ◌^◌, ◌∷◌, [], List, ℕ, length, map, IfOk, OnOk, true, unwrap_or};
 ghost use Rattle.std.specs.List.{position};
 ghost use Rattle.zeb_profile.specs.Indexes.{index_names as index_names_of, first_spelling as first_spelling_of, names_in, numbered, pair_of};

@@ -1,3 +1,5 @@
+//! A profile that was read, and what may be asked of it.
+
 ghost use Rattle.std.specs.Prelude.{◌≡◌, ◌<◌, ◌^◌, List, ℕ, length, map, Option, Some, slice_get, IfOk, IfErr, MatchResult, option_map};
 ghost use Rattle.std.specs.List.{list_any, position};
 ghost use Rattle.zeb_profile.specs.Indexes as indexes;

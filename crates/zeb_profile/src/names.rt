@@ -1,3 +1,5 @@
+//! Names of indexes, in which the case of letters doesn't matter.
+
 ghost use Rattle.std.specs.Prelude.{◌≡◌, List, ℕ, IfOk, string_bytes};
 ghost use Rattle.std.specs.List.{list_all};
 ghost use Rattle.zeb_profile.specs.Keys.{name_key};

@@ -1,3 +1,5 @@
+//! Reading a profile line by line, and what its lines lack together.
+
 ghost use Rattle.std.specs.Prelude.{◌≡◌, ◌∷◌, [], map, IfOk, OnOk, option_map};
 ghost use Rattle.std.specs.List.{list_any, find};
 ghost use Rattle.std.specs.Str.Lines.{lines as lines_of};

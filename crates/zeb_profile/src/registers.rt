@@ -1,3 +1,5 @@
+//! The three registers that an index may have: words, phrases and numbers.
+
 ghost use Rattle.std.specs.Prelude.{◌≡◌};
 ghost use Rattle.zeb_profile.specs.Words.{register_of, same_register};
 ghost use Rattle.zeb_profile.specs.Indexes.{register_code};

@@ -1,3 +1,5 @@
+//! What no later line of a profile may repeat.
+
 ghost use Rattle.std.specs.Prelude.{◌≡◌, [], OnOk};
 ghost use Rattle.zeb_profile.specs.Repeats.{NotesAlso, NotesClashes, noted_clash};
 

@@ -1,3 +1,5 @@
+//! Searches through the directives of a profile.
+
 ghost use Rattle.std.specs.Prelude.{◌≡◌, ◌<◌, ◌^◌, List, ℕ, length, map, Option, option_map, [], if◌then◌else◌};
 ghost use Rattle.std.specs.List.{list_any};
 ghost use Rattle.zeb_profile.specs.Indexes as indexes;

@@ -1,3 +1,5 @@
+//! The targets of a unit, one after the other.
+
 ghost use Rattle.std.specs.Prelude.{◌≡◌, ◌<◌, ◌^◌, ◌++◌, ◌∷◌, [], List, ℕ, length, map, drop, IfSome, IfNone};
 ghost use Rattle.zeb_profile.specs.Indexes.{pair_of, further_pairs};
 

@@ -1,4 +1,4 @@
-// Words: a text cut at what is neither letter, mark nor number.
+//! Words: a text cut at what is neither letter, mark nor number.
 ghost use Rattle.std.specs.Prelude.{◌≡◌, IfOk, chars, encode_utf8_all, map, string_bytes};
 ghost use Rattle.zeb_text.specs.Words.{is_word_character, joined_text, runs_of, words_of};
 ghost use Rattle.zeb_text.specs.Truncation.{belongs_to_word};

@@ -1,4 +1,4 @@
-// The runs of digits of a text, one after the other.
+//! The runs of digits of a text, one after the other.
 ghost use Rattle.std.specs.Prelude.{◌≡◌, ◌<◌, ◌≤◌, ℕ, [], ◌∷◌, IfNone, IfSome, chars, length, not, slice_index};
 ghost use Rattle.std.specs.Char.{is_ascii_digit};
 ghost use Rattle.std.specs.List.{AllPass};

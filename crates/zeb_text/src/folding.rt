@@ -1,4 +1,4 @@
-// Folding: what makes two spellings of one word the same text.
+//! Folding: what makes two spellings of one word the same text.
 ghost use Rattle.std.specs.Prelude.{◌≡◌, IfOk, chars, encode_utf8_all, filter, not, string_bytes};
 ghost use Rattle.zeb_text.specs.Folding.{folded, is_diacritical_mark};
 

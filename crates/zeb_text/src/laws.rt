@@ -1,4 +1,4 @@
-// Laws of the definitions that the contracts cite: each is the contract of a function that does nothing.
+//! Laws of the definitions that the contracts cite: each is the contract of a function that does nothing.
 ghost use Rattle.std.specs.Prelude.{◌≡◌, ◌↔◌, ◌^◌, ◌<◌, ℕ, All, Bool, List, [], ◌∷◌, ◌++◌};
 ghost use Rattle.std.specs.Prelude.{codes, encode_utf8_all, length, map};
 ghost use Rattle.std.specs.Char.{is_ascii_digit, to_ascii_lowercase};

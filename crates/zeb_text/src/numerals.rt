@@ -1,4 +1,4 @@
-// Numbers as texts: those of a text, and the key of a number.
+//! Numbers as texts: those of a text, and the key of a number.
 ghost use Rattle.std.specs.Prelude.{◌≡◌, ◌^◌, ◌<◌, ◌≢◌, ℕ, IfOk, IfSome, IfNone, chars, string_bytes};
 ghost use Rattle.zeb_text.specs.Numbers.{number_key, numbers_of};
 ghost use Rattle.zeb_text.specs.NumbersLeft.{numbers_left};

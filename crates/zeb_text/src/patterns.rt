@@ -1,4 +1,4 @@
-// Patterns: texts in which stars may stand.
+//! Patterns: texts in which stars may stand.
 ghost use Rattle.std.specs.Prelude.{◌≡◌, ◌++◌, ◌⊎◌, ◌↔◌, ℕ, List, [], ◌∷◌, chars};
 ghost use Rattle.std.specs.Prelude.{IfOk, IfSome, IsTrue, IsUtf8, MatchOption, OnOk};
 ghost use Rattle.zeb_text.specs.Symbols.{Star, Symbol, literal, starred, texts_of};
@@ -59,8 +59,7 @@ impl Pattern {
     }
 
     /// Whether the text is the pattern with some text in place of each star. The pieces between the stars are looked for
-    /// in order, each from where the one before it ends, so the time is linear in the text and the pattern. No memory is
-    /// taken.
+    /// in order, each from where the one before it ends. How long that takes isn't proved. No memory is taken.
     pub fn matches(&self, text: &str) -> bool
         ensures { IsTrue result ↔ Matches self.now (chars text.now) }
     {

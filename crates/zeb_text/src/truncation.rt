@@ -1,4 +1,4 @@
-// Patterns of a search term: its words, with stars where it is truncated.
+//! Patterns of a search term: its words, with stars where it is truncated.
 ghost use Rattle.std.specs.Prelude.{◌≡◌, ◌++◌, ◌&&◌, ◌||◌, IfOk, OnOk, chars, if◌then◌else◌, map};
 ghost use Rattle.zeb_text.specs.Stars.{cuts_each, cuts_left, cuts_right, star_if};
 ghost use Rattle.zeb_text.specs.Symbols.{Char, Star};

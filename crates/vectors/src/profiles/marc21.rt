@@ -10,6 +10,7 @@ const MARC21: &str =
     "# A profile for MARC 21 bibliographic records, after the rules that Zebra brings for them (tab/marc21.abs): author, title,
 # subject, numbers, date and publisher, and all of a record's data fields. A tag alone stands for every subfield of the
 # field, and the first line that fits a subfield is the only one, so a subfield's own line stands before its field's.
+# docs/ZEBRA.md says what is different from Zebra's rules, and why.
 store marc21.db
 
 # 001 is the control number that the cataloguing agency gave.
@@ -32,9 +33,47 @@ melm 001 Control-number
 melm 020$a ISBN,ISBN:p
 melm 022$a ISSN,ISSN:p
 
+# Linkage: $6 links a field to the same in another script, as `880-01`, and is no name, title or subject. A line of its own
+# keeps it out of its field's indexes. It adds nothing: the last line puts each subfield into Any.
+melm 100$6 Any
+melm 110$6 Any
+melm 111$6 Any
+melm 130$6 Any
+melm 240$6 Any
+melm 242$6 Any
+melm 243$6 Any
+melm 245$6 Any
+melm 246$6 Any
+melm 247$6 Any
+melm 400$6 Any
+melm 410$6 Any
+melm 411$6 Any
+melm 440$6 Any
+melm 490$6 Any
+melm 600$6 Any
+melm 610$6 Any
+melm 611$6 Any
+melm 630$6 Any
+melm 650$6 Any
+melm 651$6 Any
+melm 653$6 Any
+melm 654$6 Any
+melm 655$6 Any
+melm 656$6 Any
+melm 657$6 Any
+melm 700$6 Any
+melm 710$6 Any
+melm 711$6 Any
+melm 730$6 Any
+melm 740$6 Any
+melm 800$6 Any
+melm 810$6 Any
+melm 811$6 Any
+melm 830$6 Any
+
 # Names: of a person also for themselves
 melm 100$a Author,Author:p,Personal-name,Personal-name:p
-melm 100 Author
+melm 100 Author,Author:p
 melm 110 Author,Author:p
 melm 111 Author,Author:p
 
@@ -42,10 +81,9 @@ melm 111 Author,Author:p
 melm 130 Title,Title:p
 melm 240 Title,Title:p
 melm 242 Title,Title:p
-melm 243 Title
-melm 245$a Title,Title:p
+melm 243 Title,Title:p
 melm 245$c Author
-melm 245 Title
+melm 245 Title,Title:p
 melm 246 Title,Title:p
 melm 247 Title,Title:p
 
@@ -55,7 +93,13 @@ melm 260$c Date:n,Date
 melm 264$b Publisher,Publisher:p
 melm 264$c Date:n,Date
 
-# Series
+# Series; in 400, 410 and 411 stand names, and in their $t the titles of the series
+melm 400$t Title,Author
+melm 400 Author
+melm 410$t Title,Author
+melm 410 Author
+melm 411$t Title,Author
+melm 411 Author
 melm 440$a Title,Title:p
 melm 440 Title
 melm 490$a Title,Title:p
@@ -64,7 +108,7 @@ melm 490 Title
 # Subjects; in 600$t, 610$t and 611$t stands the title of a work
 melm 600$t Title
 melm 600$a Subject,Subject:p,Personal-name,Personal-name:p
-melm 600 Subject
+melm 600 Subject,Subject:p
 melm 610$t Title
 melm 610 Subject,Subject:p
 melm 611$t Title
@@ -73,7 +117,10 @@ melm 630 Subject,Subject:p
 melm 650 Subject,Subject:p
 melm 651 Subject,Subject:p
 melm 653 Subject,Subject:p
+melm 654 Subject
 melm 655 Subject
+melm 656 Subject
+melm 657 Subject
 
 # Further names, and the works that they are named for
 melm 700$t Title,Author
@@ -89,6 +136,8 @@ melm 800$t Title,Author
 melm 800 Author
 melm 810$t Title,Author
 melm 810 Author
+melm 811$t Title,Author
+melm 811 Author
 melm 830 Title,Title:p
 
 all Any
@@ -103,13 +152,13 @@ fn uses(rt: HostRuntime) -> Result<(), Fail> {
         (12, 0, "Control-number"),
         (7, 1, "ISBN"),
         (8, 2, "ISSN"),
-        (1003, 3, "Author"),
-        (1, 4, "Personal-name"),
-        (4, 5, "Title"),
-        (1018, 6, "Publisher"),
-        (31, 7, "Date"),
-        (21, 8, "Subject"),
-        (1016, 9, "Any"),
+        (1016, 3, "Any"),
+        (1003, 4, "Author"),
+        (1, 5, "Personal-name"),
+        (4, 6, "Title"),
+        (1018, 7, "Publisher"),
+        (31, 8, "Date"),
+        (21, 9, "Subject"),
     ];
     for (number, index, name) in uses {
         assert_eq!(rt; profile.index_by_use(number), Some(index), "use {number}");
@@ -123,16 +172,39 @@ fn uses(rt: HostRuntime) -> Result<(), Fail> {
 #[test]
 fn units(rt: HostRuntime) -> Result<(), Fail> {
     let profile = read(&rt, MARC21)?;
-    let person = [(3, Word), (3, Phrase), (4, Word), (4, Phrase), (9, Word)];
+    let person = [(4, Word), (4, Phrase), (5, Word), (5, Phrase), (3, Word)];
     targets_are(&rt, &profile, b"100", Some(b'a'), &person);
-    targets_are(&rt, &profile, b"100", Some(b'd'), &[(3, Word), (9, Word)]);
-    let title = [(5, Word), (5, Phrase), (9, Word)];
+    let name = [(4, Word), (4, Phrase), (3, Word)];
+    targets_are(&rt, &profile, b"100", Some(b'd'), &name);
+    let title = [(6, Word), (6, Phrase), (3, Word)];
+    targets_are(&rt, &profile, b"243", Some(b'a'), &title);
     targets_are(&rt, &profile, b"245", Some(b'a'), &title);
-    targets_are(&rt, &profile, b"245", Some(b'c'), &[(3, Word), (9, Word)]);
-    let date = [(7, Number), (7, Word), (9, Word)];
+    targets_are(&rt, &profile, b"245", Some(b'b'), &title);
+    targets_are(&rt, &profile, b"245", Some(b'c'), &[(4, Word), (3, Word)]);
+    let date = [(8, Number), (8, Word), (3, Word)];
     targets_are(&rt, &profile, b"260", Some(b'c'), &date);
-    targets_are(&rt, &profile, b"500", Some(b'a'), &[(9, Word)]);
+    targets_are(&rt, &profile, b"500", Some(b'a'), &[(3, Word)]);
     targets_are(&rt, &profile, b"001", None, &[(0, Word)]);
     targets_are(&rt, &profile, b"008", None, &[]);
+    Ok(())
+}
+
+/// Series and subjects by name, by title and by phrase; and the linkage `$6`, which goes where all subfields go.
+#[test]
+fn further_units(rt: HostRuntime) -> Result<(), Fail> {
+    let profile = read(&rt, MARC21)?;
+    let named_title = [(6, Word), (4, Word), (3, Word)];
+    for tag in [b"400", b"410", b"411", b"811"] {
+        targets_are(&rt, &profile, tag, Some(b't'), &named_title);
+        targets_are(&rt, &profile, tag, Some(b'a'), &[(4, Word), (3, Word)]);
+    }
+    for tag in [b"654", b"656", b"657"] {
+        targets_are(&rt, &profile, tag, Some(b'a'), &[(9, Word), (3, Word)]);
+    }
+    let subject = [(9, Word), (9, Phrase), (3, Word)];
+    targets_are(&rt, &profile, b"600", Some(b'x'), &subject);
+    for tag in [b"100", b"245", b"600", b"830"] {
+        targets_are(&rt, &profile, tag, Some(b'6'), &[(3, Word)]);
+    }
     Ok(())
 }
