@@ -14,11 +14,12 @@ use Rattle.zeb_extract.specs.declared.keys.Key.{Key}
 use Rattle.zeb_profile.specs.declared.Register.{Register}
 use Rattle.zeb_profile.specs.declared.Register.TheVariants.{Word, Phrase, Number}
 use Rattle.zeb_blocks.specs.declared.postings.Posting.{Posting}
+use Rattle.zeb_profile.specs.Indexes.{register_code}
 use Rattle.zeb_register.specs.Sql.{IsListOf}
 use Rattle.zeb_register.specs.Store.{postings_tree, IsRest}
 use Rattle.zeb_register.proofs.RisingLists.{same_list}
 use Rattle.zeb_register.specs.Content.{Content, posting_cmp}
-use Rattle.zeb_register.specs.PlainRows.{code_of_register, key_row, posting_row, HoldsRows}
+use Rattle.zeb_register.specs.PlainRows.{key_row, posting_row, HoldsRows}
 use Rattle.zeb_register.specs.RowPlaces.{first_three, IsThreeNumbers}
 
 pub lower_then : (x y z : Ordering) → ordering_then x (ordering_then y z) ≡ Less → ordering_then x (ordering_then y (ordering_then z Equal)) ≡ Less
@@ -43,7 +44,7 @@ one_list P xs ys left right = same_list row_cmp_total xs ys left.rising right.ri
 
 -- ---- keys and postings as rows
 
-same_register : (r s : Register) → code_of_register r ≡ code_of_register s → r ≡ s
+same_register : (r s : Register) → register_code r ≡ register_code s → r ≡ s
 same_register Word Word h = refl
 same_register Word Phrase h = absurd (omega (arith, h))
 same_register Word Number h = absurd (omega (arith, h))
@@ -57,7 +58,7 @@ same_register Number Number h = refl
 abbrev key_by : ℕ → Register → List ℕ → Key
 key_by index register term = record { index = index; register = register; term = term }
 
-pub same_key : (k l : Key) → k.index ≡ l.index → code_of_register k.register ≡ code_of_register l.register → k.term ≡ l.term → k ≡ l
+pub same_key : (k l : Key) → k.index ≡ l.index → register_code k.register ≡ register_code l.register → k.term ≡ l.term → k ≡ l
 same_key k l index register term = ap₂ (λ i r. key_by i r k.term) index (same_register k.register l.register register) ∙ ap (λ t. key_by l.index l.register t) term
 
 abbrev posting_by : ℕ → ℕ → ℕ → Posting
@@ -87,7 +88,7 @@ pub told_apart : (d db : ℤ) (k key : Key) (x y : Row) → key_row db key ++ x 
 told_apart d db k key x y h =
     let one : Int db ≡ Int d = ap (λ (r : Row). column r 0) h in
     let two : Int (pos key.index) ≡ Int (pos k.index) = ap (λ (r : Row). column r 1) h in
-    let three : Int (pos (code_of_register key.register)) ≡ Int (pos (code_of_register k.register)) = ap (λ (r : Row). column r 2) h in
+    let three : Int (pos (register_code key.register)) ≡ Int (pos (register_code k.register)) = ap (λ (r : Row). column r 2) h in
     let four : Text key.term ≡ Text k.term = ap (λ (r : Row). column r 3) h in
     ((let e : d ≡ db = cc in e), same_key k key (cc) (cc) (cc), ap (drop 4) h)
 

@@ -9,8 +9,6 @@ use Rattle.sqlite.specs.State.{State}
 use Rattle.sqlite.specs.Tree.{Trees}
 use Rattle.sqlite_rules.specs.Lists.{Has}
 use Rattle.sqlite_value.proofs.OrderLemmas.{row_cmp_total, value_cmp-Int, value_cmp-Text}
-use Rattle.zeb_profile.specs.declared.Register.{Register}
-use Rattle.zeb_profile.specs.declared.Register.TheVariants.{Word, Phrase, Number}
 use Rattle.zeb_profile.specs.Indexes.{register_code}
 use Rattle.zeb_register.specs.declared.catalog.ListedDatabase.{ListedDatabase}
 use Rattle.zeb_register.specs.declared.expected.Expected.{Expected}
@@ -18,7 +16,6 @@ use Rattle.zeb_register.specs.declared.expected.KeyPosting.{KeyPosting}
 use Rattle.zeb_register.specs.declared.kept.Record.{Record}
 use Rattle.zeb_register.specs.Expected.{IsTextOf, key_posting_order, number_order}
 use Rattle.zeb_register.specs.Kept.{record_shown}
-use Rattle.zeb_register.specs.PlainRows.{code_of_register}
 use Rattle.zeb_register.specs.RowExpected.{BelongsTo, HasTexts, HoldsUnder, IsOwnedBy, ShowsOwners, posting_shown, text_rows}
 use Rattle.zeb_register.specs.Sql.{HasRow, IsListOf}
 use Rattle.zeb_register.specs.Store.{IsRest, IsStore, entry, meta_tree}
@@ -50,11 +47,6 @@ record_lower a b less =
 pub records_rise : (records : List Record) → IsStrictlySortedBy number_order records → IsStrictlySortedBy row_cmp (map record_shown records)
 records_rise records up = strictly_mapped number_order row_cmp record_shown records (λ a b here there. record_lower a b) up
 
-pub rank_is : (r : Register) → register_code r ≡ code_of_register r
-rank_is Word = refl
-rank_is Phrase = refl
-rank_is Number = refl
-
 then_so : (o p q : Ordering) → (p ≡ Less → q ≡ Less) → ordering_then o p ≡ Less → ordering_then o q ≡ Less
 then_so Less p q so h = refl
 then_so Equal p q so h = so h
@@ -80,18 +72,16 @@ posting_lower a b less =
     (then_so rank _ (ordering_then term (ordering_then sysno (ordering_then seq (ordering_then place Equal)))) (then_so term _ (ordering_then sysno (ordering_then seq (ordering_then place Equal))) (lower_then sysno seq place))) whole in
     rw (
       value_cmp-Int (pos a.key.index) (pos b.key.index),
-      value_cmp-Int (pos (code_of_register a.key.register)) (pos (code_of_register b.key.register)),
+      value_cmp-Int (pos (register_code a.key.register)) (pos (register_code b.key.register)),
       value_cmp-Text a.key.term b.key.term,
       value_cmp-Int (pos a.posting.sysno) (pos b.posting.sysno),
       value_cmp-Int (pos a.posting.seq) (pos b.posting.seq),
       value_cmp-Int (pos a.posting.pos) (pos b.posting.pos),
       ints_order a.key.index b.key.index,
-      ints_order (code_of_register a.key.register) (code_of_register b.key.register),
+      ints_order (register_code a.key.register) (register_code b.key.register),
       ints_order a.posting.sysno b.posting.sysno,
       ints_order a.posting.seq b.posting.seq,
       ints_order a.posting.pos b.posting.pos,
-      ← rank_is a.key.register,
-      ← rank_is b.key.register,
     ) low
 
 pub postings_rise : (postings : List KeyPosting) → IsStrictlySortedBy key_posting_order postings → IsStrictlySortedBy row_cmp (map posting_shown postings)

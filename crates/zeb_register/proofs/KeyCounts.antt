@@ -21,7 +21,6 @@ use Rattle.zeb_register.specs.declared.key_counts.KeyCount.{KeyCount}
 use Rattle.zeb_register.specs.Content.{posting_cmp}
 use Rattle.zeb_register.specs.Expected.{key_posting_order}
 use Rattle.zeb_register.specs.Occurring.{IsCount}
-use Rattle.zeb_register.specs.PlainRows.{code_of_register}
 use Rattle.zeb_register.specs.RowExpected.{IsDictRest, key_shown, list_under, with_key}
 use Rattle.zeb_register.specs.RowKeys.{AreKeyCounts, IsKeyCountedIn, IsKeyed, count_order, count_shown, count_with}
 use Rattle.zeb_register.specs.RowTerms.{IsInRecord}
@@ -29,7 +28,6 @@ use Rattle.zeb_register.proofs.Alike.{take_all}
 use Rattle.zeb_register.proofs.ContentLemmas.{ints_order}
 use Rattle.zeb_register.proofs.CountLemmas.{IsNewest, above_newest, count_more, count_none, count_so, has_end, newest_is, one_count}
 use Rattle.zeb_register.proofs.Expecting.{key_posting_total, under_has}
-use Rattle.zeb_register.proofs.ExpectedLists.{rank_is}
 use Rattle.zeb_register.proofs.RisingLists.{before_last, front_rises, pushed_rises, same_last, snoc_of}
 use Rattle.zeb_register.proofs.Scans.{strictly_mapped}
 use Rattle.zeb_register.proofs.TermRows.{up_to, taken_below, taken_more}
@@ -235,12 +233,10 @@ counts_lower a b less =
     let low = then_low (nat_cmp a.key.index b.key.index) (nat_cmp (register_code a.key.register) (register_code b.key.register)) (slice_cmp nat_cmp a.key.term b.key.term) (row_cmp (Int (pos a.records) ∷ []) (Int (pos b.records) ∷ [])) less in
     rw (
       value_cmp-Int (pos a.key.index) (pos b.key.index),
-      value_cmp-Int (pos (code_of_register a.key.register)) (pos (code_of_register b.key.register)),
+      value_cmp-Int (pos (register_code a.key.register)) (pos (register_code b.key.register)),
       value_cmp-Text a.key.term b.key.term,
       ints_order a.key.index b.key.index,
-      ints_order (code_of_register a.key.register) (code_of_register b.key.register),
-      ← rank_is a.key.register,
-      ← rank_is b.key.register,
+      ints_order (register_code a.key.register) (register_code b.key.register),
     ) low
 
 pub counts_rise : (ps : List KeyPosting) (list : List KeyCount) → AreKeyCounts (IsKeyed ps) list → IsStrictlySortedBy row_cmp (map count_shown list)

@@ -21,7 +21,6 @@ use Rattle.zeb_register.specs.declared.expected.KeyPosting.{KeyPosting}
 use Rattle.zeb_register.specs.Content.{posting_cmp}
 use Rattle.zeb_register.specs.Expected.{key_posting_order}
 use Rattle.zeb_register.specs.PackedBlocks.{part_in}
-use Rattle.zeb_register.specs.PlainRows.{code_of_register}
 use Rattle.zeb_register.specs.RowExpected.{AreBlocks, IsBlockBefore, IsBlockRest, key_shown, list_under, with_key}
 use Rattle.zeb_register.specs.RowPlaces.{first_three}
 use Rattle.zeb_register.specs.Sql.{IsListOf}
@@ -30,7 +29,7 @@ use Rattle.zeb_register.proofs.ContentChanges.{numbers_apart, posting_total}
 use Rattle.zeb_register.proofs.ContentLemmas.{ints_order, same_key}
 use Rattle.zeb_register.proofs.CountLemmas.{is_less}
 use Rattle.zeb_register.proofs.Expecting.{key_posting_total, under_has, under_rises}
-use Rattle.zeb_register.proofs.ExpectedLists.{rank_is, then_joined}
+use Rattle.zeb_register.proofs.ExpectedLists.{then_joined}
 use Rattle.zeb_register.proofs.PackedLemmas.{in_part, not_empty, one_spelled, part_in_block, part_in_list, part_lies}
 use Rattle.zeb_register.proofs.PostingStatements.{blocks, blocks_static}
 use Rattle.zeb_register.proofs.PackedStatements.{blocks_keys}
@@ -45,7 +44,7 @@ rest_of key block bytes = key_shown key ++ Int (pos block) ∷ Blob bytes ∷ []
 pub same_rest : (k l : Key) (b c : ℕ) (x y : List ℕ) → rest_of k b x ≡ rest_of l c y → (k ≡ l) × (b ≡ c) × (x ≡ y)
 same_rest k l b c x y same =
     let one : Int (pos k.index) ≡ Int (pos l.index) = ap (λ (r : Row). column r 0) same in
-    let two : Int (pos (code_of_register k.register)) ≡ Int (pos (code_of_register l.register)) = ap (λ (r : Row). column r 1) same in
+    let two : Int (pos (register_code k.register)) ≡ Int (pos (register_code l.register)) = ap (λ (r : Row). column r 1) same in
     let three : Text k.term ≡ Text l.term = ap (λ (r : Row). column r 2) same in
     let four : Int (pos b) ≡ Int (pos c) = ap (λ (r : Row). column r 3) same in
     let five : Blob x ≡ Blob y = ap (λ (r : Row). column r 4) same in
@@ -58,14 +57,12 @@ rows_order : (k l : Key) (b c : ℕ) (x y : List ℕ)
 rows_order k l b c x y =
     rw (
       value_cmp-Int (pos k.index) (pos l.index),
-      value_cmp-Int (pos (code_of_register k.register)) (pos (code_of_register l.register)),
+      value_cmp-Int (pos (register_code k.register)) (pos (register_code l.register)),
       value_cmp-Text k.term l.term,
       value_cmp-Int (pos b) (pos c),
       ints_order k.index l.index,
-      ints_order (code_of_register k.register) (code_of_register l.register),
+      ints_order (register_code k.register) (register_code l.register),
       ints_order b c,
-      ← rank_is k.register,
-      ← rank_is l.register,
     ) refl
 
 -- ---- a row takes its postings from the front in one way

@@ -11,6 +11,7 @@ use Rattle.sqlite_rules.proofs.ListLemmas.{all_has}
 use Rattle.zeb_blocks.specs.declared.postings.Posting.{Posting}
 use Rattle.zeb_blocks.specs.Blocks.{BlockSpells, IsNumbered, LiesIn}
 use Rattle.zeb_extract.specs.declared.keys.Key.{Key}
+use Rattle.zeb_profile.specs.Indexes.{register_code}
 use Rattle.zeb_register.specs.declared.registers.Place.{Place}
 use Rattle.zeb_register.specs.declared.registers.RecordChange.{RecordChange}
 use Rattle.zeb_register.specs.declared.packed_parts.Held.{Held}
@@ -18,7 +19,6 @@ use Rattle.zeb_register.specs.Content.{AreChangedAt, ArePlacesOf, Content, IsLis
 use Rattle.zeb_register.specs.Occurring.{HasKey, IsCount}
 use Rattle.zeb_register.specs.PackedBlocks.{HoldsBlocks, IsBlockRow, IsDictRow, block_row, dict_row, part_in}
 use Rattle.zeb_register.specs.PackedChanges.{CountsOn, HoldsBlockRows, IsBlockIn, IsDictIn, IsHeld, IsInBlock, PutsBlock, PutsCount}
-use Rattle.zeb_register.specs.PlainRows.{code_of_register}
 use Rattle.zeb_register.specs.RowTerms.{IsInRecord}
 use Rattle.zeb_register.specs.Sql.{HasRow}
 use Rattle.zeb_register.specs.Store.{blocks_tree, dict_tree, postings_tree}
@@ -165,7 +165,7 @@ told_apart_block d db k key b block row bytes is in_it =
     let at = subst (IsBlockIn db key block) is in_it in
     let one : Int d ≡ Int db = at.0 in
     let two : Int (pos k.index) ≡ Int (pos key.index) = at.1 in
-    let three : Int (pos (code_of_register k.register)) ≡ Int (pos (code_of_register key.register)) = at.2 in
+    let three : Int (pos (register_code k.register)) ≡ Int (pos (register_code key.register)) = at.2 in
     let four : Text k.term ≡ Text key.term = at.3 in
     let five : Int (pos b) ≡ Int (pos block) = at.4 in
     ((let e : d ≡ db = cc in e), same_key k key (cc) (cc) (cc), (let e : b ≡ block = cc in e))
@@ -174,7 +174,7 @@ pub block_in : (d db : ℤ) (k key : Key) (b block : ℕ) (row : Row) (bytes : L
 block_in d db k key b block row bytes is same = subst (IsBlockIn db key block) (sym is) (
   ap Int same.0,
   ap (λ (x : Key). Int (pos x.index)) same.1,
-  ap (λ (x : Key). Int (pos (code_of_register x.register))) same.1,
+  ap (λ (x : Key). Int (pos (register_code x.register))) same.1,
   ap (λ (x : Key). Text x.term) same.1,
   ap (λ (x : ℕ). Int (pos x)) same.2,
 )
@@ -184,7 +184,7 @@ told_apart_key d db k key records row is in_it =
     let at = subst (IsDictIn db key) is in_it in
     let one : Int d ≡ Int db = at.0 in
     let two : Int (pos k.index) ≡ Int (pos key.index) = at.1 in
-    let three : Int (pos (code_of_register k.register)) ≡ Int (pos (code_of_register key.register)) = at.2 in
+    let three : Int (pos (register_code k.register)) ≡ Int (pos (register_code key.register)) = at.2 in
     let four : Text k.term ≡ Text key.term = at.3 in
     ((let e : d ≡ db = cc in e), same_key k key (cc) (cc) (cc))
 
@@ -192,7 +192,7 @@ pub dict_in : (d db : ℤ) (k key : Key) (records : ℕ) (row : Row) → row ≡
 dict_in d db k key records row is same = subst (IsDictIn db key) (sym is) (
   ap Int same.0,
   ap (λ (x : Key). Int (pos x.index)) same.1,
-  ap (λ (x : Key). Int (pos (code_of_register x.register))) same.1,
+  ap (λ (x : Key). Int (pos (register_code x.register))) same.1,
   ap (λ (x : Key). Text x.term) same.1,
 )
 

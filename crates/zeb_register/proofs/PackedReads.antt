@@ -8,12 +8,13 @@ use Rattle.sqlite_rules.specs.Lists.{Has}
 use Rattle.zeb_blocks.specs.declared.postings.Posting.{Posting}
 use Rattle.zeb_blocks.specs.Blocks.{BlockSpells, LiesIn, spelled_from, start_of}
 use Rattle.zeb_extract.specs.declared.keys.Key.{Key}
+use Rattle.zeb_profile.specs.Indexes.{register_code}
 use Rattle.zeb_register.specs.Content.{Content, IsStorable, posted}
 use Rattle.zeb_register.specs.Occurring.{HasKey, IsCount}
 use Rattle.zeb_register.specs.PackedBlocks.{HoldsBlocks, part_in}
 use Rattle.zeb_register.specs.PackedChanges.{HoldsBlockRows, SpellsIn, block_key}
 use Rattle.zeb_register.specs.PackedRows.{IsRecordNumber}
-use Rattle.zeb_register.specs.PlainRows.{code_of_register, key_row}
+use Rattle.zeb_register.specs.PlainRows.{key_row}
 use Rattle.zeb_register.specs.Sql.{IsListOf}
 use Rattle.zeb_register.specs.Store.{IsRest, blocks_tree, dict_tree}
 use Rattle.zeb_register.proofs.ContentLemmas.{told_apart}
@@ -23,7 +24,7 @@ use Rattle.zeb_register.proofs.PackedLemmas.{block_spells, block_there, dict_the
 use Rattle.zeb_register.proofs.PackedTerms.{records_number}
 
 abbrev pub block_front : ℤ → Key → ℕ → Row
-block_front db key block = block_key db (pos key.index) (pos (code_of_register key.register)) key.term (pos block)
+block_front db key block = block_key db (pos key.index) (pos (register_code key.register)) key.term (pos block)
 
 -- ---- blocks
 

@@ -15,13 +15,13 @@ use Rattle.sqlite_value.proofs.OrderLemmas.{row_cmp_total, value_cmp-Text}
 use Rattle.zeb_blocks.specs.declared.postings.Posting.{Posting}
 use Rattle.zeb_extract.specs.declared.keys.Key.{Key}
 use Rattle.zeb_profile.specs.declared.Register.{Register}
+use Rattle.zeb_profile.specs.Indexes.{register_code}
 use Rattle.zeb_register.specs.declared.registers.TermCount.{TermCount}
 use Rattle.zeb_register.specs.declared.registers.Work.{Work}
 use Rattle.zeb_register.specs.Content.{Content, IsStorable, posted}
 use Rattle.zeb_register.specs.Occurring.{AreTermsBefore, AreTermsFrom, AreTermsOf, HasKey, IsCount, TermIn, is_before, is_from, key_in, last, term_cmp}
 use Rattle.zeb_register.specs.PackedBlocks.{HoldsBlocks}
 use Rattle.zeb_register.specs.PackedRows.{IsCountRow, IsFallingListOf, IsRestBefore, IsRestFrom, count_row}
-use Rattle.zeb_register.specs.PlainRows.{code_of_register}
 use Rattle.zeb_register.specs.RowPlaces.{first_two}
 use Rattle.zeb_register.specs.Sql.{IsListOf}
 use Rattle.zeb_register.specs.Store.{IsRest, dict_tree}
@@ -175,7 +175,7 @@ module _ (trees : Trees) (content : Content) (db : ℤ) (index : ℕ) (register 
       let it = (holds.dict (front ++ row)).0 there in
       let one : Int db ≡ Int it.0 = ap (λ (r : Row). column r 0) it.5 in
       let two : Int (pos index) ≡ Int (pos it.1.index) = ap (λ (r : Row). column r 1) it.5 in
-      let three : Int (pos (code_of_register register)) ≡ Int (pos (code_of_register it.1.register)) = ap (λ (r : Row). column r 2) it.5 in
+      let three : Int (pos (register_code register)) ≡ Int (pos (register_code it.1.register)) = ap (λ (r : Row). column r 2) it.5 in
       let here : it.0 ≡ db = cc in
       let same : it.1 ≡ key_in index register it.1.term = same_key it.1 (key_in index register it.1.term) (cc) (cc) refl in
       let count : IsCount (HasKey (posted content db) it.1) it.2 = subst (λ (d : ℤ). IsCount (HasKey (posted content d) it.1) it.2) here it.4 in

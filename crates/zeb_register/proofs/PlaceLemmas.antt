@@ -14,13 +14,14 @@ use Rattle.sqlite_rules.specs.Lists.{Has}
 use Rattle.sqlite_rules.proofs.ProbeLemmas.{has_mapped, mapped_has}
 use Rattle.sqlite_value.proofs.OrderLemmas.{value_cmp-Int}
 use Rattle.zeb_extract.specs.declared.keys.Key.{Key}
+use Rattle.zeb_profile.specs.Indexes.{register_code}
 use Rattle.zeb_register.specs.declared.registers.Place.{Place}
 use Rattle.zeb_blocks.specs.declared.postings.Posting.{Posting}
 use Rattle.zeb_register.specs.Sql.{HasRow, KeepsOthers, IsKeyed, Loses, IsListOf}
 use Rattle.zeb_register.specs.RowStatements.{Gains, place_key}
 use Rattle.zeb_register.specs.Store.{postings_tree, IsRest, Changes, blocks_tree, dict_tree, databases_tree, records_tree, TakesDatabase, IsRecordIn, IsPostingIn}
 use Rattle.zeb_register.specs.Content.{Content, ArePlacesOf, posting_at, place_cmp, IsWithout, TakesWhole, IsChangedAt}
-use Rattle.zeb_register.specs.PlainRows.{HoldsRows, posting_row, code_of_register, key_row}
+use Rattle.zeb_register.specs.PlainRows.{HoldsRows, posting_row, key_row}
 use Rattle.zeb_register.specs.RowPlaces.{IsTwoNumbers, place_row, first_two, DropsRegisters, KeepsBesidePostings, GainsPlaces, Puts, posting_columns, IsPlaceIn}
 use Rattle.sqlite.specs.declared.types.Value.{Value}
 use Rattle.sqlite.specs.Order.{value_cmp}
@@ -34,7 +35,7 @@ use Rattle.zeb_register.proofs.ContentLemmas.{told_apart, one_list, ints_order, 
 
 -- the rows of the key in the record, shown by their places
 abbrev pub place_front : ℤ → Key → ℕ → Row
-place_front db key sysno = place_key db (pos key.index) (pos (code_of_register key.register)) key.term (pos sysno)
+place_front db key sysno = place_key db (pos key.index) (pos (register_code key.register)) key.term (pos sysno)
 
 pub both_more : (xs : List Row) (ys : List Place) (i : ℕ) (x : Row) (d : Place) → x ≡ get_or xs i x → i < length xs → i < length ys → map first_two (take i xs) ≡ map place_row (take i ys) → first_two x ≡ place_row (get_or ys i d)
     → map first_two (take (i + 1) xs) ≡ map place_row (take (i + 1) ys)
@@ -191,8 +192,8 @@ told d db k key m n = elim (same_or_not (Int d) (Int db) refl refl) [
   | inr no' ↦ inr (λ h. no' (ap Int h.0))
   | inl one ↦ elim (same_or_not (Int (pos k.index)) (Int (pos key.index)) refl refl) [
     | inr no' ↦ inr (λ h. no' (ap (λ (x : Key). Int (pos x.index)) h.1))
-    | inl two ↦ elim (same_or_not (Int (pos (code_of_register k.register))) (Int (pos (code_of_register key.register))) refl refl) [
-      | inr no' ↦ inr (λ h. no' (ap (λ (x : Key). Int (pos (code_of_register x.register))) h.1))
+    | inl two ↦ elim (same_or_not (Int (pos (register_code k.register))) (Int (pos (register_code key.register))) refl refl) [
+      | inr no' ↦ inr (λ h. no' (ap (λ (x : Key). Int (pos (register_code x.register))) h.1))
       | inl three ↦ elim (same_or_not (Text k.term) (Text key.term) refl refl) [
         | inr no' ↦ inr (λ h. no' (ap (λ (x : Key). Text x.term) h.1))
         | inl four ↦ elim (same_or_not (Int (pos m)) (Int (pos n)) refl refl) [
@@ -219,7 +220,7 @@ rows_changed old mid new db key sysno places before after holds lost left gained
             (changed'.others p.0 p.1 p.2 (λ same. was.1 (subst (IsPlaceIn db key sysno) (sym p.4) (
               ap Int same.0,
               ap (λ (x : Key). Int (pos x.index)) same.1,
-              ap (λ (x : Key). Int (pos (code_of_register x.register))) same.1,
+              ap (λ (x : Key). Int (pos (register_code x.register))) same.1,
               ap (λ (x : Key). Text x.term) same.1,
               ap (λ (x : ℕ). Int (pos x)) same.2,
             )))).1 p.3,
@@ -240,7 +241,7 @@ rows_changed old mid new db key sysno places before after holds lost left gained
                 let at = subst (IsPlaceIn db key sysno) p.4 in_it in
                 let one : Int p.0 ≡ Int db = at.0 in
                 let two : Int (pos p.1.index) ≡ Int (pos key.index) = at.1 in
-                let three : Int (pos (code_of_register p.1.register)) ≡ Int (pos (code_of_register key.register)) = at.2 in
+                let three : Int (pos (register_code p.1.register)) ≡ Int (pos (register_code key.register)) = at.2 in
                 let four : Text p.1.term ≡ Text key.term = at.3 in
                 let five : Int (pos p.2.sysno) ≡ Int (pos sysno) = at.4 in
                 differs' ((let e : p.0 ≡ db = cc in e), same_key p.1 key (cc) (cc) (cc), (let e : p.2.sysno ≡ sysno = cc in e)),

@@ -17,11 +17,12 @@ use Rattle.sqlite_rules.proofs.ProbeLemmas.{has_mapped, mapped_has}
 use Rattle.sqlite_value.proofs.OrderLemmas.{row_cmp_total, value_cmp-Int, value_cmp-Text}
 use Rattle.zeb_profile.specs.declared.Register.{Register}
 use Rattle.zeb_blocks.specs.declared.postings.Posting.{Posting}
+use Rattle.zeb_profile.specs.Indexes.{register_code}
 use Rattle.zeb_register.specs.declared.registers.TermCount.{TermCount}
 use Rattle.zeb_register.specs.Sql.{HasRow, IsListOf}
 use Rattle.zeb_register.specs.Store.{postings_tree, key_of, IsRest}
 use Rattle.zeb_register.specs.Content.{Content, IsStorable, posted, posting_cmp}
-use Rattle.zeb_register.specs.PlainRows.{HoldsRows, posting_row, code_of_register}
+use Rattle.zeb_register.specs.PlainRows.{HoldsRows, posting_row}
 use Rattle.zeb_register.specs.Occurring.{IsCount, AreCounts, AreSpotsOf, AreTermsOf, HasSpot, Spot, TermIn, key_in, spot_cmp}
 use Rattle.zeb_register.specs.RowTerms.{IsInRecord, IsTerm, HasTerm, ShowsOccurrence, IsOccurrenceRow, IsShown, ShowsTerm, IsTermRow, ShowsLeast, ShowsGreatest, IsLeastTerm, IsGreatestTerm}
 use Rattle.zeb_register.proofs.RisingLists.{front_rises, before_last}
@@ -132,7 +133,7 @@ records_whole list n = (λ h. (h.0, subst (λ l. Has l h.0) (take_whole list) h.
 -- ---- the rows of one register
 
 abbrev pub register_front : ℤ → ℕ → Register → Row
-register_front db index register = Int db ∷ Int (pos index) ∷ Int (pos (code_of_register register)) ∷ []
+register_front db index register = Int db ∷ Int (pos index) ∷ Int (pos (register_code register)) ∷ []
 
 abbrev term_of_row : List ℕ → Posting → Row
 term_of_row term p = Text term ∷ posting_row p
@@ -184,7 +185,7 @@ module _ (trees : Trees) (content : Content) (db : ℤ) (index : ℕ) (register 
       let p = (holds.each (register_front db index register ++ row)).0 there in
       let one : Int db ≡ Int p.0 = ap (λ (r : Row). column r 0) p.4 in
       let two : Int (pos index) ≡ Int (pos p.1.index) = ap (λ (r : Row). column r 1) p.4 in
-      let three : Int (pos (code_of_register register)) ≡ Int (pos (code_of_register p.1.register)) = ap (λ (r : Row). column r 2) p.4 in
+      let three : Int (pos (register_code register)) ≡ Int (pos (register_code p.1.register)) = ap (λ (r : Row). column r 2) p.4 in
       let here : p.0 ≡ db = cc in
       let same : p.1 ≡ key_in index register p.1.term = same_key p.1 (key_in index register p.1.term) (cc) (cc) refl in
       (p.1.term, p.2, subst (λ k. Has (content db k) p.2) same (subst (λ d. Has (content d p.1) p.2) here p.3), ap (drop 3) p.4)
@@ -193,10 +194,10 @@ module _ (trees : Trees) (content : Content) (db : ℤ) (index : ℕ) (register 
   register_there term p here = (holds.each (register_front db index register ++ term_of_row term p)).1 (db, key_in index register term, p, here, refl)
 
   -- a term has a row where it has a posting
-  pub term_there : (term : List ℕ) → IsTerm term_in term → HasTerm trees db (pos index) (pos (code_of_register register)) term
+  pub term_there : (term : List ℕ) → IsTerm term_in term → HasTerm trees db (pos index) (pos (register_code register)) term
   term_there term some = let p = (key_posted content db (key_in index register term) some.0).0 some.1 in (posting_row p.0, register_there term p.0 p.1)
 
-  pub term_listed : (term : List ℕ) → HasTerm trees db (pos index) (pos (code_of_register register)) term → IsTerm term_in term
+  pub term_listed : (term : List ℕ) → HasTerm trees db (pos index) (pos (register_code register)) term → IsTerm term_in term
   term_listed term there =
       let it = register_row (Text term ∷ there.0) there.1 in
       let head : Text term ≡ Text it.0 = ap (λ (r : Row). column r 0) it.3 in
@@ -249,19 +250,19 @@ module _ (trees : Trees) (content : Content) (db : ℤ) (index : ℕ) (register 
   text_at : Row → List ℕ
   text_at row = text_of (column row 4)
 
-  text_is : (id : ℤ) (term : List ℕ) (rest : Row) → text_at (Int id ∷ key_of db (pos index) (pos (code_of_register register)) term ++ rest) ≡ term
+  text_is : (id : ℤ) (term : List ℕ) (rest : Row) → text_at (Int id ∷ key_of db (pos index) (pos (register_code register)) term ++ rest) ≡ term
   unfolding text_at text_of
   text_is id term rest = refl
 
   pub held_terms : (terms : List TermCount) × AreTermsOf (posted content db) index register terms
   held_terms = terms_among content db index register (map text_at (trees postings_tree)) (λ term n in_it.
       let row = term_there term (n, in_it) in
-      let whole = Int row.1.0 ∷ key_of db (pos index) (pos (code_of_register register)) term ++ row.0 in
+      let whole = Int row.1.0 ∷ key_of db (pos index) (pos (register_code register)) term ++ row.0 in
       subst (Has (map text_at (trees postings_tree))) (text_is row.1.0 term row.0) (mapped_has text_at (trees postings_tree) whole row.1.1))
 
   -- ---- the term next to a text
   abbrev here_has : List ℕ → Type 0
-  here_has = HasTerm trees db (pos index) (pos (code_of_register register))
+  here_has = HasTerm trees db (pos index) (pos (register_code register))
 
   pub least_shown : (start : List ℕ) (rows : List Row) (term : Option (String Global)) → ShowsLeast (λ t. here_has t × (is_lt (slice_cmp nat_cmp t start) ≡ false)) rows → ShowsTerm rows term → IsLeastTerm term_in start term
   least_shown start rows None least shown = λ term some. elim (Rattle.std.proofs.lemmas.Bool.cases_Bool (is_lt (slice_cmp nat_cmp term start))) [

@@ -3,18 +3,19 @@ use Rattle.std.specs.Prelude.{ℕ, ℤ, pos, List, [], ◌∷◌, ◌++◌}
 use Rattle.sqlite.specs.declared.types.Value.TheVariants.{Int}
 use Rattle.sqlite.specs.Order.{Row}
 use Rattle.sqlite.specs.Tree.{Trees}
+use Rattle.zeb_profile.specs.Indexes.{register_code}
 use Rattle.zeb_register.specs.declared.statements.keys.KeyOf.{KeyOf}
 use Rattle.zeb_register.specs.declared.statements.keys.RegisterOf.{RegisterOf}
 use Rattle.zeb_register.specs.PackedChanges.{IsBlockOf, IsDictIn}
-use Rattle.zeb_register.specs.PlainRows.{code_of_register, key_row}
+use Rattle.zeb_register.specs.PlainRows.{key_row}
 use Rattle.zeb_register.specs.RowTerms.{HasTerm}
 
 abbrev pub register_columns : RegisterOf → Row
-register_columns at = Int at.db.0 ∷ Int (pos at.index) ∷ Int (pos (code_of_register at.register)) ∷ []
+register_columns at = Int at.db.0 ∷ Int (pos at.index) ∷ Int (pos (register_code at.register)) ∷ []
 
 -- a posting of the register under the term
 abbrev pub HasTermOf : RegisterOf → Trees → List ℕ → Type 0
-HasTermOf at trees = HasTerm trees at.db.0 (pos at.index) (pos (code_of_register at.register))
+HasTermOf at trees = HasTerm trees at.db.0 (pos at.index) (pos (register_code at.register))
 
 abbrev pub key_columns : KeyOf → Row
 key_columns at = key_row at.db.0 at.key.now
@@ -29,4 +30,4 @@ numbered_columns at number = key_columns at ++ Int number ∷ []
 
 -- a row of the key with this number
 abbrev pub IsOfNumbered : KeyOf → ℤ → Row → Type 0
-IsOfNumbered at = IsBlockOf at.db.0 (pos at.key.now.index) (pos (code_of_register at.key.now.register)) at.key.now.term
+IsOfNumbered at = IsBlockOf at.db.0 (pos at.key.now.index) (pos (register_code at.key.now.register)) at.key.now.term

@@ -9,6 +9,7 @@ use Rattle.sqlite_rules.specs.Lists.{Has}
 use Rattle.zeb_blocks.specs.declared.postings.Posting.{Posting}
 use Rattle.zeb_blocks.specs.Blocks.{BlockSpells, IsNumbered}
 use Rattle.zeb_extract.specs.declared.keys.Key.{Key}
+use Rattle.zeb_profile.specs.Indexes.{register_code}
 use Rattle.zeb_register.specs.declared.registers.Place.{Place}
 use Rattle.zeb_register.specs.declared.registers.RecordChange.{RecordChange}
 use Rattle.zeb_register.specs.declared.packed_parts.Parted.{Parted}
@@ -16,7 +17,6 @@ use Rattle.zeb_register.specs.declared.packed_parts.Held.{Held}
 use Rattle.zeb_register.specs.Content.{AreChangedAt, Content, IsRising, place_cmp, posting_at}
 use Rattle.zeb_register.specs.Occurring.{IsCount}
 use Rattle.zeb_register.specs.PackedBlocks.{IsBlockRow, block_row, dict_row, part_in}
-use Rattle.zeb_register.specs.PlainRows.{code_of_register}
 use Rattle.zeb_register.specs.RowTerms.{IsInRecord}
 use Rattle.zeb_register.specs.Sql.{HasRow}
 use Rattle.zeb_register.specs.Store.{blocks_tree}
@@ -40,10 +40,10 @@ IsBlockOf db idx reg term block columns =
     (column columns 0 ≡ Int db) × (column columns 1 ≡ Int idx) × (column columns 2 ≡ Int reg) × (column columns 3 ≡ Text term) × (column columns 4 ≡ Int block)
 
 abbrev pub IsDictIn : ℤ → Key → Row → Type 0
-IsDictIn db key = IsRowOf db (pos key.index) (pos (code_of_register key.register)) key.term
+IsDictIn db key = IsRowOf db (pos key.index) (pos (register_code key.register)) key.term
 
 abbrev pub IsBlockIn : ℤ → Key → ℕ → Row → Type 0
-IsBlockIn db key block = IsBlockOf db (pos key.index) (pos (code_of_register key.register)) key.term (pos block)
+IsBlockIn db key block = IsBlockOf db (pos key.index) (pos (register_code key.register)) key.term (pos block)
 
 -- the row of the key and the block spells the list, and there is none where the list is empty
 abbrev pub PutsBlock : ℤ → Key → ℕ → List Posting → ℕ → Trees → Trees → Type 0

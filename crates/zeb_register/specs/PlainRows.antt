@@ -5,21 +5,14 @@ use Rattle.sqlite.specs.Order.{Row}
 use Rattle.sqlite.specs.Tree.{Trees}
 use Rattle.sqlite_rules.specs.Lists.{Has}
 use Rattle.zeb_extract.specs.declared.keys.Key.{Key}
-use Rattle.zeb_profile.specs.declared.Register.{Register}
-use Rattle.zeb_profile.specs.declared.Register.TheVariants.{Word, Phrase, Number}
+use Rattle.zeb_profile.specs.Indexes.{register_code}
 use Rattle.zeb_blocks.specs.declared.postings.Posting.{Posting}
 use Rattle.zeb_register.specs.Sql.{HasRow}
 use Rattle.zeb_register.specs.Store.{postings_tree, key_of}
 use Rattle.zeb_register.specs.Content.{Content, IsRising}
 
--- the number by which the tables know a register
-abbrev pub code_of_register : Register → ℕ
-code_of_register Word = 0
-code_of_register Phrase = 1
-code_of_register Number = 2
-
 abbrev pub key_row : ℤ → Key → Row
-key_row db key = key_of db (pos key.index) (pos (code_of_register key.register)) key.term
+key_row db key = key_of db (pos key.index) (pos (register_code key.register)) key.term
 
 abbrev pub posting_row : Posting → Row
 posting_row p = Int (pos p.sysno) ∷ Int (pos p.seq) ∷ Int (pos p.pos) ∷ []

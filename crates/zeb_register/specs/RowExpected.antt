@@ -10,6 +10,7 @@ use Rattle.zeb_blocks.specs.declared.postings.Posting.{Posting}
 use Rattle.zeb_blocks.specs.Blocks.{BlockSpells, IsNumbered}
 use Rattle.zeb_extract.specs.declared.keys.Key.{Key}
 use Rattle.zeb_extract.specs.Order.{key_order}
+use Rattle.zeb_profile.specs.Indexes.{register_code}
 use Rattle.zeb_register.specs.declared.agreeing.Table.{Table}
 use Rattle.zeb_register.specs.declared.agreeing.Table.TheVariants.{Records, Postings, Blocks, Dict}
 use Rattle.zeb_register.specs.declared.catalog.ListedDatabase.{ListedDatabase}
@@ -21,7 +22,7 @@ use Rattle.zeb_register.specs.Expected.{IsTextOf, key_posting_order, number_orde
 use Rattle.zeb_register.specs.Kept.{record_shown}
 use Rattle.zeb_register.specs.Occurring.{IsCount}
 use Rattle.zeb_register.specs.PackedBlocks.{part_in}
-use Rattle.zeb_register.specs.PlainRows.{code_of_register, posting_row}
+use Rattle.zeb_register.specs.PlainRows.{posting_row}
 use Rattle.zeb_register.specs.RowTerms.{IsInRecord}
 use Rattle.zeb_register.specs.Sql.{HasRow}
 use Rattle.zeb_register.specs.Store.{HasDatabase, IsRest, blocks_tree, dict_tree, entry, meta_tree, postings_tree, records_tree}
@@ -41,7 +42,7 @@ expected_name database = (string_bytes database.name, database.last)
 
 -- the columns of a key beside its database
 abbrev pub key_shown : Key → Row
-key_shown key = Int (pos key.index) ∷ Int (pos (code_of_register key.register)) ∷ Text key.term ∷ []
+key_shown key = Int (pos key.index) ∷ Int (pos (register_code key.register)) ∷ Text key.term ∷ []
 
 abbrev pub posting_shown : KeyPosting → Row
 posting_shown p = key_shown p.key ++ posting_row p.posting

@@ -6,12 +6,13 @@ use Rattle.sqlite.specs.Tree.{Trees}
 use Rattle.sqlite.specs.State.{State}
 use Rattle.sqlite_rules.specs.Lists.{Has}
 use Rattle.zeb_extract.specs.declared.keys.Key.{Key}
+use Rattle.zeb_profile.specs.Indexes.{register_code}
 use Rattle.zeb_register.specs.declared.registers.Place.{Place}
 use Rattle.zeb_register.specs.Sql.{HasRow, Loses}
 use Rattle.zeb_register.specs.Store.{IsStore, IsPostingIn, postings_tree, blocks_tree, dict_tree, KeepsLists}
 use Rattle.zeb_register.specs.RowStatements.{IsPlaceOf}
 use Rattle.zeb_register.specs.Content.{posting_at}
-use Rattle.zeb_register.specs.PlainRows.{code_of_register, key_row, posting_row}
+use Rattle.zeb_register.specs.PlainRows.{key_row, posting_row}
 
 abbrev pub first_three : Row → Row
 first_three row = column row 0 ∷ column row 1 ∷ column row 2 ∷ []
@@ -37,7 +38,7 @@ posting_columns db key sysno place = key_row db key ++ posting_row (posting_at s
 
 -- a posting of the key in the record
 abbrev pub IsPlaceIn : ℤ → Key → ℕ → Row → Type 0
-IsPlaceIn db key sysno = IsPlaceOf db (pos key.index) (pos (code_of_register key.register)) key.term (pos sysno)
+IsPlaceIn db key sysno = IsPlaceOf db (pos key.index) (pos (register_code key.register)) key.term (pos sysno)
 
 -- the table has these postings too
 abbrev pub GainsPlaces : ℤ → Key → ℕ → List Place → Trees → Trees → Type 0

@@ -2,7 +2,7 @@
 
 ghost use Rattle.std.specs.Prelude.{◌≡◌, ◌≢◌, true, false, map};
 ghost use Rattle.zeb_register.specs.Kept.{record_shown};
-ghost use Rattle.zeb_register.specs.PlainRows.{code_of_register, posting_row};
+ghost use Rattle.zeb_register.specs.PlainRows.{posting_row};
 ghost use Rattle.zeb_register.specs.RowExpected.{expected_name, key_shown, listed_name, next_three, posting_shown, text_rows};
 ghost use Rattle.zeb_register.specs.RowPlaces.{first_three};
 ghost use Rattle.zeb_register.specs.Store.{entry};
@@ -12,7 +12,6 @@ use crate::{ListedDatabase, Record};
 use sqlite::Row;
 use zeb_blocks::Posting;
 use zeb_extract::Key;
-use zeb_profile::Register;
 
 /// A posting under its key.
 #[derive(Debug, PartialEq, Eq, Drop)]
@@ -140,7 +139,7 @@ pub(crate) fn is_key(row: &Row, key: &Key) -> bool
     ensures other { result ≡ false → first_three row.now ≢ key_shown key.now }
 {
     is_number(row, 0, u64::from(key.index))
-        && is_number(row, 1, rank_of(key.register))
+        && is_number(row, 1, u64::from(key.register.code()))
         && is_text(row, 2, key.term.as_str())
 }
 
@@ -152,15 +151,4 @@ fn is_place(row: &Row, posting: &Posting) -> bool
     is_number(row, 3, posting.sysno)
         && is_number(row, 4, posting.seq)
         && is_number(row, 5, posting.pos)
-}
-
-/// The number by which the tables know a register.
-fn rank_of(register: Register) -> u64
-    ensures { result ≡ code_of_register register }
-{
-    match register {
-        Register::Word => 0,
-        Register::Phrase => 1,
-        Register::Number => 2,
-    }
 }

@@ -1,14 +1,13 @@
 //! Registers with one row for each posting.
 
-ghost use Rattle.std.specs.Prelude.{◌≡◌, pos, map, IfOk, FitsSigned};
-ghost use Rattle.std.specs.Int.{w64};
+ghost use Rattle.std.specs.Prelude.{◌≡◌, map, IfOk};
 ghost use Rattle.sqlite_rules.specs.Lists.{Has};
 ghost use Rattle.sqlite.specs.Held.{state};
 ghost use Rattle.sqlite.specs.State.{IsUnchanged};
 ghost use Rattle.zeb_register.specs.Calls.{Reading};
 ghost use Rattle.zeb_register.specs.Clauses.{IsHonestOfHeld, TellsHeld};
 ghost use Rattle.zeb_register.specs.Occurring.{key_in};
-ghost use Rattle.zeb_register.specs.PlainRows.{HoldsRows, code_of_register, posting_row};
+ghost use Rattle.zeb_register.specs.PlainRows.{HoldsRows, posting_row};
 ghost use Rattle.zeb_register.specs.RowPlaces.{first_three, IsThreeNumbers};
 
 use crate::agreeing::{lists_beside, rows_agree};
@@ -187,18 +186,6 @@ impl Layout for Rows {
             return Ok(false);
         };
         rows_agree(conn, &listed, &expected.databases)
-    }
-}
-
-/// The number by which the tables know a register.
-pub(crate) fn code_of(register: Register) -> i64
-    ensures value { result ≡ pos (code_of_register register) }
-    ensures fits { FitsSigned w64 result }
-{
-    match register {
-        Register::Word => 0,
-        Register::Phrase => 1,
-        Register::Number => 2,
     }
 }
 

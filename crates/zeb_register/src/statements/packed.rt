@@ -11,7 +11,6 @@ ghost use Rattle.zeb_register.specs.KeyColumns.{register_columns};
 ghost use Rattle.zeb_register.specs.PackedRows.{IsRestBefore, IsRestFrom, ListsFirst, ListsLast};
 ghost use Rattle.zeb_register.specs.RowStatements.{Lists};
 
-use crate::plain::code_of;
 use crate::statements::keys::RegisterOf;
 use sqlite::{Alter, Connection, Error, Row, Transaction, params};
 
@@ -27,7 +26,7 @@ pub(crate) fn block_rows<S: Alter>(
     // What is seen outside a transaction is what was committed.
     let _idle = conn.is_autocommit();
     let db = at.db.column();
-    let reg = code_of(at.register);
+    let reg = u32::from(at.register.code());
     conn.query_all(
         "SELECT block, data FROM blocks WHERE db = ?1 AND idx = ?2 AND reg = ?3 AND term = ?4 ORDER BY block",
         params![db, at.index, reg, term],
@@ -74,7 +73,7 @@ pub(crate) fn dict_rows<S: Alter>(
     // What is seen outside a transaction is what was committed.
     let _idle = conn.is_autocommit();
     let db = at.db.column();
-    let reg = code_of(at.register);
+    let reg = u32::from(at.register.code());
     conn.query_all(
         "SELECT term, records FROM dict WHERE db = ?1 AND idx = ?2 AND reg = ?3 ORDER BY term",
         params![db, at.index, reg],
@@ -94,7 +93,7 @@ pub(crate) fn dict_rows_from<S: Alter>(
     // What is seen outside a transaction is what was committed.
     let _idle = conn.is_autocommit();
     let db = at.db.column();
-    let reg = code_of(at.register);
+    let reg = u32::from(at.register.code());
     conn.query_all(
         "SELECT term, records FROM dict WHERE db = ?1 AND idx = ?2 AND reg = ?3 AND term >= ?4 ORDER BY term LIMIT ?5",
         params![db, at.index, reg, start, limit],
@@ -115,7 +114,7 @@ pub(crate) fn dict_rows_before<S: Alter>(
     // What is seen outside a transaction is what was committed.
     let _idle = conn.is_autocommit();
     let db = at.db.column();
-    let reg = code_of(at.register);
+    let reg = u32::from(at.register.code());
     conn.query_all(
         "SELECT term, records FROM dict WHERE db = ?1 AND idx = ?2 AND reg = ?3 AND term < ?4 ORDER BY term DESC LIMIT ?5",
         params![db, at.index, reg, start, limit],

@@ -10,7 +10,6 @@ ghost use Rattle.zeb_register.specs.RowStatements.{Gains, ListsInside, Renews};
 ghost use Rattle.zeb_register.specs.Sql.{Loses};
 ghost use Rattle.zeb_register.specs.Store.{IsRest, blocks_tree, dict_tree};
 
-use crate::plain::code_of;
 use crate::statements::keys::KeyOf;
 use sqlite::{Alter, Error, Row, Transaction, params};
 
@@ -25,7 +24,7 @@ pub(crate) fn block_bytes<S: Alter>(
         (λ rows a b. ListsInside (IsRest blocks_tree (numbered_columns at.entry number)) a b rows.items) }
 {
     let db = at.db.column();
-    let reg = code_of(at.key.register);
+    let reg = u32::from(at.key.register.code());
     let term = at.key.term.as_str();
     tx.query_all(
         "SELECT data FROM blocks WHERE db = ?1 AND idx = ?2 AND reg = ?3 AND term = ?4 AND block = ?5",
@@ -44,7 +43,7 @@ pub(crate) fn dict_records<S: Alter>(
     ensures text { IsUtf8 at.entry.key.now.term }
 {
     let db = at.db.column();
-    let reg = code_of(at.key.register);
+    let reg = u32::from(at.key.register.code());
     let term = at.key.term.as_str();
     tx.query_all(
         "SELECT records FROM dict WHERE db = ?1 AND idx = ?2 AND reg = ?3 AND term = ?4",
@@ -64,7 +63,7 @@ pub(crate) fn block_add<S: Alter>(
         (state S.Store tx.old.conn.now) (state S.Store tx.new.conn.now) result }
 {
     let db = at.db.column();
-    let reg = code_of(at.key.register);
+    let reg = u32::from(at.key.register.code());
     let term = at.key.term.as_str();
     tx.execute(
         "INSERT INTO blocks VALUES (?1, ?2, ?3, ?4, ?5, ?6)",
@@ -83,7 +82,7 @@ pub(crate) fn block_set<S: Alter>(
         (state S.Store tx.old.conn.now) (state S.Store tx.new.conn.now) result }
 {
     let db = at.db.column();
-    let reg = code_of(at.key.register);
+    let reg = u32::from(at.key.register.code());
     let term = at.key.term.as_str();
     tx.execute(
         "UPDATE blocks SET data = ?6 WHERE db = ?1 AND idx = ?2 AND reg = ?3 AND term = ?4 AND block = ?5",
@@ -101,7 +100,7 @@ pub(crate) fn block_remove<S: Alter>(
         (state S.Store tx.old.conn.now) (state S.Store tx.new.conn.now) result }
 {
     let db = at.db.column();
-    let reg = code_of(at.key.register);
+    let reg = u32::from(at.key.register.code());
     let term = at.key.term.as_str();
     tx.execute(
         "DELETE FROM blocks WHERE db = ?1 AND idx = ?2 AND reg = ?3 AND term = ?4 AND block = ?5",
@@ -120,7 +119,7 @@ pub(crate) fn dict_add<S: Alter>(
         (state S.Store tx.old.conn.now) (state S.Store tx.new.conn.now) result }
 {
     let db = at.db.column();
-    let reg = code_of(at.key.register);
+    let reg = u32::from(at.key.register.code());
     let term = at.key.term.as_str();
     tx.execute(
         "INSERT INTO dict VALUES (?1, ?2, ?3, ?4, ?5)",
@@ -138,7 +137,7 @@ pub(crate) fn dict_set<S: Alter>(
         (state S.Store tx.old.conn.now) (state S.Store tx.new.conn.now) result }
 {
     let db = at.db.column();
-    let reg = code_of(at.key.register);
+    let reg = u32::from(at.key.register.code());
     let term = at.key.term.as_str();
     tx.execute(
         "UPDATE dict SET records = ?5 WHERE db = ?1 AND idx = ?2 AND reg = ?3 AND term = ?4",
@@ -154,7 +153,7 @@ pub(crate) fn dict_remove<S: Alter>(
     ensures call { Writes dict_tree (Loses (IsOfKey at.entry)) (state S.Store tx.old.conn.now) (state S.Store tx.new.conn.now) result }
 {
     let db = at.db.column();
-    let reg = code_of(at.key.register);
+    let reg = u32::from(at.key.register.code());
     let term = at.key.term.as_str();
     tx.execute(
         "DELETE FROM dict WHERE db = ?1 AND idx = ?2 AND reg = ?3 AND term = ?4",

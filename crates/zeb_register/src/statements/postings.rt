@@ -16,7 +16,6 @@ ghost use Rattle.zeb_register.specs.KeyColumns.{HasTermOf, IsOfNumbered, numbere
 ghost use Rattle.zeb_register.specs.RowTerms.{ShowsLeast, ShowsGreatest, Reads};
 
 use crate::RegFault;
-use crate::plain::code_of;
 use crate::statements::keys::{KeyOf, RegisterOf};
 use sqlite::{Alter, Connection, Error, Row, Transaction, params};
 
@@ -58,7 +57,7 @@ pub(crate) fn posting_rows<S: Alter>(
     // What is seen outside a transaction is what was committed.
     let _idle = conn.is_autocommit();
     let db = at.db.column();
-    let reg = code_of(at.register);
+    let reg = u32::from(at.register.code());
     conn.query_all(
         "SELECT sysno, seq, pos FROM postings WHERE db = ?1 AND idx = ?2 AND reg = ?3 AND term = ?4 ORDER BY sysno, seq, pos",
         params![db, at.index, reg, term],
@@ -76,7 +75,7 @@ pub(crate) fn place_rows<S: Alter>(
     ensures text { IsUtf8 at.entry.key.now.term }
 {
     let db = at.db.column();
-    let reg = code_of(at.key.register);
+    let reg = u32::from(at.key.register.code());
     let term = at.key.term.as_str();
     tx.query_all(
         "SELECT seq, pos FROM postings WHERE db = ?1 AND idx = ?2 AND reg = ?3 AND term = ?4 AND sysno = ?5 ORDER BY seq, pos",
@@ -94,7 +93,7 @@ pub(crate) fn register_rows<S: Alter>(
     // What is seen outside a transaction is what was committed.
     let _idle = conn.is_autocommit();
     let db = at.db.column();
-    let reg = code_of(at.register);
+    let reg = u32::from(at.register.code());
     conn.query_all(
         "SELECT term, sysno, seq, pos FROM postings WHERE db = ?1 AND idx = ?2 AND reg = ?3 ORDER BY term, sysno, seq, pos",
         params![db, at.index, reg],
@@ -111,7 +110,7 @@ pub(crate) fn places_lift<S: Alter>(
         (state S.Store tx.old.conn.now) (state S.Store tx.new.conn.now) result }
 {
     let db = at.db.column();
-    let reg = code_of(at.key.register);
+    let reg = u32::from(at.key.register.code());
     let term = at.key.term.as_str();
     tx.execute(
         "DELETE FROM postings WHERE db = ?1 AND idx = ?2 AND reg = ?3 AND term = ?4 AND sysno = ?5",
@@ -131,7 +130,7 @@ pub(crate) fn posting_put<S: Alter>(
         (state S.Store tx.old.conn.now) (state S.Store tx.new.conn.now) result }
 {
     let db = at.db.column();
-    let reg = code_of(at.key.register);
+    let reg = u32::from(at.key.register.code());
     let term = at.key.term.as_str();
     tx.execute(
         "INSERT INTO postings VALUES (?1, ?2, ?3, ?4, ?5, ?6, ?7)",
@@ -159,7 +158,7 @@ pub(crate) fn rows_from<S: Alter>(
     // What is seen outside a transaction is what was committed.
     let _idle = conn.is_autocommit();
     let db = at.db.column();
-    let reg = code_of(at.register);
+    let reg = u32::from(at.register.code());
     conn.query_all(
         "SELECT term FROM postings WHERE db = ?1 AND idx = ?2 AND reg = ?3 AND term >= ?4 ORDER BY term LIMIT 1",
         params![db, at.index, reg, start],
@@ -179,7 +178,7 @@ pub(crate) fn rows_before<S: Alter>(
     // What is seen outside a transaction is what was committed.
     let _idle = conn.is_autocommit();
     let db = at.db.column();
-    let reg = code_of(at.register);
+    let reg = u32::from(at.register.code());
     conn.query_all(
         "SELECT term FROM postings WHERE db = ?1 AND idx = ?2 AND reg = ?3 AND term < ?4 ORDER BY term DESC LIMIT 1",
         params![db, at.index, reg, start],

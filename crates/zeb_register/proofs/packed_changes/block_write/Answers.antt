@@ -2,9 +2,10 @@ use Rattle.std.proofs.Common.{◌∙◌, ◌++◌, [], ◌∷◌, pos, rules, sy
 use Rattle.sqlite.specs.declared.types.Value.TheVariants.{Blob, Int}
 use Rattle.sqlite.specs.Held.{state}
 use Rattle.zeb_blocks.specs.Blocks.{BlockSpells}
+use Rattle.zeb_profile.specs.Indexes.{register_code}
 use Rattle.zeb_register.specs.Calls.{Alters}
 use Rattle.zeb_register.specs.PackedChanges.{IsBlockOf}
-use Rattle.zeb_register.specs.PlainRows.{code_of_register, key_row}
+use Rattle.zeb_register.specs.PlainRows.{key_row}
 use Rattle.zeb_register.specs.RowStatements.{Gains, Renews}
 use Rattle.zeb_register.specs.Sql.{Loses}
 use Rattle.zeb_register.specs.Store.{blocks_tree}
@@ -19,7 +20,7 @@ returns-then-is_empty-clause-call g c = record {
       let key = c.args.key.now in
       let none = none_of c.args.list.now (sym c.is_empty.ensures ∙ c.if-is_empty.true) in
       puts_no_list c.args.db.0 key c.args.block c.args.list.now c.args.is_there first second none
-      (subst (λ n. Alters blocks_tree (Loses (IsBlockOf c.args.db.0 (pos key.index) (pos (code_of_register key.register)) key.term n)) first second) (column_is c.in_ok-number.ensures.ok.1 c.in_ok-number.ensures.ok.0) (c.in_ok-block_remove.ensures.call.ok clean inside));
+      (subst (λ n. Alters blocks_tree (Loses (IsBlockOf c.args.db.0 (pos key.index) (pos (register_code key.register)) key.term n)) first second) (column_is c.in_ok-number.ensures.ok.1 c.in_ok-number.ensures.ok.0) (c.in_ok-block_remove.ensures.call.ok clean inside));
   err = search rules;
   crash = search rules;
 }
@@ -32,7 +33,7 @@ returns-then-is_there-clause-call g c = record {
       let bytes = c.deref.result.now in
       let spells = subst (BlockSpells c.args.block c.args.list.now) (sym c.deref.ensures.value) c.in_ok-bytes.ensures in
       puts_renewed c.args.db.0 key c.args.block c.args.list.now c.args.is_there first second c.if-is_there.true bytes spells
-      (subst (λ n. Alters blocks_tree (Renews (IsBlockOf c.args.db.0 (pos key.index) (pos (code_of_register key.register)) key.term n) (key_row c.args.db.0 key ++ Int n ∷ Blob bytes ∷ [])) first second) (column_is c.in_ok-number.ensures.ok.1 c.in_ok-number.ensures.ok.0) (c.in_ok-block_set.ensures.call.ok clean inside));
+      (subst (λ n. Alters blocks_tree (Renews (IsBlockOf c.args.db.0 (pos key.index) (pos (register_code key.register)) key.term n) (key_row c.args.db.0 key ++ Int n ∷ Blob bytes ∷ [])) first second) (column_is c.in_ok-number.ensures.ok.1 c.in_ok-number.ensures.ok.0) (c.in_ok-block_set.ensures.call.ok clean inside));
   err = search rules;
   crash = search rules;
 }

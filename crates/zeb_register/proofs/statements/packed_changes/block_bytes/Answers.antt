@@ -1,8 +1,8 @@
 use Rattle.std.proofs.Common.{rules, pos}
 use Rattle.std.proofs.Math.Facts.{to_z-of_z}
+use Rattle.zeb_profile.specs.Indexes.{register_code}
 use Rattle.zeb_register.specs.PackedChanges.{block_key}
 use Rattle.zeb_register.specs.Store.{IsRest, blocks_tree}
-use Rattle.zeb_register.specs.PlainRows.{code_of_register}
 use Rattle.zeb_register.proofs.Calls.{lists_inside, query_keeps}
 use Rattle.zeb_register.proofs.PackedRowStatements.{lists_block, block_silent}
 use Rattle.zeb_register.proofs.Columns.{column_is}
@@ -10,8 +10,8 @@ use Rattle.zeb_register.proofs.statements.packed_changes.block_bytes.Goals as go
 
 pub returns-clause-call : goal.returns-clause-call
 returns-clause-call g c = record {
-  ok = λ clean. lists_inside (λ rows. rows.items) (IsRest blocks_tree (block_key c.args.at.db.0 (pos c.args.at.key.now.index) (pos (code_of_register c.args.at.key.now.register)) c.args.at.key.now.term c.args.number)) _ _ _ _ c.query_all.result block_silent (c.query_all.ensures.ok clean)
-      (λ rows store shown. lists_block c.args.at.db.0 (pos c.args.at.key.now.index) (pos (code_of_register c.args.at.key.now.register)) c.args.at.key.now.term c.args.number _ _ rows store (simp (c.params-to_sql.ensures, c.params-to_sql-2.ensures, c.params-to_sql-3.ensures, c.params-to_sql-4.ensures, c.params-to_sql-5.ensures, to_z-of_z, column_is c.column-db.ensures.fits c.column-db.ensures.value, column_is c.code_of-reg.ensures.fits c.code_of-reg.ensures.value, c.as_str-term.ensures, c.ranges.number) at shown));
+  ok = λ clean. lists_inside (λ rows. rows.items) (IsRest blocks_tree (block_key c.args.at.db.0 (pos c.args.at.key.now.index) (pos (register_code c.args.at.key.now.register)) c.args.at.key.now.term c.args.number)) _ _ _ _ c.query_all.result block_silent (c.query_all.ensures.ok clean)
+      (λ rows store shown. lists_block c.args.at.db.0 (pos c.args.at.key.now.index) (pos (register_code c.args.at.key.now.register)) c.args.at.key.now.term c.args.number _ _ rows store (simp (c.params-to_sql.ensures, c.params-to_sql-2.ensures, c.params-to_sql-3.ensures, c.params-to_sql-4.ensures, c.params-to_sql-5.ensures, to_z-of_z, column_is c.column-db.ensures.fits c.column-db.ensures.value, c.from-reg.ensures, c.code.ensures, c.as_str-term.ensures, c.ranges.number) at shown));
   err = λ clean inside. query_keeps _ _ _ _ c.query_all.result block_silent (c.query_all.ensures.err clean);
   crash = search rules;
 }

@@ -1,7 +1,6 @@
 use Rattle.std.proofs.Common.{IsUtf8, rules, pos, subst}
-use Rattle.std.proofs.Math.Facts.{to_z-of_z}
+use Rattle.zeb_profile.specs.Indexes.{register_code}
 use Rattle.zeb_register.specs.Store.{IsRest, dict_tree, key_of}
-use Rattle.zeb_register.specs.PlainRows.{code_of_register}
 use Rattle.zeb_register.proofs.Calls.{lists_inside, query_keeps}
 use Rattle.zeb_register.proofs.PackedRowStatements.{lists_records, records_silent}
 use Rattle.zeb_register.proofs.Columns.{column_is}
@@ -9,8 +8,8 @@ use Rattle.zeb_register.proofs.statements.packed_changes.dict_records.Goals as g
 
 pub returns-clause-call : goal.returns-clause-call
 returns-clause-call g c = record {
-  ok = λ clean. lists_inside (λ rows. rows.items) (IsRest dict_tree (key_of c.args.at.db.0 (pos c.args.at.key.now.index) (pos (code_of_register c.args.at.key.now.register)) c.args.at.key.now.term)) _ _ _ _ c.query_all.result records_silent (c.query_all.ensures.ok clean)
-      (λ rows store shown. lists_records c.args.at.db.0 (pos c.args.at.key.now.index) (pos (code_of_register c.args.at.key.now.register)) c.args.at.key.now.term _ _ rows store (simp (c.params-to_sql.ensures, c.params-to_sql-2.ensures, c.params-to_sql-3.ensures, c.params-to_sql-4.ensures, to_z-of_z, column_is c.column-db.ensures.fits c.column-db.ensures.value, column_is c.code_of-reg.ensures.fits c.code_of-reg.ensures.value, c.as_str-term.ensures) at shown));
+  ok = λ clean. lists_inside (λ rows. rows.items) (IsRest dict_tree (key_of c.args.at.db.0 (pos c.args.at.key.now.index) (pos (register_code c.args.at.key.now.register)) c.args.at.key.now.term)) _ _ _ _ c.query_all.result records_silent (c.query_all.ensures.ok clean)
+      (λ rows store shown. lists_records c.args.at.db.0 (pos c.args.at.key.now.index) (pos (register_code c.args.at.key.now.register)) c.args.at.key.now.term _ _ rows store (simp (c.params-to_sql.ensures, c.params-to_sql-2.ensures, c.params-to_sql-3.ensures, c.params-to_sql-4.ensures, column_is c.column-db.ensures.fits c.column-db.ensures.value, c.from-reg.ensures, c.code.ensures, c.as_str-term.ensures) at shown));
   err = λ clean inside. query_keeps _ _ _ _ c.query_all.result records_silent (c.query_all.ensures.err clean);
   crash = search rules;
 }

@@ -1,6 +1,6 @@
 use Rattle.std.proofs.Common.{rules, pos}
 use Rattle.std.proofs.Math.Facts.{to_z-of_z}
-use Rattle.zeb_register.specs.PlainRows.{code_of_register}
+use Rattle.zeb_profile.specs.Indexes.{register_code}
 use Rattle.zeb_register.proofs.Calls.{alters, refused_keeps}
 use Rattle.zeb_register.proofs.PostingStatements.{lifts}
 use Rattle.zeb_register.proofs.Columns.{column_is}
@@ -8,7 +8,7 @@ use Rattle.zeb_register.proofs.statements.postings.places_lift.Goals as goal
 
 pub returns-clause-call : goal.returns-clause-call
 returns-clause-call g c = record {
-  ok = λ clean inside. alters _ _ _ _ _ _ c.execute.result (c.execute.ensures.runs clean inside) (λ count store ran. lifts c.args.at.db.0 (pos c.args.at.key.now.index) (pos (code_of_register c.args.at.key.now.register)) c.args.at.key.now.term c.args.number _ _ count store (simp (c.params-to_sql.ensures, c.params-to_sql-2.ensures, c.params-to_sql-3.ensures, c.params-to_sql-4.ensures, c.params-to_sql-5.ensures, to_z-of_z, column_is c.column-db.ensures.fits c.column-db.ensures.value, column_is c.code_of-reg.ensures.fits c.code_of-reg.ensures.value, c.as_str-term.ensures, c.ranges.number) at ran));
+  ok = λ clean inside. alters _ _ _ _ _ _ c.execute.result (c.execute.ensures.runs clean inside) (λ count store ran. lifts c.args.at.db.0 (pos c.args.at.key.now.index) (pos (register_code c.args.at.key.now.register)) c.args.at.key.now.term c.args.number _ _ count store (simp (c.params-to_sql.ensures, c.params-to_sql-2.ensures, c.params-to_sql-3.ensures, c.params-to_sql-4.ensures, c.params-to_sql-5.ensures, to_z-of_z, column_is c.column-db.ensures.fits c.column-db.ensures.value, c.from-reg.ensures, c.code.ensures, c.as_str-term.ensures, c.ranges.number) at ran));
   err = λ clean inside. refused_keeps _ _ _ _ c.execute.result (c.execute.ensures.runs clean inside);
   crash = search rules;
 }

@@ -1,5 +1,4 @@
-use Rattle.std.proofs.Math.Facts.{to_z-of_z}
-use Rattle.zeb_register.specs.PlainRows.{code_of_register}
+use Rattle.zeb_profile.specs.Indexes.{register_code}
 use Rattle.zeb_register.proofs.Calls.{lists, nothing, quiet}
 use Rattle.zeb_register.proofs.PostingStatements.{lists_register, register_silent}
 use Rattle.std.proofs.Common.{rules, pos, [], ◌∷◌}
@@ -12,8 +11,8 @@ pub returns : goal.returns
 returns g c = record {
   call = record {
     idle = search rules;
-    ok = λ clean. lists (λ rows. rows.items) (IsRest postings_tree (Int c.args.at.db.0 ∷ Int (pos c.args.at.index) ∷ Int (pos (code_of_register c.args.at.register)) ∷ [])) _ _ _ _ c.query_all.result register_silent (c.query_all.ensures.ok clean)
-        (λ rows store shown. lists_register c.args.at.db.0 (pos c.args.at.index) (pos (code_of_register c.args.at.register)) _ _ rows store (simp (c.params-to_sql.ensures, c.params-to_sql-2.ensures, c.params-to_sql-3.ensures, to_z-of_z, column_is c.column-db.ensures.fits c.column-db.ensures.value, column_is c.code_of-reg.ensures.fits c.code_of-reg.ensures.value) at shown));
+    ok = λ clean. lists (λ rows. rows.items) (IsRest postings_tree (Int c.args.at.db.0 ∷ Int (pos c.args.at.index) ∷ Int (pos (register_code c.args.at.register)) ∷ [])) _ _ _ _ c.query_all.result register_silent (c.query_all.ensures.ok clean)
+        (λ rows store shown. lists_register c.args.at.db.0 (pos c.args.at.index) (pos (register_code c.args.at.register)) _ _ rows store (simp (c.params-to_sql.ensures, c.params-to_sql-2.ensures, c.params-to_sql-3.ensures, column_is c.column-db.ensures.fits c.column-db.ensures.value, c.from-reg.ensures, c.code.ensures) at shown));
     same = λ clean. nothing (λ rows. rows.items) _ _ _ _ c.query_all.result _ register_silent c.is_autocommit-idle.ensures.value c.is_autocommit-idle.ensures.settled (c.query_all.ensures.ok clean) (c.query_all.ensures.err clean);
     crash = quiet _ _ _ _ register_silent c.query_all.ensures.survives;
   };
