@@ -1,18 +1,25 @@
 -- What a find or a scan reads, step by step.
-use Rattle.std.proofs.Common.{◌≡◌, ◌∙◌, ℕ, ◌+◌, ◌-◌, ◌*◌, ◌≤◌, List, Result, Ok, Err, OnOk, String, arith, sym, ap, string_bytes, subst, subst₂}
+use Rattle.std.proofs.Common.{◌≡◌, ℕ, ◌+◌, ◌-◌, ◌*◌, ◌≤◌, List, Result, Ok, Err, OnOk, String, arith, filter, length, sym, string_bytes, subst, subst₂, take}
+use Rattle.std.proofs.lemmas.List.{length-drop, length-take}
 use Rattle.std.specs.declared.alloc.Global.{Global}
-use Rattle.std.proofs.Math.Nat.{mul-add}
+use Rattle.std.proofs.Math.Nat.{mul-add, mul-le-mul_left}
 use Rattle.sqlite.specs.Effect.{Database}
 use Rattle.sqlite.specs.State.{State}
 use Rattle.sqlite.specs.Tree.{Trees}
 use Rattle.zeb_profile.specs.declared.directives.Directive.{Directive}
+use Rattle.zeb_profile.specs.declared.Register.{Register}
+use Rattle.zeb_extract.specs.declared.keys.Occurrence.{Occurrence}
+use Rattle.zeb_register.specs.declared.registers.TermCount.{TermCount}
 use Rattle.zeb_register.specs.declared.registers.Work.{Work}
 use Rattle.zeb_register.specs.Calls.{ChangesNothing}
 use Rattle.zeb_register.specs.Content.{Content, Posting}
 use Rattle.zeb_register.specs.Formats.{Format, holds_in}
+use Rattle.zeb_register.specs.Occurring.{AreTermsBefore, AreTermsFrom, is_before, is_from, last}
 use Rattle.zeb_register.specs.Store.{IsStore}
-use Rattle.zeb_register.specs.Tallies.{ReadsTerms}
+use Rattle.zeb_register.specs.Tallies.{Works}
 use Rattle.zeb_register.proofs.Calls.{store_same}
+use Rattle.zeb_search.specs.Counted.{Counts}
+use Rattle.zeb_search.proofs.CountedLemmas.{counts_then, counts_within, terms_count}
 use Rattle.zeb_change.specs.declared.refusals.Refusal.{Refusal}
 use Rattle.zeb_image.specs.declared.names.DbName.{DbName}
 use Rattle.zeb_image.specs.NameOf.{name_bytes}
@@ -22,20 +29,24 @@ use Rattle.zeb_engine.specs.Adopting.{StaysOpen}
 use Rattle.zeb_engine.specs.Costs.{no_work}
 use Rattle.zeb_engine.specs.Reads.{CommandReads, FindReads, ScanReads}
 
--- terms are read, and then others
-reads_then : (one two : ℕ) (a b c : Work) → ReadsTerms one a b → ReadsTerms two b c → ReadsTerms (one + two) a c
-reads_then one two a b c first second = record {
-  terms = (omega (arith, first.terms, second.terms), omega (arith, first.terms, second.terms));
-  no_term = second.no_term ∙ first.no_term;
-  no_block = (second.no_block.0 ∙ first.no_block.0, second.no_block.1 ∙ first.no_block.1);
-}
+-- the first of a list, and the last, are at most so many
+first_few : {X : Type 0} (n : ℕ) (xs : List X) → length (take n xs) ≤ n
+first_few n xs = omega (arith, length-take n xs)
 
--- the terms below the start, and those from it on with the one behind them
-pub around_reads : (row_work number position below from : ℕ) (a b c : Work) → below ≡ position - 1 → from ≡ number + 1 - position → 1 ≤ position → position ≤ number
-    → ReadsTerms (row_work * below) a b → ReadsTerms (row_work * (from + 1)) b c → ReadsTerms (row_work * (number + 1)) a c
-around_reads row_work number position below from a b c is_below is_from least most first second =
-    let all : below + (from + 1) ≡ number + 1 = omega (arith, is_below, is_from, least, most) in
-    subst (λ n. ReadsTerms n a c) (sym (mul-add row_work below (from + 1)) ∙ ap (λ n. row_work * n) all) (reads_then (row_work * below) (row_work * (from + 1)) a b c first second)
+last_few : {X : Type 0} (n : ℕ) (xs : List X) → length (last n xs) ≤ n
+last_few n xs = omega (arith, length-drop (length xs - n) xs)
+
+-- the terms below the start, and those from it on
+pub around_reads : (O : ℕ → Occurrence → Type 0) (index : ℕ) (register : Register) (start : List ℕ) (row_work number position below from : ℕ) (first rest : List TermCount) (a b c : Work)
+    → below ≡ position - 1 → from ≡ number + 1 - position → 1 ≤ position → position ≤ number → AreTermsBefore O index register start below first → AreTermsFrom O index register start from rest
+    → Works (row_work * length first) 0 0 0 a b → Works (row_work * length rest) 0 0 0 b c → Counts (row_work * (number + 1)) 0 a c
+around_reads O index register start row_work number position below from first rest a b c is_below is_from least most are_first are_rest reads_first reads_rest =
+    let before : length first ≤ below = subst (λ (l : List TermCount). length l ≤ below) (sym are_first.is) (last_few below (filter (is_before start) are_first.all)) in
+    let behind : length rest ≤ from = subst (λ (l : List TermCount). length l ≤ from) (sym are_rest.is) (first_few from (filter (is_from start) are_rest.all)) in
+    let few : length first + length rest ≤ number + 1 = omega (arith, before, behind, is_below, is_from, least, most) in
+    let in_all : row_work * length first + row_work * length rest ≤ row_work * (number + 1) = omega (arith, mul-le-mul_left row_work few, mul-add row_work (length first) (length rest)) in
+    counts_within (row_work * length first + row_work * length rest) (row_work * (number + 1)) 0 a c in_all
+    (counts_then (row_work * length first) (row_work * length rest) 0 0 a b c (terms_count (row_work * length first) a b reads_first) (terms_count (row_work * length rest) b c reads_rest))
 
 -- what is told of tables that hold a content, after a look that changed nothing
 pub told_after : (format : Format) (Told : Trees → Content → Type 0) (old mid new : State) (result : Result Reply Refusal) → ChangesNothing old mid → OnOk result (StaysOpen mid new)
@@ -48,11 +59,11 @@ told_after format Told old mid new (Err refusal) nothing opened told = tt
 
 -- a session's find
 pub find_command_reads : (format : Format) (row_work : ℕ) (block_rows : List Posting → ℕ) (profile : List Directive) (s : State) (result : Result Reply Refusal) (database : DbName) (query : String Global) (first count : ℕ)
-    (name asked : List ℕ) (fresh work : Work) → name ≡ name_bytes database → asked ≡ string_bytes query → fresh ≡ no_work → OnOk result (FindReads format block_rows profile name asked s fresh work)
+    (name asked : List ℕ) (fresh work : Work) → name ≡ name_bytes database → asked ≡ string_bytes query → fresh ≡ no_work → OnOk result (FindReads format row_work block_rows profile name asked s fresh work)
     → CommandReads format row_work block_rows profile (Find database query first count) s result work
 find_command_reads format row_work block_rows profile s result database query first count name asked fresh work is_name is_asked is_fresh reads =
-    subst₂ (λ (n q : List ℕ). OnOk result (FindReads format block_rows profile n q s no_work work)) is_name is_asked
-    (subst (λ (w : Work). OnOk result (FindReads format block_rows profile name asked s w work)) is_fresh reads)
+    subst₂ (λ (n q : List ℕ). OnOk result (FindReads format row_work block_rows profile n q s no_work work)) is_name is_asked
+    (subst (λ (w : Work). OnOk result (FindReads format row_work block_rows profile name asked s w work)) is_fresh reads)
 
 -- a session's scan
 pub scan_command_reads : (format : Format) (row_work : ℕ) (block_rows : List Posting → ℕ) (profile : List Directive) (s : State) (result : Result Reply Refusal) (database : DbName) (query : String Global) (number position many at : ℕ) (fresh work : Work)

@@ -10,8 +10,8 @@ use Rattle.zeb_register.specs.declared.registers.Work.{Work}
 use Rattle.zeb_register.specs.Content.{Content, Posting}
 use Rattle.zeb_register.specs.Formats.{Format, holds_in}
 use Rattle.zeb_register.specs.Store.{HasDatabase, IsStore}
-use Rattle.zeb_register.specs.Tallies.{ReadsTerms}
-use Rattle.zeb_search.specs.Counted.{Counts, NamesEntries}
+use Rattle.zeb_search.specs.Counted.{Counts}
+use Rattle.zeb_search.specs.DictRows.{PlanDict}
 use Rattle.zeb_search.specs.ListRows.{PlanRows}
 use Rattle.zeb_image.specs.NameOf.{name_bytes}
 use Rattle.zeb_change.specs.declared.refusals.Refusal.{Refusal}
@@ -25,27 +25,30 @@ use Rattle.zeb_engine.specs.Costs.{no_work}
 abbrev pub ScanReads : Format → ℕ → ℕ → ℕ → State → Work → Work → Type 0
 ScanReads format row_work number position s before after =
     IsStore s → (content : Content) → holds_in format s.now.trees content → 1 ≤ position → position ≤ number
-    → ReadsTerms (row_work * (number + 1)) before after
+    → Counts (row_work * (number + 1)) 0 before after
 
 -- the text spells a query that has this plan
 abbrev pub IsPlanOf : List Directive → List ℕ → PlanValue → Type 0
 IsPlanOf profile text plan = (query : QueryValue) × SpellsQuery text query × (plan_of profile query ≡ Ok plan)
 
--- Over the plan of a query no row is written, no term is read where it names its entries, and of `blocks` no more rows than the lists have
--- of the entries that it asks for, in the database of the name.
-abbrev pub PlanReads : (List Posting → ℕ) → PlanValue → List ℕ → Trees → Content → Work → Work → Type 0
-PlanReads block_rows plan name trees content before after =
-    (id : ℤ) × (last : ℤ) × HasDatabase trees id name last × (most : ℕ) × PlanRows block_rows content id plan most × Counts (NamesEntries plan) most before after
+-- Over the plan of a query no row is written. Read are, of `dict`, no more rows than the searched registers have distinct terms, once for each
+-- pattern with a star and for each term of the query that asks for entries which it doesn't name; and of `blocks` no more than the lists have
+-- of the entries that it asks for. This is said of the database of the name.
+abbrev pub PlanReads : (row_work : ℕ) → (block_rows : List Posting → ℕ) → PlanValue → List ℕ → Trees → Content → Work → Work → Type 0
+PlanReads row_work block_rows plan name trees content before after =
+    (id : ℤ) × (last : ℤ) × HasDatabase trees id name last
+    × (most_terms : ℕ) × (most_blocks : ℕ) × PlanDict row_work content id plan most_terms × PlanRows block_rows content id plan most_blocks
+    × Counts most_terms most_blocks before after
 
 -- so the query is answered, on the tables of a store that hold a content
-abbrev pub FindReads : Format → (List Posting → ℕ) → List Directive → (name text : List ℕ) → State → Work → Work → Type 0
-FindReads format block_rows profile name text s before after =
+abbrev pub FindReads : Format → (row_work : ℕ) → (block_rows : List Posting → ℕ) → List Directive → (name text : List ℕ) → State → Work → Work → Type 0
+FindReads format row_work block_rows profile name text s before after =
     IsStore s → (content : Content) → holds_in format s.now.trees content
-    → (plan : PlanValue) × IsPlanOf profile text plan × PlanReads block_rows plan name s.now.trees content before after
+    → (plan : PlanValue) × IsPlanOf profile text plan × PlanReads row_work block_rows plan name s.now.trees content before after
 
 -- a command that is an answered find or scan has counted so, and no other work
 abbrev pub CommandReads : Format → (row_work : ℕ) → (block_rows : List Posting → ℕ) → List Directive → Command → State → Result Reply Refusal → Work → Type 0
 CommandReads format row_work block_rows profile (Find name query first count) s result work =
-    OnOk result (FindReads format block_rows profile (name_bytes name) (string_bytes query) s no_work work)
+    OnOk result (FindReads format row_work block_rows profile (name_bytes name) (string_bytes query) s no_work work)
 CommandReads format row_work block_rows profile (Scan name query number position) s result work = OnOk result (ScanReads format row_work number position s no_work work)
 CommandReads format row_work block_rows profile other s result work = Unit {0}

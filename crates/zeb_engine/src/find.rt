@@ -133,10 +133,11 @@ pub(crate) fn find<S: Alter, L: Layout>(
     ensures alone { HasCleanDisk (state S.Store connection.new)
         → Alone L.format (FindSays profile.now question.entry.query.now question.entry.first question.entry.count) (name_bytes name.now)
         (state S.Store connection.old) result }
-    // No row is written, no term is read where the query's plan names its entries, and no more lists than those that it asks for.
+    // No row is written; of terms no more are read than the searched registers have, once for each pattern with a star and each entry that
+    // isn't named, and no more lists than those that the query asks for.
     ensures work { HasCleanDisk (state S.Store connection.new)
-        → OnOk result (FindReads L.format L.block_rows profile.now (name_bytes name.now) question.entry.query.now
-        (state S.Store connection.old) work.old work.new) }
+        → OnOk result (FindReads L.format L.row_work L.block_rows profile.now (name_bytes name.now)
+        question.entry.query.now (state S.Store connection.old) work.old work.new) }
 {
     // Its profile is some text's.
     profile.is_of_some_text();

@@ -223,7 +223,8 @@ impl<S: Alter, L: Layout> Session<S, L> {
             → CommandCosts L.row_work (conditions (version_of L.format) self.old.profile self.old.limits) command.now
             (state S.Store self.old.connection) result self.new.work }
         // An answered scan has read the terms that it was asked for, one more at most, and nothing else. An answered find has written
-        // nothing, read no term where its query's plan names its entries, and no more lists than those that it asks for.
+        // nothing, and read no more lists than those that its query asks for. Of terms it has read no more than the searched registers have,
+        // once for each pattern with a star and for each term of the query that asks for entries which it doesn't name.
         ensures read_work { HasCleanDisk (state S.Store self.new.connection)
             → CommandReads L.format L.row_work L.block_rows self.old.profile command.now
             (state S.Store self.old.connection) result self.new.work }

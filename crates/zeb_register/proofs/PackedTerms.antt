@@ -17,7 +17,6 @@ use Rattle.zeb_extract.specs.declared.keys.Key.{Key}
 use Rattle.zeb_profile.specs.declared.Register.{Register}
 use Rattle.zeb_profile.specs.Indexes.{register_code}
 use Rattle.zeb_register.specs.declared.registers.TermCount.{TermCount}
-use Rattle.zeb_register.specs.declared.registers.Work.{Work}
 use Rattle.zeb_register.specs.Content.{Content, IsStorable, posted}
 use Rattle.zeb_register.specs.Occurring.{AreTermsBefore, AreTermsFrom, AreTermsOf, HasKey, IsCount, TermIn, is_before, is_from, key_in, last, term_cmp}
 use Rattle.zeb_register.specs.PackedBlocks.{HoldsBlocks}
@@ -25,7 +24,6 @@ use Rattle.zeb_register.specs.PackedRows.{IsCountRow, IsFallingListOf, IsRestBef
 use Rattle.zeb_register.specs.RowPlaces.{first_two}
 use Rattle.zeb_register.specs.Sql.{IsListOf}
 use Rattle.zeb_register.specs.Store.{IsRest, dict_tree}
-use Rattle.zeb_register.specs.Tallies.{ReadsTerms, Rises, RisesUpTo}
 use Rattle.zeb_register.proofs.ContentLemmas.{one_list, same_key}
 use Rattle.zeb_register.proofs.CountLemmas.{count_upto, counted_none, one_count, term_total}
 use Rattle.zeb_register.proofs.OccurringLemmas.{key_posted}
@@ -114,22 +112,6 @@ has_taken (suc n) (y ∷ xs) x (inr later) = inr (has_taken n xs x later)
 pub first_has : {X : Type 0} (limit : Option ℕ) (xs : List X) (x : X) → Has (limited limit xs) x → Has xs x
 first_has None xs x h = h
 first_has (Some n) xs x h = has_taken n xs x h
-
-pub taken_few : {X : Type 0} (n : ℕ) (xs : List X) → length (take n xs) ≤ n
-taken_few zero xs = omega arith
-taken_few (suc n) [] = omega arith
-taken_few (suc n) (x ∷ xs) = omega (arith, taken_few n xs)
-
-pub rises_up_to : (by most old new : ℕ) → Rises by old new → by ≤ most → old ≤ new → RisesUpTo most old new
-rises_up_to by most old new (inl is) few more = (more, omega (arith, is, few))
-rises_up_to by most old new (inr full) few more = (more, omega (arith, full.0, full.1, few))
-
--- the first of a list of terms are read
-pub reads_up_to : (n most : ℕ) (work : Work) (rows all : List Row) (count : ℕ) → rows ≡ take n all → n ≤ most → Rises (length rows) work.dict_read count
-    → work.dict_read ≤ count → ReadsTerms most work (record work { dict_read = count })
-reads_up_to n most work rows all count first more rises keeps =
-    let few : length rows ≤ n = subst (λ (l : List Row). length l ≤ n) (sym first) (taken_few n all) in
-    record { terms = rises_up_to (length rows) most work.dict_read count rises (omega (arith, few, more)) keeps; no_term = refl; no_block = (refl, refl) }
 
 -- ---- rows that fall
 

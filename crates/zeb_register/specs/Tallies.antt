@@ -6,19 +6,9 @@ use Rattle.zeb_register.specs.declared.registers.Work.{Work}
 abbrev pub Rises : ℕ → ℕ → ℕ → Type 0
 Rises by old new = (new ≡ old + by) ⊎ ((2 ^ 64 ≤ old + by) × (new ≡ 2 ^ 64 - 1))
 
--- a count rises by at most so much
-abbrev pub RisesUpTo : ℕ → ℕ → ℕ → Type 0
-RisesUpTo by old new = (old ≤ new) × (new ≤ old + by)
-
 -- the four counts rise by so much
 pub record Works (dict_read dict_written block_read block_written : ℕ) (old new : Work) : Type 0 where
   pub reads_terms : Rises dict_read old.dict_read new.dict_read
   pub writes_terms : Rises dict_written old.dict_written new.dict_written
   pub reads_blocks : Rises block_read old.block_read new.block_read
   pub writes_blocks : Rises block_written old.block_written new.block_written
-
--- terms are read, at most so many, and nothing else
-pub record ReadsTerms (most : ℕ) (old new : Work) : Type 0 where
-  pub terms : RisesUpTo most old.dict_read new.dict_read
-  pub no_term : new.dict_written ≡ old.dict_written
-  pub no_block : (new.block_read ≡ old.block_read) × (new.block_written ≡ old.block_written)

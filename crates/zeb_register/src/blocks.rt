@@ -153,7 +153,7 @@ impl Layout for Blocks {
         };
         let rows = dict_rows_from(conn, at, start, limit)?;
         let counts = counts_in(alloc, &rows)?;
-        work.dict_read = counted(work.dict_read, rows.len());
+        work.dict_read = counted(work.dict_read, counts.len());
         Ok(counts)
     }
 
@@ -175,8 +175,8 @@ impl Layout for Blocks {
         };
         let rows = dict_rows_before(conn, at, start, limit)?;
         let mut counts = counts_in(alloc, &rows)?;
-        work.dict_read = counted(work.dict_read, rows.len());
         counts.reverse();
+        work.dict_read = counted(work.dict_read, counts.len());
         Ok(counts)
     }
 

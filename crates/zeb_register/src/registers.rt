@@ -72,7 +72,7 @@ pub trait Layout {
     ghost use Rattle.zeb_register.specs.Content.{IsWithout, TakesWhole};
     ghost use Rattle.zeb_register.specs.Occurring.{AreTermsOf, AreTermsFrom, AreTermsBefore, AreTotals, key_in};
     ghost use Rattle.zeb_register.specs.Expected.{IsOrdered, AreExpected};
-    ghost use Rattle.zeb_register.specs.Tallies.{Works, ReadsTerms};
+    ghost use Rattle.zeb_register.specs.Tallies.{Works};
     ghost use Rattle.zeb_register.specs.declared.registers.TermCount.{TermCount};
     ghost use Rattle.zeb_blocks.specs.declared.postings.Posting.{Posting};
 
@@ -200,7 +200,7 @@ pub trait Layout {
             (λ content list. AreTermsFrom (posted content db.0) index register start.now n list.items) }
         ensures honest { IsHonestStorable (holds_in format) (state S.Store conn.old) (state S.Store conn.new) result }
         ensures work { TellsHeld (holds_in format) (state S.Store conn.old) (state S.Store conn.new) result
-            (λ _ _. ReadsTerms (row_work * (n + 1)) work.old work.new) }
+            (λ _ list. Works (row_work * length list.items) 0 0 0 work.old work.new) }
         ensures no_work { row_work ≡ 0 → work.new ≡ work.old };
 
     /// The last `n` of these terms that are below `start`, in the order of their bytes.
@@ -219,7 +219,7 @@ pub trait Layout {
             (λ content list. AreTermsBefore (posted content db.0) index register start.now n list.items) }
         ensures honest { IsHonestStorable (holds_in format) (state S.Store conn.old) (state S.Store conn.new) result }
         ensures work { TellsHeld (holds_in format) (state S.Store conn.old) (state S.Store conn.new) result
-            (λ _ _. ReadsTerms (row_work * n) work.old work.new) }
+            (λ _ list. Works (row_work * length list.items) 0 0 0 work.old work.new) }
         ensures no_work { row_work ≡ 0 → work.new ≡ work.old };
 
     /// How many terms and postings a register holds. Each row of its terms and of their blocks counts once in `work`.

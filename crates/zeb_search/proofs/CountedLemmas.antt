@@ -1,12 +1,17 @@
 -- What calls count, one after the other.
-use Rattle.std.proofs.Common.{◌≡◌, ◌+◌, ◌≤◌, ℕ, Result, Ok, Err, IfOk, OnOk, arith, inl, refl, sym, subst}
+use Rattle.std.proofs.Common.{◌≡◌, ◌+◌, ◌*◌, ◌≤◌, ℕ, ℤ, Result, Ok, Err, Vec, IfOk, OnOk, arith, inl, length, refl, sym, subst}
+use Rattle.std.specs.declared.alloc.Global.{Global}
 use Rattle.sqlite.specs.State.{State, HasCleanDisk, Survives}
+use Rattle.zeb_profile.specs.declared.Register.{Register}
+use Rattle.zeb_register.specs.declared.registers.TermCount.{TermCount}
 use Rattle.zeb_register.specs.declared.registers.Work.{Work}
-use Rattle.zeb_register.specs.Content.{Content}
+use Rattle.zeb_register.specs.Content.{Content, posted}
 use Rattle.zeb_register.specs.Formats.{Format, holds_in}
+use Rattle.zeb_register.specs.Occurring.{AreTermsOf}
 use Rattle.zeb_register.specs.Store.{IsStore}
-use Rattle.zeb_register.specs.Tallies.{ReadsTerms, Rises, Works}
+use Rattle.zeb_register.specs.Tallies.{Rises, Works}
 use Rattle.zeb_search.specs.Counted.{Counted, Counts, NoRows}
+use Rattle.zeb_search.specs.DictRows.{RegisterDict}
 use Rattle.zeb_search.proofs.ReadLemmas.{IsRead, clean_before, still_store, still_trees}
 
 same_count : (a b : ℕ) → b ≡ a → Rises 0 a b
@@ -18,81 +23,86 @@ rises_then a b c one two = grind arith
 at_most : (by old new : ℕ) → Rises by old new → new ≤ old + by
 at_most by old new rises = grind arith
 
-pub counts_still : (P : Type 0) (w : Work) → Counts P 0 w w
-counts_still P w = record {
+pub counts_still : (w : Work) → Counts 0 0 w w
+counts_still w = record {
   no_term = same_count w.dict_written w.dict_written refl;
   no_block = same_count w.block_written w.block_written refl;
-  unread = λ _. same_count w.dict_read w.dict_read refl;
+  terms = omega arith;
   blocks = omega arith;
 }
 
-pub counts_then : (P Q R : Type 0) (m n : ℕ) (a b c : Work) → (R → P) → (R → Q) → Counts P m a b → Counts Q n b c → Counts R (m + n) a c
-counts_then P Q R m n a b c first second one two = record {
+pub counts_then : (k l m n : ℕ) (a b c : Work) → Counts k m a b → Counts l n b c → Counts (k + l) (m + n) a c
+counts_then k l m n a b c one two = record {
   no_term = rises_then a.dict_written b.dict_written c.dict_written one.no_term two.no_term;
   no_block = rises_then a.block_written b.block_written c.block_written one.no_block two.no_block;
-  unread = λ r. rises_then a.dict_read b.dict_read c.dict_read (one.unread (first r)) (two.unread (second r));
+  terms = omega (arith, one.terms, two.terms);
   blocks = omega (arith, one.blocks, two.blocks);
 }
 
-pub counts_for : (P Q : Type 0) (m : ℕ) (a b : Work) → (Q → P) → Counts P m a b → Counts Q m a b
-counts_for P Q m a b weaker counts = record { no_term = counts.no_term; no_block = counts.no_block; unread = λ q. counts.unread (weaker q); blocks = counts.blocks }
+pub counts_within : (k l m : ℕ) (a b : Work) → k ≤ l → Counts k m a b → Counts l m a b
+counts_within k l m a b fewer counts = record { no_term = counts.no_term; no_block = counts.no_block; terms = omega (arith, fewer, counts.terms); blocks = counts.blocks }
 
 -- ---- calls of the register
 
 -- postings of a key
-pub list_counts : (P : Type 0) (rows : ℕ) (a b : Work) → Works 0 0 rows 0 a b → Counts P rows a b
-list_counts P rows a b works = record {
+pub list_counts : (rows : ℕ) (a b : Work) → Works 0 0 rows 0 a b → Counts 0 rows a b
+list_counts rows a b works = record {
   no_term = works.writes_terms;
   no_block = works.writes_blocks;
-  unread = λ _. works.reads_terms;
+  terms = at_most 0 a.dict_read b.dict_read works.reads_terms;
   blocks = at_most rows a.block_read b.block_read works.reads_blocks;
 }
 
 -- terms
-pub terms_count : (P : Type 0) (terms : ℕ) (a b : Work) → ¬ P → Works terms 0 0 0 a b → Counts P 0 a b
-terms_count P terms a b never works = record {
+pub terms_count : (terms : ℕ) (a b : Work) → Works terms 0 0 0 a b → Counts terms 0 a b
+terms_count terms a b works = record {
   no_term = works.writes_terms;
   no_block = works.writes_blocks;
-  unread = λ p. absurd (never p);
+  terms = at_most terms a.dict_read b.dict_read works.reads_terms;
   blocks = at_most 0 a.block_read b.block_read works.reads_blocks;
-}
-
-pub page_counts : (P : Type 0) (most : ℕ) (a b : Work) → ¬ P → ReadsTerms most a b → Counts P 0 a b
-page_counts P most a b never reads = record {
-  no_term = same_count a.dict_written b.dict_written reads.no_term;
-  no_block = same_count a.block_written b.block_written reads.no_block.1;
-  unread = λ p. absurd (never p);
-  blocks = omega (arith, reads.no_block.0);
 }
 
 -- ---- calls one after the other
 
 module _ (format : Format) where
-  pub counted_then : (P Q R : Type 0) (F G H : Content → ℕ → Type 0) (s0 s1 s2 : State) (a b c : Work) → (R → P) → (R → Q) → ((content : Content) (m n : ℕ) → F content m → G content n → H content (m + n))
-      → IsRead s0 s1 → Survives s1 s2 (λ _. ⊥) → Counted format P F s0 s1 a b → Counted format Q G s1 s2 b c → Counted format R H s0 s2 a c
-  counted_then P Q R F G H s0 s1 s2 a b c first second joins read crash one two clean store content has =
+  pub counted_then : (D E T F G H : Content → ℕ → Type 0) (s0 s1 s2 : State) (a b c : Work) → ((content : Content) (m n : ℕ) → D content m → E content n → T content (m + n))
+      → ((content : Content) (m n : ℕ) → F content m → G content n → H content (m + n))
+      → IsRead s0 s1 → Survives s1 s2 (λ _. ⊥) → Counted format D F s0 s1 a b → Counted format E G s1 s2 b c → Counted format T H s0 s2 a c
+  counted_then D E T F G H s0 s1 s2 a b c joins_terms joins read crash one two clean store content has =
       let before = clean_before s1 s2 crash clean in
       let x = one before store content has in
       let y = two clean (still_store s0 s1 read before store) content (subst (λ t. holds_in format t content) (sym (still_trees s0 s1 read before)) has) in
-      (x.0 + y.0, joins content x.0 y.0 x.1 y.1, counts_then P Q R x.0 y.0 a b c first second x.2 y.2)
+      (x.0 + y.0, x.1 + y.1, joins_terms content x.0 y.0 x.2 y.2, joins content x.1 y.1 x.3 y.3, counts_then x.0 y.0 x.1 y.1 a b c x.4 y.4)
 
-  -- the same calls as another condition and another definition say it
-  pub counted_for : (P Q : Type 0) (F G : Content → ℕ → Type 0) (s0 s1 : State) (a b : Work) → (Q → P) → ((content : Content) (n : ℕ) → F content n → G content n) → Counted format P F s0 s1 a b → Counted format Q G s0 s1 a b
-  counted_for P Q F G s0 s1 a b weaker told counted clean store content has =
+  -- the same calls as other definitions say it
+  pub counted_for : (D E F G : Content → ℕ → Type 0) (s0 s1 : State) (a b : Work) → ((content : Content) (n : ℕ) → D content n → E content n) → ((content : Content) (n : ℕ) → F content n → G content n)
+      → Counted format D F s0 s1 a b → Counted format E G s0 s1 a b
+  counted_for D E F G s0 s1 a b told_terms told counted clean store content has =
       let x = counted clean store content has in
-      (x.0, told content x.0 x.1, counts_for P Q x.0 a b weaker x.2)
+      (x.0, x.1, told_terms content x.0 x.2, told content x.1 x.3, x.4)
+
+  -- no more rows of `dict` than so many
+  pub counted_within : (D E F : Content → ℕ → Type 0) (s0 s1 : State) (a b : Work)
+      → (HasCleanDisk s1 → IsStore s0 → (content : Content) → holds_in format s0.now.trees content → (n : ℕ) → D content n → (most : ℕ) × (n ≤ most) × E content most)
+      → Counted format D F s0 s1 a b → Counted format E F s0 s1 a b
+  counted_within D E F s0 s1 a b within counted clean store content has =
+      let x = counted clean store content has in
+      let y = within clean store content has x.0 x.2 in
+      (y.0, x.1, y.2, x.3, counts_within x.0 y.0 x.1 a b y.1 x.4)
 
   -- nothing is read yet
-  pub counted_still : (P : Type 0) (F : Content → ℕ → Type 0) (s : State) (w : Work) → ((content : Content) → F content 0) → Counted format P F s s w w
-  counted_still P F s w none clean store content has = (0, none content, counts_still P w)
+  pub counted_still : (D F : Content → ℕ → Type 0) (s : State) (w : Work) → ((content : Content) → D content 0) → ((content : Content) → F content 0) → Counted format D F s s w w
+  counted_still D F s w no_terms none clean store content has = (0, 0, no_terms content, none content, counts_still w)
 
 -- two calls that read no list
 pub no_rows_then : (content : Content) (m n : ℕ) → NoRows content m → NoRows content n → NoRows content (m + n)
 no_rows_then content m n one two = omega (arith, one, two)
 
--- a call that gives terms
-pub if_ok_counted : {T E : Type 0} (r : Result T E) (format : Format) (P : Type 0) (s0 s1 : State) (a b : Work) (terms : T → ℕ) → ¬ P
-    → (HasCleanDisk s1 → IsStore s0 → IfOk r (λ list. (content : Content) → holds_in format s0.now.trees content → Works (terms list) 0 0 0 a b))
-    → OnOk r (Counted format P NoRows s0 s1 a b)
-if_ok_counted (Ok x) format P s0 s1 a b terms never told = λ clean store content has. (0, refl, terms_count P (terms x) a b never (told clean store content has))
-if_ok_counted (Err e) format P s0 s1 a b terms never told = tt
+-- all terms of a register
+pub if_ok_counted : {E : Type 0} (r : Result (Vec TermCount Global) E) (format : Format) (row_work : ℕ) (db : ℤ) (index : ℕ) (register : Register) (s0 s1 : State) (a b : Work)
+    → (HasCleanDisk s1 → IsStore s0 → IfOk r (λ list. (content : Content) → holds_in format s0.now.trees content → AreTermsOf (posted content db) index register list.items))
+    → (HasCleanDisk s1 → IsStore s0 → IfOk r (λ list. (content : Content) → holds_in format s0.now.trees content → Works (row_work * length list.items) 0 0 0 a b))
+    → OnOk r (Counted format (λ content. RegisterDict row_work content db index register) NoRows s0 s1 a b)
+if_ok_counted (Ok x) format row_work db index register s0 s1 a b are told =
+    λ clean store content has. (row_work * length x.items, 0, (x.items, are clean store content has, refl), refl, terms_count (row_work * length x.items) a b (told clean store content has))
+if_ok_counted (Err e) format row_work db index register s0 s1 a b are told = tt

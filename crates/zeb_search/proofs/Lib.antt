@@ -1,5 +1,6 @@
 pub mod Comparisons
 pub mod CountedLemmas
+pub mod DictCounts
 pub mod FollowingPostings
 pub mod Gathering
 pub mod HoldsAlike

@@ -82,17 +82,26 @@ module _ (O : ℕ → Occurrence → Type 0) (index : ℕ) (register : Register)
       let e : false ≡ true = sym (ap (λ o. not (is_lt o)) low) ∙ from in
       cc
 
+  page_of : (start : List ℕ) (n : ℕ) (page : List TermCount) → AreTermsFrom O index register start n page → (t : TermCount) → Has page t → (m : ℕ) × TermIn O index register t.term m
+  page_of start n page are t there =
+      let all = filter (is_from start) are.all in
+      let kept : Has all t = subst (λ (l : List TermCount). Has l t) (page_cut start n page are) (has_left page (drop n all) t there) in
+      are.are.some t (has_filtered (is_from start) are.all t kept).0
+
   -- ---- page after page
 
   module _ (wanted : Wanted) where
-    -- The terms so far rise and are below the next page's start. What is asked for is among them, or isn't below the start.
+    -- The terms so far are terms of the register, rise, and are below the next page's start. What is asked for is among them, or isn't below
+    -- the start.
     pub record HasUpTo (terms : List TermCount) (start : List ℕ) : Type 0 where
+      pub of : (t : TermCount) → Has terms t → (m : ℕ) × TermIn O index register t.term m
       pub rising : TermsRise terms
       pub below : (t : TermCount) → Has terms t → Precedes t.term start
       pub among : (term : List ℕ) (m : ℕ) → TermIn O index register term m → IsWanted wanted term → IsAmong terms term ⊎ (¬ Precedes term start)
 
     pub none_so_far : (start : List ℕ) → BeginsAt wanted start → HasUpTo [] start
     none_so_far start begins = record {
+      of = λ t there. absurd there;
       rising = none_rises (λ (t : TermCount). t.term);
       below = λ t there. absurd there;
       among = λ term m there asked. inr (begins term asked);
@@ -115,7 +124,10 @@ module _ (O : ℕ → Occurrence → Type 0) (index : ℕ) (register : Register)
       in_order : (t u : TermCount) → Has terms t → Has page u → Precedes t.term u.term
       in_order t u here there = below_others t.term u.term start (before.below t here) (page_from start n page are u there)
 
-      more_rises : TermsRise (terms ++ page)
+      pub more_of : (t : TermCount) → Has (terms ++ page) t → (m : ℕ) × TermIn O index register t.term m
+      more_of t there = elim (has_either terms page t there) [ inl sooner ↦ before.of t sooner | inr here ↦ page_of start n page are t here ]
+
+      pub more_rises : TermsRise (terms ++ page)
       more_rises = joined_rise (λ (t : TermCount). t.term) terms page before.rising (page_rises start n page are) in_order
 
       -- with the last page all are there
@@ -150,6 +162,7 @@ module _ (O : ℕ → Occurrence → Type 0) (index : ℕ) (register : Register)
 
         pub page_behind : (next : List ℕ) → next ≡ last.term ++ 0 ∷ [] → HasUpTo (terms ++ page) next
         page_behind next is_next = record {
+          of = more_of;
           rising = more_rises;
           below = λ t there. subst (Precedes t.term) (sym is_next) (below_above t there);
           among = λ term m there asked. elim (after_page term m there asked) [

@@ -1,5 +1,5 @@
 -- How many rows of `blocks` calls read, one after the other.
-use Rattle.std.proofs.Common.{◌≡◌, ◌∙◌, ◌++◌, ◌∷◌, ◌+◌, ◌<◌, [], ℕ, ℤ, List, arith, ap, refl, get_or, length, take}
+use Rattle.std.proofs.Common.{◌≡◌, ◌∙◌, ◌++◌, ◌∷◌, ◌+◌, ◌<◌, [], ℕ, ℤ, List, arith, ap, refl, subst, get_or, length, take}
 use Rattle.std.proofs.lemmas.List.{take_more}
 use Rattle.std.proofs.lemmas.List.Sums.{sum_by_push}
 use Rattle.sqlite.specs.State.{State, HasCleanDisk, Survives}
@@ -38,13 +38,13 @@ module _ (rows : List Posting → ℕ) (content : Content) (db : ℤ) where
         (words.0, words.1 + n, words.2, pattern_behind patterns pattern words.1 n words.3 entries, omega (arith, words.4))
 
 -- the keys of entries, and then the lists of these keys
-pub keys_counted : (format : Format) (W : Type 0) (rows : List Posting → ℕ) (db : ℤ) (index : ℕ) (register : Register) (P : List ℕ → Type 0) (keys seen : List Key) → seen ≡ keys
-    → (s0 s1 s2 : State) (a b c : Work) → IsRead s0 s1 → Survives s1 s2 (λ _. ⊥) → Counted format W NoRows s0 s1 a b
+pub keys_counted : (format : Format) (D : Content → ℕ → Type 0) (rows : List Posting → ℕ) (db : ℤ) (index : ℕ) (register : Register) (P : List ℕ → Type 0) (keys seen : List Key) → seen ≡ keys
+    → (s0 s1 s2 : State) (a b c : Work) → IsRead s0 s1 → Survives s1 s2 (λ _. ⊥) → Counted format D NoRows s0 s1 a b
     → (HasCleanDisk s1 → IsStore s0 → (content : Content) → holds_in format s0.now.trees content → AreKeysOf (posted content db) index register P keys)
-    → Counted format (Unit {0}) (λ content n. n ≡ rows_under rows content db seen) s1 s2 b c → Counted format W (λ content. EntryRows rows content db index register P) s0 s2 a c
-keys_counted format W rows db index register P keys seen same s0 s1 s2 a b c read crash none are lists =
-    counted_then format W (Unit {0}) W (λ content n. (n ≡ 0) × AreKeysOf (posted content db) index register P keys) (λ content n. n ≡ rows_under rows content db seen) (λ content. EntryRows rows content db index register P)
-    s0 s1 s2 a b c (λ h. h) (λ _. tt) (λ content m n first second.
+    → Counted format NoRows (λ content n. n ≡ rows_under rows content db seen) s1 s2 b c → Counted format D (λ content. EntryRows rows content db index register P) s0 s2 a c
+keys_counted format D rows db index register P keys seen same s0 s1 s2 a b c read crash none are lists =
+    counted_then format D NoRows D (λ content n. (n ≡ 0) × AreKeysOf (posted content db) index register P keys) (λ content n. n ≡ rows_under rows content db seen) (λ content. EntryRows rows content db index register P)
+    s0 s1 s2 a b c (λ content m n first second. let total : m ≡ m + n = omega (arith, second) in subst (D content) total first) (λ content m n first second.
     let total : m + n ≡ rows_under rows content db seen = omega (arith, first.0, second) in
     (keys, first.1, total ∙ ap (rows_under rows content db) same)) read crash
-    (λ clean store content has. let x = none clean store content has in (x.0, (x.1, are clean store content has), x.2)) lists
+    (λ clean store content has. let x = none clean store content has in (x.0, x.1, x.2, (x.3, are clean store content has), x.4)) lists

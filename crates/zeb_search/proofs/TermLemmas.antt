@@ -1,10 +1,12 @@
 -- The terms that a step of a search asks for.
-use Rattle.std.proofs.Common.{◌≡◌, ◌↔◌, ◌∙◌, ◌<◌, ◌^◌, ℕ, List, [], ◌∷◌, ◌++◌, sym, ap, subst, subst₂, inl, inr, IsUtf8, chars, encode_utf8_all}
+use Rattle.std.proofs.Common.{◌≡◌, ◌↔◌, ◌∙◌, ◌<◌, ◌^◌, ℕ, List, [], ◌∷◌, ◌++◌, arith, get_or, sym, ap, subst, subst₂, inl, inr, IsUtf8, chars, encode_utf8_all}
+use Rattle.std.specs.List.{Contains}
+use Rattle.std.proofs.lemmas.List.{get_or-map, length-map}
 use Rattle.std.proofs.lemmas.Str.{encodes-chars}
 use Rattle.zeb_query.specs.declared.plans.Relation.{Relation}
 use Rattle.zeb_text.specs.Numbers.{number_key}
 use Rattle.zeb_text.specs.Patterns.{Matches}
-use Rattle.zeb_text.specs.Symbols.{Symbol, literal}
+use Rattle.zeb_text.specs.Symbols.{Symbol, Char, Star, literal}
 use Rattle.zeb_text.proofs.MatchLemmas.{literal-same, same-literal}
 use Rattle.zeb_text.proofs.KeyLemmas.{keys_order}
 use Rattle.zeb_profile.specs.declared.Register.{Register}
@@ -14,6 +16,7 @@ use Rattle.zeb_register.specs.declared.registers.TermCount.{TermCount}
 use Rattle.zeb_register.specs.Occurring.{AreTermsOf, key_in}
 use Rattle.zeb_register.proofs.ContentChanges.{numbers_apart}
 use Rattle.zeb_search.specs.Comparing.{Precedes, Stands}
+use Rattle.zeb_search.specs.Counted.{HasNoStar}
 use Rattle.zeb_search.specs.Holds.{Fits, IsNumberAt}
 use Rattle.zeb_search.specs.declared.terms.Wanted.{Wanted}
 use Rattle.zeb_search.specs.ListRows.{AreKeysOf}
@@ -38,6 +41,13 @@ literal_wanted pattern text utf8 is term = (
   λ fits. sym (encodes-chars term fits.0) ∙ ap encode_utf8_all (literal-same (chars text) (chars term) (subst (λ p. Matches p (chars term)) is fits.1)) ∙ encodes-chars text utf8,
   λ same. (subst IsUtf8 (sym same) utf8, subst (λ p. Matches p (chars term)) (sym is) (same-literal (chars text) (chars term) (ap chars same))),
 )
+
+-- a text has no star
+pub literal_plain : (pattern : List Symbol) (text : List ℕ) → pattern ≡ literal text → HasNoStar pattern
+literal_plain pattern text is has =
+    let there : Contains (literal text) Star = subst (λ (p : List Symbol). Contains p Star) is has in
+    let char : Char (get_or text there.0 0) ≡ Star = sym (get_or-map Char text there.0 0 Star (omega (arith, there.1, length-map text Char))) ∙ there.2 in
+    cc
 
 -- ---- the keys of the terms that are asked for
 

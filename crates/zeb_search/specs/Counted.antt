@@ -47,19 +47,20 @@ NamesEntries (NearOf index left right separation) = HasNoStar left × HasNoStar 
 
 -- ---- counts
 
--- No row is counted as written, and of `blocks` at most so many as read; and none of `dict` as read, where this holds.
-pub record Counts (WithoutTerms : Type 0) (most : ℕ) (old new : Work) : Type 0 where
+-- No row is counted as written; of `dict` at most so many as read, and of `blocks` at most so many.
+pub record Counts (most_terms most_blocks : ℕ) (old new : Work) : Type 0 where
   pub no_term : Rises 0 old.dict_written new.dict_written
   pub no_block : Rises 0 old.block_written new.block_written
-  pub unread : WithoutTerms → Rises 0 old.dict_read new.dict_read
-  pub blocks : new.block_read ≤ old.block_read + most
+  pub terms : new.dict_read ≤ old.dict_read + most_terms
+  pub blocks : new.block_read ≤ old.block_read + most_blocks
 
--- The same of a call, where the disk is clean and the tables of a store hold a content. `Rows` says how many rows of `blocks` its lists have.
-abbrev pub Counted : Format → (WithoutTerms : Type 0) → (Rows : Content → ℕ → Type 0) → (old new : State) → (before after : Work) → Type 0
-Counted format WithoutTerms Rows old new before after =
+-- The same of a call, where the disk is clean and the tables of a store hold a content. `Terms` says how many rows of `dict` the terms have
+-- that it goes through, `Rows` how many rows of `blocks` its lists have.
+abbrev pub Counted : Format → (Terms Rows : Content → ℕ → Type 0) → (old new : State) → (before after : Work) → Type 0
+Counted format Terms Rows old new before after =
     HasCleanDisk new → IsStore old → (content : Content) → holds_in format old.now.trees content
-    → (most : ℕ) × Rows content most × Counts WithoutTerms most before after
+    → (most_terms : ℕ) × (most_blocks : ℕ) × Terms content most_terms × Rows content most_blocks × Counts most_terms most_blocks before after
 
--- no list is read
+-- no row is read
 abbrev pub NoRows : Content → ℕ → Type 0
 NoRows content n = n ≡ 0

@@ -1,5 +1,6 @@
 pub mod Comparing
 pub mod Counted
+pub mod DictRows
 pub mod Holds
 pub mod ListRows
 pub mod Lists

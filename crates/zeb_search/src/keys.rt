@@ -8,6 +8,7 @@ ghost use Rattle.zeb_register.specs.Content.{Content, IsStorable, posted};
 ghost use Rattle.zeb_register.specs.Formats.{holds_in};
 ghost use Rattle.zeb_register.specs.Store.{IsStore};
 ghost use Rattle.zeb_search.specs.Counted.{Counted, NoRows};
+ghost use Rattle.zeb_search.specs.DictRows.{EntryDict, RegisterDict};
 ghost use Rattle.zeb_search.specs.ListRows.{AreKeysOf};
 ghost use Rattle.zeb_search.specs.PrivateTerms.{AreTaken, HasWanted, IsWanted, LeadsTo, NamesEntry};
 ghost use Rattle.zeb_search.specs.Untouched.{IsUntouched};
@@ -81,13 +82,13 @@ fn terms_by_pages<S: Alter, L: Layout>(
         → HasWanted (posted content database.0) index register wanted.entry terms.items) }
     ensures honest { HasCleanDisk (state S.Store connection.new) → IsStore (state S.Store connection.old) → result ≡ Err RegFault.Damaged
         → (content : Content) → IsStorable content → ¬ holds_in L.format (state S.Store connection.old).now.trees content }
-    ensures work { OnOk result (Counted L.format ⊥ NoRows
+    ensures work { OnOk result (Counted L.format (λ content. RegisterDict L.row_work content database.0 index register) NoRows
         (state S.Store connection.old) (state S.Store connection.new) work.old work.new) }
     ensures no_work { L.row_work ≡ 0 → work.new ≡ work.old }
 {
     let mut terms = Vec::new(alloc);
     let mut start = wanted.start(alloc)?;
-    for _done in 0..u64::MAX {
+    'pages: loop {
         let mut page = L::terms_from(
             alloc,
             connection,
@@ -105,8 +106,6 @@ fn terms_by_pages<S: Alter, L: Layout>(
             None => return Ok(terms),
         }
     }
-    // No register has so many pages; the terms would be read at once.
-    L::terms_of(alloc, connection, work, database, index, register)
 }
 
 /// Terms of a register, among which are those that are asked for.
@@ -125,7 +124,7 @@ fn terms_wanted<S: Alter, L: Layout>(
         → HasWanted (posted content database.0) index register wanted.entry terms.items) }
     ensures honest { HasCleanDisk (state S.Store connection.new) → IsStore (state S.Store connection.old) → result ≡ Err RegFault.Damaged
         → (content : Content) → IsStorable content → ¬ holds_in L.format (state S.Store connection.old).now.trees content }
-    ensures work { OnOk result (Counted L.format ⊥ NoRows
+    ensures work { OnOk result (Counted L.format (λ content. RegisterDict L.row_work content database.0 index register) NoRows
         (state S.Store connection.old) (state S.Store connection.new) work.old work.new) }
     ensures no_work { L.row_work ≡ 0 → work.new ≡ work.old }
 {
@@ -152,7 +151,8 @@ pub(crate) fn keys_wanted<S: Alter, L: Layout>(
         → AreKeysOf (posted content database.0) index register (IsWanted wanted.entry) keys.items) }
     ensures honest { HasCleanDisk (state S.Store connection.new) → IsStore (state S.Store connection.old) → result ≡ Err RegFault.Damaged
         → (content : Content) → IsStorable content → ¬ holds_in L.format (state S.Store connection.old).now.trees content }
-    ensures work { OnOk result (Counted L.format (NamesEntry wanted.entry) NoRows
+    ensures work { OnOk result (Counted L.format
+        (λ content. EntryDict L.row_work content database.0 (NamesEntry wanted.entry) index register) NoRows
         (state S.Store connection.old) (state S.Store connection.new) work.old work.new) }
     ensures no_work { L.row_work ≡ 0 → work.new ≡ work.old }
 {

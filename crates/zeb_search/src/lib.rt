@@ -12,4 +12,4 @@ mod ranges;
 mod terms;
 mod words;
 
-pub use plans::hits;
+pub use plans::{hits, named_entries_read_no_terms};

@@ -1,15 +1,16 @@
 //! The records on which a plan holds.
 
-ghost use Rattle.std.specs.Prelude.{◌≡◌, ◌<◌, ◌^◌, ℕ, List, [], ◌∷◌, IfOk, OnOk, pos};
+ghost use Rattle.std.specs.Prelude.{◌≡◌, ◌<◌, ◌^◌, ℕ, ℤ, List, [], ◌∷◌, IfOk, OnOk, pos};
 ghost use Rattle.sqlite.specs.Held.{state};
 ghost use Rattle.sqlite.specs.State.{HasCleanDisk};
-ghost use Rattle.zeb_query.specs.Plans.{HasSmallNumber, HasSmallNumbers, NearOf, TermOf, plan_value, term_plan_value};
+ghost use Rattle.zeb_query.specs.Plans.{HasSmallNumber, HasSmallNumbers, NearOf, PlanValue, TermOf, plan_value, term_plan_value};
 ghost use Rattle.zeb_register.specs.Calls.{Reading};
 ghost use Rattle.zeb_register.specs.Content.{Content, IsStorable};
 ghost use Rattle.zeb_register.specs.Formats.{holds_in};
 ghost use Rattle.zeb_register.specs.Kept.{AreReadableIdents};
 ghost use Rattle.zeb_register.specs.Store.{IsStore};
-ghost use Rattle.zeb_search.specs.Counted.{Counted, HasNoStar, NamesEntries, TermNamesEntries};
+ghost use Rattle.zeb_search.specs.Counted.{Counted, NamesEntries};
+ghost use Rattle.zeb_search.specs.DictRows.{PlanDict, TermDict, WordDict};
 ghost use Rattle.zeb_search.specs.ListRows.{PlanRows, TermRows, WordRows};
 ghost use Rattle.zeb_search.specs.Lists.{AreNumbers};
 ghost use Rattle.zeb_search.specs.Registers.{HoldsIn, NamesReadable, TermNamesReadable, is_kept_in};
@@ -46,7 +47,7 @@ pub fn hits<S: Alter, L: Layout>(
     ensures honest { HasCleanDisk (state S.Store connection.new) → IsStore (state S.Store connection.old) → result ≡ Err RegFault.Damaged
         → NamesReadable (state S.Store connection.old).now.trees database.0 (plan_value plan.now)
         → (content : Content) → IsStorable content → ¬ holds_in L.format (state S.Store connection.old).now.trees content }
-    ensures work { OnOk result (Counted L.format (NamesEntries (plan_value plan.now))
+    ensures work { OnOk result (Counted L.format (λ content. PlanDict L.row_work content database.0 (plan_value plan.now))
         (λ content. PlanRows L.block_rows content database.0 (plan_value plan.now))
         (state S.Store connection.old) (state S.Store connection.new) work.old work.new) }
     ensures no_work { L.row_work ≡ 0 → work.new ≡ work.old }
@@ -78,7 +79,7 @@ fn term_hits<S: Alter, L: Layout>(
     ensures honest { HasCleanDisk (state S.Store connection.new) → IsStore (state S.Store connection.old) → result ≡ Err RegFault.Damaged
         → TermNamesReadable (state S.Store connection.old).now.trees database.0 (term_plan_value term.now)
         → (content : Content) → IsStorable content → ¬ holds_in L.format (state S.Store connection.old).now.trees content }
-    ensures work { OnOk result (Counted L.format (TermNamesEntries (term_plan_value term.now))
+    ensures work { OnOk result (Counted L.format (λ content. TermDict L.row_work content database.0 (term_plan_value term.now))
         (λ content. TermRows L.block_rows content database.0 (term_plan_value term.now))
         (state S.Store connection.old) (state S.Store connection.new) work.old work.new) }
     ensures no_work { L.row_work ≡ 0 → work.new ≡ work.old }
@@ -204,7 +205,8 @@ fn near_hits<S: Alter, L: Layout>(
         (NearOf plan.now.index plan.now.left plan.now.right plan.now.separation)) hits.items) }
     ensures honest { HasCleanDisk (state S.Store connection.new) → IsStore (state S.Store connection.old) → result ≡ Err RegFault.Damaged
         → (content : Content) → IsStorable content → ¬ holds_in L.format (state S.Store connection.old).now.trees content }
-    ensures work { OnOk result (Counted L.format (HasNoStar plan.now.left × HasNoStar plan.now.right)
+    ensures work { OnOk result (Counted L.format
+        (λ content. WordDict L.row_work content database.0 plan.now.index (plan.now.left ∷ plan.now.right ∷ []))
         (λ content. WordRows L.block_rows content database.0 plan.now.index (plan.now.left ∷ plan.now.right ∷ []))
         (state S.Store connection.old) (state S.Store connection.new) work.old work.new) }
     ensures no_work { L.row_work ≡ 0 → work.new ≡ work.old }
@@ -220,3 +222,9 @@ fn near_hits<S: Alter, L: Layout>(
     )?;
     Ok(near(alloc, &left, &right, &plan.separation)?)
 }
+
+/// A search whose plan names its entries, by patterns without a star and by numbers that are asked for as they are, reads no row of `dict`.
+pub fn named_entries_read_no_terms()
+    ensures none { (row_work : ℕ) (content : Content) (db : ℤ) (plan : PlanValue) (n : ℕ) → PlanDict row_work content db plan n
+        → NamesEntries plan → n ≡ 0 }
+{}

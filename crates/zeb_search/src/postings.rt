@@ -7,7 +7,8 @@ ghost use Rattle.zeb_register.specs.Calls.{Reading};
 ghost use Rattle.zeb_register.specs.Content.{Content, IsStorable, posted};
 ghost use Rattle.zeb_register.specs.Formats.{holds_in};
 ghost use Rattle.zeb_register.specs.Store.{IsStore};
-ghost use Rattle.zeb_search.specs.Counted.{Counted, HasNoStar};
+ghost use Rattle.zeb_search.specs.Counted.{Counted, HasNoStar, NoRows};
+ghost use Rattle.zeb_search.specs.DictRows.{EntryDict};
 ghost use Rattle.zeb_search.specs.Holds.{Fits, HasEntry, HasWord};
 ghost use Rattle.zeb_search.specs.ListRows.{EntryRows, rows_under};
 ghost use Rattle.zeb_search.specs.Lists.{AreNumbers, ArePostings};
@@ -38,8 +39,7 @@ fn postings_of<S: Alter, L: Layout>(
         → ArePostings (IsPostingOf content database.0 keys.now) list.items) }
     ensures honest { HasCleanDisk (state S.Store connection.new) → IsStore (state S.Store connection.old) → result ≡ Err RegFault.Damaged
         → (content : Content) → IsStorable content → ¬ holds_in L.format (state S.Store connection.old).now.trees content }
-    ensures work { OnOk result (Counted L.format (Unit {0})
-        (λ content n. n ≡ rows_under L.block_rows content database.0 keys.now)
+    ensures work { OnOk result (Counted L.format NoRows (λ content n. n ≡ rows_under L.block_rows content database.0 keys.now)
         (state S.Store connection.old) (state S.Store connection.new) work.old work.new) }
     ensures no_work { L.row_work ≡ 0 → work.new ≡ work.old }
 {
@@ -67,7 +67,8 @@ pub(crate) fn numbers_wanted<S: Alter, L: Layout>(
         → AreNumbers (HasEntry (posted content database.0) index register (IsWanted wanted.entry)) numbers.items) }
     ensures honest { HasCleanDisk (state S.Store connection.new) → IsStore (state S.Store connection.old) → result ≡ Err RegFault.Damaged
         → (content : Content) → IsStorable content → ¬ holds_in L.format (state S.Store connection.old).now.trees content }
-    ensures work { OnOk result (Counted L.format (NamesEntry wanted.entry)
+    ensures work { OnOk result (Counted L.format
+        (λ content. EntryDict L.row_work content database.0 (NamesEntry wanted.entry) index register)
         (λ content. EntryRows L.block_rows content database.0 index register (IsWanted wanted.entry))
         (state S.Store connection.old) (state S.Store connection.new) work.old work.new) }
     ensures no_work { L.row_work ≡ 0 → work.new ≡ work.old }
@@ -92,7 +93,8 @@ pub(crate) fn places_of_words<S: Alter, L: Layout>(
         → ArePostings (λ p. HasWord (posted content database.0) index pattern.now p.sysno p.seq p.pos) list.items) }
     ensures honest { HasCleanDisk (state S.Store connection.new) → IsStore (state S.Store connection.old) → result ≡ Err RegFault.Damaged
         → (content : Content) → IsStorable content → ¬ holds_in L.format (state S.Store connection.old).now.trees content }
-    ensures work { OnOk result (Counted L.format (HasNoStar pattern.now)
+    ensures work { OnOk result (Counted L.format
+        (λ content. EntryDict L.row_work content database.0 (HasNoStar pattern.now) index Register.Word)
         (λ content. EntryRows L.block_rows content database.0 index Register.Word (Fits pattern.now))
         (state S.Store connection.old) (state S.Store connection.new) work.old work.new) }
     ensures no_work { L.row_work ≡ 0 → work.new ≡ work.old }

@@ -8,7 +8,8 @@ ghost use Rattle.zeb_register.specs.Calls.{Reading};
 ghost use Rattle.zeb_register.specs.Content.{Content, IsStorable, posted};
 ghost use Rattle.zeb_register.specs.Formats.{holds_in};
 ghost use Rattle.zeb_register.specs.Store.{IsStore};
-ghost use Rattle.zeb_search.specs.Counted.{Counted, HaveNoStar};
+ghost use Rattle.zeb_search.specs.Counted.{Counted};
+ghost use Rattle.zeb_search.specs.DictRows.{WordDict};
 ghost use Rattle.zeb_search.specs.Holds.{HasWords};
 ghost use Rattle.zeb_search.specs.ListRows.{WordRows};
 ghost use Rattle.zeb_search.specs.Lists.{AreNumbers, ArePostings};
@@ -40,7 +41,7 @@ pub(crate) fn any_word_hits<S: Alter, L: Layout>(
         → AreNumbers (HoldsIn (state S.Store connection.old).now.trees content database.0 (TermOf (AnyWordOf index patterns.now))) hits.items) }
     ensures honest { HasCleanDisk (state S.Store connection.new) → IsStore (state S.Store connection.old) → result ≡ Err RegFault.Damaged
         → (content : Content) → IsStorable content → ¬ holds_in L.format (state S.Store connection.old).now.trees content }
-    ensures work { OnOk result (Counted L.format (HaveNoStar patterns.now)
+    ensures work { OnOk result (Counted L.format (λ content. WordDict L.row_work content database.0 index patterns.now)
         (λ content. WordRows L.block_rows content database.0 index patterns.now)
         (state S.Store connection.old) (state S.Store connection.new) work.old work.new) }
     ensures no_work { L.row_work ≡ 0 → work.new ≡ work.old }
@@ -77,7 +78,7 @@ pub(crate) fn all_words_hits<S: Alter, L: Layout>(
         → AreNumbers (HoldsIn (state S.Store connection.old).now.trees content database.0 (TermOf (AllWordsOf index patterns.now))) hits.items) }
     ensures honest { HasCleanDisk (state S.Store connection.new) → IsStore (state S.Store connection.old) → result ≡ Err RegFault.Damaged
         → (content : Content) → IsStorable content → ¬ holds_in L.format (state S.Store connection.old).now.trees content }
-    ensures work { OnOk result (Counted L.format (HaveNoStar patterns.now)
+    ensures work { OnOk result (Counted L.format (λ content. WordDict L.row_work content database.0 index patterns.now)
         (λ content. WordRows L.block_rows content database.0 index patterns.now)
         (state S.Store connection.old) (state S.Store connection.new) work.old work.new) }
     ensures no_work { L.row_work ≡ 0 → work.new ≡ work.old }
@@ -128,7 +129,7 @@ pub(crate) fn phrase_hits<S: Alter, L: Layout>(
         → AreNumbers (HoldsIn (state S.Store connection.old).now.trees content database.0 (TermOf (PhraseOf index patterns.now first))) hits.items) }
     ensures honest { HasCleanDisk (state S.Store connection.new) → IsStore (state S.Store connection.old) → result ≡ Err RegFault.Damaged
         → (content : Content) → IsStorable content → ¬ holds_in L.format (state S.Store connection.old).now.trees content }
-    ensures work { OnOk result (Counted L.format (HaveNoStar patterns.now)
+    ensures work { OnOk result (Counted L.format (λ content. WordDict L.row_work content database.0 index patterns.now)
         (λ content. WordRows L.block_rows content database.0 index patterns.now)
         (state S.Store connection.old) (state S.Store connection.new) work.old work.new) }
     ensures no_work { L.row_work ≡ 0 → work.new ≡ work.old }
@@ -168,7 +169,7 @@ fn places_of_phrase<S: Alter, L: Layout>(
         → ArePostings (λ p. (patterns.now ≢ []) × HasWords (posted content database.0) index patterns.now p.sysno p.seq p.pos) places.items) }
     ensures honest { HasCleanDisk (state S.Store connection.new) → IsStore (state S.Store connection.old) → result ≡ Err RegFault.Damaged
         → (content : Content) → IsStorable content → ¬ holds_in L.format (state S.Store connection.old).now.trees content }
-    ensures work { OnOk result (Counted L.format (HaveNoStar patterns.now)
+    ensures work { OnOk result (Counted L.format (λ content. WordDict L.row_work content database.0 index patterns.now)
         (λ content. WordRows L.block_rows content database.0 index patterns.now)
         (state S.Store connection.old) (state S.Store connection.new) work.old work.new) }
     ensures no_work { L.row_work ≡ 0 → work.new ≡ work.old }

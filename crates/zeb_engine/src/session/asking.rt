@@ -49,8 +49,8 @@ impl<S: Alter, L: Layout> Session<S, L> {
             → Alone L.format (FindSays self.old.profile question.entry.query.now question.entry.first question.entry.count)
             (name_bytes database.now) (state S.Store self.old.connection) result }
         ensures work { HasCleanDisk (state S.Store self.new.connection)
-            → OnOk result (FindReads L.format L.block_rows self.old.profile (name_bytes database.now) question.entry.query.now
-            (state S.Store self.old.connection) self.old.work self.new.work) }
+            → OnOk result (FindReads L.format L.row_work L.block_rows self.old.profile (name_bytes database.now)
+            question.entry.query.now (state S.Store self.old.connection) self.old.work self.new.work) }
     {
         check_ready::<S, L>(&mut self.connection, &self.profile)?;
         find::<S, L>(

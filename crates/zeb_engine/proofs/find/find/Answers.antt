@@ -169,7 +169,7 @@ returns-clause-work g c clean store content held =
     let counted = c.in_ok-hits.ensures.work clean2 still.store content still.held in (
       plan_value c.in_ok-plan.plan,
       (query_value c.in_ok-query.query, c.in_ok-query.ensures.spelled, c.in_ok-plan.ensures.planned),
-      (c.in_ok-database.database.id.0, pos c.in_ok-database.database.last, c.in_ok-database.ensures.row clean1 store, counted.0, counted.1, counted.2),
+      (c.in_ok-database.database.id.0, pos c.in_ok-database.database.last, c.in_ok-database.ensures.row clean1 store, counted.0, counted.1, counted.2, counted.3, counted.4),
     )
 
 pub returns-in_err-hits-clause-ready : goal.returns-in_err-hits-clause-ready

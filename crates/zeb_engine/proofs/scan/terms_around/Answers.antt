@@ -53,5 +53,7 @@ returns-clause-work g c clean store content format least most =
     let position = c.args.around.now.position in
     let below : c.saturating_sub-below.result ≡ position - 1 = search rules in
     let from : c.saturating_sub-from.result ≡ number + 1 - position = search rules in
-    around_reads g.L.Layout.row_work number position c.saturating_sub-below.result c.saturating_sub-from.result c.args.work.now c.terms_before.new.work c.terms_from.new.work below from least most
+    around_reads (posted content c.args.database.0) c.args.plan.now.index c.args.plan.now.register c.as_str-start.result.now g.L.Layout.row_work number position c.saturating_sub-below.result c.saturating_sub-from.result
+    c.in_ok-first.first.items c.in_ok-rest.rest.items c.args.work.now c.terms_before.new.work c.terms_from.new.work below from least most
+    (c.in_ok-first.ensures.value clean1 store content format) (c.in_ok-rest.ensures.value clean there content held)
     (c.in_ok-first.ensures.work clean1 store content format) (c.in_ok-rest.ensures.work clean there content held)

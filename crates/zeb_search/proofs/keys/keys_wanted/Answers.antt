@@ -1,9 +1,13 @@
-use Rattle.std.proofs.Common.{rules, ◌≡◌, ◌↔◌, ◌∙◌, ◌++◌, ◌∷◌, [], ℕ, List, ap, sym, subst}
+use Rattle.std.proofs.Common.{rules, ◌≡◌, ◌↔◌, ◌∙◌, ◌++◌, ◌∷◌, [], ℕ, List, ap, refl, sym, subst, inl, inr}
+use Rattle.sqlite.specs.Held.{state}
 use Rattle.zeb_extract.specs.declared.keys.Key.{Key}
 use Rattle.zeb_register.specs.Content.{posted}
 use Rattle.zeb_register.specs.Occurring.{key_in}
+use Rattle.zeb_search.specs.Counted.{NoRows}
+use Rattle.zeb_search.specs.DictRows.{EntryDict, RegisterDict}
 use Rattle.zeb_search.specs.ListRows.{AreKeysOf}
-use Rattle.zeb_search.specs.PrivateTerms.{IsWanted}
+use Rattle.zeb_search.specs.PrivateTerms.{IsWanted, NamesEntry}
+use Rattle.zeb_search.proofs.CountedLemmas.{counted_for, counted_still}
 use Rattle.zeb_search.proofs.TermLemmas.{keys_are, named_key}
 use Rattle.zeb_search.proofs.keys.keys_wanted.Goals as goal
 
@@ -19,3 +23,16 @@ pub returns-clause-value : goal.returns-clause-value
 returns-clause-value g c clean store content has =
     keys_are (posted content c.args.database.0) c.args.index c.args.register c.args.wanted c.in_ok-terms.terms.items c.in_ok-keys_of.field-0.items
     (c.in_ok-terms.ensures.value clean store content has) c.in_ok-keys_of.ensures
+
+pub returns-in-Some-clause-work : goal.returns-in-Some-clause-work
+returns-in-Some-clause-work g c =
+    let named : NamesEntry c.args.wanted = search rules in
+    counted_still g.L.Layout.format (λ content. EntryDict g.L.Layout.row_work content c.args.database.0 (NamesEntry c.args.wanted) c.args.index c.args.register) NoRows (state g.S.Store c.args.connection.now) c.args.work.now
+    (λ content. inl (named, refl)) (λ content. refl)
+
+pub returns-clause-work : goal.returns-clause-work
+returns-clause-work g c =
+    let unnamed : ¬ NamesEntry c.args.wanted = search rules in
+    counted_for g.L.Layout.format (λ content. RegisterDict g.L.Layout.row_work content c.args.database.0 c.args.index c.args.register)
+    (λ content. EntryDict g.L.Layout.row_work content c.args.database.0 (NamesEntry c.args.wanted) c.args.index c.args.register) NoRows NoRows (state g.S.Store c.args.connection.now)
+    (state g.S.Store c.terms_wanted.new.connection) c.args.work.now c.terms_wanted.new.work (λ content n all. inr (unnamed, all)) (λ content n none. none) c.in_ok-terms.ensures.work

@@ -1,4 +1,4 @@
-use Rattle.std.proofs.Common.{◌≡◌, string_bytes}
+use Rattle.std.proofs.Common.{◌≡◌, ◌*◌, ◌-◌, ◌^◌, length, string_bytes}
 use Rattle.sqlite.specs.Held.{state}
 use Rattle.sqlite.specs.State.{HasCleanDisk}
 use Rattle.zeb_register.specs.Content.{Content, posted}
@@ -9,14 +9,18 @@ use Rattle.zeb_search.proofs.ReadLemmas.{IsRead}
 use Rattle.zeb_search.specs.Counted.{Counted, NoRows}
 use Rattle.zeb_search.proofs.keys.terms_by_pages.Given as goal
 
-abbrev pub invariant-loop-done : goal.invariant-loop-done
-invariant-loop-done g l =
+abbrev pub invariant-pages : goal.invariant-pages
+invariant-pages g l =
     let old = state g.S.Store l.fn.connection in
     let now = state g.S.Store l.connection in
     record {
       read : IsRead old now;
       found : HasCleanDisk now → IsStore old → (content : Content) → holds_in g.L.Layout.format old.now.trees content
           → HasUpTo (posted content l.fn.database.0) l.index l.register l.wanted l.terms.items (string_bytes l.start);
-      counted : Counted g.L.Layout.format ⊥ NoRows old now l.fn.work l.work;
+      counted : Counted g.L.Layout.format (λ content n. n ≡ g.L.Layout.row_work * length l.terms.items) NoRows old now l.fn.work l.work;
       no_work : g.L.Layout.row_work ≡ 0 → l.work ≡ l.fn.work;
     }
+
+-- a page that leads to another one has some term
+abbrev pub decreases-pages : goal.decreases-pages
+decreases-pages g l = 2 ^ 63 - length l.terms.items

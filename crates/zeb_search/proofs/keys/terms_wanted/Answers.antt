@@ -1,9 +1,7 @@
-use Rattle.std.proofs.Common.{◌*◌, length, Vec, Global}
 use Rattle.std.proofs.lemmas.Result.{IfOk-weaker}
 use Rattle.zeb_register.specs.Content.{posted}
 use Rattle.zeb_search.proofs.TermLemmas.{all_has_wanted}
 use Rattle.sqlite.specs.Held.{state}
-use Rattle.zeb_register.specs.declared.registers.TermCount.{TermCount}
 use Rattle.zeb_search.proofs.CountedLemmas.{if_ok_counted}
 use Rattle.zeb_search.proofs.keys.terms_wanted.Goals as goal
 
@@ -13,5 +11,5 @@ returns-then-spans_register-clause-value g c clean store =
 
 pub returns-then-spans_register-clause-work : goal.returns-then-spans_register-clause-work
 returns-then-spans_register-clause-work g c =
-    if_ok_counted c.terms_of.result g.L.Layout.format ⊥ (state g.S.Store c.args.connection.now) (state g.S.Store c.terms_of.new.conn) c.args.work.now c.terms_of.new.work
-    (λ (list : Vec TermCount Global). g.L.Layout.row_work * length list.items) (λ h. h) c.terms_of.ensures.work
+    if_ok_counted c.terms_of.result g.L.Layout.format g.L.Layout.row_work c.args.database.0 c.args.index c.args.register (state g.S.Store c.args.connection.now) (state g.S.Store c.terms_of.new.conn)
+    c.args.work.now c.terms_of.new.work c.terms_of.ensures.value c.terms_of.ensures.work

@@ -5,7 +5,8 @@ use Rattle.zeb_register.specs.declared.RegFault.{RegFault}
 use Rattle.zeb_register.specs.declared.RegFault.TheVariants as fault
 use Rattle.zeb_query.specs.declared.plans.PairPlan.{PairPlan}
 use Rattle.zeb_query.specs.Plans.{PairOf, plan_value}
-use Rattle.zeb_search.specs.Counted.{Counted, NamesEntries}
+use Rattle.zeb_search.specs.Counted.{Counted}
+use Rattle.zeb_search.specs.DictRows.{PlanDict}
 use Rattle.zeb_search.specs.ListRows.{PlanRows}
 use Rattle.zeb_search.specs.Registers.{NamesReadable}
 use Rattle.zeb_search.proofs.CountedLemmas.{counted_then}
@@ -38,14 +39,16 @@ returns-in_ok-joined-in-Pair-clause-work g t c =
     let mid = state g.S.Store c.hits.new.connection in
     let new = state g.S.Store c.hits-in-Pair.new.connection in
     let rows = g.L.Layout.block_rows in
+    let row_work = g.L.Layout.row_work in
     let db = c.args.database.0 in
     let pair : PairPlan = c.in-Pair.pair.value in
     let left = plan_value pair.left in
     let right = plan_value pair.right in
-    let of_left = subst (λ (p : PairPlan). Counted g.L.Layout.format (NamesEntries (plan_value p.left)) (λ content. PlanRows rows content db (plan_value p.left)) old mid c.args.work.now c.hits.new.work)
+    let of_left = subst (λ (p : PairPlan). Counted g.L.Layout.format (λ content. PlanDict row_work content db (plan_value p.left)) (λ content. PlanRows rows content db (plan_value p.left)) old mid c.args.work.now c.hits.new.work)
     c.deref.ensures c.in_ok-left-in-Pair.ensures.work in
-    let of_right = subst (λ (p : PairPlan). Counted g.L.Layout.format (NamesEntries (plan_value p.right)) (λ content. PlanRows rows content db (plan_value p.right)) mid new c.hits.new.work c.hits-in-Pair.new.work)
+    let of_right = subst (λ (p : PairPlan). Counted g.L.Layout.format (λ content. PlanDict row_work content db (plan_value p.right)) (λ content. PlanRows rows content db (plan_value p.right)) mid new c.hits.new.work c.hits-in-Pair.new.work)
     c.deref-in-Pair.ensures c.in_ok-right-in-Pair.ensures.work in
-    rw c.in-Pair.is (counted_then g.L.Layout.format (NamesEntries left) (NamesEntries right) (NamesEntries left × NamesEntries right) (λ content. PlanRows rows content db left) (λ content. PlanRows rows content db right)
-    (λ content. PlanRows rows content db (PairOf pair.operator left right)) old mid new c.args.work.now c.hits.new.work c.hits-in-Pair.new.work (λ h. h.0) (λ h. h.1)
+    rw c.in-Pair.is (counted_then g.L.Layout.format (λ content. PlanDict row_work content db left) (λ content. PlanDict row_work content db right)
+    (λ content. PlanDict row_work content db (PairOf pair.operator left right)) (λ content. PlanRows rows content db left) (λ content. PlanRows rows content db right)
+    (λ content. PlanRows rows content db (PairOf pair.operator left right)) old mid new c.args.work.now c.hits.new.work c.hits-in-Pair.new.work (λ content m n first second. (m, n, first, second, refl))
     (λ content m n first second. (m, n, first, second, refl)) (as_read old mid c.in_ok-left-in-Pair.left c.in_ok-left-in-Pair.ensures.call) c.hits-in-Pair.ensures.call.crash of_left of_right)

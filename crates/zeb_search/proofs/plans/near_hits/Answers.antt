@@ -4,10 +4,12 @@ use Rattle.zeb_register.specs.Content.{posted}
 use Rattle.zeb_register.specs.Formats.{holds_in}
 use Rattle.zeb_profile.specs.declared.Register.TheVariants as register
 use Rattle.zeb_search.specs.Counted.{HasNoStar}
+use Rattle.zeb_search.specs.DictRows.{EntryDict, WordDict}
 use Rattle.zeb_search.specs.Holds.{Fits}
 use Rattle.zeb_search.specs.ListRows.{EntryRows, WordRows}
 use Rattle.zeb_search.specs.Lists.{ArePostings}
 use Rattle.zeb_search.proofs.CountedLemmas.{counted_then}
+use Rattle.zeb_search.proofs.DictCounts.{one_dict}
 use Rattle.zeb_search.proofs.PlanLemmas.{IsWordAt, near_hits}
 use Rattle.zeb_search.proofs.ReadLemmas.{as_read, clean_before, still_store, still_trees}
 use Rattle.zeb_search.proofs.RowCounts.{one_pattern}
@@ -33,9 +35,11 @@ returns-clause-work g c =
     let mid = state g.S.Store c.places_of_words.new.connection in
     let plan = c.args.plan.now in
     let rows = g.L.Layout.block_rows in
+    let row_work = g.L.Layout.row_work in
     let db = c.args.database.0 in
-    counted_then g.L.Layout.format (HasNoStar plan.left) (HasNoStar plan.right) (HasNoStar plan.left × HasNoStar plan.right) (λ content. EntryRows rows content db plan.index register.Word (Fits plan.left))
+    counted_then g.L.Layout.format (λ content. EntryDict row_work content db (HasNoStar plan.left) plan.index register.Word)
+    (λ content. EntryDict row_work content db (HasNoStar plan.right) plan.index register.Word) (λ content. WordDict row_work content db plan.index (plan.left ∷ plan.right ∷ [])) (λ content. EntryRows rows content db plan.index register.Word (Fits plan.left))
     (λ content. EntryRows rows content db plan.index register.Word (Fits plan.right)) (λ content. WordRows rows content db plan.index (plan.left ∷ plan.right ∷ []))
-    old mid (state g.S.Store c.places_of_words-2.new.connection) c.args.work.now c.places_of_words.new.work c.places_of_words-2.new.work (λ h. h.0) (λ h. h.1)
+    old mid (state g.S.Store c.places_of_words-2.new.connection) c.args.work.now c.places_of_words.new.work c.places_of_words-2.new.work (λ content m n left right. (m, n, left, one_dict row_work content db plan.index plan.right n right, refl))
     (λ content m n left right. (m, n, left, one_pattern rows content db plan.index plan.right n right, refl)) (as_read old mid c.in_ok-left.left c.in_ok-left.ensures.call) c.places_of_words-2.ensures.call.crash
     c.in_ok-left.ensures.work c.in_ok-right.ensures.work

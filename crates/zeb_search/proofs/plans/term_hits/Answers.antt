@@ -1,4 +1,11 @@
+use Rattle.std.proofs.lemmas.Result.{on_ok_weaker}
 use Rattle.sqlite.specs.Held.{state}
+use Rattle.zeb_register.specs.Content.{Content}
+use Rattle.zeb_search.specs.Comparing.{StandsInOrder}
+use Rattle.zeb_search.specs.DictRows.{EntryDict, RegisterDict}
+use Rattle.zeb_search.specs.ListRows.{EntryRows}
+use Rattle.zeb_search.proofs.CountedLemmas.{counted_for}
+use Rattle.zeb_search.proofs.DictCounts.{unnamed}
 use Rattle.zeb_search.proofs.PlanLemmas.{no_pattern, no_start}
 use Rattle.zeb_search.proofs.plans.term_hits.Goals as goal
 
@@ -12,13 +19,31 @@ returns-in-None-pattern-clause-value g c clean store content has =
     no_pattern (state g.S.Store c.args.connection.now).now.trees content c.args.database.0 c.args.term.now c.new-in-None-pattern.result.items c.new-in-None-pattern.ensures.items c.in-Complete.index c.in-Complete.pattern c.in-Complete.is c.in-None-pattern.is
 
 pub returns-in-Always-clause-work : goal.returns-in-Always-clause-work
-returns-in-Always-clause-work g c = rw c.in-Always.is c.numbers_wanted.ensures.work
+returns-in-Always-clause-work g c =
+    let row_work = g.L.Layout.row_work in
+    let rows = g.L.Layout.block_rows in
+    let db = c.args.database.0 in
+    let index = c.in-Always.index in
+    let register = c.in-Always.register in
+    rw c.in-Always.is (on_ok_weaker c.numbers_wanted.result (counted_for g.L.Layout.format (λ content. EntryDict row_work content db ⊥ index register) (λ content. RegisterDict row_work content db index register)
+    (λ content. EntryRows rows content db index register (λ _. Unit {0})) (λ content. EntryRows rows content db index register (λ _. Unit {0})) (state g.S.Store c.args.connection.now)
+    (state g.S.Store c.numbers_wanted.new.connection) c.args.work.now c.numbers_wanted.new.work (λ content n terms. unnamed row_work content db index register n terms) (λ content n entries. entries))
+    c.numbers_wanted.ensures.work)
 
 pub returns-in-Number-clause-work : goal.returns-in-Number-clause-work
 returns-in-Number-clause-work g c = rw c.in-Number.is c.numbers_wanted-in-Number.ensures.work
 
 pub returns-in-Some-clause-work : goal.returns-in-Some-clause-work
-returns-in-Some-clause-work g c = rw (c.in-Ordered.is, c.in-Some.is, ← c.as_str.ensures.value) c.numbers_wanted-in-Some.ensures.work
+returns-in-Some-clause-work g c =
+    let row_work = g.L.Layout.row_work in
+    let db = c.args.database.0 in
+    let index = c.in-Ordered.index in
+    let register = c.in-Ordered.register in
+    let entries = λ (content : Content). EntryRows g.L.Layout.block_rows content db index register (λ term. StandsInOrder c.in-Ordered.order term c.as_str.result.now) in
+    rw (c.in-Ordered.is, c.in-Some.is, ← c.as_str.ensures.value) (on_ok_weaker c.numbers_wanted-in-Some.result
+    (counted_for g.L.Layout.format (λ content. EntryDict row_work content db ⊥ index register) (λ content. RegisterDict row_work content db index register) entries entries (state g.S.Store c.args.connection.now)
+    (state g.S.Store c.numbers_wanted-in-Some.new.connection) c.args.work.now c.numbers_wanted-in-Some.new.work (λ content n terms. unnamed row_work content db index register n terms) (λ content n rows. rows))
+    c.numbers_wanted-in-Some.ensures.work)
 
 pub returns-in-Some-pattern-clause-work : goal.returns-in-Some-pattern-clause-work
 returns-in-Some-pattern-clause-work g c = rw (c.in-Complete.is, c.in-Some-pattern.is) c.numbers_wanted-in-Some-pattern.ensures.work

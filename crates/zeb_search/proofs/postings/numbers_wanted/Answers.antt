@@ -4,6 +4,7 @@ use Rattle.sqlite.specs.Held.{state}
 use Rattle.zeb_extract.specs.declared.keys.Key.{Key}
 use Rattle.zeb_register.specs.Content.{posting_cmp, Posting}
 use Rattle.zeb_register.specs.Formats.{holds_in}
+use Rattle.zeb_search.specs.DictRows.{EntryDict}
 use Rattle.zeb_search.specs.Lists.{AreNumbers, ArePostings}
 use Rattle.zeb_search.specs.PrivateTerms.{HasPosting, IsPostingOf, IsWanted, NamesEntry}
 use Rattle.zeb_search.proofs.PostingLemmas.{entry_numbers}
@@ -30,6 +31,6 @@ pub returns-clause-work : goal.returns-clause-work
 returns-clause-work g c =
     let old = state g.S.Store c.args.connection.now in
     let mid = state g.S.Store c.keys_wanted.new.connection in
-    keys_counted g.L.Layout.format (NamesEntry c.args.wanted) g.L.Layout.block_rows c.args.database.0 c.args.index c.args.register (IsWanted c.args.wanted) c.in_ok-keys.keys.items _ c.deref.ensures.value
+    keys_counted g.L.Layout.format (λ content. EntryDict g.L.Layout.row_work content c.args.database.0 (NamesEntry c.args.wanted) c.args.index c.args.register) g.L.Layout.block_rows c.args.database.0 c.args.index c.args.register (IsWanted c.args.wanted) c.in_ok-keys.keys.items _ c.deref.ensures.value
     old mid (state g.S.Store c.postings_of.new.connection) c.args.work.now c.keys_wanted.new.work c.postings_of.new.work (as_read old mid c.in_ok-keys.keys c.in_ok-keys.ensures.call) c.postings_of.ensures.call.crash
     c.in_ok-keys.ensures.work c.in_ok-keys.ensures.value c.in_ok-postings.ensures.work

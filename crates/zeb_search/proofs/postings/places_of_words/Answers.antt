@@ -9,6 +9,7 @@ use Rattle.zeb_search.specs.PrivateTerms.{IsPostingOf}
 use Rattle.zeb_search.proofs.PostingLemmas.{word_places}
 use Rattle.zeb_search.proofs.ReadLemmas.{as_read, clean_before, still_store, still_trees}
 use Rattle.zeb_search.specs.Counted.{HasNoStar}
+use Rattle.zeb_search.specs.DictRows.{EntryDict}
 use Rattle.zeb_search.specs.Holds.{Fits}
 use Rattle.zeb_search.proofs.RowCounts.{keys_counted}
 use Rattle.zeb_search.proofs.postings.places_of_words.Goals as goal
@@ -31,6 +32,6 @@ returns-clause-work g c =
     let old = state g.S.Store c.args.connection.now in
     let mid = state g.S.Store c.keys_wanted.new.connection in
     on_ok_weaker c.postings_of.result
-    (keys_counted g.L.Layout.format (HasNoStar c.args.pattern.now) g.L.Layout.block_rows c.args.database.0 c.args.index register.Word (Fits c.args.pattern.now) c.in_ok-keys.keys.items _ c.deref.ensures.value
+    (keys_counted g.L.Layout.format (λ content. EntryDict g.L.Layout.row_work content c.args.database.0 (HasNoStar c.args.pattern.now) c.args.index register.Word) g.L.Layout.block_rows c.args.database.0 c.args.index register.Word (Fits c.args.pattern.now) c.in_ok-keys.keys.items _ c.deref.ensures.value
     old mid (state g.S.Store c.postings_of.new.connection) c.args.work.now c.keys_wanted.new.work c.postings_of.new.work (as_read old mid c.in_ok-keys.keys c.in_ok-keys.ensures.call) c.postings_of.ensures.call.crash
     c.in_ok-keys.ensures.work c.in_ok-keys.ensures.value) c.postings_of.ensures.work

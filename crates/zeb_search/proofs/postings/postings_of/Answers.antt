@@ -1,15 +1,15 @@
-use Rattle.std.proofs.Common.{◌≡◌, ◌∙◌, ◌+◌, ◌++◌, List, arith, get_or, ap, ap₂, sym, subst, take}
+use Rattle.std.proofs.Common.{◌≡◌, ◌∙◌, ◌+◌, ◌++◌, List, arith, get_or, ap, ap₂, refl, sym, subst, take}
 use Rattle.sqlite.specs.Held.{state}
 use Rattle.sqlite_rules.specs.Lists.{Has}
 use Rattle.zeb_query.proofs.HoldingLemmas.{take_whole}
 use Rattle.zeb_extract.specs.declared.keys.Key.{Key}
 use Rattle.zeb_register.specs.Content.{Posting}
 use Rattle.zeb_register.specs.Formats.{holds_in}
-use Rattle.zeb_search.specs.Counted.{Counted}
+use Rattle.zeb_search.specs.Counted.{Counted, NoRows}
 use Rattle.zeb_search.specs.ListRows.{rows_under}
 use Rattle.zeb_search.proofs.Gathering.{Gathers, gathers_next}
 use Rattle.zeb_search.proofs.ReadLemmas.{clean_before, one_read, read_then, still_store, still_trees}
-use Rattle.zeb_search.proofs.CountedLemmas.{counted_then, list_counts}
+use Rattle.zeb_search.proofs.CountedLemmas.{counted_then, list_counts, no_rows_then}
 use Rattle.zeb_search.proofs.RowCounts.{rows_more}
 use Rattle.zeb_search.proofs.postings.postings_of.Goals as goal
 
@@ -37,12 +37,12 @@ loop-key-preserved g c =
           let rows = g.L.Layout.block_rows in
           let db = c.args.database.0 in
           let key = c.key-item.result in
-          counted_then g.L.Layout.format (Unit {0}) (Unit {0}) (Unit {0}) (λ content n. n ≡ rows_under rows content db (take index keys)) (λ content n. n ≡ rows (content db (get_or keys index key)))
-          (λ content n. n ≡ rows_under rows content db (take (index + 1) keys)) old now new c.args.work.now c.loop-key.work c.key_list.new.work (λ h. h) (λ h. h)
+          counted_then g.L.Layout.format NoRows NoRows NoRows (λ content n. n ≡ rows_under rows content db (take index keys)) (λ content n. n ≡ rows (content db (get_or keys index key)))
+          (λ content n. n ≡ rows_under rows content db (take (index + 1) keys)) old now new c.args.work.now c.loop-key.work c.key_list.new.work no_rows_then
           (λ content m n before here. ap₂ (λ a b. a + b) before here ∙ sym (rows_more rows content db keys index key c.loop-key-test.true)) c.loop-key.invariant.read c.key_list.ensures.call.crash c.loop-key.invariant.counted
           (λ clean store content has.
           let value = c.in_ok-list.ensures.value clean store content has in
-          (rows list, ap rows (value ∙ ap (content db) c.key-item.is), list_counts (Unit {0}) (rows list) c.loop-key.work c.key_list.new.work (c.in_ok-list.ensures.work clean store content has)));
+          (0, rows list, refl, ap rows (value ∙ ap (content db) c.key-item.is), list_counts (rows list) c.loop-key.work c.key_list.new.work (c.in_ok-list.ensures.work clean store content has)));
       no_work = λ none. c.key_list.ensures.no_work none ∙ c.loop-key.invariant.no_work none;
     }
 
@@ -58,5 +58,5 @@ returns-clause-value g c clean store content has =
 pub returns-clause-work : goal.returns-clause-work
 returns-clause-work g c =
     let whole = take_whole c.args.keys.now c.loop-key.key-index (omega (arith, c.loop-key-test.false)) in
-    subst (λ (l : List Key). Counted g.L.Layout.format (Unit {0}) (λ content n. n ≡ rows_under g.L.Layout.block_rows content c.args.database.0 l) (state g.S.Store c.args.connection.now) (state g.S.Store c.loop-key.connection)
+    subst (λ (l : List Key). Counted g.L.Layout.format NoRows (λ content n. n ≡ rows_under g.L.Layout.block_rows content c.args.database.0 l) (state g.S.Store c.args.connection.now) (state g.S.Store c.loop-key.connection)
     c.args.work.now c.loop-key.work) whole c.loop-key.invariant.counted

@@ -7,7 +7,7 @@ use Rattle.zeb_register.specs.Store.{IsStore}
 use Rattle.sqlite_rules.specs.Lists.{Has}
 use Rattle.zeb_search.proofs.Gathering.{Gathers}
 use Rattle.zeb_search.proofs.ReadLemmas.{IsRead}
-use Rattle.zeb_search.specs.Counted.{Counted}
+use Rattle.zeb_search.specs.Counted.{Counted, NoRows}
 use Rattle.zeb_search.specs.ListRows.{rows_under}
 use Rattle.zeb_search.proofs.postings.postings_of.Given as goal
 
@@ -19,6 +19,6 @@ invariant-loop-key g l =
       read : IsRead old now;
       gathered : HasCleanDisk now → IsStore old → (content : Content) → holds_in g.L.Layout.format old.now.trees content
           → Gathers (λ key p. Has (content l.fn.database.0 key) p) (take l.key-index l.keys) l.postings.items;
-      counted : Counted g.L.Layout.format (Unit {0}) (λ content n. n ≡ rows_under g.L.Layout.block_rows content l.fn.database.0 (take l.key-index l.keys)) old now l.fn.work l.work;
+      counted : Counted g.L.Layout.format NoRows (λ content n. n ≡ rows_under g.L.Layout.block_rows content l.fn.database.0 (take l.key-index l.keys)) old now l.fn.work l.work;
       no_work : g.L.Layout.row_work ≡ 0 → l.work ≡ l.fn.work;
     }

@@ -1,4 +1,4 @@
-use Rattle.std.proofs.Common.{List, [], ◌≡◌, ◌++◌, ◌∷◌, ◌+◌, ap, arith, subst, sym, take, ◌∙◌, refl, inl, inr}
+use Rattle.std.proofs.Common.{List, [], ◌≡◌, ◌++◌, ◌∷◌, ◌+◌, ap, arith, subst, sym, take, ◌∙◌}
 use Rattle.std.proofs.lemmas.List.{take_more}
 use Rattle.sqlite.specs.Held.{state}
 use Rattle.zeb_query.proofs.HoldingLemmas.{take_whole}
@@ -13,10 +13,10 @@ use Rattle.zeb_search.specs.Lists.{AreNumbers}
 use Rattle.zeb_search.proofs.JustLemmas.{joined_numbers}
 use Rattle.zeb_search.proofs.PlanLemmas.{EachMatches, each_matches_more, each_matches_none, each_matches_whole, none_found}
 use Rattle.zeb_search.proofs.ReadLemmas.{as_read, clean_before, read_then, still_store, still_trees}
-use Rattle.sqlite_rules.specs.Lists.{Has}
-use Rattle.sqlite_rules.proofs.ListLemmas.{has_at}
-use Rattle.zeb_search.specs.Counted.{Counted, HasNoStar, HaveNoStar}
+use Rattle.zeb_search.specs.Counted.{Counted, HasNoStar}
+use Rattle.zeb_search.specs.DictRows.{EntryDict, WordDict}
 use Rattle.zeb_search.proofs.CountedLemmas.{counted_for, counted_then}
+use Rattle.zeb_search.proofs.DictCounts.{dict_behind, one_dict}
 use Rattle.zeb_search.proofs.RowCounts.{one_pattern, pattern_behind}
 use Rattle.zeb_search.proofs.words.all_words_hits.Goals as goal
 
@@ -37,9 +37,12 @@ loop-other-init g c = record {
       let pattern = c.in-Some.pattern.now in
       let same : pattern ≡ first = (let e : pattern ∷ c.in-Some.others.now ≡ first ∷ c.in-Some.others.now = sym c.in-Some.ensures.cases.0 ∙ is in cc) in
       let rows = g.L.Layout.block_rows in
-      counted_for g.L.Layout.format (HasNoStar pattern) (HaveNoStar c.args.patterns.now) (λ content. EntryRows rows content c.args.database.0 c.args.index register.Word (Fits pattern))
+      let row_work = g.L.Layout.row_work in
+      counted_for g.L.Layout.format (λ content. EntryDict row_work content c.args.database.0 (HasNoStar pattern) c.args.index register.Word)
+      (λ content. WordDict row_work content c.args.database.0 c.args.index (first ∷ [])) (λ content. EntryRows rows content c.args.database.0 c.args.index register.Word (Fits pattern))
       (λ content. WordRows rows content c.args.database.0 c.args.index (first ∷ [])) (state g.S.Store c.args.connection.now) (state g.S.Store c.numbers_wanted.new.connection) c.args.work.now c.numbers_wanted.new.work
-      (λ h. h pattern (subst (λ (l : List (List Symbol)). Has l pattern) (sym c.in-Some.ensures.cases.0) (inl refl)))
+      (λ content n terms.
+      subst (λ (p : List Symbol). WordDict row_work content c.args.database.0 c.args.index (p ∷ []) n) same (one_dict row_work content c.args.database.0 c.args.index pattern n terms))
       (λ content n entries.
       subst (λ (p : List Symbol). WordRows rows content c.args.database.0 c.args.index (p ∷ []) n) same (one_pattern rows content c.args.database.0 c.args.index pattern n entries)) c.in_ok-hits.ensures.work;
   no_work = c.numbers_wanted.ensures.no_work;
@@ -55,6 +58,7 @@ loop-other-preserved g c =
     let pattern = c.other-item.result in
     let first = c.loop-other.invariant.found.0 in
     let rows = g.L.Layout.block_rows in
+    let row_work = g.L.Layout.row_work in
     let db = c.args.database.0 in
     let more : take (index + 1) others ≡ take index others ++ pattern ∷ [] =
     take_more others index pattern c.loop-other-test.true ∙ ap (λ p. take index others ++ p ∷ []) (sym c.other-item.is) in
@@ -74,9 +78,11 @@ loop-other-preserved g c =
             c.deref.result.now c.deref-in-loop-other.result.now c.in_ok-hits-2.hits.items c.deref.ensures.value c.deref-in-loop-other.ensures.value before here c.in_ok-hits-2.ensures),
       );
       counted = λ first is.
-          counted_then g.L.Layout.format (HaveNoStar c.args.patterns.now) (HasNoStar pattern) (HaveNoStar c.args.patterns.now) (λ content. WordRows rows content db c.args.index (first ∷ take index others))
+          counted_then g.L.Layout.format (λ content. WordDict row_work content db c.args.index (first ∷ take index others)) (λ content. EntryDict row_work content db (HasNoStar pattern) c.args.index register.Word)
+          (λ content. WordDict row_work content db c.args.index (first ∷ take (index + 1) others)) (λ content. WordRows rows content db c.args.index (first ∷ take index others))
           (λ content. EntryRows rows content db c.args.index register.Word (Fits pattern)) (λ content. WordRows rows content db c.args.index (first ∷ take (index + 1) others)) old now new c.args.work.now c.loop-other.work c.numbers_wanted-in-loop-other.new.work
-          (λ h. h) (λ h. h pattern (subst (λ (l : List (List Symbol)). Has l pattern) (sym c.loop-other.invariant.found.1) (inr (has_at others index pattern c.loop-other-test.true c.other-item.is))))
+          (λ content m n before here.
+          subst (λ (l : List (List Symbol)). WordDict row_work content db c.args.index (first ∷ l) (m + n)) (sym more) (dict_behind row_work content db c.args.index (first ∷ take index others) pattern m n before here))
           (λ content m n before here.
           subst (λ (l : List (List Symbol)). WordRows rows content db c.args.index (first ∷ l) (m + n)) (sym more) (pattern_behind rows content db c.args.index (first ∷ take index others) pattern m n before here))
           c.loop-other.invariant.read c.numbers_wanted-in-loop-other.ensures.call.crash
@@ -99,5 +105,5 @@ returns-clause-work g c =
     let others = c.in-Some.others.now in
     let whole = take_whole others c.loop-other.other-index (omega (arith, c.loop-other-test.false)) in
     let all : first ∷ take c.loop-other.other-index others ≡ c.args.patterns.now = ap (λ (l : List (List Symbol)). first ∷ l) whole ∙ sym c.loop-other.invariant.found.1 in
-    subst (λ (l : List (List Symbol)). Counted g.L.Layout.format (HaveNoStar c.args.patterns.now) (λ content. WordRows g.L.Layout.block_rows content c.args.database.0 c.args.index l) (state g.S.Store c.args.connection.now)
+    subst (λ (l : List (List Symbol)). Counted g.L.Layout.format (λ content. WordDict g.L.Layout.row_work content c.args.database.0 c.args.index l) (λ content. WordRows g.L.Layout.block_rows content c.args.database.0 c.args.index l) (state g.S.Store c.args.connection.now)
     (state g.S.Store c.loop-other.connection) c.args.work.now c.loop-other.work) all (c.loop-other.invariant.counted first c.loop-other.invariant.found.1)

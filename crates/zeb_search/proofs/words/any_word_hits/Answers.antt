@@ -13,9 +13,10 @@ use Rattle.zeb_search.specs.Lists.{AreNumbers}
 use Rattle.zeb_search.proofs.JustLemmas.{joined_numbers, just_none}
 use Rattle.zeb_search.proofs.PlanLemmas.{SomeMatch, some_match_more}
 use Rattle.zeb_search.proofs.ReadLemmas.{as_read, clean_before, read_still, read_then, still_store, still_trees}
-use Rattle.sqlite_rules.proofs.ListLemmas.{has_at}
-use Rattle.zeb_search.specs.Counted.{Counted, HasNoStar, HaveNoStar}
+use Rattle.zeb_search.specs.Counted.{Counted, HasNoStar}
+use Rattle.zeb_search.specs.DictRows.{EntryDict, WordDict}
 use Rattle.zeb_search.proofs.CountedLemmas.{counted_still, counted_then}
+use Rattle.zeb_search.proofs.DictCounts.{dict_behind}
 use Rattle.zeb_search.proofs.RowCounts.{pattern_behind}
 use Rattle.zeb_search.proofs.words.any_word_hits.Goals as goal
 
@@ -25,8 +26,8 @@ loop-pattern-init g c = record {
   found = λ clean store content has.
       subst (AreNumbers (SomeMatch (posted content c.args.database.0) c.args.index [])) (sym c.new-hits.ensures.items)
       (just_none (SomeMatch (posted content c.args.database.0) c.args.index []) (λ n h. h.1));
-  counted = counted_still g.L.Layout.format (HaveNoStar c.args.patterns.now) (λ content. WordRows g.L.Layout.block_rows content c.args.database.0 c.args.index []) (state g.S.Store c.args.connection.now) c.args.work.now
-      (λ content. refl);
+  counted = counted_still g.L.Layout.format (λ content. WordDict g.L.Layout.row_work content c.args.database.0 c.args.index []) (λ content. WordRows g.L.Layout.block_rows content c.args.database.0 c.args.index []) (state g.S.Store c.args.connection.now) c.args.work.now
+      (λ content. refl) (λ content. refl);
   no_work = λ _. refl;
 }
 
@@ -39,6 +40,7 @@ loop-pattern-preserved g c =
     let index = c.loop-pattern.pattern-index in
     let pattern = c.pattern-item.result in
     let rows = g.L.Layout.block_rows in
+    let row_work = g.L.Layout.row_work in
     let db = c.args.database.0 in
     let more : take (index + 1) patterns ≡ take index patterns ++ pattern ∷ [] =
     take_more patterns index pattern c.loop-pattern-test.true ∙ ap (λ p. take index patterns ++ p ∷ []) (sym c.pattern-item.is) in
@@ -53,9 +55,11 @@ loop-pattern-preserved g c =
           some_match_more O c.args.index patterns index pattern c.loop-pattern-test.true c.pattern-item.is c.in_ok-hits.hits.items
           (joined_numbers operator.Or (SomeMatch O c.args.index (take index patterns)) (HasMatch O c.args.index pattern) c.loop-pattern.hits.items c.in_ok-found.found.items
           c.deref.result.now c.deref-in-loop-pattern.result.now c.in_ok-hits.hits.items c.deref.ensures.value c.deref-in-loop-pattern.ensures.value before here c.in_ok-hits.ensures);
-      counted = counted_then g.L.Layout.format (HaveNoStar patterns) (HasNoStar pattern) (HaveNoStar patterns) (λ content. WordRows rows content db c.args.index (take index patterns))
+      counted = counted_then g.L.Layout.format (λ content. WordDict row_work content db c.args.index (take index patterns)) (λ content. EntryDict row_work content db (HasNoStar pattern) c.args.index register.Word)
+          (λ content. WordDict row_work content db c.args.index (take (index + 1) patterns)) (λ content. WordRows rows content db c.args.index (take index patterns))
           (λ content. EntryRows rows content db c.args.index register.Word (Fits pattern)) (λ content. WordRows rows content db c.args.index (take (index + 1) patterns)) old now new c.args.work.now c.loop-pattern.work c.numbers_wanted.new.work
-          (λ h. h) (λ h. h pattern (has_at patterns index pattern c.loop-pattern-test.true c.pattern-item.is))
+          (λ content m n before here.
+          subst (λ (l : List (List Symbol)). WordDict row_work content db c.args.index l (m + n)) (sym more) (dict_behind row_work content db c.args.index (take index patterns) pattern m n before here))
           (λ content m n before here.
           subst (λ (l : List (List Symbol)). WordRows rows content db c.args.index l (m + n)) (sym more) (pattern_behind rows content db c.args.index (take index patterns) pattern m n before here))
           c.loop-pattern.invariant.read c.numbers_wanted.ensures.call.crash
@@ -71,5 +75,5 @@ returns-clause-value g c clean store content has =
 pub returns-clause-work : goal.returns-clause-work
 returns-clause-work g c =
     let whole = take_whole c.args.patterns.now c.loop-pattern.pattern-index (omega (arith, c.loop-pattern-test.false)) in
-    subst (λ (l : List (List Symbol)). Counted g.L.Layout.format (HaveNoStar c.args.patterns.now) (λ content. WordRows g.L.Layout.block_rows content c.args.database.0 c.args.index l) (state g.S.Store c.args.connection.now)
+    subst (λ (l : List (List Symbol)). Counted g.L.Layout.format (λ content. WordDict g.L.Layout.row_work content c.args.database.0 c.args.index l) (λ content. WordRows g.L.Layout.block_rows content c.args.database.0 c.args.index l) (state g.S.Store c.args.connection.now)
     (state g.S.Store c.loop-pattern.connection) c.args.work.now c.loop-pattern.work) whole c.loop-pattern.invariant.counted

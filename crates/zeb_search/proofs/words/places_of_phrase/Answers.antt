@@ -1,4 +1,4 @@
-use Rattle.std.proofs.Common.{◌≡◌, ◌∙◌, ◌++◌, ◌∷◌, ◌+◌, [], List, ap, subst, sym, refl, inl}
+use Rattle.std.proofs.Common.{◌≡◌, ◌∙◌, ◌++◌, ◌∷◌, ◌+◌, [], List, ap, subst, sym}
 use Rattle.std.proofs.lemmas.List.{append_assoc, append_cancel_left}
 use Rattle.sqlite.specs.Held.{state}
 use Rattle.zeb_register.specs.Content.{posted}
@@ -10,10 +10,10 @@ use Rattle.zeb_search.specs.ListRows.{EntryRows, WordRows}
 use Rattle.zeb_search.specs.Lists.{ArePostings}
 use Rattle.zeb_search.proofs.PlanLemmas.{AreWordsAt, IsWordAt, none_found, some_patterns, word_before, IsStart, no_patterns, one_word}
 use Rattle.zeb_search.proofs.ReadLemmas.{as_read, clean_before, read_then, still_store, still_trees}
-use Rattle.sqlite_rules.specs.Lists.{Has}
-use Rattle.sqlite_rules.proofs.ListLemmas.{has_right}
-use Rattle.zeb_search.specs.Counted.{Counted, HasNoStar, HaveNoStar}
+use Rattle.zeb_search.specs.Counted.{Counted, HasNoStar}
+use Rattle.zeb_search.specs.DictRows.{EntryDict, WordDict}
 use Rattle.zeb_search.proofs.CountedLemmas.{counted_for, counted_then}
+use Rattle.zeb_search.proofs.DictCounts.{dict_before, one_dict}
 use Rattle.zeb_search.proofs.RowCounts.{one_pattern, pattern_before}
 use Rattle.zeb_search.proofs.JustLemmas.{just_same}
 use Rattle.zeb_search.proofs.words.places_of_phrase.Goals as goal
@@ -31,6 +31,7 @@ loop-pattern-preserved g c =
     let before = c.in-Some-split_last.before.now in
     let rest = c.loop-pattern.invariant.behind.0 in
     let rows = g.L.Layout.block_rows in
+    let row_work = g.L.Layout.row_work in
     let db = c.args.database.0 in
     let joined : c.args.patterns.now ≡ before ++ (pattern ∷ rest) =
     c.loop-pattern.invariant.behind.2 ∙ ap (λ (l : List (List Symbol)). l ++ rest) c.in-Some-split_last.ensures.cases.0 ∙ append_assoc before (pattern ∷ []) rest in
@@ -50,9 +51,10 @@ loop-pattern-preserved g c =
       );
       counted = λ behind is.
           let same : pattern ∷ rest ≡ behind = append_cancel_left before (pattern ∷ rest) behind (sym joined ∙ is) in
-          counted_then g.L.Layout.format (HaveNoStar c.args.patterns.now) (HasNoStar pattern) (HaveNoStar c.args.patterns.now) (λ content. WordRows rows content db c.args.index rest)
+          counted_then g.L.Layout.format (λ content. WordDict row_work content db c.args.index rest) (λ content. EntryDict row_work content db (HasNoStar pattern) c.args.index register.Word)
+          (λ content. WordDict row_work content db c.args.index behind) (λ content. WordRows rows content db c.args.index rest)
           (λ content. EntryRows rows content db c.args.index register.Word (Fits pattern)) (λ content. WordRows rows content db c.args.index behind) old now new c.args.work.now c.loop-pattern.work c.places_of_words-in-Some-split_last.new.work
-          (λ h. h) (λ h. h pattern (subst (λ (l : List (List Symbol)). Has l pattern) (sym joined) (has_right before (pattern ∷ rest) pattern (inl refl))))
+          (λ content m n words terms. subst (λ (l : List (List Symbol)). WordDict row_work content db c.args.index l (m + n)) same (dict_before row_work content db c.args.index pattern rest m n words terms))
           (λ content m n words entries. subst (λ (l : List (List Symbol)). WordRows rows content db c.args.index l (m + n)) same (pattern_before rows content db c.args.index pattern rest m n words entries))
           c.loop-pattern.invariant.read c.places_of_words-in-Some-split_last.ensures.call.crash
           (c.loop-pattern.invariant.counted rest c.loop-pattern.invariant.behind.2) c.in_ok-starts.ensures.work;
@@ -75,10 +77,12 @@ loop-pattern-init g c =
       );
       counted = λ behind is.
           let rows = g.L.Layout.block_rows in
+          let row_work = g.L.Layout.row_work in
           let db = c.args.database.0 in
           let same : last ∷ [] ≡ behind = append_cancel_left others (last ∷ []) behind (sym c.in-Some.ensures.cases.0 ∙ is) in
-          counted_for g.L.Layout.format (HasNoStar last) (HaveNoStar c.args.patterns.now) (λ content. EntryRows rows content db c.args.index register.Word (Fits last)) (λ content. WordRows rows content db c.args.index behind) old new
-          c.args.work.now c.places_of_words.new.work (λ h. h last (subst (λ (l : List (List Symbol)). Has l last) (sym c.in-Some.ensures.cases.0) (has_right others (last ∷ []) last (inl refl))))
+          counted_for g.L.Layout.format (λ content. EntryDict row_work content db (HasNoStar last) c.args.index register.Word) (λ content. WordDict row_work content db c.args.index behind) (λ content. EntryRows rows content db c.args.index register.Word (Fits last)) (λ content. WordRows rows content db c.args.index behind) old new
+          c.args.work.now c.places_of_words.new.work
+          (λ content n terms. subst (λ (l : List (List Symbol)). WordDict row_work content db c.args.index l n) same (one_dict row_work content db c.args.index last n terms))
           (λ content n entries. subst (λ (l : List (List Symbol)). WordRows rows content db c.args.index l n) same (one_pattern rows content db c.args.index last n entries)) c.in_ok-places.ensures.work;
       no_work = c.places_of_words.ensures.no_work;
     }
@@ -98,5 +102,5 @@ returns-clause-work g c =
     let rest = c.loop-pattern.invariant.behind.0 in
     let whole : c.args.patterns.now ≡ rest =
     c.loop-pattern.invariant.behind.2 ∙ ap (λ (l : List (List Symbol)). l ++ rest) (no_patterns c.loop-pattern.others.now c.in_default-split_last.ensures.cases) in
-    subst (λ (l : List (List Symbol)). Counted g.L.Layout.format (HaveNoStar c.args.patterns.now) (λ content. WordRows g.L.Layout.block_rows content c.args.database.0 c.args.index l) (state g.S.Store c.args.connection.now)
+    subst (λ (l : List (List Symbol)). Counted g.L.Layout.format (λ content. WordDict g.L.Layout.row_work content c.args.database.0 c.args.index l) (λ content. WordRows g.L.Layout.block_rows content c.args.database.0 c.args.index l) (state g.S.Store c.args.connection.now)
     (state g.S.Store c.loop-pattern.connection) c.args.work.now c.loop-pattern.work) (sym whole) (c.loop-pattern.invariant.counted rest c.loop-pattern.invariant.behind.2)

@@ -85,5 +85,5 @@ returns-clause-work g c clean =
     let clean1 : HasCleanDisk mid = omega (arith, c.find.ensures.crash.clean) in
     told_after g.L.Layout.format
     (λ trees content. (plan : PlanValue) × IsPlanOf c.args.self.now.profile c.args.question.query.now plan
-    × PlanReads g.L.Layout.block_rows plan (name_bytes c.args.database.now) trees content c.args.self.now.work c.find.new.work) old mid new c.find.result
+    × PlanReads g.L.Layout.row_work g.L.Layout.block_rows plan (name_bytes c.args.database.now) trees content c.args.self.now.work c.find.new.work) old mid new c.find.result
     (c.check_ready.ensures.same clean1) (c.find.ensures.open clean) (c.find.ensures.work clean)

@@ -17,7 +17,7 @@ use Rattle.zeb_engine.proofs.AskedReads.{told_after}
 use Rattle.zeb_engine.proofs.Serving.{keeps_still}
 use Rattle.zeb_engine.proofs.session.Session.scan.Goals as goal
 use Rattle.zeb_register.specs.Formats.{version_of}
-use Rattle.zeb_register.specs.Tallies.{ReadsTerms}
+use Rattle.zeb_search.specs.Counted.{Counts}
 use Rattle.zeb_engine.proofs.ReadyTexts.{ready_then}
 
 pub returns-in_err-check_ready-clause-serves : goal.returns-in_err-check_ready-clause-serves
@@ -85,5 +85,5 @@ returns-clause-work g c clean =
     let number = c.args.around.number in
     let position = c.args.around.position in
     told_after g.L.Layout.format
-    (λ trees content. 1 ≤ position → position ≤ number → ReadsTerms (g.L.Layout.row_work * (number + 1)) c.args.self.now.work c.scan.new.work) old mid new c.scan.result
+    (λ trees content. 1 ≤ position → position ≤ number → Counts (g.L.Layout.row_work * (number + 1)) 0 c.args.self.now.work c.scan.new.work) old mid new c.scan.result
     (c.check_ready.ensures.same clean1) (c.scan.ensures.«open» clean) (c.scan.ensures.work clean)

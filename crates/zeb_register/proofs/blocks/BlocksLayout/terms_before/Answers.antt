@@ -1,7 +1,6 @@
-use Rattle.std.proofs.Common.{◌*◌, arith, ◌≡◌, ◌∙◌, ◌<◌, ◌^◌, ap, map, take, length, sym, subst, w64, to_z, of_z, rules}
+use Rattle.std.proofs.Common.{◌≡◌, ◌∙◌, ◌<◌, ◌^◌, ap, map, take, length, sym, subst, w64, to_z, of_z, rules}
 use Rattle.std.proofs.Math.Facts.{to_z-of_z}
 use Rattle.sqlite.specs.Held.{state}
-use Rattle.zeb_register.specs.Tallies.{Rises}
 use Rattle.sqlite.specs.declared.types.Value.TheVariants.{Int}
 use Rattle.sqlite_sql.specs.Query.{as_count, limited}
 use Rattle.sqlite_rules.specs.Lists.{Has}
@@ -10,7 +9,7 @@ use Rattle.zeb_register.specs.Occurring.{AreTermsBefore}
 use Rattle.zeb_register.specs.Store.{dict_tree}
 use Rattle.zeb_register.specs.PackedRows.{IsFallingListOf, IsRestBefore}
 use Rattle.zeb_register.specs.RowPlaces.{first_two}
-use Rattle.zeb_register.proofs.PackedTerms.{first_has, before_read, reads_up_to, rows_counted}
+use Rattle.zeb_register.proofs.PackedTerms.{first_has, before_read, rows_counted}
 use Rattle.zeb_register.proofs.TermRows.{register_front}
 use Rattle.zeb_register.proofs.blocks.BlocksLayout.terms_before.Goals as goal
 
@@ -36,13 +35,3 @@ returns-in_err-counts-clause-honest g c clean store is content texts holds =
     let limit : to_z w64 (of_z w64 c.limit_of-limit.result) ≡ c.limit_of-limit.result = to_z-of_z {w = w64} {z = c.limit_of-limit.result} c.limit_of-limit.ensures.fits in
     let cut : c.in_ok-rows.rows.items ≡ limited (as_count (Int c.limit_of-limit.result)) raw.0 = subst (λ z. c.in_ok-rows.rows.items ≡ limited (as_count (Int z)) raw.0) limit raw.2 in
     c.in_err-counts.ensures.honest (search rules) (λ row here. rows_counted trees content c.args.db.0 c.args.index c.args.register holds texts row ((held.each row).0 (first_has (as_count (Int c.limit_of-limit.result)) raw.0 row (subst (λ l. Has l row) (c.deref.ensures.value ∙ cut) here))).0)
-
-pub returns-clause-work : goal.returns-clause-work
-returns-clause-work g c clean store content holds =
-    let items = c.in_ok-rows.rows.items in
-    let raw = (c.in_ok-rows.ensures.call.ok clean).1 store in
-    let limit : to_z w64 (of_z w64 c.limit_of-limit.result) ≡ c.limit_of-limit.result = to_z-of_z {w = w64} {z = c.limit_of-limit.result} c.limit_of-limit.ensures.fits in
-    let cut : items ≡ limited (as_count (Int c.limit_of-limit.result)) raw.0 = subst (λ z. items ≡ limited (as_count (Int z)) raw.0) limit raw.2 in
-    let first : items ≡ take c.args.n raw.0 = c.limit_of-limit.ensures.limit items raw.0 cut (subst (λ l. length l < 2 ^ 63) c.deref.ensures.value c.counts_in.ensures.few) in
-    reads_up_to c.args.n (1 * c.args.n) c.args.work.now items raw.0 c.counted-work.result first (omega arith)
-    (subst (λ k. Rises k c.args.work.now.dict_read c.counted-work.result) (c.len.ensures ∙ c.in_ok-rows.rows.ok.0) c.counted-work.ensures.rises) c.counted-work.ensures.keeps

@@ -1,7 +1,7 @@
 use Rattle.std.proofs.Common.{◌≡◌, ◌∙◌, ap, sym, chars, string_bytes}
 use Rattle.std.proofs.lemmas.Str.{IsUtf8-string_bytes}
 use Rattle.zeb_text.specs.Symbols.{literal}
-use Rattle.zeb_search.proofs.TermLemmas.{literal_wanted}
+use Rattle.zeb_search.proofs.TermLemmas.{literal_plain, literal_wanted}
 use Rattle.zeb_search.proofs.terms.Wanted.only_text.Goals as goal
 
 pub returns-in_ok-from_str-in-Some-clause-text : goal.returns-in_ok-from_str-in-Some-clause-text
@@ -12,3 +12,9 @@ returns-in_ok-from_str-in-Some-clause-text c term =
 
 pub returns-in-Number-clause-text : goal.returns-in-Number-clause-text
 returns-in-Number-clause-text c = rw c.in-Number.is c.only_key.ensures.text
+
+pub returns-in_ok-from_str-in-Some-clause-named : goal.returns-in_ok-from_str-in-Some-clause-named
+returns-in_ok-from_str-in-Some-clause-named c = rw c.in-Matching.is (literal_plain c.in-Matching.pattern.now _ c.in-Some.ensures.text)
+
+pub returns-in-Number-clause-named : goal.returns-in-Number-clause-named
+returns-in-Number-clause-named c = rw c.in-Number.is c.only_key.ensures.named
