@@ -96,12 +96,16 @@ numbers_in (row ∷ rows) = row.0 ∷ numbers_in rows
 abbrev pub kept_relations : List ℕ
 kept_relations = numbers_in comparisons ++ always_matches
 
--- type 3, position: first in field and first in subfield; 3 is any position
+-- type 3, position: first in field and first in subfield
 abbrev pub first_positions : List ℕ
 first_positions = 1 ∷ 2 ∷ []
 
+-- any position
+abbrev pub any_positions : List ℕ
+any_positions = 3 ∷ []
+
 abbrev pub kept_positions : List ℕ
-kept_positions = first_positions ++ 3 ∷ []
+kept_positions = first_positions ++ any_positions
 
 -- type 4, structure: phrase and word
 abbrev pub phrases : List ℕ
@@ -141,12 +145,16 @@ no_truncation = 100 ∷ []
 abbrev pub kept_truncations : List ℕ
 kept_truncations = numbers_in truncations
 
--- type 6, completeness: complete subfield and complete field; 1 is an incomplete subfield
+-- type 6, completeness: incomplete subfield
+abbrev pub incomplete_texts : List ℕ
+incomplete_texts = 1 ∷ []
+
+-- complete subfield and complete field
 abbrev pub whole_texts : List ℕ
 whole_texts = 2 ∷ 3 ∷ []
 
 abbrev pub kept_completenesses : List ℕ
-kept_completenesses = 1 ∷ whole_texts
+kept_completenesses = incomplete_texts ++ whole_texts
 
 -- ---- the value that holds
 
