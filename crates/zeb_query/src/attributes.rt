@@ -1,3 +1,4 @@
+//! The values of a term's attributes that are kept, each type an enum of its own.
 ghost use Rattle.std.specs.Prelude.{◌≡◌, IfSome, ◌<◌, ◌^◌};
 ghost use Rattle.std.specs.Option.{option_map};
 ghost use Rattle.zeb_query.specs.PrivatePlanning.{relations, positions, structures, completenesses};

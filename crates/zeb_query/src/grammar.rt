@@ -1,3 +1,4 @@
+//! Reading the words of a text as a query, from the left, an operator before its operands.
 ghost use Rattle.std.specs.Prelude.{◌≡◌, ◌≢◌, ◌+◌, ◌<◌, ◌≤◌, ℕ, suc, ◌∷◌, Some, None, length, map, IfOk, OnOk, IfErr, IfSome, true, string_bytes, []};
 ghost use Rattle.zeb_query.specs.declared.keywords.Keyword.TheVariants.{Attribute as AttributeKeyword, TermType as TermTypeKeyword, Operator};
 ghost use Rattle.std.specs.Option.{option_map};

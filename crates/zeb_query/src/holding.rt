@@ -1,3 +1,4 @@
+//! The attributes and the term type that hold over a term, the innermost of each type.
 ghost use Rattle.std.specs.Prelude.{◌≡◌};
 ghost use Rattle.zeb_query.specs.Attributes.{is_bib1};
 

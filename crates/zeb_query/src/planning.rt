@@ -1,3 +1,4 @@
+//! The plan of a query, or its first diagnostic.
 ghost use Rattle.std.specs.Prelude.{◌≡◌, List, ℕ, Option, ◌≤◌, ◌<◌, ◌^◌, IfOk, string_bytes};
 ghost use Rattle.std.specs.Option.{option_map};
 ghost use Rattle.zeb_query.specs.Queries.{HeadValue, tree_value, query_value, head_value};

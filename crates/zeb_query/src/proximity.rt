@@ -1,3 +1,4 @@
+//! The plan of `@prox`: two words near each other in one unit.
 ghost use Rattle.std.specs.Prelude.{◌≡◌, List, ℕ, Option, map, string_bytes, if◌then◌else◌};
 ghost use Rattle.zeb_text.specs.Symbols.{Symbol};
 ghost use Rattle.zeb_query.specs.Queries.{HeadValue, tree_value, head_value};

@@ -1,3 +1,4 @@
+//! Reading a text as a query, or telling its fault.
 ghost use Rattle.std.specs.Prelude.{◌≡◌, None, IfOk, OnOk, IfErr};
 ghost use Rattle.zeb_query.specs.Queries.{query_value};
 ghost use Rattle.zeb_query.specs.Faults.{IsFault};

@@ -1,3 +1,4 @@
+//! The plan of a scan, which begins at a term.
 ghost use Rattle.std.specs.Prelude.{◌≡◌, IfOk, string_bytes};
 ghost use Rattle.zeb_query.specs.Queries.{query_value, head_value};
 ghost use Rattle.zeb_query.specs.Grammar.{heads, no_head, operator_word};

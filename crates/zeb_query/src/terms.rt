@@ -1,3 +1,4 @@
+//! Reading a term: the values of its attributes, its index and the patterns of its words, or its first diagnostic.
 ghost use Rattle.std.specs.Prelude.{◌≡◌, ◌∷◌, [], Option, Some, None, string_bytes};
 ghost use Rattle.std.specs.Option.{option_map};
 ghost use Rattle.zeb_query.specs.Faults.{Gives};

@@ -24,6 +24,10 @@ pub returns-clause-relation : goal.returns-clause-relation
 unfolding chars is_utf8 encode kind_and_value leaf_plan leaf_scan plan_asked scan_asked word_near holding_of caseless ucd_category folded is_word_character runs_of truncated number_key digits
 returns-clause-relation c = planned (is_structure _ _ (pair_at 0 (codes "@prox") Proximity (plain 6 (codes "0") ∷ plain 8 (codes "1") ∷ plain 10 (codes "0") ∷ plain 12 (codes "7") ∷ plain 14 (codes "k") ∷ plain 16 (codes "2") ∷ []) refl refl refl (term_at 18 (codes "a") refl) (term_at 20 (codes "b") refl))) refl refl
 
+pub returns-clause-which_code : goal.returns-clause-which_code
+unfolding chars is_utf8 encode kind_and_value leaf_plan leaf_scan plan_asked scan_asked word_near holding_of caseless ucd_category folded is_word_character runs_of truncated number_key digits
+returns-clause-which_code c = planned (is_structure _ _ (pair_at 0 (codes "@prox") Proximity (plain 6 (codes "0") ∷ plain 8 (codes "1") ∷ plain 10 (codes "0") ∷ plain 12 (codes "2") ∷ plain 14 (codes "p") ∷ plain 16 (codes "2") ∷ []) refl refl refl (term_at 18 (codes "a") refl) (term_at 20 (codes "b") refl))) refl refl
+
 pub returns-clause-operand : goal.returns-clause-operand
 unfolding chars is_utf8 encode kind_and_value leaf_plan leaf_scan plan_asked scan_asked word_near holding_of caseless ucd_category folded is_word_character runs_of truncated number_key digits
 returns-clause-operand c = planned (is_structure _ _ (pair_at 0 (codes "@prox") Proximity (plain 6 (codes "0") ∷ plain 8 (codes "1") ∷ plain 10 (codes "0") ∷ plain 12 (codes "2") ∷ plain 14 (codes "k") ∷ plain 16 (codes "2") ∷ []) refl refl refl (term_at 18 (codes "a") refl) (pair_at 20 (codes "@and") And [] refl refl refl (term_at 25 (codes "b") refl) (term_at 27 (codes "c") refl)))) refl refl
