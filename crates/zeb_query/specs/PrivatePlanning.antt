@@ -27,10 +27,8 @@ use Rattle.zeb_query.specs.declared.terms.Values.{Values}
 use Rattle.zeb_query.specs.declared.plans.Relation.{Relation}
 use Rattle.zeb_query.specs.declared.plans.Order.{Order}
 use Rattle.zeb_query.specs.Grammar.{number_of}
-use Rattle.zeb_query.specs.Attributes.{always_matches, any_positions, comparisons, first_positions, free_forms, incomplete_texts, local_numbers, numeric_strings, phrases, truncations, value_of, whole_texts, word_lists, HoldingValue}
-use Rattle.zeb_query.specs.Checks.{written, is_known_type}
-use Rattle.zeb_query.specs.Terms.{index_named, order_of, joined_words, joined_words_if_any, joined_if_any}
-use Rattle.zeb_query.specs.Faults.{Refusal, ◌>>=◌, refused}
+use Rattle.zeb_query.specs.Attributes.{always_matches, any_positions, comparisons, first_positions, free_forms, incomplete_texts, local_numbers, numeric_strings, phrases, truncations, value_of, whole_texts, word_lists, HoldingValue, index_named, order_of, joined_words, joined_words_if_any, joined_if_any}
+use Rattle.zeb_query.specs.Checks.{written, is_known_type, Refusal, ◌>>=◌, refused}
 use Rattle.zeb_query.specs.Plans.{TermPlanValue, NumberOf, OrderedOf, CompleteOf, PhraseOf, AllWordsOf, AnyWordOf}
 
 -- ---- the values of attribute types 2, 3, 4 and 6

@@ -19,7 +19,7 @@ pub(crate) enum Asked {
 
 impl Relation {
     ghost use Rattle.std.specs.Prelude.{◌≡◌};
-    ghost use Rattle.zeb_query.specs.Terms.{order_of};
+    ghost use Rattle.zeb_query.specs.Attributes.{order_of};
 
     /// The order that it is, if it isn't equality.
     pub(crate) fn order(self) -> Option<Order>

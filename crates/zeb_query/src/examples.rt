@@ -4,7 +4,7 @@ ghost use Rattle.zeb_text.specs.Symbols.{Star, literal};
 ghost use Rattle.zeb_profile.specs.declared.registers.Register.TheVariants.{Word, Phrase, Number};
 ghost use Rattle.zeb_query.specs.FirstFault.{query_fault};
 ghost use Rattle.zeb_query.specs.Plans.{TermOf, PairOf, NearOf, RecordNumberOf, AlwaysOf, NumberOf, OrderedOf, CompleteOf, PhraseOf, AllWordsOf, AnyWordOf};
-ghost use Rattle.zeb_query.specs.Faults.{refused};
+ghost use Rattle.zeb_query.specs.Checks.{refused};
 ghost use Rattle.zeb_query.specs.Worked.{PlansAs, PlansUnder, ScansAs, titles_alone, times};
 
 use crate::{DistanceRelation, Operator, Order, Relation};
