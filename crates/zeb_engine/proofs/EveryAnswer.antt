@@ -13,9 +13,8 @@ use Rattle.zeb_marc.specs.Contents.{units_of}
 use Rattle.zeb_marc.specs.Records.{fields_of}
 use Rattle.zeb_profile.specs.declared.directives.Directive.{Directive}
 use Rattle.zeb_profile.specs.Indexes.{unit_targets}
-use Rattle.zeb_query.specs.Faults.{Refusal}
-use Rattle.zeb_query.specs.Plans.{PlanValue, plan_of}
-use Rattle.zeb_query.specs.Scan.{ScanValue, scan_of}
+use Rattle.zeb_query.specs.Checks.{Refusal}
+use Rattle.zeb_query.specs.Plans.{PlanValue, ScanValue, plan_of, scan_of}
 use Rattle.zeb_query.specs.Places.{IsReadable}
 use Rattle.zeb_query.specs.FirstFault.{query_fault}
 use Rattle.zeb_query.proofs.TextFaults.{readable}

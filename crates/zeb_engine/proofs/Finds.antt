@@ -7,9 +7,8 @@ use Rattle.sqlite_rules.specs.Lists.{Has}
 use Rattle.zeb_profile.specs.declared.directives.Directive.{Directive}
 use Rattle.zeb_query.specs.declared.faults.QueryFault.{QueryFault}
 use Rattle.zeb_query.specs.declared.faults.QueryFault.TheVariants.{Diagnostic, Memory}
-use Rattle.zeb_query.specs.Faults.{Fails, Refusal as PlanRefusal}
-use Rattle.zeb_query.specs.Queries.{QueryValue}
-use Rattle.zeb_query.specs.Grammar.{SpellsQuery}
+use Rattle.zeb_query.specs.Checks.{Fails, Refusal as PlanRefusal}
+use Rattle.zeb_query.specs.Grammar.{QueryValue, SpellsQuery}
 use Rattle.zeb_query.specs.FirstFault.{query_fault}
 use Rattle.zeb_query.specs.Plans.{PlanValue, plan_of}
 use Rattle.zeb_extract.specs.declared.keys.Occurrence.{Occurrence}

@@ -3,10 +3,9 @@ use Rattle.std.proofs.Common.{◌≡◌, ◌∙◌, ℕ, List, [], ◌∷◌, ma
 use Rattle.std.specs.Cmp.{nat_cmp_total}
 use Rattle.sqlite_rules.specs.Lists.{Has}
 use Rattle.zeb_profile.specs.declared.directives.Directive.{Directive}
-use Rattle.zeb_query.specs.Faults.{Refusal}
-use Rattle.zeb_query.specs.Queries.{QueryValue}
-use Rattle.zeb_query.specs.Plans.{PlanValue, plan_of}
-use Rattle.zeb_query.specs.Scan.{ScanValue, scan_of}
+use Rattle.zeb_query.specs.Checks.{Refusal}
+use Rattle.zeb_query.specs.Grammar.{QueryValue}
+use Rattle.zeb_query.specs.Plans.{PlanValue, ScanValue, plan_of, scan_of}
 use Rattle.zeb_query.specs.FirstFault.{query_fault}
 use Rattle.zeb_query.proofs.TextFaults.{one_query}
 use Rattle.zeb_extract.specs.declared.keys.Occurrence.{Occurrence}

@@ -10,9 +10,8 @@ use Rattle.zeb_marc.specs.Contents.{units_of}
 use Rattle.zeb_marc.specs.Splits.{split_of}
 use Rattle.zeb_profile.specs.Canonical.{canonical_text}
 use Rattle.zeb_register.specs.Formats.{plain_rows, version_of}
-use Rattle.zeb_query.specs.Faults.{Refusal}
-use Rattle.zeb_query.specs.Plans.{PlanValue, plan_of}
-use Rattle.zeb_query.specs.Scan.{ScanValue, scan_of}
+use Rattle.zeb_query.specs.Checks.{Refusal}
+use Rattle.zeb_query.specs.Plans.{PlanValue, ScanValue, plan_of, scan_of}
 use Rattle.zeb_query.specs.FirstFault.{query_fault}
 use Rattle.zeb_extract.specs.declared.keys.Occurrence.{Occurrence}
 use Rattle.zeb_extract.specs.declared.naming.IdentFault.{IdentFault}

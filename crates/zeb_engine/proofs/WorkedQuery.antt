@@ -9,8 +9,7 @@ use Rattle.zeb_text.specs.Words.{is_word_character, runs_of}
 use Rattle.zeb_text.specs.Truncation.{truncated}
 use Rattle.zeb_query.specs.Words.{Word}
 use Rattle.zeb_query.specs.FirstFault.{words_at, unquoted, query_fault}
-use Rattle.zeb_query.specs.Queries.{QueryValue, TermValue}
-use Rattle.zeb_query.specs.Grammar.{IsQuery, is_term, is_attribute, is_structure, kind_and_value, no_head, under, with_attribute, SpellsQuery}
+use Rattle.zeb_query.specs.Grammar.{QueryValue, TermValue, IsQuery, is_term, is_attribute, is_structure, kind_and_value, no_head, under, with_attribute, SpellsQuery}
 use Rattle.zeb_query.specs.Attributes.{holding_of}
 use Rattle.zeb_query.proofs.WordStretches.{words_are_read}
 use Rattle.zeb_query.specs.Plans.{leaf_plan, plan_asked, plan_of}

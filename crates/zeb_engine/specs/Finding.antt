@@ -6,9 +6,8 @@ use Rattle.std.specs.Option.{option_map}
 use Rattle.std.specs.Fmt.{decimal}
 use Rattle.sqlite_rules.specs.Lists.{Has}
 use Rattle.zeb_profile.specs.declared.directives.Directive.{Directive}
-use Rattle.zeb_query.specs.Faults.{Refusal}
-use Rattle.zeb_query.specs.Queries.{QueryValue}
-use Rattle.zeb_query.specs.Grammar.{SpellsQuery}
+use Rattle.zeb_query.specs.Checks.{Refusal}
+use Rattle.zeb_query.specs.Grammar.{QueryValue, SpellsQuery}
 use Rattle.zeb_query.specs.Plans.{PlanValue, plan_of}
 use Rattle.zeb_extract.specs.declared.keys.Occurrence.{Occurrence}
 use Rattle.zeb_search.specs.Holds.{TreeHolds}

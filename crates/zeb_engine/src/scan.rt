@@ -3,7 +3,7 @@
 ghost use Rattle.std.specs.Prelude.{◌≡◌, ◌⊎◌, ◌++◌, List, false, IfOk, IfErr, OnOk, IsTrue, Ok};
 ghost use Rattle.sqlite.specs.Held.{state};
 ghost use Rattle.sqlite.specs.State.{HasCleanDisk, Survives};
-ghost use Rattle.zeb_query.specs.Scan.{scan_value};
+ghost use Rattle.zeb_query.specs.Plans.{scan_value};
 ghost use Rattle.zeb_query.specs.FirstFault.{query_fault};
 ghost use Rattle.zeb_register.specs.Calls.{ChangesNothing};
 ghost use Rattle.zeb_register.specs.Formats.{holds_in, version_of};

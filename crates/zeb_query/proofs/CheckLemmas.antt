@@ -4,9 +4,8 @@ use Rattle.std.specs.Prelude.{Result, Ok, Err, IfOk, not, map, ◌||◌, option_
 use Rattle.std.specs.Option.{is_none, unwrap_or}
 use Rattle.std.proofs.lemmas.Bool.{eqb-true}
 use Rattle.zeb_query.specs.Attributes.{kept, is_among}
-use Rattle.zeb_query.specs.Checks.{Check, check, first_that_applies, written}
+use Rattle.zeb_query.specs.Checks.{Check, check, first_that_applies, written, Refusal, ◌>>=◌, Gives, answered}
 use Rattle.zeb_query.specs.PrivatePlanning.{kept_or}
-use Rattle.zeb_query.specs.Faults.{Refusal, ◌>>=◌, Gives, answered}
 use Rattle.zeb_query.specs.declared.faults.QueryFault.{QueryFault}
 
 -- the value, where none of the checks applies

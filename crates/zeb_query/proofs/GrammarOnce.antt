@@ -5,8 +5,7 @@ use Rattle.zeb_query.specs.declared.queries.Connective.{Connective}
 use Rattle.zeb_query.specs.declared.keywords.Keyword.{Keyword}
 use Rattle.zeb_query.specs.declared.keywords.Keyword.TheVariants.{AttributeSet, Attribute, TermType, ResultSet, Operator}
 use Rattle.zeb_query.specs.Words.{Word}
-use Rattle.zeb_query.specs.Grammar.{keyword_of, IsStructure, is_term, is_named, is_attribute, is_attribute_of_set, is_typed, is_pair, IsQuery, is_structure, is_structure_of_set, is_good, has_equals, kind_and_value, parameter_count, under, text_of, no_head, with_attribute, with_type}
-use Rattle.zeb_query.specs.Queries.{TreeValue, TermValue, NamedValue, PairValue, QueryValue}
+use Rattle.zeb_query.specs.Grammar.{keyword_of, IsStructure, is_term, is_named, is_attribute, is_attribute_of_set, is_typed, is_pair, IsQuery, is_structure, is_structure_of_set, is_good, has_equals, kind_and_value, parameter_count, under, text_of, no_head, with_attribute, with_type, TreeValue, TermValue, NamedValue, PairValue, QueryValue}
 use Rattle.zeb_query.specs.PrivateReading.{first_keyword}
 use Rattle.zeb_query.proofs.GrammarLaws.{has_equals_from_read, not_set_first}
 

@@ -5,8 +5,7 @@ use Rattle.std.specs.Option.{option_map}
 use Rattle.std.proofs.lemmas.Option.{slice_get_past}
 use Rattle.zeb_query.specs.declared.keywords.Keyword.TheVariants.{AttributeSet, Attribute, TermType, Operator}
 use Rattle.zeb_query.specs.Words.{Word}
-use Rattle.zeb_query.specs.Queries.{TreeValue, QueryValue}
-use Rattle.zeb_query.specs.Grammar.{IsStructure, is_term, is_named, is_attribute, is_attribute_of_set, is_typed, is_pair, IsQuery, is_structure, is_structure_of_set, parameter_count, with_attribute, with_type}
+use Rattle.zeb_query.specs.Grammar.{TreeValue, QueryValue, IsStructure, is_term, is_named, is_attribute, is_attribute_of_set, is_typed, is_pair, IsQuery, is_structure, is_structure_of_set, parameter_count, with_attribute, with_type}
 use Rattle.zeb_query.specs.FirstFault.{Start, Structures, SetOrSpec, MoreWords, words_then, fault, Refused, structure_step, start_step}
 use Rattle.zeb_query.specs.Places.{operators}
 use Rattle.zeb_query.proofs.GrammarLemmas.{append-nil, fault-start, fault-step, step-structure, good_from_keyword}

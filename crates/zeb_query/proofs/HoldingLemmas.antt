@@ -6,8 +6,7 @@ use Rattle.std.specs.List.{find}
 use Rattle.std.proofs.lemmas.List.{map-append, take_more}
 use Rattle.std.proofs.lemmas.Grind.{common_steps}
 use Rattle.zeb_query.specs.declared.queries.Attribute.{Attribute}
-use Rattle.zeb_query.specs.Queries.{AttributeValue, HeadValue, attribute_value}
-use Rattle.zeb_query.specs.Grammar.{no_head}
+use Rattle.zeb_query.specs.Grammar.{AttributeValue, HeadValue, attribute_value, no_head}
 use Rattle.zeb_query.specs.Attributes.{HoldingValue, holding_of, is_bib1, is_other_set, is_other_kind, sets_in, kind_of, or_else, value_held}
 use Rattle.zeb_query.specs.PrivateReading.{held_with, first_set, first_set_of}
 use Rattle.zeb_query.proofs.GrammarLemmas.{append-nil}

@@ -14,13 +14,10 @@ use Rattle.zeb_query.specs.declared.plans.Order.{Order}
 use Rattle.zeb_query.specs.declared.plans.Operator.{Operator}
 use Rattle.zeb_query.specs.declared.plans.Operator.TheVariants as operator
 use Rattle.zeb_query.specs.declared.queries.Connective.TheVariants.{And, Or, Not, Proximity}
-use Rattle.zeb_query.specs.Queries.{HeadValue, TreeValue, TermValue, NamedValue, PairValue, QueryValue}
-use Rattle.zeb_query.specs.Grammar.{heads, no_head}
-use Rattle.zeb_query.specs.Attributes.{HoldingValue, holding_of, number_or, is_among, relation_is, structure_is, position_is, completeness_is}
-use Rattle.zeb_query.specs.Checks.{Check, check, first_that_applies, one_of, has_target, head_checks, value_checks, words_checks, clash_checks, near_clash_checks, register_checks, number_checks, term_checks, find_checks, Operand, operand_of, parameter_checks, operand_checks, operands_checks, proximity_checks}
-use Rattle.zeb_query.specs.Terms.{index_used, index_held, register_searched, patterns_held, relation_held, order_held, joined_words_if_any, joined_if_any}
+use Rattle.zeb_query.specs.Grammar.{HeadValue, TreeValue, TermValue, NamedValue, PairValue, QueryValue, heads, no_head}
+use Rattle.zeb_query.specs.Attributes.{HoldingValue, holding_of, number_or, is_among, relation_is, structure_is, position_is, completeness_is, index_used, index_held, register_searched, patterns_held, relation_held, order_held, joined_words_if_any, joined_if_any}
+use Rattle.zeb_query.specs.Checks.{Check, check, first_that_applies, one_of, has_target, head_checks, value_checks, words_checks, clash_checks, near_clash_checks, register_checks, number_checks, term_checks, find_checks, Operand, operand_of, parameter_checks, operand_checks, operands_checks, proximity_checks, Refusal, ◌>>=◌}
 use Rattle.zeb_query.specs.Plans.{TermPlanValue, PlanValue, TermOf, PairOf, RecordNumberOf, AlwaysOf, NumberOf, OrderedOf, CompleteOf, PhraseOf, AllWordsOf, AnyWordOf, plan_asked, leaf_plan, tree_plan, near_plan, plan_of, plan_register, held_in, looked_into, AllLookInto, LooksInto}
-use Rattle.zeb_query.specs.Faults.{Refusal, ◌>>=◌}
 use Rattle.zeb_query.proofs.CheckLemmas.{answered_ok, none-cons, none-append, by_value}
 use Rattle.zeb_query.proofs.NearLemmas.{near_value, near_checked}
 

@@ -16,15 +16,12 @@ use Rattle.zeb_query.specs.declared.attributes.Asked.TheVariants.{Compared, Alwa
 use Rattle.zeb_query.specs.declared.attributes.Structure.{Structure}
 use Rattle.zeb_query.specs.declared.attributes.Structure.TheVariants.{Phrase, WordList, FreeForm, LocalNumber, Numeric}
 use Rattle.zeb_query.specs.declared.terms.Values.{Values}
-use Rattle.zeb_query.specs.Queries.{HeadValue}
-use Rattle.zeb_query.specs.Grammar.{is_number, number_of}
-use Rattle.zeb_query.specs.Attributes.{HoldingValue, holding_of}
-use Rattle.zeb_query.specs.Checks.{Check, check, first_that_applies, one_of, clash_checks, near_clash_checks, register_checks, number_checks, near_checks, Operand, kept_text, orderings, distance_relations, parameter_checks, separation_of, operand_checks, operands_checks, proximity_checks}
-use Rattle.zeb_query.specs.Terms.{index_held, patterns_held}
+use Rattle.zeb_query.specs.Grammar.{HeadValue, is_number, number_of}
+use Rattle.zeb_query.specs.Attributes.{HoldingValue, holding_of, index_held, patterns_held}
+use Rattle.zeb_query.specs.Checks.{Check, check, first_that_applies, one_of, clash_checks, near_clash_checks, register_checks, number_checks, near_checks, Operand, kept_text, orderings, distance_relations, parameter_checks, separation_of, operand_checks, operands_checks, proximity_checks, Refusal, ◌>>=◌, refused, answered}
 use Rattle.zeb_query.specs.Plans.{operand_pattern, separation_asked, word_near, PlanValue, NearOf, near_plan, operands_plan}
 use Rattle.zeb_query.specs.PrivatePlanning.{is_equal, is_phrase, is_local, register_of, kept_or, term_of}
 use Rattle.zeb_query.proofs.NearSteps.{parameter_kept, separation_read, found_near, term_near}
-use Rattle.zeb_query.specs.Faults.{Refusal, ◌>>=◌, refused, answered}
 use Rattle.zeb_query.proofs.CheckLemmas.{checked_by, then_checks, kept_by}
 use Rattle.zeb_query.proofs.TermCheckLemmas.{values_held, patterns_if, AreHeld, reading_checks, term_stage, term_held}
 use Rattle.zeb_query.proofs.PlanCheckLemmas.{Says, values_say, both_say, clashes_by, last_checks, values_with, number_checks_by, found_stage, is_found, found_is, index_is}

@@ -7,8 +7,7 @@ use Rattle.zeb_text.specs.Symbols.{Symbol}
 use Rattle.zeb_query.specs.declared.terms.Values.{Values}
 use Rattle.zeb_query.specs.declared.plans.Separation.{Separation}
 use Rattle.zeb_query.specs.Grammar.{number_of}
-use Rattle.zeb_query.specs.Checks.{one_of, kept_text, orderings, distance_relations}
-use Rattle.zeb_query.specs.Faults.{Refusal, ◌>>=◌, refused}
+use Rattle.zeb_query.specs.Checks.{one_of, kept_text, orderings, distance_relations, Refusal, ◌>>=◌, refused}
 use Rattle.zeb_query.specs.PrivatePlanning.{clashes_near, register_of, kept_or}
 
 -- the parameters of `@prox`, one after the other

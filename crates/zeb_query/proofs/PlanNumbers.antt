@@ -13,13 +13,10 @@ use Rattle.zeb_query.specs.declared.plans.Relation.{Relation}
 use Rattle.zeb_query.specs.declared.plans.Order.{Order}
 use Rattle.zeb_query.specs.declared.plans.Operator.TheVariants as operator
 use Rattle.zeb_query.specs.declared.queries.Connective.TheVariants.{And, Or, Not, Proximity}
-use Rattle.zeb_query.specs.Grammar.{is_number, heads, no_head}
-use Rattle.zeb_query.specs.Queries.{HeadValue, TreeValue, TermValue, NamedValue, PairValue, QueryValue}
-use Rattle.zeb_query.specs.Attributes.{number_or, HoldingValue, holding_of, is_among, relation_is, structure_is, position_is, truncation_is, completeness_is}
+use Rattle.zeb_query.specs.Grammar.{is_number, heads, no_head, HeadValue, TreeValue, TermValue, NamedValue, PairValue, QueryValue}
+use Rattle.zeb_query.specs.Attributes.{number_or, HoldingValue, holding_of, is_among, relation_is, structure_is, position_is, truncation_is, completeness_is, register_searched, patterns_held, index_held, relation_held, order_held, joined_words, joined_words_if_any, joined_if_any}
 use Rattle.zeb_query.specs.Checks.{Check, check, first_that_applies, scan_clash_checks, number_checks, find_checks, scan_checks, Operand, kept_text, orderings, distance_relations, operand_of, parameter_checks, separation_of, operands_checks, proximity_checks}
-use Rattle.zeb_query.specs.Terms.{register_searched, patterns_held, index_held, relation_held, order_held, joined_words, joined_words_if_any, joined_if_any}
-use Rattle.zeb_query.specs.Plans.{TermPlanValue, PlanValue, RecordNumberOf, AlwaysOf, NumberOf, OrderedOf, CompleteOf, PhraseOf, AllWordsOf, AnyWordOf, plan_asked, leaf_plan, tree_plan, near_plan, plan_of, HasSmallNumber, HasSmallNumbers}
-use Rattle.zeb_query.specs.Scan.{ScanValue, scan_asked, leaf_scan, BeginsAtKey}
+use Rattle.zeb_query.specs.Plans.{TermPlanValue, PlanValue, RecordNumberOf, AlwaysOf, NumberOf, OrderedOf, CompleteOf, PhraseOf, AllWordsOf, AnyWordOf, plan_asked, leaf_plan, tree_plan, near_plan, plan_of, HasSmallNumber, HasSmallNumbers, ScanValue, scan_asked, leaf_scan, BeginsAtKey}
 use Rattle.zeb_query.proofs.DigitLemmas.{number_below}
 use Rattle.zeb_query.proofs.CheckLemmas.{answered_ok, none-cons, none-append, by_value}
 use Rattle.zeb_query.proofs.LookLemmas.{NoneApply, none_apply, true_of_not, term_holds, pair_holds}

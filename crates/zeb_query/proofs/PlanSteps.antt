@@ -6,9 +6,8 @@ use Rattle.zeb_text.specs.Symbols.{Symbol}
 use Rattle.zeb_query.specs.declared.attributes.Asked.{Asked}
 use Rattle.zeb_query.specs.declared.attributes.Asked.TheVariants.{Compared, Always}
 use Rattle.zeb_query.specs.declared.terms.Values.{Values}
-use Rattle.zeb_query.specs.Faults.{Refusal, ◌>>=◌, refused}
-use Rattle.zeb_query.specs.Plans.{TermPlanValue, RecordNumberOf, AlwaysOf}
-use Rattle.zeb_query.specs.Scan.{ScanValue}
+use Rattle.zeb_query.specs.Checks.{Refusal, ◌>>=◌, refused}
+use Rattle.zeb_query.specs.Plans.{TermPlanValue, RecordNumberOf, AlwaysOf, ScanValue}
 use Rattle.zeb_query.specs.PrivatePlanning.{clashes, clashes_in_scan, register_of, number_in, compared_plan, scan_start}
 
 abbrev pub related_plan : ℕ → List ℕ → Values → ℕ → List (List Symbol) → Asked → Result TermPlanValue Refusal

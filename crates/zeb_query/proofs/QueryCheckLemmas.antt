@@ -4,13 +4,10 @@ use Rattle.std.specs.Prelude.{Result, Ok, Err}
 use Rattle.std.specs.Result.{result_err}
 use Rattle.zeb_profile.specs.declared.Profile.{Profile}
 use Rattle.zeb_query.specs.declared.queries.Connective.TheVariants.{And, Or, Not, Proximity}
-use Rattle.zeb_query.specs.Queries.{HeadValue, TreeValue, TermValue, NamedValue, PairValue, QueryValue}
-use Rattle.zeb_query.specs.Grammar.{heads, no_head}
+use Rattle.zeb_query.specs.Grammar.{HeadValue, TreeValue, TermValue, NamedValue, PairValue, QueryValue, heads, no_head}
 use Rattle.zeb_query.specs.Attributes.{holding_of}
-use Rattle.zeb_query.specs.Checks.{Check, first_that_applies, find_checks, scan_checks, operand_of, proximity_checks, checks_in, query_checks}
-use Rattle.zeb_query.specs.Scan.{scan_checks_in, scan_query_checks, scan_asked, leaf_scan, tree_scan, scan_of}
-use Rattle.zeb_query.specs.Plans.{PlanValue, TermOf, plan_asked, leaf_plan, tree_plan, plan_of}
-use Rattle.zeb_query.specs.Faults.{Refusal, ◌>>=◌, answered}
+use Rattle.zeb_query.specs.Checks.{Check, first_that_applies, find_checks, scan_checks, operand_of, proximity_checks, checks_in, query_checks, Refusal, ◌>>=◌, answered}
+use Rattle.zeb_query.specs.Plans.{scan_checks_in, scan_query_checks, scan_asked, leaf_scan, tree_scan, scan_of, PlanValue, TermOf, plan_asked, leaf_plan, tree_plan, plan_of}
 use Rattle.zeb_query.proofs.NearLemmas.{near_value, near_checked}
 
 first_of_answer : {A B : Type 0} (o : Option Refusal) (x : A) (f : A → B) → result_err (answered o x >>= λ y. Ok (f y)) ≡ o

@@ -5,11 +5,10 @@ use Rattle.std.specs.Result.{OnOk, IfOk, IfErr}
 use Rattle.std.proofs.lemmas.Bool.Decides.{nat_tests}
 use Rattle.zeb_query.specs.Words.{Word, AreWords}
 use Rattle.zeb_query.specs.FirstFault.{words_at, Start, fault, query_fault}
-use Rattle.zeb_query.specs.Queries.{QueryValue}
-use Rattle.zeb_query.specs.Grammar.{IsQuery, SpellsQuery}
+use Rattle.zeb_query.specs.Grammar.{IsQuery, QueryValue, SpellsQuery}
 use Rattle.zeb_query.specs.declared.faults.QueryFault.{QueryFault}
 use Rattle.zeb_query.specs.declared.faults.QueryFault.TheVariants.{Diagnostic, Memory}
-use Rattle.zeb_query.specs.Faults.{IsFault}
+use Rattle.zeb_query.specs.Checks.{IsFault}
 use Rattle.zeb_query.specs.PrivateReading.{IsDiagnostic}
 use Rattle.zeb_query.specs.Places.{IsFaultOf, IsUnspelled, IsReadable, IsFaulty, is_long, is_unspelled, is_crowded}
 use Rattle.zeb_query.proofs.WordStretches.{words_read_are, words_are_read}

@@ -16,8 +16,7 @@ use Rattle.zeb_query.specs.declared.attributes.Structure.{Structure}
 use Rattle.zeb_query.specs.declared.attributes.Structure.TheVariants.{Phrase, WordList, FreeForm, LocalNumber, Numeric}
 use Rattle.zeb_query.specs.declared.attributes.Completeness.TheVariants.{Incomplete}
 use Rattle.zeb_query.specs.PrivatePlanning.{relations, positions, structures, completenesses, is_first, is_complete, is_truncated, is_ordered, is_equal, is_always, is_local, is_numeric, is_list, is_phrase, spread_of}
-use Rattle.zeb_query.specs.Terms.{order_of}
-use Rattle.zeb_query.specs.Attributes.{truncations, kept, is_among, comparisons}
+use Rattle.zeb_query.specs.Attributes.{order_of, truncations, kept, is_among, comparisons}
 use Rattle.zeb_query.proofs.CheckLemmas.{unkept, by_value}
 
 -- what a table has for a number, or else a default

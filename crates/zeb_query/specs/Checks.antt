@@ -10,22 +10,60 @@
 -- others are refused by 110, and which attributes the two terms may have, are own rules too.
 use Rattle.std.specs.Fmt.{decimal}
 use Rattle.std.specs.Option.{is_none, is_some, unwrap_or}
-use Rattle.std.specs.Prelude.{Bool, List, None, Option, Some, [], codes, false, if◌then◌else◌, length, nat_lt, not, true, ℕ, ◌&&◌, ◌++◌, ◌==◌, ◌∷◌, ◌||◌}
+use Rattle.std.specs.Prelude.{Bool, Err, List, None, Ok, Option, Result, Some, [], codes, false, if◌then◌else◌, length, nat_lt, not, string_bytes, true, ℕ, ◌&&◌, ◌++◌, ◌==◌, ◌∷◌, ◌≡◌, ◌||◌}
 use Rattle.std.specs.Str.{bytes_eq}
 use Rattle.std.specs.Str.Parse.{digits_value}
 use Rattle.zeb_profile.specs.Indexes.{has_pair, index_by_use}
 use Rattle.zeb_profile.specs.declared.Profile.{Profile}
 use Rattle.zeb_profile.specs.declared.Register.{Register}
+use Rattle.zeb_query.specs.declared.faults.QueryFault.{QueryFault}
+use Rattle.zeb_query.specs.declared.faults.QueryFault.TheVariants.{Diagnostic, Memory}
 use Rattle.zeb_query.specs.declared.plans.DistanceRelation.{DistanceRelation}
 use Rattle.zeb_query.specs.declared.plans.DistanceRelation.TheVariants.{Equal, Greater, GreaterOrEqual, Less, LessOrEqual, NotEqual}
 use Rattle.zeb_query.specs.declared.plans.Separation.{Separation}
 use Rattle.zeb_query.specs.declared.queries.Connective.{Connective}
 use Rattle.zeb_query.specs.declared.queries.Connective.TheVariants.{And, Not, Or, Proximity}
-use Rattle.zeb_query.specs.Queries.{HeadValue, NamedValue, PairValue, QueryValue, TermValue, TreeValue}
-use Rattle.zeb_query.specs.Grammar.{heads, is_number, no_head}
-use Rattle.zeb_query.specs.Faults.{Refusal}
-use Rattle.zeb_query.specs.Attributes.{HoldingValue, always_matches, completeness_is, equality, first_positions, holding_of, kept_completenesses, kept_positions, kept_relations, kept_structures, kept_truncations, lists, local_numbers, no_truncation, numeric_strings, one_number, ordered_relations, phrases, position_is, relation_is, structure_is, truncation_is, whole_texts}
-use Rattle.zeb_query.specs.Terms.{index_held, index_used, patterns_held, register_searched}
+use Rattle.zeb_query.specs.Grammar.{HeadValue, NamedValue, PairValue, QueryValue, TermValue, TreeValue, heads, is_number, no_head}
+use Rattle.zeb_query.specs.Attributes.{HoldingValue, always_matches, completeness_is, equality, first_positions, holding_of, index_held, index_used, kept_completenesses, kept_positions, kept_relations, kept_structures, kept_truncations, lists, local_numbers, no_truncation, numeric_strings, one_number, ordered_relations, patterns_held, phrases, position_is, register_searched, relation_is, structure_is, truncation_is, whole_texts}
+
+-- ---- diagnostics as values
+
+-- The diagnostics by which a query is refused, as values (ANSI/NISO Z39.50-2003, Appendix ERR, the list Bib-1), and what
+-- it means that a call gives what a definition says. Which fault has which number, and its place, are this project's own rules.
+
+-- a diagnostic's number, place and addinfo
+pub record Refusal : Type 0 where
+  pub number : ℕ
+  pub place : ℕ
+  pub addinfo : List ℕ
+
+-- the definition refuses by the fault, or memory ran out
+abbrev pub Fails : {Y : Type 0} → QueryFault → Result Y Refusal → Type 0
+Fails Memory expected = Unit {0}
+Fails (Diagnostic n p a) expected = expected ≡ Err (record { number = n; place = p; addinfo = string_bytes a })
+
+-- what a call returned, seen by `view`, is what the definition says, unless memory ran out
+abbrev pub Gives : {X Y : Type 0} → (X → Y) → Result X QueryFault → Result Y Refusal → Type 0
+Gives view (Ok x) expected = expected ≡ Ok (view x)
+Gives view (Err e) expected = Fails e expected
+
+infixl 10 ◌>>=◌
+abbrev pub ◌>>=◌ : {A B : Type 0} → Result A Refusal → (A → Result B Refusal) → Result B Refusal
+(Ok x) >>= f = f x
+(Err e) >>= f = Err e
+
+-- the diagnostic, if one applies
+abbrev pub answered : {A : Type 0} → Option Refusal → A → Result A Refusal
+answered None x = Ok x
+answered (Some refusal) x = Err refusal
+
+abbrev pub refused : {A : Type 0} → ℕ → ℕ → List ℕ → Result A Refusal
+refused number place addinfo = Err (record { number = number; place = place; addinfo = addinfo })
+
+-- the error is want of memory, or the diagnostic with this number and place and without an addinfo
+abbrev pub IsFault : QueryFault → Option (ℕ × ℕ) → Type 0
+IsFault Memory expected = Unit {0}
+IsFault (Diagnostic number place addinfo) expected = (expected ≡ Some (number, place)) × (string_bytes addinfo ≡ [])
 
 -- ---- checks
 

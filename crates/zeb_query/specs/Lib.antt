@@ -1,14 +1,10 @@
 pub mod Words
-pub mod Queries
 pub mod Grammar
 pub mod Places
 pub mod FirstFault
-pub mod Faults
 pub mod Attributes
-pub mod Terms
 pub mod Checks
 pub mod Plans
-pub mod Scan
 pub mod Worked
 pub mod PrivateReading
 pub mod PrivatePlanning

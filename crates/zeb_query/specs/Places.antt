@@ -10,8 +10,7 @@ use Rattle.zeb_query.specs.declared.faults.QueryFault.TheVariants.{Diagnostic, M
 use Rattle.zeb_query.specs.declared.keywords.Keyword.TheVariants.{Operator}
 use Rattle.zeb_query.specs.declared.queries.Connective.{Connective}
 use Rattle.zeb_query.specs.Words.{AreWords, Word}
-use Rattle.zeb_query.specs.Queries.{NamedValue, PairValue, QueryValue, TermValue, TreeValue}
-use Rattle.zeb_query.specs.Grammar.{IsQuery, SpellsQuery, keyword_of}
+use Rattle.zeb_query.specs.Grammar.{IsQuery, NamedValue, PairValue, QueryValue, SpellsQuery, TermValue, TreeValue, keyword_of}
 
 -- ---- beginnings of queries
 

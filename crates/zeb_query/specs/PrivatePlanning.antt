@@ -27,29 +27,36 @@ use Rattle.zeb_query.specs.declared.terms.Values.{Values}
 use Rattle.zeb_query.specs.declared.plans.Relation.{Relation}
 use Rattle.zeb_query.specs.declared.plans.Order.{Order}
 use Rattle.zeb_query.specs.Grammar.{number_of}
-use Rattle.zeb_query.specs.Attributes.{comparisons, truncations, value_of, HoldingValue}
-use Rattle.zeb_query.specs.Checks.{written, is_known_type}
-use Rattle.zeb_query.specs.Terms.{index_named, order_of, joined_words, joined_words_if_any, joined_if_any}
-use Rattle.zeb_query.specs.Faults.{Refusal, ◌>>=◌, refused}
+use Rattle.zeb_query.specs.Attributes.{always_matches, any_positions, comparisons, first_positions, free_forms, incomplete_texts, local_numbers, numeric_strings, phrases, truncations, value_of, whole_texts, word_lists, HoldingValue, index_named, order_of, joined_words, joined_words_if_any, joined_if_any}
+use Rattle.zeb_query.specs.Checks.{written, is_known_type, Refusal, ◌>>=◌, refused}
 use Rattle.zeb_query.specs.Plans.{TermPlanValue, NumberOf, OrderedOf, CompleteOf, PhraseOf, AllWordsOf, AnyWordOf}
 
 -- ---- the values of attribute types 2, 3, 4 and 6
 
+-- the numbers of a list, each with what it stands for
+abbrev pub all_as : {A : Type 0} → A → List ℕ → List (ℕ × A)
+all_as x numbers = map (λ number. (number, x)) numbers
+
 -- type 2, relation
 abbrev pub relations : List (ℕ × Asked)
-relations = map (λ row. (row.0, Compared row.1)) comparisons ++ (103, Always) ∷ []
+relations = map (λ row. (row.0, Compared row.1)) comparisons ++ all_as Always always_matches
 
 -- type 3, position
 abbrev pub positions : List (ℕ × Position)
-positions = (1, First) ∷ (2, First) ∷ (3, Any) ∷ []
+positions = all_as First first_positions ++ all_as Any any_positions
 
 -- type 4, structure
 abbrev pub structures : List (ℕ × Structure)
-structures = (1, Phrase) ∷ (2, Phrase) ∷ (6, WordList) ∷ (105, FreeForm) ∷ (107, LocalNumber) ∷ (109, Numeric) ∷ []
+structures =
+    all_as Phrase phrases
+    ++ (all_as WordList word_lists
+    ++ (all_as FreeForm free_forms
+    ++ (all_as LocalNumber local_numbers
+    ++ all_as Numeric numeric_strings)))
 
 -- type 6, completeness
 abbrev pub completenesses : List (ℕ × Completeness)
-completenesses = (1, Incomplete) ∷ (2, Complete) ∷ (3, Complete) ∷ []
+completenesses = all_as Incomplete incomplete_texts ++ all_as Complete whole_texts
 
 -- ---- a term that is read
 

@@ -17,8 +17,7 @@ use Rattle.zeb_query.specs.declared.keywords.Keyword.TheVariants.{Attribute, Ope
 use Rattle.zeb_query.specs.declared.holding.Holding.{Holding}
 use Rattle.zeb_query.specs.Words.{Word}
 use Rattle.zeb_query.specs.FirstFault.{words_at, in_word, in_quotes, escaped, plain_word, quoted_word, with_front, Due, fault}
-use Rattle.zeb_query.specs.Grammar.{keyword_of, IsStructure, IsQuery, under, is_good, text_of, kind_and_value, parameter_count}
-use Rattle.zeb_query.specs.Queries.{AttributeValue, HeadValue, TreeValue}
+use Rattle.zeb_query.specs.Grammar.{keyword_of, IsStructure, IsQuery, under, is_good, text_of, kind_and_value, parameter_count, AttributeValue, HeadValue, TreeValue}
 use Rattle.zeb_query.specs.Attributes.{HoldingValue, is_bib1, is_other_kind, or_else}
 
 -- ---- faults

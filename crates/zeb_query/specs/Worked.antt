@@ -3,11 +3,9 @@ use Rattle.std.specs.Prelude.{List, None, Result, Some, [], codes, zero, suc, â„
 use Rattle.zeb_profile.specs.declared.directives.Directive.{Directive}
 use Rattle.zeb_profile.specs.declared.directives.Directive.TheVariants.{All, Att, Melm}
 use Rattle.zeb_profile.specs.declared.registers.Register.TheVariants.{Number, Phrase, Word}
-use Rattle.zeb_query.specs.Queries.{QueryValue}
-use Rattle.zeb_query.specs.Grammar.{SpellsQuery}
-use Rattle.zeb_query.specs.Faults.{Refusal}
-use Rattle.zeb_query.specs.Plans.{PlanValue, plan_of}
-use Rattle.zeb_query.specs.Scan.{ScanValue, scan_of}
+use Rattle.zeb_query.specs.Grammar.{QueryValue, SpellsQuery}
+use Rattle.zeb_query.specs.Checks.{Refusal}
+use Rattle.zeb_query.specs.Plans.{PlanValue, ScanValue, plan_of, scan_of}
 
 -- words and phrases of titles, numbers of dates, and any words: the indexes Title (0), Date (1) and Any (2)
 abbrev pub sample_profile : List Directive

@@ -1,3 +1,4 @@
+//! The values of a term's attributes that are kept, each type an enum of its own.
 ghost use Rattle.std.specs.Prelude.{◌≡◌, IfSome, ◌<◌, ◌^◌};
 ghost use Rattle.std.specs.Option.{option_map};
 ghost use Rattle.zeb_query.specs.PrivatePlanning.{relations, positions, structures, completenesses};
@@ -18,7 +19,7 @@ pub(crate) enum Asked {
 
 impl Relation {
     ghost use Rattle.std.specs.Prelude.{◌≡◌};
-    ghost use Rattle.zeb_query.specs.Terms.{order_of};
+    ghost use Rattle.zeb_query.specs.Attributes.{order_of};
 
     /// The order that it is, if it isn't equality.
     pub(crate) fn order(self) -> Option<Order>

@@ -4,7 +4,7 @@ ghost use Rattle.zeb_text.specs.Symbols.{Star, literal};
 ghost use Rattle.zeb_profile.specs.declared.registers.Register.TheVariants.{Word, Phrase, Number};
 ghost use Rattle.zeb_query.specs.FirstFault.{query_fault};
 ghost use Rattle.zeb_query.specs.Plans.{TermOf, PairOf, NearOf, RecordNumberOf, AlwaysOf, NumberOf, OrderedOf, CompleteOf, PhraseOf, AllWordsOf, AnyWordOf};
-ghost use Rattle.zeb_query.specs.Faults.{refused};
+ghost use Rattle.zeb_query.specs.Checks.{refused};
 ghost use Rattle.zeb_query.specs.Worked.{PlansAs, PlansUnder, ScansAs, titles_alone, times};
 
 use crate::{DistanceRelation, Operator, Order, Relation};
@@ -128,6 +128,7 @@ pub fn truncations_at_examples()
 pub fn proximity_at_examples()
     ensures exclusion { PlansAs (codes "@prox 1 1 0 2 k 2 a b") (refused 110 0 (codes "1")) }
     ensures relation { PlansAs (codes "@prox 0 1 0 7 k 2 a b") (refused 110 0 (codes "7")) }
+    ensures which_code { PlansAs (codes "@prox 0 1 0 2 p 2 a b") (refused 110 0 (codes "p")) }
     ensures operand { PlansAs (codes "@prox 0 1 0 2 k 2 a @and b c") (refused 110 0 (codes "@prox")) }
     ensures attributes { PlansAs (codes "@prox 0 1 0 2 k 2 @attr 6=3 a b") (refused 123 28 []) }
     ensures words { PlansAs (codes "@prox 0 1 0 2 k 2 a " ++ 34 ∷ (codes "b c" ++ 34 ∷ [])) (refused 123 20 []) }

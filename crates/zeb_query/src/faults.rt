@@ -1,3 +1,4 @@
+//! Why a text is no query, or a query has no plan.
 use std::alloc::{AllocError, AllocFailed, Global};
 use thiserror::Error;
 

@@ -1,3 +1,4 @@
+//! The attributes and the term type that hold over a term, the innermost of each type.
 ghost use Rattle.std.specs.Prelude.{◌≡◌};
 ghost use Rattle.zeb_query.specs.Attributes.{is_bib1};
 
@@ -27,8 +28,7 @@ pub(crate) struct Holding<'a> {
 impl<'a> Holding<'a> {
     ghost use Rattle.std.specs.Prelude.{◌≡◌, ◌∷◌, ◌++◌, [], List, ℕ, Option, None, Some};
     ghost use Rattle.std.specs.Option.{option_map};
-    ghost use Rattle.zeb_query.specs.Queries.{attribute_value, head_value, query_value, HeadValue};
-    ghost use Rattle.zeb_query.specs.Grammar.{heads, no_head};
+    ghost use Rattle.zeb_query.specs.Grammar.{attribute_value, head_value, query_value, HeadValue, heads, no_head};
     ghost use Rattle.zeb_query.specs.PrivateReading.{holding_value, held_with, first_set};
     ghost use Rattle.zeb_query.specs.Attributes.{holding_of};
 

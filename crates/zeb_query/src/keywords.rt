@@ -1,3 +1,4 @@
+//! The keywords of the format, as words of a text.
 use crate::Connective;
 use crate::words::{Spelling, Word};
 

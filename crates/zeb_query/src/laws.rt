@@ -5,12 +5,10 @@ ghost use Rattle.zeb_profile.specs.declared.Profile.{Profile};
 ghost use Rattle.zeb_query.specs.declared.words.Spelling.TheVariants.{Bad, Plain, Quoted};
 ghost use Rattle.zeb_query.specs.Words.{Word, AreWords};
 ghost use Rattle.zeb_query.specs.FirstFault.{words_at, query_fault};
-ghost use Rattle.zeb_query.specs.Queries.{QueryValue};
-ghost use Rattle.zeb_query.specs.Grammar.{no_head, SpellsQuery};
+ghost use Rattle.zeb_query.specs.Grammar.{QueryValue, no_head, SpellsQuery};
 ghost use Rattle.zeb_query.specs.Places.{IsReadable, IsFaulty};
 ghost use Rattle.zeb_query.specs.Checks.{first_that_applies, query_checks};
-ghost use Rattle.zeb_query.specs.Plans.{PlanValue, held_in, looked_into, AllLookInto, plan_of};
-ghost use Rattle.zeb_query.specs.Scan.{scan_of, scan_query_checks};
+ghost use Rattle.zeb_query.specs.Plans.{PlanValue, held_in, looked_into, AllLookInto, plan_of, scan_of, scan_query_checks};
 
 /// A text has one list of words that stand in it one after the other, with the blanks before, between and after them; and
 /// these words, with their places, are those that are found from the left, one character after another.

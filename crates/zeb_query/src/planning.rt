@@ -1,13 +1,13 @@
+//! The plan of a query, or its first diagnostic.
 ghost use Rattle.std.specs.Prelude.{◌≡◌, List, ℕ, Option, ◌≤◌, ◌<◌, ◌^◌, IfOk, string_bytes};
 ghost use Rattle.std.specs.Option.{option_map};
-ghost use Rattle.zeb_query.specs.Queries.{HeadValue, tree_value, query_value, head_value};
-ghost use Rattle.zeb_query.specs.Grammar.{heads};
-ghost use Rattle.zeb_query.specs.Faults.{Gives};
+ghost use Rattle.zeb_query.specs.Grammar.{HeadValue, tree_value, query_value, head_value, heads};
+ghost use Rattle.zeb_query.specs.Checks.{Gives};
 ghost use Rattle.zeb_query.specs.Attributes.{holding_of};
 ghost use Rattle.zeb_query.specs.PrivateReading.{holding_value};
 ghost use Rattle.zeb_query.specs.PrivatePlanning.{term_of};
 ghost use Rattle.zeb_query.specs.Plans as plans;
-ghost use Rattle.zeb_query.specs.Terms as term_words;
+ghost use Rattle.zeb_query.specs.Attributes as term_words;
 ghost use Rattle.zeb_query.specs.PrivatePlanning as steps;
 
 use crate::attributes::{Asked, Completeness, Position, Structure};

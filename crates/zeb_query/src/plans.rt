@@ -1,3 +1,4 @@
+//! Plans: what a query asks for of the registers, and where a scan begins.
 use zeb_profile::Register;
 use zeb_text::Pattern;
 

@@ -1,11 +1,10 @@
+//! The plan of `@prox`: two words near each other in one unit.
 ghost use Rattle.std.specs.Prelude.{◌≡◌, List, ℕ, Option, map, string_bytes, if◌then◌else◌};
 ghost use Rattle.zeb_text.specs.Symbols.{Symbol};
-ghost use Rattle.zeb_query.specs.Queries.{HeadValue, tree_value, head_value};
-ghost use Rattle.zeb_query.specs.Grammar.{heads};
-ghost use Rattle.zeb_query.specs.Faults.{Gives, refused};
+ghost use Rattle.zeb_query.specs.Grammar.{HeadValue, tree_value, head_value, heads};
+ghost use Rattle.zeb_query.specs.Checks.{Gives, refused, one_of, operand_of, kept_text, orderings, distance_relations};
 ghost use Rattle.zeb_query.specs.Attributes.{holding_of};
 ghost use Rattle.zeb_query.specs.PrivateReading.{holding_value};
-ghost use Rattle.zeb_query.specs.Checks.{one_of, operand_of, kept_text, orderings, distance_relations};
 ghost use Rattle.zeb_query.specs.Plans.{separation_asked, word_near, plan_value, near_plan};
 
 use crate::digits::number_of;

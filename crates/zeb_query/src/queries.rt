@@ -1,3 +1,4 @@
+//! Queries as they are read, each word with its place in the text.
 /// An attribute as it stands in a query: `@attr SET TYPE=VALUE` (YAZ manual, PQF).
 #[derive(Debug, Drop)]
 pub struct Attribute {

@@ -1,7 +1,7 @@
+//! Reading a text as a query, or telling its fault.
 ghost use Rattle.std.specs.Prelude.{◌≡◌, None, IfOk, OnOk, IfErr};
-ghost use Rattle.zeb_query.specs.Queries.{query_value};
-ghost use Rattle.zeb_query.specs.Faults.{IsFault};
-ghost use Rattle.zeb_query.specs.Grammar.{SpellsQuery};
+ghost use Rattle.zeb_query.specs.Grammar.{SpellsQuery, query_value};
+ghost use Rattle.zeb_query.specs.Checks.{IsFault};
 ghost use Rattle.zeb_query.specs.Places.{IsReadable, IsFaultOf};
 ghost use Rattle.zeb_query.specs.FirstFault.{query_fault};
 

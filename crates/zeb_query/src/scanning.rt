@@ -1,8 +1,8 @@
+//! The plan of a scan, which begins at a term.
 ghost use Rattle.std.specs.Prelude.{◌≡◌, IfOk, string_bytes};
-ghost use Rattle.zeb_query.specs.Queries.{query_value, head_value};
-ghost use Rattle.zeb_query.specs.Grammar.{heads, no_head, operator_word};
-ghost use Rattle.zeb_query.specs.Faults.{Gives};
-ghost use Rattle.zeb_query.specs.Scan as scans;
+ghost use Rattle.zeb_query.specs.Grammar.{query_value, head_value, heads, no_head, operator_word};
+ghost use Rattle.zeb_query.specs.Checks.{Gives};
+ghost use Rattle.zeb_query.specs.Plans as scans;
 ghost use Rattle.zeb_query.specs.PrivatePlanning as steps;
 
 use crate::holding::Holding;

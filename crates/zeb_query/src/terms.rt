@@ -1,6 +1,7 @@
+//! Reading a term: the values of its attributes, its index and the patterns of its words, or its first diagnostic.
 ghost use Rattle.std.specs.Prelude.{◌≡◌, ◌∷◌, [], Option, Some, None, string_bytes};
 ghost use Rattle.std.specs.Option.{option_map};
-ghost use Rattle.zeb_query.specs.Faults.{Gives};
+ghost use Rattle.zeb_query.specs.Checks.{Gives};
 ghost use Rattle.zeb_query.specs.PrivateReading.{holding_value};
 ghost use Rattle.zeb_query.specs.PrivatePlanning.{kept_or, index_of, index_if, values_of, checked, type_checked, kind_checked, patterns_for, term_of};
 

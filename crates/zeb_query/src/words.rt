@@ -1,3 +1,4 @@
+//! Cutting a text into words, with their places.
 ghost use Rattle.std.specs.Prelude.{◌≡◌, ◌+◌, ◌++◌, ◌∷◌, [], ℕ, List, IfOk, OnOk, map, chars, string_bytes};
 ghost use Rattle.std.specs.Char.{len_utf8};
 ghost use Rattle.zeb_query.specs.FirstFault.{words_at, unquoted};

@@ -3,7 +3,7 @@ use Rattle.sqlite.specs.Held.{state}
 use Rattle.sqlite.specs.State.{HasCleanDisk}
 use Rattle.sqlite.specs.Tree.{Trees}
 use Rattle.zeb_query.specs.Plans.{plan_value}
-use Rattle.zeb_query.specs.Queries.{query_value}
+use Rattle.zeb_query.specs.Grammar.{query_value}
 use Rattle.zeb_register.specs.Content.{posted}
 use Rattle.zeb_register.specs.Formats.{version_of}
 use Rattle.zeb_register.specs.Store.{HasDatabase}

@@ -1,8 +1,8 @@
 use Rattle.std.proofs.Common.{rules, arith, ◌≡◌, pos, Result, Err, IsTrue, refl, sym, subst, inr}
 use Rattle.sqlite.specs.Held.{state}
 use Rattle.sqlite.specs.State.{HasCleanDisk}
-use Rattle.zeb_query.specs.Scan.{scan_value}
-use Rattle.zeb_query.specs.Queries.{query_value}
+use Rattle.zeb_query.specs.Plans.{scan_value}
+use Rattle.zeb_query.specs.Grammar.{query_value}
 use Rattle.zeb_register.specs.Content.{posted}
 use Rattle.zeb_register.specs.Store.{HasDatabase}
 use Rattle.zeb_register.specs.declared.catalog.Database.{Database}

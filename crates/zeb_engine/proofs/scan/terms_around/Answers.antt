@@ -2,7 +2,7 @@ use Rattle.std.proofs.Common.{rules, arith, ◌≡◌, ◌+◌, ◌-◌, Err, sy
 use Rattle.sqlite.specs.Effect.{Database}
 use Rattle.sqlite.specs.Held.{state}
 use Rattle.sqlite.specs.State.{HasCleanDisk}
-use Rattle.zeb_query.specs.Scan.{scan_value}
+use Rattle.zeb_query.specs.Plans.{scan_value}
 use Rattle.zeb_register.specs.Content.{posted}
 use Rattle.zeb_register.proofs.Calls.{store_same}
 use Rattle.zeb_change.specs.Outcomes.{register_refusal}

@@ -11,8 +11,7 @@ use Rattle.zeb_text.specs.Numbers.{number_key}
 use Rattle.zeb_query.specs.declared.queries.Connective.TheVariants.{And, Proximity}
 use Rattle.zeb_query.specs.Grammar.{kind_and_value, is_structure}
 use Rattle.zeb_query.specs.Attributes.{holding_of}
-use Rattle.zeb_query.specs.Plans.{word_near, leaf_plan, plan_asked}
-use Rattle.zeb_query.specs.Scan.{leaf_scan, scan_asked}
+use Rattle.zeb_query.specs.Plans.{word_near, leaf_plan, plan_asked, leaf_scan, scan_asked}
 use Rattle.zeb_query.proofs.ExampleLemmas.{plain, planned, term_at, quoted_at, under_at, pair_at}
 use Rattle.zeb_query.proofs.examples.proximity_at_examples.Goals as goal
 
@@ -23,6 +22,10 @@ returns-clause-exclusion c = planned (is_structure _ _ (pair_at 0 (codes "@prox"
 pub returns-clause-relation : goal.returns-clause-relation
 unfolding chars is_utf8 encode kind_and_value leaf_plan leaf_scan plan_asked scan_asked word_near holding_of caseless ucd_category folded is_word_character runs_of truncated number_key digits
 returns-clause-relation c = planned (is_structure _ _ (pair_at 0 (codes "@prox") Proximity (plain 6 (codes "0") ∷ plain 8 (codes "1") ∷ plain 10 (codes "0") ∷ plain 12 (codes "7") ∷ plain 14 (codes "k") ∷ plain 16 (codes "2") ∷ []) refl refl refl (term_at 18 (codes "a") refl) (term_at 20 (codes "b") refl))) refl refl
+
+pub returns-clause-which_code : goal.returns-clause-which_code
+unfolding chars is_utf8 encode kind_and_value leaf_plan leaf_scan plan_asked scan_asked word_near holding_of caseless ucd_category folded is_word_character runs_of truncated number_key digits
+returns-clause-which_code c = planned (is_structure _ _ (pair_at 0 (codes "@prox") Proximity (plain 6 (codes "0") ∷ plain 8 (codes "1") ∷ plain 10 (codes "0") ∷ plain 12 (codes "2") ∷ plain 14 (codes "p") ∷ plain 16 (codes "2") ∷ []) refl refl refl (term_at 18 (codes "a") refl) (term_at 20 (codes "b") refl))) refl refl
 
 pub returns-clause-operand : goal.returns-clause-operand
 unfolding chars is_utf8 encode kind_and_value leaf_plan leaf_scan plan_asked scan_asked word_near holding_of caseless ucd_category folded is_word_character runs_of truncated number_key digits

@@ -11,8 +11,7 @@ use Rattle.zeb_text.specs.Numbers.{number_key}
 use Rattle.zeb_query.specs.declared.queries.Connective.TheVariants.{Or, Proximity}
 use Rattle.zeb_query.specs.Grammar.{kind_and_value, is_structure}
 use Rattle.zeb_query.specs.Attributes.{holding_of}
-use Rattle.zeb_query.specs.Plans.{word_near, leaf_plan, plan_asked}
-use Rattle.zeb_query.specs.Scan.{leaf_scan, scan_asked}
+use Rattle.zeb_query.specs.Plans.{word_near, leaf_plan, plan_asked, leaf_scan, scan_asked}
 use Rattle.zeb_query.proofs.ExampleLemmas.{plain, scanned, named_at, term_at, under_at, pair_at}
 use Rattle.zeb_query.proofs.examples.scans_at_examples.Goals as goal
 

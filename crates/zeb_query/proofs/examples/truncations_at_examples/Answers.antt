@@ -10,8 +10,7 @@ use Rattle.zeb_text.specs.Truncation.{truncated}
 use Rattle.zeb_text.specs.Numbers.{number_key}
 use Rattle.zeb_query.specs.Grammar.{kind_and_value, is_structure}
 use Rattle.zeb_query.specs.Attributes.{holding_of}
-use Rattle.zeb_query.specs.Plans.{word_near, leaf_plan, plan_asked}
-use Rattle.zeb_query.specs.Scan.{leaf_scan, scan_asked}
+use Rattle.zeb_query.specs.Plans.{word_near, leaf_plan, plan_asked, leaf_scan, scan_asked}
 use Rattle.zeb_query.proofs.ExampleLemmas.{planned, quoted_at, term_at, under_at}
 use Rattle.zeb_query.proofs.examples.truncations_at_examples.Goals as goal
 

@@ -1,5 +1,4 @@
-use Rattle.zeb_query.specs.Queries.{query_value}
-use Rattle.zeb_query.specs.Grammar.{no_head}
+use Rattle.zeb_query.specs.Grammar.{no_head, query_value}
 use Rattle.zeb_query.specs.Plans.{plan_value, plan_of, HasSmallNumbers}
 use Rattle.zeb_query.proofs.CheckLemmas.{given_ok}
 use Rattle.zeb_query.proofs.PlanNumbers.{plan_numbers}

@@ -1,8 +1,7 @@
 use Rattle.std.proofs.Common.{ap, ◌∙◌, map}
 use Rattle.std.specs.Prelude.{string_bytes}
 use Rattle.zeb_query.specs.declared.queries.Tree.{Term}
-use Rattle.zeb_query.specs.Queries.{tree_value, head_value}
-use Rattle.zeb_query.specs.Grammar.{heads}
+use Rattle.zeb_query.specs.Grammar.{tree_value, head_value, heads}
 use Rattle.zeb_query.specs.Attributes.{holding_of}
 use Rattle.zeb_query.specs.Checks.{operand_of}
 use Rattle.zeb_query.specs.Plans.{near_plan}

@@ -1,7 +1,6 @@
 use Rattle.std.specs.Prelude.{string_bytes}
-use Rattle.zeb_query.specs.Queries.{query_value, head_value}
-use Rattle.zeb_query.specs.Grammar.{heads, no_head}
-use Rattle.zeb_query.specs.Scan.{scan_value, leaf_scan, BeginsAtKey}
+use Rattle.zeb_query.specs.Grammar.{query_value, head_value, heads, no_head}
+use Rattle.zeb_query.specs.Plans.{scan_value, leaf_scan, BeginsAtKey}
 use Rattle.zeb_query.proofs.CheckLemmas.{given_ok}
 use Rattle.zeb_query.proofs.PlanNumbers.{leaf_begins}
 use Rattle.zeb_query.proofs.scanning.plan_scan.Goals as goal

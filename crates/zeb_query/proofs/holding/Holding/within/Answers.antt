@@ -1,8 +1,7 @@
 use Rattle.std.proofs.Common.{◌≡◌, ◌<◌, ◌≤◌, ◌++◌, sym, ap, subst, ◌∙◌, Some, map, length, get_or, take}
 use Rattle.std.specs.Option.{option_map}
 use Rattle.std.specs.Prelude.{string_bytes}
-use Rattle.zeb_query.specs.Queries.{attribute_value}
-use Rattle.zeb_query.specs.Grammar.{inner_type}
+use Rattle.zeb_query.specs.Grammar.{attribute_value, inner_type}
 use Rattle.zeb_query.specs.PrivateReading.{holding_value, held_with}
 use Rattle.zeb_query.specs.Attributes.{holding_of}
 use Rattle.zeb_query.proofs.HoldingLemmas.{holding_of-more, holding_of-type, take_whole}
