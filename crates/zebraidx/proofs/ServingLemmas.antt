@@ -54,9 +54,9 @@ ordered_line told c command number text old new wrote writes failed Clean Told (
     (w.0, w.1, (w.2.0, (Order command, says, w.2.1), w.2.2))
 
 -- a line that is no command
-pub bad_line_answer : (told : List ℕ → Option (List ℕ)) (c : Conditions) (number : ℕ) (text : List ℕ) (old : State) (wrote writes : Option (List ℕ)) → Says text Bad
-    → Appends wrote writes (bad_line number) → Leads old old wrote writes (λ before bytes later. AnswersLine told c number text before bytes 2 later)
-bad_line_answer told c number text old wrote writes says grew before keeps = (before, keeps, (bad_line number, (Bad, says, (refl, refl, refl)), grew))
+pub bad_line_answer : (told : List ℕ → Option (List ℕ)) (c : Conditions) (number : ℕ) (text : List ℕ) (old : State) (wrote writes : Option (List ℕ)) (status : ℕ) → Says text Bad → status ≡ 2
+    → Appends wrote writes (bad_line number) → Leads old old wrote writes (λ before bytes later. AnswersLine told c number text before bytes status later)
+bad_line_answer told c number text old wrote writes status says misused grew before keeps = (before, keeps, (bad_line number, (Bad, says, (refl, misused, refl)), grew))
 
 -- a line that says nothing
 pub remark_line : (told : List ℕ → Option (List ℕ)) (c : Conditions) (number : ℕ) (text : List ℕ) (old : State) (wrote : Option (List ℕ)) → Says text Remark

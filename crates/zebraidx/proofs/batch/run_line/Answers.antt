@@ -31,9 +31,9 @@ returns-in-Path-clause-answer g c =
     path_line (g.P.Paths.tells c.args.paths.now) k c.in-Path.change c.args.number c.args.line.now old new (g.W.Write.contents c.args.output.now.writer) (g.W.Write.contents c.run_path_change.new.output.writer)
     c.run_path_change.new.output.failed (HasCleanDisk new) c.run_path_change.result (subst (Says c.args.line.now) c.in-Path.is c.in_ok-read.ensures) c.run_path_change.ensures.answer
 
-pub returns-clause-answer : goal.returns-clause-answer
-returns-clause-answer g c =
+pub returns-in-Bad-clause-answer : goal.returns-in-Bad-clause-answer
+returns-in-Bad-clause-answer g c =
     let k = conditions (version_of g.L.Layout.format) c.args.session.now.profile c.args.session.now.limits in
     let old = state g.S.Store c.args.session.now.connection in
     λ sound _ _. bad_line_answer (g.P.Paths.tells c.args.paths.now) k c.args.number c.args.line.now old (g.W.Write.contents c.args.output.now.writer) (g.W.Write.contents c.refuse_line.new.output.writer)
-    (subst (Says c.args.line.now) c.in-Bad.is c.in_ok-read.ensures) (c.refuse_line.ensures.line sound)
+    c.refuse_line.result (subst (Says c.args.line.now) c.in-Bad.is c.in_ok-read.ensures) c.refuse_line.ensures.status (c.refuse_line.ensures.line sound)
