@@ -1,6 +1,7 @@
 //! The lines of a batch that name a change by the path of its file.
 
-ghost use Rattle.std.specs.Prelude.{◌≡◌, ◌↔◌, ◌≢◌, ◌≤◌, ℕ, List, Some, false, string_bytes, IfOk, IfNone, IfSome, IsTrue, MatchOption, OnErr};
+ghost use Rattle.std.specs.Prelude.{◌≡◌, ◌↔◌, ◌≢◌, ◌≤◌, ℕ, List, Some, false, string_bytes};
+ghost use Rattle.std.specs.Prelude.{IfOk, IfNone, IfSome, IsTrue, MatchOption, OnErr};
 ghost use Rattle.sqlite.specs.Held.{state};
 ghost use Rattle.sqlite.specs.State.{HasCleanDisk};
 ghost use Rattle.zeb_change.specs.Conditions.{conditions};

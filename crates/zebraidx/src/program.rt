@@ -32,15 +32,16 @@ pub const FAILED: u8 = 3;
 /// Runs the program on these words, its name not among them, and answers its status, 0 to 3.
 ///
 /// Without a word the input is a script: the lines of a profile, a line `.`, and the lines of a batch,
-/// which run over a register in memory; a file may be named by its path. What they answer goes to the output, each refusal in its place;
-/// a fault of the input or of the profile goes there too, and then nothing else. A script without a
-/// line `.` is a profile alone, and only its fault is written.
+/// which run over a register in memory; a file may be named by its path. What they answer goes to the
+/// output, each refusal in its place; a fault of the input or of the profile goes there too, and then
+/// nothing else. A script without a line `.` is a profile alone, and only its fault is written.
 ///
 /// Words name a profile's file, a database and a command, which is carried out on the register at the
 /// profile's path. Its answer goes to the output, and to the fault output why there is none: words that
 /// aren't understood, a profile or a path that can't be read, a refusal. The command `batch` runs the
-/// lines of the input in one session; what they answer goes to the output, as that of a script does. The command `shell` does the same with each line as it comes: its
-/// answer is passed on before the next line is read. It ends where a write has failed, too.
+/// lines of the input in one session; what they answer goes to the output, as that of a script does. The
+/// command `shell` does the same with each line as it comes: its answer is passed on before the next line
+/// is read. It ends where a write has failed, too.
 ///
 /// The status is the greatest met: 0 answered, 1 refused, 2 a line that is none or words that aren't
 /// understood, 3 where the input or a path couldn't be read, a write or the store failed or memory ran
