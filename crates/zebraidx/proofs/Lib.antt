@@ -4,6 +4,8 @@ pub mod LineInputLemmas
 pub mod LineLemmas
 pub mod MemoryLemmas
 pub mod NumberLemmas
+pub mod PathLemmas
+pub mod ReaderLemmas
 pub mod ScriptAnswerLemmas
 pub mod ScriptLemmas
 pub mod ServingLemmas

@@ -15,10 +15,10 @@ use Rattle.zeb_image.specs.Image.{Keeps}
 use Rattle.zeb_engine.specs.Refusals.{refusal_text, status_of}
 use Rattle.zeb_engine.specs.Replies.{reply_text}
 use Rattle.zeb_engine.specs.Works.{ServesCommand}
-use Rattle.zebraidx.specs.declared.lines.Line.TheVariants.{Remark, Command as Order}
+use Rattle.zebraidx.specs.declared.lines.Line.TheVariants.{Remark, Command as Order, Bad}
 use Rattle.zebraidx.specs.Says.{Says}
 use Rattle.zebraidx.specs.Lines.{first_line, after_first_line}
-use Rattle.zebraidx.specs.Answers.{Writes, IsAnswer, AnswersLine, AnswersLines, AnswersBatch, AnswersPart}
+use Rattle.zebraidx.specs.Answers.{Writes, bad_line, IsAnswer, AnswersLine, AnswersLines, AnswersBatch, AnswersPart}
 use Rattle.zebraidx.specs.Serving.{Leads, Stops}
 use Rattle.zebraidx.proofs.AnswerLemmas.{Appends-nil, IsAnswered, answered_start, answered_line, answered_lines}
 
@@ -44,57 +44,62 @@ replied_command c command old new wrote writes reply bytes failed Clean serves i
     (served.0, served.2, (bytes, (Ok reply, is, refl, (served.0, served.1, refl)), grew sound))
 
 -- what is said of a line that names a command
-pub ordered_line : (c : Conditions) (command : Command) (number : ℕ) (text : List ℕ) (old new : State) (wrote writes : Option (List ℕ)) (failed : Bool) (Clean : Type 0) (r : Result ℕ AllocError)
+pub ordered_line : (told : List ℕ → Option (List ℕ)) (c : Conditions) (command : Command) (number : ℕ) (text : List ℕ) (old new : State) (wrote writes : Option (List ℕ)) (failed : Bool) (Clean Told : Type 0) (r : Result ℕ AllocError)
     → Says text (Order command)
     → IfOk r (λ status. failed ≡ false → Clean → Leads old new wrote writes (λ before bytes later. IsAnswer c command before bytes status later))
-    → IfOk r (λ status. failed ≡ false → Clean → Leads old new wrote writes (λ before bytes later. AnswersLine c number text before bytes status later))
-ordered_line c command number text old new wrote writes failed Clean (Err e) says h = h
-ordered_line c command number text old new wrote writes failed Clean (Ok status) says h = λ sound clean before keeps.
+    → IfOk r (λ status. failed ≡ false → Clean → Told → Leads old new wrote writes (λ before bytes later. AnswersLine told c number text before bytes status later))
+ordered_line told c command number text old new wrote writes failed Clean Told (Err e) says h = h
+ordered_line told c command number text old new wrote writes failed Clean Told (Ok status) says h = λ sound clean _ before keeps.
     let w = h sound clean before keeps in
     (w.0, w.1, (w.2.0, (Order command, says, w.2.1), w.2.2))
 
+-- a line that is no command
+pub bad_line_answer : (told : List ℕ → Option (List ℕ)) (c : Conditions) (number : ℕ) (text : List ℕ) (old : State) (wrote writes : Option (List ℕ)) (status : ℕ) → Says text Bad → status ≡ 2
+    → Appends wrote writes (bad_line number) → Leads old old wrote writes (λ before bytes later. AnswersLine told c number text before bytes status later)
+bad_line_answer told c number text old wrote writes status says misused grew before keeps = (before, keeps, (bad_line number, (Bad, says, (refl, misused, refl)), grew))
+
 -- a line that says nothing
-pub remark_line : (c : Conditions) (number : ℕ) (text : List ℕ) (old : State) (wrote : Option (List ℕ)) → Says text Remark
-    → Leads old old wrote wrote (λ before bytes later. AnswersLine c number text before bytes 0 later)
-remark_line c number text old wrote says before keeps = (before, keeps, ([], (Remark, says, (refl, refl, refl)), Appends-nil wrote))
+pub remark_line : (told : List ℕ → Option (List ℕ)) (c : Conditions) (number : ℕ) (text : List ℕ) (old : State) (wrote : Option (List ℕ)) → Says text Remark
+    → Leads old old wrote wrote (λ before bytes later. AnswersLine told c number text before bytes 0 later)
+remark_line told c number text old wrote says before keeps = (before, keeps, ([], (Remark, says, (refl, refl, refl)), Appends-nil wrote))
 
 -- from tables that keep what a register holds: the lines up to the rest are answered, and the tables keep what it holds then
-abbrev pub Reaches : Conditions → State → State → Option (List ℕ) → Option (List ℕ) → ℕ → List ℕ → ℕ → List ℕ → ℕ → Type 0
-Reaches c old now wrote writes before text n rest greatest =
-    (first : Holdings) → Keeps old first → (held : Holdings) × Keeps now held × IsAnswered c wrote writes before text first n rest greatest held
+abbrev pub Reaches : (List ℕ → Option (List ℕ)) → Conditions → State → State → Option (List ℕ) → Option (List ℕ) → ℕ → List ℕ → ℕ → List ℕ → ℕ → Type 0
+Reaches told c old now wrote writes before text n rest greatest =
+    (first : Holdings) → Keeps old first → (held : Holdings) × Keeps now held × IsAnswered told c wrote writes before text first n rest greatest held
 
-pub reaches_start : (c : Conditions) (old : State) (wrote : Option (List ℕ)) (n : ℕ) (text : List ℕ) → Reaches c old old wrote wrote n text n text 0
-reaches_start c old wrote n text first keeps = (first, keeps, answered_start c wrote n text first)
+pub reaches_start : (told : List ℕ → Option (List ℕ)) (c : Conditions) (old : State) (wrote : Option (List ℕ)) (n : ℕ) (text : List ℕ) → Reaches told c old old wrote wrote n text n text 0
+reaches_start told c old wrote n text first keeps = (first, keeps, answered_start told c wrote n text first)
 
-pub reaches_line : (c : Conditions) (old now next : State) (wrote mid writes : Option (List ℕ)) (before : ℕ) (text : List ℕ) (n : ℕ) (rest line later : List ℕ) (greatest status top : ℕ) → 0 < length rest
+pub reaches_line : (told : List ℕ → Option (List ℕ)) (c : Conditions) (old now next : State) (wrote mid writes : Option (List ℕ)) (before : ℕ) (text : List ℕ) (n : ℕ) (rest line later : List ℕ) (greatest status top : ℕ) → 0 < length rest
     → line ≡ first_line rest → later ≡ after_first_line rest → top ≡ max greatest status
-    → Reaches c old now wrote mid before text n rest greatest
-    → Leads now next mid writes (λ held bytes then. AnswersLine c (n + 1) line held bytes status then)
-    → Reaches c old next wrote writes before text (n + 1) later top
-reaches_line c old now next wrote mid writes before text n rest line later greatest status top some is_line is_rest is_max far step first keeps =
+    → Reaches told c old now wrote mid before text n rest greatest
+    → Leads now next mid writes (λ held bytes then. AnswersLine told c (n + 1) line held bytes status then)
+    → Reaches told c old next wrote writes before text (n + 1) later top
+reaches_line told c old now next wrote mid writes before text n rest line later greatest status top some is_line is_rest is_max far step first keeps =
     let here = far first keeps in
     let there = step here.0 here.1 in
-    (there.0, there.1, answered_line c wrote mid writes before text first n rest line later greatest status top here.0 there.0 some is_line is_rest is_max here.2 there.2)
+    (there.0, there.1, answered_line told c wrote mid writes before text first n rest line later greatest status top here.0 there.0 some is_line is_rest is_max here.2 there.2)
 
-pub reaches_end : (c : Conditions) (old now : State) (wrote writes : Option (List ℕ)) (before : ℕ) (text : List ℕ) (n : ℕ) (rest : List ℕ) (greatest : ℕ) → rest ≡ []
-    → Reaches c old now wrote writes before text n rest greatest
-    → Leads old now wrote writes (λ first bytes last. AnswersBatch c before text first bytes greatest last)
-reaches_end c old now wrote writes before text n rest greatest none far first keeps =
+pub reaches_end : (told : List ℕ → Option (List ℕ)) (c : Conditions) (old now : State) (wrote writes : Option (List ℕ)) (before : ℕ) (text : List ℕ) (n : ℕ) (rest : List ℕ) (greatest : ℕ) → rest ≡ []
+    → Reaches told c old now wrote writes before text n rest greatest
+    → Leads old now wrote writes (λ first bytes last. AnswersBatch told c before text first bytes greatest last)
+reaches_end told c old now wrote writes before text n rest greatest none far first keeps =
     let here = far first keeps in
-    let w = answered_lines c wrote writes before text first n rest greatest here.0 here.2 in
-    (here.0, here.1, (w.0, subst (λ left. AnswersLines c before text first w.0 greatest left here.0) none w.1, w.2))
+    let w = answered_lines told c wrote writes before text first n rest greatest here.0 here.2 in
+    (here.0, here.1, (w.0, subst (λ left. AnswersLines told c before text first w.0 greatest left here.0) none w.1, w.2))
 
-pub reaches_stop : (c : Conditions) (old now : State) (wrote writes : Option (List ℕ)) (before : ℕ) (text : List ℕ) (n : ℕ) (rest : List ℕ) (greatest : ℕ) → 0 < length rest
-    → Reaches c old now wrote writes before text n rest greatest
-    → Stops old wrote writes (AnswersPart c before text)
-reaches_stop c old now wrote writes before text n rest greatest some far first keeps =
+pub reaches_stop : (told : List ℕ → Option (List ℕ)) (c : Conditions) (old now : State) (wrote writes : Option (List ℕ)) (before : ℕ) (text : List ℕ) (n : ℕ) (rest : List ℕ) (greatest : ℕ) → 0 < length rest
+    → Reaches told c old now wrote writes before text n rest greatest
+    → Stops old wrote writes (AnswersPart told c before text)
+reaches_stop told c old now wrote writes before text n rest greatest some far first keeps =
     let here = far first keeps in
-    let w = answered_lines c wrote writes before text first n rest greatest here.0 here.2 in
+    let w = answered_lines told c wrote writes before text first n rest greatest here.0 here.2 in
     (w.0, (greatest, rest, here.0, some, w.1), w.2)
 
 -- where memory runs out at a line, nothing is written for it
-pub reaches_failure : {T E : Type 0} (c : Conditions) (old now : State) (wrote writes : Option (List ℕ)) (before : ℕ) (text : List ℕ) (n : ℕ) (rest : List ℕ) (greatest : ℕ) (r : Result T E) (failed : Bool) (Clean : Type 0) → 0 < length rest
-    → (failed ≡ false → Clean → Reaches c old now wrote writes before text n rest greatest)
-    → OnErr r (failed ≡ false → Clean → Stops old wrote writes (AnswersPart c before text))
-reaches_failure c old now wrote writes before text n rest greatest (Ok x) failed Clean some far = tt
-reaches_failure c old now wrote writes before text n rest greatest (Err e) failed Clean some far = λ sound clean. reaches_stop c old now wrote writes before text n rest greatest some (far sound clean)
+pub reaches_failure : {T E : Type 0} (told : List ℕ → Option (List ℕ)) (c : Conditions) (old now : State) (wrote writes : Option (List ℕ)) (before : ℕ) (text : List ℕ) (n : ℕ) (rest : List ℕ) (greatest : ℕ) (r : Result T E) (failed : Bool) (Clean Told : Type 0) → 0 < length rest
+    → (failed ≡ false → Clean → Told → Reaches told c old now wrote writes before text n rest greatest)
+    → OnErr r (failed ≡ false → Clean → Told → Stops old wrote writes (AnswersPart told c before text))
+reaches_failure told c old now wrote writes before text n rest greatest (Ok x) failed Clean Told some far = tt
+reaches_failure told c old now wrote writes before text n rest greatest (Err e) failed Clean Told some far = λ sound clean known. reaches_stop told c old now wrote writes before text n rest greatest some (far sound clean known)

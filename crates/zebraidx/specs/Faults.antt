@@ -1,5 +1,7 @@
 -- Why a command that words or a line name isn't answered.
-use Rattle.std.specs.Prelude.{⊤}
+use Rattle.std.specs.Prelude.{⊤, Result, Ok, Err}
+use Rattle.zeb_change.specs.declared.refusals.Refusal.{Refusal}
+use Rattle.zeb_engine.specs.declared.replies.Reply.{Reply}
 use Rattle.zebraidx.specs.declared.faults.Fault.{Fault}
 use Rattle.zebraidx.specs.declared.faults.Fault.TheVariants.{Profile, Unreadable, Refused, Memory}
 
@@ -9,3 +11,11 @@ IsUnread (Profile file fault) = ⊥
 IsUnread (Unreadable path) = ⊤
 IsUnread (Refused refusal) = ⊥
 IsUnread Memory = ⊤
+
+-- P is so of the answer of a register, unless memory ran out in the program itself; that something couldn't be read is none
+abbrev pub GivesAnswer : (P : Result Reply Refusal → Type 0) → Result Reply Fault → Type 0
+GivesAnswer P (Ok reply) = P (Ok reply)
+GivesAnswer P (Err (Refused refusal)) = P (Err refusal)
+GivesAnswer P (Err Memory) = ⊤
+GivesAnswer P (Err (Profile file fault)) = ⊥
+GivesAnswer P (Err (Unreadable path)) = ⊥

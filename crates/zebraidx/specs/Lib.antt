@@ -5,6 +5,7 @@ pub mod Errands
 pub mod Faults
 pub mod Inputs
 pub mod Lines
+pub mod PathChanges
 pub mod Says
 pub mod ScriptAnswers
 pub mod Scripts

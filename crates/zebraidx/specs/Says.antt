@@ -2,8 +2,9 @@
 use Rattle.std.specs.Prelude.{◌≡◌, ◌⊎◌, ℕ, List, [], Some, slice_get}
 use Rattle.zeb_engine.specs.declared.commands.Command.{Command}
 use Rattle.zebraidx.specs.declared.lines.Line.{Line}
-use Rattle.zebraidx.specs.declared.lines.Line.TheVariants.{Remark, Command as Order, Bad}
+use Rattle.zebraidx.specs.declared.lines.Line.TheVariants.{Remark, Command as Order, Path, Bad}
 use Rattle.zebraidx.specs.Batches.{Names}
+use Rattle.zebraidx.specs.PathChanges.{HasPath, NamesPath}
 use Rattle.zebraidx.specs.Words.{without_blanks}
 
 -- an empty line, or one that begins with `#`
@@ -14,4 +15,5 @@ IsRemark text = (text ≡ []) ⊎ (slice_get text 0 ≡ Some 35)
 abbrev pub Says : List ℕ → Line → Type 0
 Says text Remark = IsRemark (without_blanks text)
 Says text (Order command) = ¬ IsRemark (without_blanks text) × Names (without_blanks text) command
-Says text Bad = ¬ IsRemark (without_blanks text) × ((command : Command) → ¬ Names (without_blanks text) command)
+Says text (Path change) = ¬ IsRemark (without_blanks text) × NamesPath (without_blanks text) change
+Says text Bad = ¬ IsRemark (without_blanks text) × ((command : Command) → ¬ Names (without_blanks text) command) × ¬ HasPath (without_blanks text)

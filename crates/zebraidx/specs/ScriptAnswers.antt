@@ -13,6 +13,7 @@ use Rattle.zeb_profile.specs.Faults.{fault_text}
 use Rattle.zeb_profile.specs.Outcomes.{FailsPlaced}
 use Rattle.zeb_profile.specs.Profiles.{profile_of}
 use Rattle.zebraidx.specs.Inputs.{IsInput}
+use Rattle.zebraidx.specs.PathChanges.{AreFilesTold}
 use Rattle.zebraidx.specs.Scripts.{DividesAt, HasNoDivider}
 use Rattle.zebraidx.specs.Answers.{Writes, AnswersBatch, AnswersPart}
 
@@ -46,34 +47,34 @@ pub record AreScriptConditions (directives : List Directive) (c : Conditions) : 
   pub numbers : c.limits.numbers ≡ 999999999
 
 -- what the lines of a batch add to a writer's known bytes, from a register that holds nothing yet: their answers, or the failure of the store or the memory by which no register was opened
-abbrev pub AnswersOpened : List Directive → ℕ → List ℕ → Option (List ℕ) → Option (List ℕ) → ℕ → Type 0
-AnswersOpened directives n batch old new status =
-    Writes old new (λ bytes. (c : Conditions) × AreScriptConditions directives c × (last : Holdings) × AnswersBatch c n batch nothing_yet bytes status last)
+abbrev pub AnswersOpened : (List ℕ → Option (List ℕ)) → List Directive → ℕ → List ℕ → Option (List ℕ) → Option (List ℕ) → ℕ → Type 0
+AnswersOpened told directives n batch old new status =
+    Writes old new (λ bytes. (c : Conditions) × AreScriptConditions directives c × (last : Holdings) × AnswersBatch told c n batch nothing_yet bytes status last)
     ⊎ Writes old new (λ bytes. IsUnopened bytes status)
 
 -- what they add where memory runs out between two lines of output: the answers of the first lines, or nothing
-abbrev pub AnswersStopped : List Directive → ℕ → List ℕ → Option (List ℕ) → Option (List ℕ) → Type 0
-AnswersStopped directives n batch old new =
-    Writes old new (λ bytes. (c : Conditions) × AreScriptConditions directives c × AnswersPart c n batch nothing_yet bytes) ⊎ Writes old new (λ bytes. bytes ≡ [])
+abbrev pub AnswersStopped : (List ℕ → Option (List ℕ)) → List Directive → ℕ → List ℕ → Option (List ℕ) → Option (List ℕ) → Type 0
+AnswersStopped told directives n batch old new =
+    Writes old new (λ bytes. (c : Conditions) × AreScriptConditions directives c × AnswersPart told c n batch nothing_yet bytes) ⊎ Writes old new (λ bytes. bytes ≡ [])
 
 -- the profile of a script: what stands before its divider, or the whole text
 abbrev pub IsProfileOf : List ℕ → List ℕ → Type 0
 IsProfileOf text profile = (HasNoDivider text × (profile ≡ text)) ⊎ ((n : ℕ) × (batch : List ℕ) × DividesAt n text profile batch)
 
--- what a script of this text adds to a writer's known bytes, and its status: only an input that isn't too long and is text is looked at any further
-pub data AnswersScript : List ℕ → Option (List ℕ) → Option (List ℕ) → ℕ → Type 0 where
+-- what a script of this text adds to a writer's known bytes, and its status, where `told` gives the bytes of files at paths: only an input that isn't too long and is text is looked at any further
+pub data AnswersScript : (List ℕ → Option (List ℕ)) → List ℕ → Option (List ℕ) → Option (List ℕ) → ℕ → Type 0 where
   -- an input that is too long or no text
-  unreadable : {text : List ℕ} {old new : Option (List ℕ)} → ¬ IsInput text → Writes old new (λ bytes. bytes ≡ unreadable_line) → AnswersScript text old new 3
+  unreadable : {told : List ℕ → Option (List ℕ)} {text : List ℕ} {old new : Option (List ℕ)} → ¬ IsInput text → Writes old new (λ bytes. bytes ≡ unreadable_line) → AnswersScript told text old new 3
   -- a profile that is refused: for its first fault, or for want of memory
-  faulty : {text profile : List ℕ} {old new : Option (List ℕ)} → (fault : ProfileFault) → IsInput text → IsProfileOf text profile → FailsPlaced fault (profile_of profile) → Writes old new (λ bytes. bytes ≡ fault_line fault)
-      → AnswersScript text old new (fault_status fault.kind)
+  faulty : {told : List ℕ → Option (List ℕ)} {text profile : List ℕ} {old new : Option (List ℕ)} → (fault : ProfileFault) → IsInput text → IsProfileOf text profile → FailsPlaced fault (profile_of profile) → Writes old new (λ bytes. bytes ≡ fault_line fault)
+      → AnswersScript told text old new (fault_status fault.kind)
   -- a profile alone
-  alone : {text : List ℕ} {old new : Option (List ℕ)} → IsInput text → HasNoDivider text → IsOk (profile_of text) → Writes old new (λ bytes. bytes ≡ []) → AnswersScript text old new 0
-  -- a profile, and the lines of a batch
-  ran : {text profile batch : List ℕ} {directives : List Directive} {n status : ℕ} {old new : Option (List ℕ)} → IsInput text → DividesAt n text profile batch → profile_of profile ≡ Ok directives
-      → AnswersOpened directives n batch old new status → AnswersScript text old new status
+  alone : {told : List ℕ → Option (List ℕ)} {text : List ℕ} {old new : Option (List ℕ)} → IsInput text → HasNoDivider text → IsOk (profile_of text) → Writes old new (λ bytes. bytes ≡ []) → AnswersScript told text old new 0
+  -- a profile, and the lines of a batch; what is said of them is said where the bytes of each file that a line names by a path are told
+  ran : {told : List ℕ → Option (List ℕ)} {text profile batch : List ℕ} {directives : List Directive} {n status : ℕ} {old new : Option (List ℕ)} → IsInput text → DividesAt n text profile batch → profile_of profile ≡ Ok directives
+      → (AreFilesTold told batch → AnswersOpened told directives n batch old new status) → AnswersScript told text old new status
   -- the same, where memory ran out for the program itself before the last line was answered
-  stopped : {text profile batch : List ℕ} {directives : List Directive} {n : ℕ} {old new : Option (List ℕ)} → IsInput text → DividesAt n text profile batch → profile_of profile ≡ Ok directives
-      → AnswersStopped directives n batch old new → AnswersScript text old new 3
+  stopped : {told : List ℕ → Option (List ℕ)} {text profile batch : List ℕ} {directives : List Directive} {n : ℕ} {old new : Option (List ℕ)} → IsInput text → DividesAt n text profile batch → profile_of profile ≡ Ok directives
+      → (AreFilesTold told batch → AnswersStopped told directives n batch old new) → AnswersScript told text old new 3
   -- memory ran out while the input was read
-  silent : {text : List ℕ} {old new : Option (List ℕ)} → Writes old new (λ bytes. bytes ≡ []) → AnswersScript text old new 3
+  silent : {told : List ℕ → Option (List ℕ)} {text : List ℕ} {old new : Option (List ℕ)} → Writes old new (λ bytes. bytes ≡ []) → AnswersScript told text old new 3

@@ -7,10 +7,10 @@ ghost use Rattle.zebraidx.specs.Inputs.{TakesAtMost};
 ghost use Rattle.zebraidx.specs.ScriptAnswers.{usage_line};
 ghost use Rattle.zebraidx.specs.WordAnswers.{AnswersWords, NamesLines, NamesShell, TellsApart, TellsUsage};
 
+use crate::batch::run_lines;
 use crate::faults::{Fault, tell};
 use crate::files::{read_profile, unread};
 use crate::input::{GREATEST_INPUT, read_text};
-use crate::path_lines::run_path_lines;
 use crate::program::{ANSWERED, FAILED, MISUSED};
 use crate::script::Batch;
 use crate::shell::run_shell_lines;
@@ -137,7 +137,7 @@ fn run_batch<R: Source, W: Write, V: Write, P: Paths>(
                 text: text.as_str(),
                 lines_before: 0,
             };
-            run_path_lines(alloc, &mut session, paths, batch, output)
+            run_lines(alloc, &mut session, paths, batch, output)
         }
         Err(fault) => tell(alloc, &fault, fault_output),
     }

@@ -1,8 +1,11 @@
 //! Why a command that words or a line name isn't answered, and what is written of it.
 
-ghost use Rattle.std.specs.Prelude.{◌≡◌, false, IfOk, OnErr};
+ghost use Rattle.std.specs.Prelude.{◌≡◌, ◌∷◌, ◌++◌, [], false, IfOk, IsErr, OnErr};
+ghost use Rattle.zeb_change.specs.declared.refusals.Refusal.{Refusal};
+ghost use Rattle.zeb_engine.specs.Refusals.{refusal_text, status_of};
+ghost use Rattle.zebraidx.specs.Answers.{Writes};
 ghost use Rattle.zebraidx.specs.Faults.{IsUnread};
-ghost use Rattle.zebraidx.specs.declared.faults.Fault.TheVariants.{Memory};
+ghost use Rattle.zebraidx.specs.declared.faults.Fault.TheVariants.{Memory, Refused};
 ghost use Rattle.zebraidx.specs.WordAnswers.{IsFaultStatus};
 
 use crate::batch::refuse;
@@ -44,6 +47,8 @@ impl<T: Drop> From<AllocFailed<T>> for Fault {
 }
 
 impl From<Refusal> for Fault {
+    ghost from_gives = { λ refusal fault. fault ≡ Refused refusal };
+
     fn from(refusal: Refusal) -> Fault {
         Fault::Refused(refusal)
     }
@@ -60,7 +65,11 @@ impl From<WalkFault> for Fault {
 
 /// Writes a fault's line, and answers its status. For want of memory nothing is written.
 pub fn tell<W: Write>(alloc: Global, fault: &Fault, output: &mut Sink<W>) -> Result<u8, AllocError>
+    ensures answer { (refusal : Refusal) → fault.now ≡ Refused refusal → IfOk result (λ status. output.new.failed ≡ false →
+        Writes (W.contents output.old.writer) (W.contents output.new.writer) (λ bytes. (bytes ≡ refusal_text refusal ++ 10 ∷ [])
+        × (status ≡ status_of refusal))) }
     ensures sound { output.new.failed ≡ false → output.old.failed ≡ false }
+    ensures memory { fault.now ≡ Memory → IsErr result }
     ensures status { IfOk result IsFaultStatus }
     ensures unread { IsUnread fault.now → IfOk result (λ status. status ≡ FAILED) }
     ensures silent { OnErr result (output.new ≡ output.old) }

@@ -1,6 +1,8 @@
 //! The files at the paths that words or a line name.
 
+ghost use Rattle.std.specs.Prelude.{◌≡◌, ◌∷◌, [], ℕ, List, Some, map, string_bytes, IfErr, IfOk};
 ghost use Rattle.zebraidx.specs.Faults.{IsUnread};
+ghost use Rattle.zebraidx.specs.declared.faults.Fault.TheVariants.{Memory};
 
 use crate::faults::Fault;
 use crate::input::{GREATEST_INPUT, InputFault, read_text, read_whole};
@@ -39,16 +41,23 @@ pub fn readers_of<P: Paths>(
     alloc: Global,
     paths: &P,
     named: &[String],
-) -> Result<Vec<P::Reader>, Fault> {
+) -> Result<Vec<P::Reader>, Fault>
+    // One path, to a file of which the bytes are told: its reader alone is given, or memory runs out.
+    ensures told { (path file : List ℕ) → map string_bytes named.now ≡ path ∷ [] → P.tells paths.now path ≡ Some file
+        → IfOk result (λ readers. map P.Reader.remaining readers.items ≡ Some file ∷ []) }
+    ensures memory { (path file : List ℕ) → map string_bytes named.now ≡ path ∷ [] → P.tells paths.now path ≡ Some file
+        → IfErr result (λ fault. fault ≡ Memory) }
+{
     let mut readers = Vec::new(alloc);
     let mut walk = Walk::new(alloc, paths, named)?;
     for _ in 0..u64::MAX {
         let Some(path) = walk.next_file()? else {
-            break;
+            return Ok(readers);
         };
         readers.push(paths.reader(path))?;
     }
-    Ok(readers)
+    // So many readers are none that could be held.
+    Err(Fault::Memory)
 }
 
 /// The bytes of the files at and below the paths. A file that can't be read, or has too many bytes, is a path

@@ -6,6 +6,7 @@ ghost use Rattle.zebraidx.specs.Batches.{Names, HasChange, IsChange, HasFind, Is
 
 use crate::digits::bytes_of_digits;
 use crate::numbers::number_of;
+use crate::path_changes::{PathChange, read_path_change};
 use crate::words::{cut_word, without_blanks};
 use std::alloc::{AllocError, Global};
 use zeb_engine::{Command, DbName, Kind};
@@ -22,6 +23,8 @@ pub enum Line {
     /// Nothing: it is empty or begins with `#`.
     Remark,
     Command(Command),
+    /// A change by the path of its file.
+    Path(PathChange),
     /// Something that is no command.
     Bad,
 }
@@ -40,16 +43,16 @@ impl Line {
     /// drop NAME
     /// stat NAME
     /// dump NAME
-    /// update NAME hex:DIGITS
-    /// delete NAME hex:DIGITS
-    /// adelete NAME hex:DIGITS
+    /// update NAME FILE
+    /// delete NAME FILE
+    /// adelete NAME FILE
     /// find NAME QUERY
     /// scan NAME N P QUERY
     /// ```
     ///
-    /// DIGITS are the hexadecimal digits of one file's bytes. QUERY is the rest of the line, and is not
-    /// empty; of the records that it finds the first 20 are shown. A scan shows N terms (1 to 1,000), the start at
-    /// place P (1 to N); both have 1 to 9 digits.
+    /// FILE and QUERY are the rest of the line, and are not empty. FILE is `hex:` with the hexadecimal digits of one
+    /// file's bytes, or else a path. Of the records that a query finds the first 20 are shown. A scan shows N terms
+    /// (1 to 1,000), the start at place P (1 to N); both have 1 to 9 digits.
     pub fn read(alloc: Global, text: &str) -> Result<Line, AllocError>
         ensures { IfOk result (Says text.now) }
     {
@@ -57,12 +60,15 @@ impl Line {
         if text.is_empty() || text.starts_with('#') {
             return Ok(Line::Remark);
         }
-        let command = read_command(alloc, text)?;
-        Ok(command.map_or(Line::Bad, Line::Command))
+        if let Some(command) = read_command(alloc, text)? {
+            return Ok(Line::Command(command));
+        }
+        let change = read_path_change(alloc, text)?;
+        Ok(change.map_or(Line::Bad, Line::Path))
     }
 }
 
-/// The command that a line names which begins and ends with no blank, and is not empty.
+/// The command that a line names which begins and ends with no blank, and is not empty. A change by a path is none.
 fn read_command(alloc: Global, text: &str) -> Result<Option<Command>, AllocError>
     ensures { IfOk result (λ found. MatchOption found ((command : Command) → ¬ Names text.now command) (Names text.now)) }
 {

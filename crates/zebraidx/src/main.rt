@@ -11,7 +11,7 @@ mod line_input;
 mod lines;
 mod memory;
 mod numbers;
-mod path_lines;
+mod path_changes;
 mod program;
 mod script;
 mod shell;

@@ -32,16 +32,16 @@ pub const FAILED: u8 = 3;
 /// Runs the program on these words, its name not among them, and answers its status, 0 to 3.
 ///
 /// Without a word the input is a script: the lines of a profile, a line `.`, and the lines of a batch,
-/// which run over a register in memory. What they answer goes to the output, each refusal in its place;
-/// a fault of the input or of the profile goes there too, and then nothing else. A script without a
-/// line `.` is a profile alone, and only its fault is written.
+/// which run over a register in memory; a file may be named by its path. What they answer goes to the
+/// output, each refusal in its place; a fault of the input or of the profile goes there too, and then
+/// nothing else. A script without a line `.` is a profile alone, and only its fault is written.
 ///
 /// Words name a profile's file, a database and a command, which is carried out on the register at the
 /// profile's path. Its answer goes to the output, and to the fault output why there is none: words that
 /// aren't understood, a profile or a path that can't be read, a refusal. The command `batch` runs the
-/// lines of the input in one session, where a file may be named by its path; what they answer goes to
-/// the output, as that of a script does. The command `shell` does the same with each line as it comes: its
-/// answer is passed on before the next line is read. It ends where a write has failed, too.
+/// lines of the input in one session; what they answer goes to the output, as that of a script does. The
+/// command `shell` does the same with each line as it comes: its answer is passed on before the next line
+/// is read. It ends where a write has failed, too.
 ///
 /// The status is the greatest met: 0 answered, 1 refused, 2 a line that is none or words that aren't
 /// understood, 3 where the input or a path couldn't be read, a write or the store failed or memory ran
@@ -67,9 +67,11 @@ pub fn run<R: Source, W: Write, V: Write, P: Paths>(
     ensures failed_write { output.new.failed ≡ true → result ≡ FAILED }
     ensures failed_fault { fault_output.new.failed ≡ true → result ≡ FAILED }
 
-    // Without a word: what is written, where the input tells its bytes and neither a read nor a write failed.
+    // Without a word: what is written, where the input tells its bytes and neither a read nor a write failed. The answers of lines are
+    // told where the paths tell the bytes of each file that a line names by its path.
     ensures script { words.now ≡ [] → R.has_failed input.new ≡ false → output.new.failed ≡ false → fault_output.new.failed ≡ false →
-        IfSome (R.remaining input.old) (λ text. AnswersScript text (W.contents output.old.writer) (W.contents output.new.writer) result) }
+        IfSome (R.remaining input.old) (λ text.
+        AnswersScript (P.tells paths.old) text (W.contents output.old.writer) (W.contents output.new.writer) result) }
     ensures quiet { words.now ≡ [] → fault_output.new.failed ≡ false →
         Keeps (V.contents fault_output.old.writer) (V.contents fault_output.new.writer) }
 
@@ -104,7 +106,7 @@ fn respond<R: Source, W: Write, V: Write, P: Paths>(
     ensures unread { words.now ≢ [] → ¬ NamesLines (map string_bytes words.now) → input.new ≡ input.old }
     ensures failed_read { words.now ≡ [] → R.has_failed input.new ≡ true → result ≡ FAILED }
     ensures script { words.now ≡ [] → R.has_failed input.new ≡ false → output.new.failed ≡ false → IfSome (R.remaining input.old) (λ text.
-        AnswersScript text (W.contents output.old.writer) (W.contents output.new.writer) result) }
+        AnswersScript (P.tells paths.old) text (W.contents output.old.writer) (W.contents output.new.writer) result) }
     ensures quiet { words.now ≡ [] → fault_output.new ≡ fault_output.old }
     ensures words { words.now ≢ [] → output.new.failed ≡ false → fault_output.new.failed ≡ false →
         AnswersWords (map string_bytes words.now) (R.remaining input.new) (W.contents output.old.writer) (W.contents output.new.writer)
@@ -112,15 +114,16 @@ fn respond<R: Source, W: Write, V: Write, P: Paths>(
     ensures failed_batch { words.now ≢ [] → R.has_failed input.new ≡ true → result ≡ FAILED }
 {
     let status = if words.is_empty() {
-        run_script(alloc, input, output)
+        run_script(alloc, paths, input, output)
     } else {
         run_words(alloc, words, paths, input, output, fault_output)
     };
     status.unwrap_or(FAILED)
 }
 
-fn run_script<R: Source, W: Write>(
+fn run_script<R: Source, W: Write, P: Paths>(
     alloc: Global,
+    paths: &P,
     input: &mut R,
     output: &mut Sink<W>,
 ) -> Result<u8, AllocError>
@@ -130,9 +133,11 @@ fn run_script<R: Source, W: Write>(
     ensures failed_read { R.has_failed input.new ≡ true → IfOk result (λ status. status ≡ FAILED) }
     ensures sound { output.new.failed ≡ false → output.old.failed ≡ false }
     ensures answer { IfOk result (λ status. R.has_failed input.new ≡ false → output.new.failed ≡ false →
-        IfSome (R.remaining input.old) (λ text. AnswersScript text (W.contents output.old.writer) (W.contents output.new.writer) status)) }
+        IfSome (R.remaining input.old) (λ text.
+        AnswersScript (P.tells paths.now) text (W.contents output.old.writer) (W.contents output.new.writer) status)) }
     ensures stopped { OnErr result (R.has_failed input.new ≡ false → output.new.failed ≡ false →
-        IfSome (R.remaining input.old) (λ text. AnswersScript text (W.contents output.old.writer) (W.contents output.new.writer) FAILED)) }
+        IfSome (R.remaining input.old) (λ text.
+        AnswersScript (P.tells paths.now) text (W.contents output.old.writer) (W.contents output.new.writer) FAILED)) }
 {
     let text = match read_text(alloc, input, GREATEST_INPUT) {
         Ok(text) => text,
@@ -145,7 +150,7 @@ fn run_script<R: Source, W: Write>(
     let script = Script::cut(text.as_str());
     match Profile::read(alloc, script.profile) {
         Ok(profile) => match script.batch {
-            Some(batch) => run_batch(alloc, profile, batch, output),
+            Some(batch) => run_batch(alloc, profile, paths, batch, output),
             None => Ok(ANSWERED),
         },
         Err(fault) => Ok(refuse_profile(fault, output)),

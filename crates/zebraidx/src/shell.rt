@@ -5,10 +5,9 @@ ghost use Rattle.std.specs.Io.KnownBytes.{Consumes, IsAtEnd};
 ghost use Rattle.zebraidx.specs.Lines.{whole_first_line};
 ghost use Rattle.zebraidx.specs.declared.input.InputFault.TheVariants.{Unreadable};
 
-use crate::batch::refuse_line;
+use crate::batch::{refuse_line, run_line};
 use crate::input::{GREATEST_INPUT, InputFault};
 use crate::line_input::read_line;
-use crate::path_lines::run_path_line;
 use crate::program::{ANSWERED, FAILED};
 use crate::sinks::Sink;
 use crate::words::cut_line;
@@ -98,5 +97,5 @@ fn run_bytes<S: Alter, L: Layout, P: Paths, W: Write>(
         return Ok(refuse_line(number, output));
     };
     let (line, _) = cut_line(text.as_str());
-    run_path_line(alloc, session, paths, line, number, output)
+    run_line(alloc, session, paths, line, number, output)
 }

@@ -1,5 +1,13 @@
 //! The tasks that words name, each carried out on the register that the profile names.
 
+ghost use Rattle.std.specs.Prelude.{◌≡◌, ◌∷◌, [], ℕ, List, Some, map, string_bytes};
+ghost use Rattle.sqlite.specs.Held.{state};
+ghost use Rattle.sqlite.specs.State.{HasCleanDisk};
+ghost use Rattle.zeb_change.specs.Conditions.{conditions};
+ghost use Rattle.zeb_image.specs.NameOf.{name_bytes};
+ghost use Rattle.zeb_register.specs.Formats.{version_of};
+ghost use Rattle.zebraidx.specs.Serving.{ServesFile};
+
 use crate::faults::Fault;
 use crate::files::{contents_of, read_profile, readers_of};
 use sqlite::Alter;
@@ -141,16 +149,27 @@ pub fn carry_out<S: Alter, L: Layout, P: Paths>(
 }
 
 /// Changes a database by the records in the files at and below the paths, one record held at a time.
-fn change_by_paths<S: Alter, L: Layout, P: Paths>(
+pub fn change_by_paths<S: Alter, L: Layout, P: Paths>(
     alloc: Global,
     session: &mut Session<S, L>,
     paths: &P,
     kind: Kind,
     database: &DbName,
     named: &[String],
-) -> Result<Reply, Fault> {
+) -> Result<Reply, Fault>
+    ensures clean { HasCleanDisk (state S.Store session.new.connection) → HasCleanDisk (state S.Store session.old.connection) }
+    ensures under { (session.new.profile ≡ session.old.profile) × (session.new.limits ≡ session.old.limits) }
+    // One path, to a file of which the bytes are told.
+    ensures told { HasCleanDisk (state S.Store session.new.connection)
+        → (path file : List ℕ) → map string_bytes named.now ≡ path ∷ [] → P.tells paths.now path ≡ Some file
+        → ServesFile (conditions (version_of L.format) session.old.profile session.old.limits) kind (name_bytes database.now) file
+        (state S.Store session.old.connection) (state S.Store session.new.connection) result }
+{
     let mut readers = readers_of(alloc, paths, named)?;
-    Ok(session.update_from(database, kind, &mut readers)?)
+    match session.update_from(database, kind, &mut readers) {
+        Ok(reply) => Ok(reply),
+        Err(refusal) => Err(Fault::Refused(refusal)),
+    }
 }
 
 fn analyse_paths<S: Alter, L: Layout, P: Paths>(

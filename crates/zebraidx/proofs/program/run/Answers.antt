@@ -5,7 +5,7 @@ use Rattle.zebraidx.proofs.program.run.Goals as goal
 
 pub returns-clause-script : goal.returns-clause-script
 returns-clause-script g c = λ none read sound quiet.
-    kept_script _ _ _ _ _ (c.flush.ensures.bytes sound) (c.respond-status.ensures.script none read (c.flush.ensures.sound sound))
+    kept_script (g.P.Paths.tells c.args.paths.now) _ _ _ _ _ (c.flush.ensures.bytes sound) (c.respond-status.ensures.script none read (c.flush.ensures.sound sound))
 
 pub returns-clause-words : goal.returns-clause-words
 returns-clause-words g c = λ some sound quiet.
