@@ -94,6 +94,12 @@ module _ (format : Format) where
   pub counted_still : (D F : Content → ℕ → Type 0) (s : State) (w : Work) → ((content : Content) → D content 0) → ((content : Content) → F content 0) → Counted format D F s s w w
   counted_still D F s w no_terms none clean store content has = (0, 0, no_terms content, none content, counts_still w)
 
+-- a call that counts nothing
+pub idle_counted : {T E : Type 0} (r : Result T E) (format : Format) (D F : Content → ℕ → Type 0) (s0 s1 : State) (w : Work) → ((content : Content) → D content 0) → ((content : Content) → F content 0)
+    → OnOk r (Counted format D F s0 s1 w w)
+idle_counted (Ok x) format D F s0 s1 w no_terms none = λ clean store content has. (0, 0, no_terms content, none content, counts_still w)
+idle_counted (Err e) format D F s0 s1 w no_terms none = tt
+
 -- two calls that read no list
 pub no_rows_then : (content : Content) (m n : ℕ) → NoRows content m → NoRows content n → NoRows content (m + n)
 no_rows_then content m n one two = omega (arith, one, two)

@@ -225,6 +225,6 @@ fn near_hits<S: Alter, L: Layout>(
 
 /// A search whose plan names its entries, by patterns without a star and by numbers that are asked for as they are, reads no row of `dict`.
 pub fn named_entries_read_no_terms()
-    ensures none { (row_work : ℕ) (content : Content) (db : ℤ) (plan : PlanValue) (n : ℕ) → PlanDict row_work content db plan n
+    ensures { (row_work : ℕ) (content : Content) (db : ℤ) (plan : PlanValue) (n : ℕ) → PlanDict row_work content db plan n
         → NamesEntries plan → n ≡ 0 }
 {}

@@ -1,10 +1,11 @@
+use Rattle.std.proofs.Common.{◌≡◌, refl}
 use Rattle.std.proofs.lemmas.Result.{on_ok_weaker}
 use Rattle.sqlite.specs.Held.{state}
 use Rattle.zeb_register.specs.Content.{Content}
 use Rattle.zeb_search.specs.Comparing.{StandsInOrder}
 use Rattle.zeb_search.specs.DictRows.{EntryDict, RegisterDict}
 use Rattle.zeb_search.specs.ListRows.{EntryRows}
-use Rattle.zeb_search.proofs.CountedLemmas.{counted_for}
+use Rattle.zeb_search.proofs.CountedLemmas.{counted_for, idle_counted}
 use Rattle.zeb_search.proofs.DictCounts.{unnamed}
 use Rattle.zeb_search.proofs.PlanLemmas.{no_pattern, no_start}
 use Rattle.zeb_search.proofs.plans.term_hits.Goals as goal
@@ -17,6 +18,14 @@ returns-in-None-clause-value g c clean store content has =
 pub returns-in-None-pattern-clause-value : goal.returns-in-None-pattern-clause-value
 returns-in-None-pattern-clause-value g c clean store content has =
     no_pattern (state g.S.Store c.args.connection.now).now.trees content c.args.database.0 c.args.term.now c.new-in-None-pattern.result.items c.new-in-None-pattern.ensures.items c.in-Complete.index c.in-Complete.pattern c.in-Complete.is c.in-None-pattern.is
+
+pub returns-in-RecordNumber-clause-work : goal.returns-in-RecordNumber-clause-work
+returns-in-RecordNumber-clause-work g c =
+    rw c.in-RecordNumber.is (idle_counted c.record_hits.result g.L.Layout.format (λ content n. n ≡ 0) (λ content n. n ≡ 0) (state g.S.Store c.args.connection.now) (state g.S.Store c.record_hits.new.connection)
+    c.args.work.now (λ content. refl) (λ content. refl))
+
+pub returns-in-Always-clause-value : goal.returns-in-Always-clause-value
+returns-in-Always-clause-value g c clean store = rw c.in-Always.is (c.numbers_wanted.ensures.value clean store)
 
 pub returns-in-Always-clause-work : goal.returns-in-Always-clause-work
 returns-in-Always-clause-work g c =
