@@ -114,18 +114,18 @@ no_posting = tt
 module _ (format : Format) (empty : (trees : Trees) → LacksRegisters trees → holds_in format trees (λ _ _. [])) (profile : List Directive) (trees : Trees) (no_names : trees 2 ≡ []) (no_records : trees 4 ≡ []) (none : LacksRegisters trees) where
   pub empty_image : IsImageOf format profile trees []
   empty_image = record {
-    id_of = λ _. pos 0;
-    records_of = λ _. [];
-    distinct = λ a b there. absurd (has_contained [] a there);
-    listed = λ id name last. (λ there. absurd (subst (λ rows. Has rows (Int id ∷ Null ∷ Text name ∷ Int last ∷ [])) no_names there), λ found. absurd (has_contained [] found.0 found.1));
-    of_base = λ base there. absurd (has_contained [] base there);
-    of_none = λ id _ kept there. has_contained [] kept there;
-    stored = record {
+    lists = record {
+      id_of = λ _. pos 0;
+      records_of = λ _. [];
+      distinct = λ a b there. absurd (has_contained [] a there);
+      listed = λ id name last. (λ there. absurd (subst (λ rows. Has rows (Int id ∷ Null ∷ Text name ∷ Int last ∷ [])) no_names there), λ found. absurd (has_contained [] found.0 found.1));
+      of_base = λ base there. absurd (has_contained [] base there);
+      of_none = λ id _ kept there. has_contained [] kept there;
       kept = λ id sysno ident bytes. (λ there. absurd (subst (λ rows. Has rows (Int there.0 ∷ record_row id sysno ident bytes)) no_records there.1), λ found. absurd (has_contained [] found.0 found.1));
-      content = λ _ _. [];
-      held = empty trees none;
-      posted = record { rising = λ id key. no_posting; each = λ id key p. (λ there. absurd there, λ found. absurd (has_contained [] found.0 found.1)) };
     };
+    content = λ _ _. [];
+    held = empty trees none;
+    posted = record { rising = λ id key. no_posting; each = λ id key p. (λ there. absurd there, λ found. absurd (has_contained [] found.0 found.1)) };
   }
 
 -- whatever rows there were

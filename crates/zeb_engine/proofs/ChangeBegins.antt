@@ -61,10 +61,10 @@ module _ (format : Format) (c : Conditions) (old : State) (before : Holdings) (b
   pub update_begins : (found : Option Database) → IsDatabaseOf old.now.trees name found → Meets (Begins Update) (start_of Update name (base_named name bases)) (Ok found)
   update_begins None absent =
       let all = image_some c old.now.trees before bases is image in
-      let none = none_named old.now.trees bases all.1.image.id_of all.1.image.listed name absent in
+      let none = none_named old.now.trees bases all.1.image.lists.id_of all.1.image.lists.listed name absent in
       subst (λ o. Meets (Begins Update) (start_of Update name o) (Ok None)) (sym none) ((bases, is, none, refl), opened)
   update_begins (Some found) row =
       let all = image_some c old.now.trees before bases is image in
-      let base = row_named old.now.trees bases all.1.image.id_of all.1.image.listed all.0 all.1.are found.id.0 name found.last row in
+      let base = row_named old.now.trees bases all.1.image.lists.id_of all.1.image.lists.listed all.0 all.1.are found.id.0 name found.last row in
       let there = subst (λ n. HasDatabase old.now.trees found.id.0 n (pos base.0.last)) base.3 (subst (λ (l : ℕ). HasDatabase old.now.trees found.id.0 name (pos l)) base.4 row) in
       subst (λ o. Meets (Begins Update) (start_of Update name o) (Ok (Some found))) (sym base.1) ((bases, base.0, is, base.1, there, base.4), opened)

@@ -39,8 +39,8 @@ use Rattle.zeb_engine.proofs.WriteSteps.{Leads}
 use Rattle.zeb_register.specs.Formats.{Format, holds_in}
 
 -- a row tells the id of its database
-row_id : (format : Format) (profile : List _) (trees : Trees) (bases : List Base) (image : IsImageOf format profile trees bases) (id : ℤ) (name : List ℕ) (last : ℤ) → HasDatabase trees id name last → id ≡ image.id_of name
-row_id format profile trees bases image id name last row = let found = (image.listed id name last).0 row in found.2 ∙ ap image.id_of (sym found.3)
+row_id : (format : Format) (profile : List _) (trees : Trees) (bases : List Base) (image : IsImageOf format profile trees bases) (id : ℤ) (name : List ℕ) (last : ℤ) → HasDatabase trees id name last → id ≡ image.lists.id_of name
+row_id format profile trees bases image id name last row = let found = (image.lists.listed id name last).0 row in found.2 ∙ ap image.lists.id_of (sym found.3)
 
 -- a row of databases is written, and nothing else
 kept_registers : (id : ℤ) (name : List ℕ) (last : ℤ) (old new : State) → Changes databases_tree (PutsDatabase id name last) old new → KeepsRegisters old.now.trees new.now.trees
@@ -68,7 +68,7 @@ pub record IsBegun (format : Format) (c : Conditions) (kind : Kind) (name : List
   pub are : AreBases c.profile (with_base start bases)
   pub there : Contains (with_base start bases) start
   pub image : IsImageOf format c.profile mid.now.trees (with_base start bases)
-  pub its_id : id ≡ image.id_of start.name
+  pub its_id : id ≡ image.lists.id_of start.name
 
 module _ (format : Format) (stays : (a b : Trees) (content : Content) → KeepsRegisters a b → holds_in format a content → holds_in format b content) (c : Conditions) (session : AreSessions format c) (kind : Kind) (name : List ℕ) (is_name : IsDatabaseName name)
     (before : Holdings) where
@@ -107,7 +107,7 @@ module _ (format : Format) (stays : (a b : Trees) (content : Content) → KeepsR
         let records = kept_records id name (pos found.last) old mid put in
         let rows : PutsDatabase id base.name (pos base.last) databases_tree old.now.trees mid.now.trees =
         subst (λ n. PutsDatabase id n (pos base.last) databases_tree old.now.trees mid.now.trees) it.1 (subst (λ (l : ℕ). PutsDatabase id name (pos l) databases_tree old.now.trees mid.now.trees) fits.5 put.rows) in
-        let was = at.image.id_of base.name in
+        let was = at.image.lists.id_of base.name in
         let stored = stored_at_first format c.profile bases base there old.now.trees at.image was refl in
         let made = image_with format c.profile bases base there at.are base refl stays old.now.trees old.now.trees mid.now.trees at.image was refl stored refl id rows records registers in
         record {
@@ -132,7 +132,7 @@ module _ (format : Format) (stays : (a b : Trees) (content : Content) → KeepsR
     begun (Some found) fits put = begun_there found fits put
 
   module _ (mid : State) (id : ℤ) (last : ℕ) (b : IsBegun format c kind name before id last mid) where
-    pub first_way : IsUnderWay format c.profile id b.image.records_of mid b.start
+    pub first_way : IsUnderWay format c.profile id b.image.lists.records_of mid b.start
     first_way = (
       b.store,
       stored_at_first format c.profile (with_base b.start b.bases) b.start b.there mid.now.trees b.image id b.its_id,
@@ -165,7 +165,7 @@ module _ (format : Format) (stays : (a b : Trees) (content : Content) → KeepsR
           by (Err why) is met = absurd met
 
       -- and the last number is written
-      module _ (p : Progress) (folds : files_folded c kind 1 splits (at_first b.start) ≡ Ok p) (now new : State) (fold : Fold) (folded : IsFolded format c.profile id b.image.records_of mid now fold p)
+      module _ (p : Progress) (folds : files_folded c kind 1 splits (at_first b.start) ≡ Ok p) (now new : State) (fold : Fold) (folded : IsFolded format c.profile id b.image.lists.records_of mid now fold p)
           (put_id : ℤ) (put : Changes databases_tree (PutsDatabase put_id name (pos fold.progress.last)) now new) where
         same_name : p.base.name ≡ b.start.name
         same_name = files_named c kind 1 splits (at_first b.start) p folds

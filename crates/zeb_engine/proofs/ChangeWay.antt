@@ -38,7 +38,7 @@ module _ (format : Format) (change : Change) (sound : ∥ IsProfile change.setti
       (subst₂ (λ n (l : ℕ). Changes databases_tree (PutsDatabase id n (pos l)) old mid) text_is last_is put)
 
   module _ (mid : State) (id : ℤ) (b : IsBegun format (under_change format change) change.setting.kind (name_bytes change.name.now) before id (last_of change.found) mid) where
-    pub change_way : IsUnderWay format (under_change format change).profile id b.image.records_of mid b.start
+    pub change_way : IsUnderWay format (under_change format change).profile id b.image.lists.records_of mid b.start
     change_way = first_way format (registers_stay format) (under_change format change) session change.setting.kind (name_bytes change.name.now) change.name.now.named before mid id (last_of change.found) b
 
     module _ (texts : List (List ℕ)) {X : Type 0} (Good : Progress → X → Type 0) where
@@ -55,7 +55,7 @@ module _ (format : Format) (change : Change) (sound : ∥ IsProfile change.setti
 
     -- and the last number is written
     module _ (texts : List (List ℕ)) (p : Progress) (folds : files_folded (under_change format change) change.setting.kind 1 (splits_of texts) (at_first b.start) ≡ Ok p) (now new : State) (fold : Fold)
-        (folded : IsFolded format (under_change format change).profile id b.image.records_of mid now fold p) (put_id : ℤ) (put : Changes databases_tree (PutsDatabase put_id (name_bytes change.name.now) (pos fold.progress.last)) now new) where
+        (folded : IsFolded format (under_change format change).profile id b.image.lists.records_of mid now fold p) (put_id : ℤ) (put : Changes databases_tree (PutsDatabase put_id (name_bytes change.name.now) (pos fold.progress.last)) now new) where
       pub change_led : Leads new (reply.Changed fold.tally.inserted fold.tally.updated fold.tally.deleted)
           (comes_to (version_of format) change.setting (name_bytes change.name.now) texts before)
       change_led =

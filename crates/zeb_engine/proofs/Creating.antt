@@ -52,23 +52,23 @@ new_base_in profile name bases are = contains_had (with_base (new_base name) bas
 module _ (format : Format) (stays : (a b : Trees) (content : Content) → KeepsRegisters a b → holds_in format a content → holds_in format b content) (profile : List Directive) (old new : Trees) (name : List ℕ) (bases : List Base)
     (image : IsImageOf format profile old bases) (are : AreBases profile bases) (absent : base_named name bases ≡ None) (id : ℤ) (put : PutsDatabase id name (pos 0) 2 old new) (records : new 4 ≡ old 4) (registers : KeepsRegisters old new) where
   id_then : List ℕ → ℤ
-  id_then n = cond (bytes_eq n name) id (image.id_of n)
+  id_then n = cond (bytes_eq n name) id (image.lists.id_of n)
 
   here : (n : List ℕ) → n ≡ name → id_then n ≡ id
   unfolding id_then
-  here n same = ap (λ b. cond b id (image.id_of n)) ((bytes_eq-Decides n name).1 same)
+  here n same = ap (λ b. cond b id (image.lists.id_of n)) ((bytes_eq-Decides n name).1 same)
 
-  elsewhere : (n : List ℕ) → n ≢ name → id_then n ≡ image.id_of n
+  elsewhere : (n : List ℕ) → n ≢ name → id_then n ≡ image.lists.id_of n
   unfolding id_then
-  elsewhere n other = ap (λ b. cond b id (image.id_of n)) (bytes_other n name other)
+  elsewhere n other = ap (λ b. cond b id (image.lists.id_of n)) (bytes_other n name other)
 
   other_name : (base : Base) → Contains bases base → base.name ≢ name
   other_name base there = named_none name bases base absent (has_contained bases base there)
 
-  row_of : (base : Base) → Contains bases base → HasDatabase old (image.id_of base.name) base.name (pos base.last)
-  row_of base there = (image.listed (image.id_of base.name) base.name (pos base.last)).1 (base, there, refl, refl, refl)
+  row_of : (base : Base) → Contains bases base → HasDatabase old (image.lists.id_of base.name) base.name (pos base.last)
+  row_of base there = (image.lists.listed (image.lists.id_of base.name) base.name (pos base.last)).1 (base, there, refl, refl, refl)
 
-  free : (base : Base) → Contains bases base → id ≢ image.id_of base.name
+  free : (base : Base) → Contains bases base → id ≢ image.lists.id_of base.name
   free base there same = other_name base there (put.own base.name (pos base.last) (subst (λ i. HasDatabase old i base.name (pos base.last)) (sym same) (row_of base there)))
 
   among : (base : Base) → Contains (with_base (new_base name) bases) base → (base ≡ new_base name) ⊎ (Contains bases base × (base.name ≢ name))
@@ -91,39 +91,44 @@ module _ (format : Format) (stays : (a b : Trees) (content : Content) → KeepsR
     ]
     | inr one ↦ elim (among b in_b) [
       | inl two ↦ absurd (free a one.0 (sym (here b.name (name_of b two)) ∙ sym same ∙ elsewhere a.name one.1))
-      | inr two ↦ image.distinct a b one.0 two.0 (sym (elsewhere a.name one.1) ∙ same ∙ elsewhere b.name two.1)
+      | inr two ↦ image.lists.distinct a b one.0 two.0 (sym (elsewhere a.name one.1) ∙ same ∙ elsewhere b.name two.1)
     ]
   ]
 
   listed_then : AreListed new (with_base (new_base name) bases) id_then
   listed_then i n l = (
     λ there. elim ((put.each i n l).0 there) [
-      | inl kept ↦ let found = (image.listed i n l).0 kept.0 in
+      | inl kept ↦ let found = (image.lists.listed i n l).0 kept.0 in
           (found.0, kept_there found.0 found.1, found.2 ∙ sym (elsewhere found.0.name (other_name found.0 found.1)), found.3, found.4)
       | inr made ↦ (new_base name, new_base_in profile name bases are, made.0 ∙ sym (here name refl), made.1, made.2)
     ],
     λ found. elim (among found.0 found.1) [
       | inl one ↦ (put.each i n l).1 (inr (found.2 ∙ here found.0.name (name_of found.0 one), found.3 ∙ name_of found.0 one, found.4 ∙ ap (λ (b : Base). pos b.last) one))
-      | inr kept ↦ (put.each i n l).1 (inl ((image.listed i n l).1 (found.0, kept.0, found.2 ∙ elsewhere found.0.name kept.1, found.3, found.4), λ same. kept.1 (sym found.3 ∙ same)))
+      | inr kept ↦ (put.each i n l).1 (inl ((image.lists.listed i n l).1 (found.0, kept.0, found.2 ∙ elsewhere found.0.name kept.1, found.3, found.4), λ same. kept.1 (sym found.3 ∙ same)))
     ],
   )
 
-  kept_then : AreKept new image.records_of
+  kept_then : AreKept new image.lists.records_of
   kept_then i sysno ident bytes = (
-    λ there. (image.stored.kept i sysno ident bytes).0 (there.0, subst (λ rows. Has rows (Int there.0 ∷ record_row i sysno ident bytes)) records there.1),
-    λ found. let there = (image.stored.kept i sysno ident bytes).1 found in (there.0, subst (λ rows. Has rows (Int there.0 ∷ record_row i sysno ident bytes)) (sym records) there.1),
+    λ there. (image.lists.kept i sysno ident bytes).0 (there.0, subst (λ rows. Has rows (Int there.0 ∷ record_row i sysno ident bytes)) records there.1),
+    λ found. let there = (image.lists.kept i sysno ident bytes).1 found in (there.0, subst (λ rows. Has rows (Int there.0 ∷ record_row i sysno ident bytes)) (sym records) there.1),
   )
 
   pub created_image : IsImageOf format profile new (with_base (new_base name) bases)
   created_image = record {
-    id_of = id_then;
-    records_of = image.records_of;
-    distinct = apart;
-    listed = listed_then;
-    of_base = λ base there. elim (among base there) [
-      | inl one ↦ ap image.records_of (here base.name (name_of base one)) ∙ none_in (image.records_of id) (image.of_none id free) ∙ sym (ap (λ (b : Base). b.records) one)
-      | inr kept ↦ ap image.records_of (elsewhere base.name kept.1) ∙ image.of_base base kept.0
-    ];
-    of_none = λ i none. image.of_none i (λ base there same. none base (kept_there base there) (same ∙ sym (elsewhere base.name (other_name base there))));
-    stored = record { kept = kept_then; content = image.stored.content; held = stays old new image.stored.content registers image.stored.held; posted = image.stored.posted };
+    lists = record {
+      id_of = id_then;
+      records_of = image.lists.records_of;
+      distinct = apart;
+      listed = listed_then;
+      of_base = λ base there. elim (among base there) [
+        | inl one ↦ ap image.lists.records_of (here base.name (name_of base one)) ∙ none_in (image.lists.records_of id) (image.lists.of_none id free) ∙ sym (ap (λ (b : Base). b.records) one)
+        | inr kept ↦ ap image.lists.records_of (elsewhere base.name kept.1) ∙ image.lists.of_base base kept.0
+      ];
+      of_none = λ i none. image.lists.of_none i (λ base there same. none base (kept_there base there) (same ∙ sym (elsewhere base.name (other_name base there))));
+      kept = kept_then;
+    };
+    content = image.content;
+    held = stays old new image.content registers image.held;
+    posted = image.posted;
   }

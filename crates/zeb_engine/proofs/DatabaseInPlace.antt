@@ -53,13 +53,13 @@ module _ (id : ℤ) (records : List Kept) (records_of : ℤ → List Kept) where
 
 module _ (format : Format) (profile : List Directive) (bases : List Base) (base : Base) (there : Contains bases base) where
   -- the tables hold what they did before any record of the database was changed
-  pub stored_at_first : (trees : Trees) (image : IsImageOf format profile trees bases) (id : ℤ) → id ≡ image.id_of base.name → AreStored format profile trees (with_records id base.records image.records_of)
-  stored_at_first trees image id is = subst (AreStored format profile trees) (sym (λ i x. each x i)) image.stored
+  pub stored_at_first : (trees : Trees) (image : IsImageOf format profile trees bases) (id : ℤ) → id ≡ image.lists.id_of base.name → AreStored format profile trees (with_records id base.records image.lists.records_of)
+  stored_at_first trees image id is = subst (AreStored format profile trees) (sym (λ i x. each x i)) (record { kept = image.lists.kept; content = image.content; held = image.held; posted = image.posted })
     where
-      each : (x : ℤ) → with_records id base.records image.records_of x ≡ image.records_of x
+      each : (x : ℤ) → with_records id base.records image.lists.records_of x ≡ image.lists.records_of x
       each x = elim (ids_told x id) [
-        | inl same ↦ records_here id base.records image.records_of x same ∙ sym (image.of_base base there) ∙ ap image.records_of (sym (same ∙ is))
-        | inr other ↦ records_else id base.records image.records_of x other
+        | inl same ↦ records_here id base.records image.lists.records_of x same ∙ sym (image.lists.of_base base there) ∙ ap image.lists.records_of (sym (same ∙ is))
+        | inr other ↦ records_else id base.records image.lists.records_of x other
       ]
 
   module _ (are : AreBases profile bases) (next : Base) (named : next.name ≡ base.name) where
@@ -98,8 +98,8 @@ module _ (format : Format) (profile : List Directive) (bases : List Base) (base 
       ];
     }
 
-    module _ (stays : (a b : Trees) (content : Content) → KeepsRegisters a b → holds_in format a content → holds_in format b content) (old now new : Trees) (image : IsImageOf format profile old bases) (id : ℤ) (its_id : id ≡ image.id_of base.name)
-        (stored : AreStored format profile now (with_records id next.records image.records_of)) (names : now databases_tree ≡ old databases_tree)
+    module _ (stays : (a b : Trees) (content : Content) → KeepsRegisters a b → holds_in format a content → holds_in format b content) (old now new : Trees) (image : IsImageOf format profile old bases) (id : ℤ) (its_id : id ≡ image.lists.id_of base.name)
+        (stored : AreStored format profile now (with_records id next.records image.lists.records_of)) (names : now databases_tree ≡ old databases_tree)
         (put_id : ℤ) (put : PutsDatabase put_id next.name (pos next.last) databases_tree now new) (records : new 4 ≡ now 4) (registers : KeepsRegisters now new) where
       there_now : (i : ℤ) (n : List ℕ) (l : ℤ) → HasDatabase old i n l → HasDatabase now i n l
       there_now i n l h = subst (λ rows. Has rows (Int i ∷ Null ∷ Text n ∷ Int l ∷ [])) (sym names) h
@@ -107,49 +107,49 @@ module _ (format : Format) (profile : List Directive) (bases : List Base) (base 
       there_before : (i : ℤ) (n : List ℕ) (l : ℤ) → HasDatabase now i n l → HasDatabase old i n l
       there_before i n l h = subst (λ rows. Has rows (Int i ∷ Null ∷ Text n ∷ Int l ∷ [])) names h
 
-      same_id : put_id ≡ image.id_of next.name
-      same_id = sym (put.kept id (pos base.last) (there_now id next.name (pos base.last) ((image.listed id next.name (pos base.last)).1 (base, there, its_id, named, refl)))) ∙ its_id ∙ ap image.id_of (sym named)
+      same_id : put_id ≡ image.lists.id_of next.name
+      same_id = sym (put.kept id (pos base.last) (there_now id next.name (pos base.last) ((image.lists.listed id next.name (pos base.last)).1 (base, there, its_id, named, refl)))) ∙ its_id ∙ ap image.lists.id_of (sym named)
 
-      listed_then : AreListed new (with_base next bases) image.id_of
+      listed_then : AreListed new (with_base next bases) image.lists.id_of
       listed_then i n l = (
         λ h. elim ((put.each i n l).0 h) [
-          | inl kept ↦ let found = (image.listed i n l).0 (there_before i n l kept.0) in
+          | inl kept ↦ let found = (image.lists.listed i n l).0 (there_before i n l kept.0) in
               (found.0, others_in found.0 found.1 (λ same. kept.1 (found.3 ∙ same)), found.2, found.3, found.4)
           | inr made ↦ (next, next_in, made.0 ∙ same_id, made.1, made.2)
         ],
         λ found. elim (among found.0 found.1) [
-          | inl one ↦ (put.each i n l).1 (inr (found.2 ∙ ap image.id_of (name_of found.0 one) ∙ sym same_id, found.3 ∙ name_of found.0 one, found.4 ∙ ap (λ (b : Base). pos b.last) one))
-          | inr kept ↦ (put.each i n l).1 (inl (there_now i n l ((image.listed i n l).1 (found.0, kept.0, found.2, found.3, found.4)), λ same. kept.1 (sym found.3 ∙ same)))
+          | inl one ↦ (put.each i n l).1 (inr (found.2 ∙ ap image.lists.id_of (name_of found.0 one) ∙ sym same_id, found.3 ∙ name_of found.0 one, found.4 ∙ ap (λ (b : Base). pos b.last) one))
+          | inr kept ↦ (put.each i n l).1 (inl (there_now i n l ((image.lists.listed i n l).1 (found.0, kept.0, found.2, found.3, found.4)), λ same. kept.1 (sym found.3 ∙ same)))
         ],
       )
 
       -- a database of another name has another id
-      apart : (z : Base) → Contains bases z → z.name ≢ next.name → image.id_of z.name ≢ id
-      apart z h other same = other (image.distinct z base h there (same ∙ its_id) ∙ sym named)
+      apart : (z : Base) → Contains bases z → z.name ≢ next.name → image.lists.id_of z.name ≢ id
+      apart z h other same = other (image.lists.distinct z base h there (same ∙ its_id) ∙ sym named)
 
       pub image_with : IsImageOf format profile new (with_base next bases)
       image_with = record {
-        id_of = image.id_of;
-        records_of = with_records id next.records image.records_of;
-        distinct = λ a b in_a in_b same.
-            let e = elder a in_a in
-            let f = elder b in_b in
-            sym e.2 ∙ image.distinct e.0 f.0 e.1 f.1 (ap image.id_of e.2 ∙ same ∙ sym (ap image.id_of f.2)) ∙ f.2;
-        listed = listed_then;
-        of_base = λ z h. elim (among z h) [
-          | inl one ↦ records_here id next.records image.records_of (image.id_of z.name) (ap image.id_of (name_of z one ∙ named) ∙ sym its_id) ∙ sym (ap (λ (b : Base). b.records) one)
-          | inr kept ↦ records_else id next.records image.records_of (image.id_of z.name) (apart z kept.0 kept.1) ∙ image.of_base z kept.0
-        ];
-        of_none = λ i none kept held.
-            let other : i ≢ id = λ same. none next next_in (same ∙ its_id ∙ ap image.id_of (sym named)) in
-            image.of_none i (λ z h same. elim (bytes_told z.name next.name) [
-              | inl one ↦ none next next_in (same ∙ ap image.id_of one)
-              | inr differs ↦ none z (others_in z h differs) same
-            ]) kept (subst (λ l. Contains l kept) (records_else id next.records image.records_of i other) held);
-        stored = record {
-          kept = same_kept now new (with_records id next.records image.records_of) records stored.kept;
-          content = stored.content;
-          held = stays now new stored.content registers stored.held;
-          posted = stored.posted;
+        lists = record {
+          id_of = image.lists.id_of;
+          records_of = with_records id next.records image.lists.records_of;
+          distinct = λ a b in_a in_b same.
+              let e = elder a in_a in
+              let f = elder b in_b in
+              sym e.2 ∙ image.lists.distinct e.0 f.0 e.1 f.1 (ap image.lists.id_of e.2 ∙ same ∙ sym (ap image.lists.id_of f.2)) ∙ f.2;
+          listed = listed_then;
+          of_base = λ z h. elim (among z h) [
+            | inl one ↦ records_here id next.records image.lists.records_of (image.lists.id_of z.name) (ap image.lists.id_of (name_of z one ∙ named) ∙ sym its_id) ∙ sym (ap (λ (b : Base). b.records) one)
+            | inr kept ↦ records_else id next.records image.lists.records_of (image.lists.id_of z.name) (apart z kept.0 kept.1) ∙ image.lists.of_base z kept.0
+          ];
+          of_none = λ i none kept held.
+              let other : i ≢ id = λ same. none next next_in (same ∙ its_id ∙ ap image.lists.id_of (sym named)) in
+              image.lists.of_none i (λ z h same. elim (bytes_told z.name next.name) [
+                | inl one ↦ none next next_in (same ∙ ap image.lists.id_of one)
+                | inr differs ↦ none z (others_in z h differs) same
+              ]) kept (subst (λ l. Contains l kept) (records_else id next.records image.lists.records_of i other) held);
+          kept = same_kept now new (with_records id next.records image.lists.records_of) records stored.kept;
         };
+        content = stored.content;
+        held = stays now new stored.content registers stored.held;
+        posted = stored.posted;
       }

@@ -65,8 +65,8 @@ module _ (id : ℤ) (content : Content) where
 module _ (format : Format) (profile : List Directive) (old new : Trees) (name : List ℕ) (bases : List Base) (base : Base) (image : IsImageOf format profile old bases) (are : AreBases profile bases)
     (found : base_named name bases ≡ Some base) (id : ℤ) (row : HasDatabase old id base.name (pos base.last)) (databases : TakesDatabase id 2 old new) (records : Loses (IsRecordIn id) 4 old new)
     (registers : (before after : Content) → holds_in format old before → IsWithout id before after → holds_in format new after) where
-  its_id : id ≡ image.id_of base.name
-  its_id = let told = (image.listed id base.name (pos base.last)).0 row in told.2 ∙ ap image.id_of (sym told.3)
+  its_id : id ≡ image.lists.id_of base.name
+  its_id = let told = (image.lists.listed id base.name (pos base.last)).0 row in told.2 ∙ ap image.lists.id_of (sym told.3)
 
   base_in : Contains bases base
   base_in = contains_had bases base (named_found name bases base found).0
@@ -74,11 +74,11 @@ module _ (format : Format) (profile : List Directive) (old new : Trees) (name : 
   its_name : name ≡ base.name
   its_name = (named_found name bases base found).1
 
-  only : (other : Base) → Contains bases other → other.name ≡ name → image.id_of other.name ≡ id
-  only other there same = ap image.id_of (same ∙ its_name) ∙ sym its_id
+  only : (other : Base) → Contains bases other → other.name ≡ name → image.lists.id_of other.name ≡ id
+  only other there same = ap image.lists.id_of (same ∙ its_name) ∙ sym its_id
 
-  id_differs : (other : Base) → Contains bases other → other.name ≢ name → image.id_of other.name ≢ id
-  id_differs other there differs same = differs (image.distinct other base there base_in (same ∙ its_id) ∙ sym its_name)
+  id_differs : (other : Base) → Contains bases other → other.name ≢ name → image.lists.id_of other.name ≢ id
+  id_differs other there differs same = differs (image.lists.distinct other base there base_in (same ∙ its_id) ∙ sym its_name)
 
   among : (other : Base) → Contains (without_base name bases) other → Contains bases other × (other.name ≢ name)
   among other there = let kept = (without_base_has name bases other).0 (has_contained (without_base name bases) other there) in (contains_had bases other kept.0, kept.1)
@@ -87,17 +87,17 @@ module _ (format : Format) (profile : List Directive) (old new : Trees) (name : 
   kept_in other there differs = contains_had (without_base name bases) other ((without_base_has name bases other).1 (has_contained bases other there, differs))
 
   records_then : ℤ → List Kept
-  records_then i = cond (int_eq i id) [] (image.records_of i)
+  records_then i = cond (int_eq i id) [] (image.lists.records_of i)
 
   records_here : (i : ℤ) → i ≡ id → records_then i ≡ []
   unfolding records_then
-  records_here i same = ap (λ b. cond b [] (image.records_of i)) (id_same i id same)
+  records_here i same = ap (λ b. cond b [] (image.lists.records_of i)) (id_same i id same)
 
-  records_else : (i : ℤ) → i ≢ id → records_then i ≡ image.records_of i
+  records_else : (i : ℤ) → i ≢ id → records_then i ≡ image.lists.records_of i
   unfolding records_then
-  records_else i other = ap (λ b. cond b [] (image.records_of i)) (id_other i id other)
+  records_else i other = ap (λ b. cond b [] (image.lists.records_of i)) (id_other i id other)
 
-  kept_has : (i : ℤ) (kept : Kept) → Contains (records_then i) kept ↔ (Contains (image.records_of i) kept × (i ≢ id))
+  kept_has : (i : ℤ) (kept : Kept) → Contains (records_then i) kept ↔ (Contains (image.lists.records_of i) kept × (i ≢ id))
   kept_has i kept = (
     λ there. elim (ids_told i id) [
       | inl same ↦ absurd (has_contained [] kept (subst (λ l. Contains l kept) (records_here i same) there))
@@ -106,13 +106,13 @@ module _ (format : Format) (profile : List Directive) (old new : Trees) (name : 
     λ both. subst (λ l. Contains l kept) (sym (records_else i both.1)) both.0,
   )
 
-  listed_then : AreListed new (without_base name bases) image.id_of
+  listed_then : AreListed new (without_base name bases) image.lists.id_of
   listed_then i n l = (
     λ there. let was = (databases i n l).0 there in
-        let told = (image.listed i n l).0 was.0 in
+        let told = (image.lists.listed i n l).0 was.0 in
         (told.0, kept_in told.0 told.1 (λ same. was.1 (told.2 ∙ only told.0 told.1 same)), told.2, told.3, told.4),
     λ told. let kept = among told.0 told.1 in
-        (databases i n l).1 ((image.listed i n l).1 (told.0, kept.0, told.2, told.3, told.4), λ same. id_differs told.0 kept.0 kept.1 (sym told.2 ∙ same)),
+        (databases i n l).1 ((image.lists.listed i n l).1 (told.0, kept.0, told.2, told.3, told.4), λ same. id_differs told.0 kept.0 kept.1 (sym told.2 ∙ same)),
   )
 
   int_inside : (a b : ℤ) → Int a ≡ Int b → a ≡ b
@@ -121,37 +121,37 @@ module _ (format : Format) (profile : List Directive) (old new : Trees) (name : 
   kept_then : AreKept new records_then
   kept_then i sysno ident bytes = (
     λ there. let was = (records (record_row i sysno ident bytes)).0 there in
-        let told = (image.stored.kept i sysno ident bytes).0 was.0 in
+        let told = (image.lists.kept i sysno ident bytes).0 was.0 in
         (told.0, (kept_has i told.0).1 (told.1, λ same. was.1 (ap Int same)), told.2, told.3, told.4),
     λ told. let kept = (kept_has i told.0).0 told.1 in
-        (records (record_row i sysno ident bytes)).1 ((image.stored.kept i sysno ident bytes).1 (told.0, kept.0, told.2, told.3, told.4), λ same. kept.1 (int_inside i id same)),
+        (records (record_row i sysno ident bytes)).1 ((image.lists.kept i sysno ident bytes).1 (told.0, kept.0, told.2, told.3, told.4), λ same. kept.1 (int_inside i id same)),
   )
 
-  posted_then : ArePosted profile records_then (content_without id image.stored.content)
+  posted_then : ArePosted profile records_then (content_without id image.content)
   posted_then = record {
-    rising = without_rises id image.stored.content image.stored.posted.rising;
+    rising = without_rises id image.content image.posted.rising;
     each = λ i n o. (
-      λ there. let was = (without_has id image.stored.content i o.key (record { sysno = n; seq = o.seq; pos = o.pos })).0 there in
-          let told = (image.stored.posted.each i n o).0 was.0 in
+      λ there. let was = (without_has id image.content i o.key (record { sysno = n; seq = o.seq; pos = o.pos })).0 there in
+          let told = (image.posted.each i n o).0 was.0 in
           (told.0, (kept_has i told.0).1 (told.1, was.1), told.2, told.3),
       λ told. let kept = (kept_has i told.0).0 told.1 in
-          (without_has id image.stored.content i o.key (record { sysno = n; seq = o.seq; pos = o.pos })).1 ((image.stored.posted.each i n o).1 (told.0, kept.0, told.2, told.3), kept.1),
+          (without_has id image.content i o.key (record { sysno = n; seq = o.seq; pos = o.pos })).1 ((image.posted.each i n o).1 (told.0, kept.0, told.2, told.3), kept.1),
     );
   }
 
   pub dropped_image : IsImageOf format profile new (without_base name bases)
   dropped_image = record {
-    id_of = image.id_of;
-    records_of = records_then;
-    distinct = λ a b in_a in_b same. image.distinct a b (among a in_a).0 (among b in_b).0 same;
-    listed = listed_then;
-    of_base = λ other there. let kept = among other there in records_else (image.id_of other.name) (id_differs other kept.0 kept.1) ∙ image.of_base other kept.0;
-    of_none = λ i none kept there. let was = (kept_has i kept).0 there in
-        image.of_none i (λ other in_bases same. none other (kept_in other in_bases (λ named. was.1 (same ∙ only other in_bases named))) same) kept was.0;
-    stored = record {
+    lists = record {
+      id_of = image.lists.id_of;
+      records_of = records_then;
+      distinct = λ a b in_a in_b same. image.lists.distinct a b (among a in_a).0 (among b in_b).0 same;
+      listed = listed_then;
+      of_base = λ other there. let kept = among other there in records_else (image.lists.id_of other.name) (id_differs other kept.0 kept.1) ∙ image.lists.of_base other kept.0;
+      of_none = λ i none kept there. let was = (kept_has i kept).0 there in
+          image.lists.of_none i (λ other in_bases same. none other (kept_in other in_bases (λ named. was.1 (same ∙ only other in_bases named))) same) kept was.0;
       kept = kept_then;
-      content = content_without id image.stored.content;
-      held = registers image.stored.content (content_without id image.stored.content) image.stored.held (is_without id image.stored.content image.stored.posted.rising);
-      posted = posted_then;
     };
+    content = content_without id image.content;
+    held = registers image.content (content_without id image.content) image.held (is_without id image.content image.posted.rising);
+    posted = posted_then;
   }

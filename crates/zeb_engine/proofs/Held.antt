@@ -48,13 +48,13 @@ base_of_id id_of id (first ∷ rest) = elim (told_id id (id_of first.name)) [
   ]
 ]
 
-pub image_numbered : (format : Format) (profile : List Directive) (trees : Trees) (bases : List Base) → AreBases profile bases → (image : IsImageOf format profile trees bases) → AreNumbered image.records_of
-image_numbered format profile trees bases are image id kept there = elim (base_of_id image.id_of id bases) [
+pub image_numbered : (format : Format) (profile : List Directive) (trees : Trees) (bases : List Base) → AreBases profile bases → (image : IsImageOf format profile trees bases) → AreNumbered image.lists.records_of
+image_numbered format profile trees bases are image id kept there = elim (base_of_id image.lists.id_of id bases) [
   | inl it ↦
       let base = it.0 in
       let among = contains_had bases base it.1 in
-      base_numbered profile base (are.each base among) kept (subst (λ (l : List Kept). Contains l kept) (ap image.records_of it.2 ∙ image.of_base base among) there)
-  | inr none ↦ absurd (image.of_none id (λ base among. none base (has_contained bases base among)) kept there)
+      base_numbered profile base (are.each base among) kept (subst (λ (l : List Kept). Contains l kept) (ap image.lists.records_of it.2 ∙ image.lists.of_base base among) there)
+  | inr none ↦ absurd (image.lists.of_none id (λ base among. none base (has_contained bases base among)) kept there)
 ]
 
 -- ---- one database
@@ -71,15 +71,15 @@ pub record IsHeld (format : Format) (profile : List Directive) (trees : Trees) (
 pub base_held : (format : Format) (profile : List Directive) (trees : Trees) (bases : List Base) → AreBases profile bases → (image : IsImageOf format profile trees bases)
     → (id : ℤ) (base : Base) → Contains bases base → HasDatabase trees id base.name (pos base.last) → IsHeld format profile trees id base
 base_held format profile trees bases are image id base there row =
-    let of = (image.listed id base.name (pos base.last)).0 row in
-    let same : image.records_of id ≡ base.records = ap image.records_of (of.2 ∙ ap image.id_of (sym of.3)) ∙ image.of_base base there in
+    let of = (image.lists.listed id base.name (pos base.last)).0 row in
+    let same : image.lists.records_of id ≡ base.records = ap image.lists.records_of (of.2 ∙ ap image.lists.id_of (sym of.3)) ∙ image.lists.of_base base there in
     record {
-      content = image.stored.content;
-      held = image.stored.held;
-      storable = posted_storable profile image.records_of (image_numbered format profile trees bases are image) image.stored.content image.stored.posted;
-      occurring = λ n o. subst (λ (records : List Kept). posted image.stored.content id n o ↔ occurs profile records n o) same (image.stored.posted.each id n o);
+      content = image.content;
+      held = image.held;
+      storable = posted_storable profile image.lists.records_of (image_numbered format profile trees bases are image) image.content image.posted;
+      occurring = λ n o. subst (λ (records : List Kept). posted image.content id n o ↔ occurs profile records n o) same (image.posted.each id n o);
       kept = λ sysno ident bytes. subst (λ (records : List Kept). HasRecord trees id sysno ident bytes
-          ↔ ((k : Kept) × Contains records k × (sysno ≡ pos k.sysno) × (ident ≡ k.ident) × (bytes ≡ k.bytes))) same (image.stored.kept id sysno ident bytes);
+          ↔ ((k : Kept) × Contains records k × (sysno ≡ pos k.sysno) × (ident ≡ k.ident) × (bytes ≡ k.bytes))) same (image.lists.kept id sysno ident bytes);
       sound = are.each base there;
     }
 

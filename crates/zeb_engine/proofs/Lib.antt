@@ -10,6 +10,7 @@ pub mod RenewalSteps
 pub mod Beginning
 pub mod WriteSteps
 pub mod Rebuilt
+pub mod Remaking
 pub mod Renewing
 pub mod RenewalTexts
 pub mod Looking

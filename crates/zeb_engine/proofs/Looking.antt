@@ -164,7 +164,7 @@ module _ (version : List ℕ) (profile : List Directive) (trees : Trees) where
 
   module _ (pattern : List ℕ) (pattern_is : option_map pattern_text (identifier_pattern profile) ≡ Some pattern) (kept : KeepsText trees (codes "version") version) where
     pub rule_kept : TellsText (codes "identifier") pattern trees true → IsReadyToReindex version profile trees
-    rule_kept tells = record { has_version = kept; has_rule = (pattern, pattern_is, tells.0.0 refl) }
+    rule_kept tells = record { has_version = kept; has_rule = (pattern, pattern_is, tells.0.0 refl); readable = tells.1 }
 
     pub rule_differs : TellsText (codes "identifier") pattern trees false → RefusesReindex version profile trees refusal.IdentifierRuleChanged
     rule_differs tells = (

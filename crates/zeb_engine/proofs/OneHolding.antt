@@ -27,23 +27,23 @@ number_inside m n same = cc
 module _ (profile : List Directive) (trees : Trees) where
   -- a record of the one database is one of the other
   kept_in : (f g : Format) (xs ys : List Base) (one : IsImageOf f profile trees xs) (other : IsImageOf g profile trees ys) (a b : Base) → Contains xs a → Contains ys b
-      → one.id_of a.name ≡ other.id_of b.name → (k : Kept) → Contains a.records k → Contains b.records k
+      → one.lists.id_of a.name ≡ other.lists.id_of b.name → (k : Kept) → Contains a.records k → Contains b.records k
   kept_in f g xs ys one other a b in_one in_other same k here =
-      let id = one.id_of a.name in
-      let there : Contains (one.records_of id) k = subst (λ (l : List Kept). Contains l k) (sym (one.of_base a in_one)) here in
-      let row : HasRecord trees id (pos k.sysno) k.ident k.bytes = (one.stored.kept id (pos k.sysno) k.ident k.bytes).1 (k, there, refl, refl, refl) in
-      let found = (other.stored.kept id (pos k.sysno) k.ident k.bytes).0 row in
+      let id = one.lists.id_of a.name in
+      let there : Contains (one.lists.records_of id) k = subst (λ (l : List Kept). Contains l k) (sym (one.lists.of_base a in_one)) here in
+      let row : HasRecord trees id (pos k.sysno) k.ident k.bytes = (one.lists.kept id (pos k.sysno) k.ident k.bytes).1 (k, there, refl, refl, refl) in
+      let found = (other.lists.kept id (pos k.sysno) k.ident k.bytes).0 row in
       let is : k ≡ found.0 = same_record k found.0 (number_inside k.sysno found.0.sysno found.2) found.3 found.4 in
-      let its : other.records_of id ≡ b.records = ap other.records_of same ∙ other.of_base b in_other in
+      let its : other.lists.records_of id ≡ b.records = ap other.lists.records_of same ∙ other.lists.of_base b in_other in
       subst (Contains b.records) (sym is) (subst (λ (l : List Kept). Contains l found.0) its found.1)
 
   -- a database of the one is one of the other
   base_in : (f g : Format) (xs ys : List Base) → AreBases profile xs → AreBases profile ys → (one : IsImageOf f profile trees xs) (other : IsImageOf g profile trees ys)
       → (a : Base) → Contains xs a → Contains ys a
   base_in f g xs ys are_one are_other one other a in_one =
-      let id = one.id_of a.name in
-      let row : HasDatabase trees id a.name (pos a.last) = (one.listed id a.name (pos a.last)).1 (a, in_one, refl, refl, refl) in
-      let found = (other.listed id a.name (pos a.last)).0 row in
+      let id = one.lists.id_of a.name in
+      let row : HasDatabase trees id a.name (pos a.last) = (one.lists.listed id a.name (pos a.last)).1 (a, in_one, refl, refl, refl) in
+      let found = (other.lists.listed id a.name (pos a.last)).0 row in
       let b = found.0 in
       let left : IsBase profile a = are_one.each a in_one in
       let right : IsBase profile b = are_other.each b found.1 in

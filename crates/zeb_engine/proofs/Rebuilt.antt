@@ -26,7 +26,7 @@ use Rattle.zeb_change.specs.Conditions.{Conditions, AreSessions}
 use Rattle.zeb_change.specs.Folding.{ident_in}
 use Rattle.zeb_change.specs.Stored.{IsBase, IsKept}
 use Rattle.zeb_image.specs.Holdings.{Holdings}
-use Rattle.zeb_image.specs.Image.{AreBases, HasTexts, IsImage, IsImageOf, IsImageUnder}
+use Rattle.zeb_image.specs.Image.{AreBases, AreListsOf, HasTexts, IsImage, IsImageOf, IsImageUnder}
 use Rattle.zeb_image.proofs.OneText.{under_other}
 use Rattle.zeb_engine.specs.Rules.{same_rule}
 use Rattle.zeb_engine.specs.Steps.{holding, ruled, upgradable}
@@ -77,10 +77,10 @@ rules_told one other is_one is_other = (
 name_inside : (a b : List ℕ) → Text a ≡ Text b → a ≡ b
 name_inside a b same = cc
 
-entry_inside : (a b v w : List ℕ) → entry a v ≡ entry b w → (a ≡ b) × (v ≡ w)
+pub entry_inside : (a b v w : List ℕ) → entry a v ≡ entry b w → (a ≡ b) × (v ≡ w)
 entry_inside a b v w same = (cc, cc)
 
-apart : (a b : List ℕ) → get_or a 0 0 ≢ get_or b 0 0 → Text a ≢ Text b
+pub apart : (a b : List ℕ) → get_or a 0 0 ≢ get_or b 0 0 → Text a ≢ Text b
 apart a b other same = other (ap (λ (l : List ℕ). get_or l 0 0) (name_inside a b same))
 
 module _ (old new : Trees) (version text pattern : List ℕ) (texts : HasTexts old version text pattern) (put : List ℕ) (readable : IsUtf8 put) where
@@ -128,27 +128,31 @@ module _ (old new : Trees) (version text pattern : List ℕ) (texts : HasTexts o
 
 -- ---- the other tables
 
+lists_rows : (old new : Trees) (bases : List Base) → new 2 ≡ old 2 → new 4 ≡ old 4 → AreListsOf old bases → AreListsOf new bases
+lists_rows old new bases databases records lists = record {
+  id_of = lists.id_of;
+  records_of = lists.records_of;
+  distinct = lists.distinct;
+  listed = λ id name last. (
+    λ there. (lists.listed id name last).0 (subst (λ rows. Has rows (Int id ∷ Null ∷ Text name ∷ Int last ∷ [])) databases there),
+    λ found. subst (λ rows. Has rows (Int id ∷ Null ∷ Text name ∷ Int last ∷ [])) (sym databases) ((lists.listed id name last).1 found),
+  );
+  of_base = lists.of_base;
+  of_none = lists.of_none;
+  kept = λ id sysno ident bytes. (
+    λ there. (lists.kept id sysno ident bytes).0 (there.0, subst (λ rows. Has rows (Int there.0 ∷ record_row id sysno ident bytes)) records there.1),
+    λ found. let there = (lists.kept id sysno ident bytes).1 found in (there.0, subst (λ rows. Has rows (Int there.0 ∷ record_row id sysno ident bytes)) (sym records) there.1),
+  );
+}
+
 pub image_rows : (format : Format) (profile : List Directive) (old new : Trees) (bases : List Base) → new 2 ≡ old 2 → new 4 ≡ old 4 → KeepsRegisters old new
     → IsImageOf format profile old bases → IsImageOf format profile new bases
+unfolding lists_rows
 image_rows format profile old new bases databases records registers image = record {
-  id_of = image.id_of;
-  records_of = image.records_of;
-  distinct = image.distinct;
-  listed = λ id name last. (
-    λ there. (image.listed id name last).0 (subst (λ rows. Has rows (Int id ∷ Null ∷ Text name ∷ Int last ∷ [])) databases there),
-    λ found. subst (λ rows. Has rows (Int id ∷ Null ∷ Text name ∷ Int last ∷ [])) (sym databases) ((image.listed id name last).1 found),
-  );
-  of_base = image.of_base;
-  of_none = image.of_none;
-  stored = record {
-    kept = λ id sysno ident bytes. (
-      λ there. (image.stored.kept id sysno ident bytes).0 (there.0, subst (λ rows. Has rows (Int there.0 ∷ record_row id sysno ident bytes)) records there.1),
-      λ found. let there = (image.stored.kept id sysno ident bytes).1 found in (there.0, subst (λ rows. Has rows (Int there.0 ∷ record_row id sysno ident bytes)) (sym records) there.1),
-    );
-    content = image.stored.content;
-    held = registers_stay format old new image.stored.content registers image.stored.held;
-    posted = image.stored.posted;
-  };
+  lists = lists_rows old new bases databases records image.lists;
+  content = image.content;
+  held = registers_stay format old new image.content registers image.held;
+  posted = image.posted;
 }
 
 -- ---- what was held, under the session's profile

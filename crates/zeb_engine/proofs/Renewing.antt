@@ -1,8 +1,11 @@
 -- What work comes to inside a transaction that makes the registers anew.
-use Rattle.std.proofs.Common.{◌≡◌, ◌∙◌, ℕ, List, codes, Ok, Err, IsTrue, IsUtf8, refl, sym, ap, subst, inl, inr, arith}
+use Rattle.std.proofs.Common.{◌≡◌, ◌∙◌, ℕ, List, ◌∷◌, codes, Ok, Err, IsTrue, IsUtf8, refl, sym, ap, subst, inl, inr, arith}
 use Rattle.std.specs.Option.{option_map}
+use Rattle.sqlite.specs.declared.types.Value.TheVariants.{Int}
+use Rattle.sqlite.specs.Order.{Row}
 use Rattle.sqlite.specs.Tree.{Trees}
 use Rattle.sqlite.specs.State.{State, KeepsCommit}
+use Rattle.sqlite_rules.specs.Lists.{Has}
 use Rattle.zeb_profile.specs.declared.directives.Directive.{Directive}
 use Rattle.zeb_profile.specs.Canonical.{canonical_text, pattern_text}
 use Rattle.zeb_profile.specs.Laws.{IsProfile}
@@ -18,10 +21,10 @@ use Rattle.zeb_change.specs.Base.{Base}
 use Rattle.zeb_change.specs.Conditions.{Conditions, AreSessions}
 use Rattle.zeb_change.specs.Outcomes.{register_refusal}
 use Rattle.zeb_image.specs.Holdings.{Holdings}
-use Rattle.zeb_image.specs.Image.{AreBases, HasTexts, IsImage, IsImageOf}
+use Rattle.zeb_image.specs.Image.{AreBases, AreListsOf, HasTexts, IsImage, IsImageOf}
 use Rattle.zeb_engine.specs.declared.replies.Reply.TheVariants.{Done}
 use Rattle.zeb_image.specs.Rebuilding.{AreReadableLists, AreSound}
-use Rattle.zeb_engine.specs.Checking.{TellsSound}
+use Rattle.zeb_engine.specs.Checking.{IsRemade, TellsSound}
 use Rattle.zeb_engine.specs.PrivateWriting.{AreUnder, IsRuled, IsUpgradable}
 use Rattle.zeb_engine.specs.Steps.{Outcome, reindexed, upgraded}
 use Rattle.zeb_engine.specs.Works.{Works}
@@ -57,14 +60,14 @@ module _ (profile : List Directive) (c : Conditions) (Fits : Holdings → Type 0
     (found : (before : Holdings) → Fits before → IsImage old.now.trees before → (bases : List Base) × (was : WasImage c old.now.trees bases) × (c.profile ≡ profile)) where
   -- no record of what is held is a faulty one
   pub rebuild_fails : (fault : RegFault) → KeepsCommit old mid
-      → (fault ≡ register.Damaged → IsStore old → (format : Format) (told : List Directive) (bases : List Base) → IsImageOf format told old.now.trees bases → ¬ AreBases profile bases)
+      → (fault ≡ register.Damaged → IsStore old → (bases : List Base) → AreListsOf old.now.trees bases → ¬ AreBases profile bases)
       → Works (λ _ before. Fits before) outcome old mid (Err (register_refusal fault))
   rebuild_fails fault keeps honest = (
     keeps,
     λ before fits sees. inl (fault_fails fault (λ is.
         let at = sees was_open in
         let it = found before (fits was_open) at.1 in
-        honest is at.0 it.1.it.format it.1.told it.0 it.1.it.image (subst (λ p. AreBases p it.0) it.2 (was_bases c old.now.trees it.0 it.1)))),
+        honest is at.0 it.0 it.1.it.image.lists (subst (λ p. AreBases p it.0) it.2 (was_bases c old.now.trees it.0 it.1)))),
   )
 
   pub put_fails : (new : State) (fault : RegFault) → (fault ≡ register.Damaged → ⊥) → GoesOn old mid → KeepsCommit mid new → Works (λ _ before. Fits before) outcome old new (Err (register_refusal fault))
@@ -72,9 +75,19 @@ module _ (profile : List Directive) (c : Conditions) (Fits : Holdings → Type 0
 
 -- ---- done
 
-module _ (format : Format) (profile : List Directive) (c : Conditions) (old mid new : State) (first : GoesOn old mid)
+-- a row is put in the place of those of a table that was as before
+replaces_first : (P : Row → Type 0) (row : Row) (tree : ℕ) (old mid new : Trees) → mid tree ≡ old tree → Replaces P row tree mid new → Replaces P row tree old new
+replaces_first P row tree old mid new same replaces columns = (
+  λ there. elim ((replaces columns).0 there) [
+    | inl was ↦ inl ((was.0.0, subst (λ rows. Has rows (Int was.0.0 ∷ columns)) same was.0.1), was.1)
+    | inr is ↦ inr is
+  ],
+  λ is. (replaces columns).1 (elim is [ inl was ↦ inl ((was.0.0, subst (λ rows. Has rows (Int was.0.0 ∷ columns)) (sym same) was.0.1), was.1) | inr put ↦ inr put ]),
+)
+
+module _ (format : Format) (profile : List Directive) (old mid new : State) (first : GoesOn old mid)
     (rebuilt : IsStore old → IsStore mid × KeepsLists old.now.trees mid.now.trees
-    × ((format' : Format) (told : List Directive) (bases : List Base) → IsImageOf format' told old.now.trees bases → AreBases profile bases → IsImageOf format profile mid.now.trees bases)) where
+    × ((bases : List Base) → AreListsOf old.now.trees bases → AreBases profile bases → IsImageOf format profile mid.now.trees bases)) where
   -- `put` is the text that was put
   module _ (name put : List ℕ) (alters : Alters meta_tree (Replaces (IsEntryOf name) (entry name put)) mid new) where
     module _ (store : IsStore old) where
@@ -88,19 +101,37 @@ module _ (format : Format) (profile : List Directive) (c : Conditions) (old mid 
         rows.others.1.1.1.1.1.0 (λ e. absurd (omega (arith, e))),
       )
 
-      image_then : (bases : List Base) (was : WasImage c old.now.trees bases) → c.profile ≡ profile → IsImageOf format c.profile new.now.trees bases
-      image_then bases was same =
+      image_then : (c : Conditions) (bases : List Base) (was : WasImage c old.now.trees bases) → c.profile ≡ profile → IsImageOf format c.profile new.now.trees bases
+      image_then c bases was same =
           let are = subst (λ p. AreBases p bases) same (was_bases c old.now.trees bases was) in
-          let built = (rebuilt store).2 was.it.format was.told bases was.it.image are in
+          let built = (rebuilt store).2 bases was.it.image.lists are in
           image_rows format c.profile mid.now.trees new.now.trees bases (rows.others.1.0 (λ e. absurd (omega (arith, e)))) (rows.others.1.1.0 (λ e. absurd (omega (arith, e)))) registers
           (subst (λ p. IsImageOf format p mid.now.trees bases) (sym same) built)
 
-      texts_mid : (bases : List Base) (was : WasImage c old.now.trees bases) → HasTexts mid.now.trees was.version was.text was.it.pattern
-      texts_mid bases was = texts_still old.now.trees mid.now.trees was.version was.text was.it.pattern (rebuilt store).1.0 was.it.texts
+      texts_mid : (c : Conditions) (bases : List Base) (was : WasImage c old.now.trees bases) → HasTexts mid.now.trees was.version was.text was.it.pattern
+      texts_mid c bases was = texts_still old.now.trees mid.now.trees was.version was.text was.it.pattern (rebuilt store).1.0 was.it.texts
 
-  pub reindex_works : IsUtf8 (canonical_text profile) → Alters meta_tree (Replaces (IsEntryOf (codes "profile")) (entry (codes "profile") (canonical_text profile))) mid new
+  pub reindex_remakes : Alters meta_tree (Replaces (IsEntryOf (codes "profile")) (entry (codes "profile") (canonical_text profile))) mid new
+      → IsStore old → IsStore new × IsRemade format profile old.now.trees new.now.trees
+  reindex_remakes alters store =
+      let name = codes "profile" in
+      let put = canonical_text profile in
+      let changed = rows name put alters store in
+      let names : new.now.trees 2 ≡ mid.now.trees 2 = changed.others.1.0 (λ e. absurd (omega (arith, e))) in
+      let records : new.now.trees 4 ≡ mid.now.trees 4 = changed.others.1.1.0 (λ e. absurd (omega (arith, e))) in
+      let kept = (rebuilt store).1 in (
+        changed.layout,
+        record {
+          databases = names ∙ kept.1;
+          records = records ∙ kept.2;
+          texts = replaces_first (IsEntryOf name) (entry name put) meta_tree old.now.trees mid.now.trees new.now.trees kept.0 changed.rows;
+          image = λ bases lists are. image_rows format profile mid.now.trees new.now.trees bases names records (registers name put alters store) ((rebuilt store).2 bases lists are);
+        },
+      )
+
+  pub reindex_works : (c : Conditions) → IsUtf8 (canonical_text profile) → Alters meta_tree (Replaces (IsEntryOf (codes "profile")) (entry (codes "profile") (canonical_text profile))) mid new
       → Works (λ _ before. IsRuled (version_of format) profile c before) (reindexed c) old new (Ok Done)
-  reindex_works readable alters = (
+  reindex_works c readable alters = (
     goes_then old mid new first alters.on,
     λ before fits store image.
         let name = codes "profile" in
@@ -110,17 +141,17 @@ module _ (format : Format) (profile : List Directive) (c : Conditions) (old mid 
         let at = ruled_image format c session old.now.trees before bases image fits.1.1 in
         let was = at.0 in
         let changed = rows name put alters store in
-        let texts = profile_put mid.now.trees new.now.trees was.version was.text was.it.pattern (texts_mid name put alters store bases was) put readable changed.rows in
+        let texts = profile_put mid.now.trees new.now.trees was.version was.text was.it.pattern (texts_mid name put alters store c bases was) put readable changed.rows in
         let said = subst (λ v. HasTexts new.now.trees v put was.it.pattern) at.1 texts in
         let own = subst (λ p. HasTexts new.now.trees c.version (canonical_text p) was.it.pattern) (sym fits.0.profile_is) said in
         let pattern_is = ap (option_map pattern_text) (sym was.rule) ∙ was.it.pattern_is in
-        let left = renewed_image format c session new.now.trees bases was.it.pattern pattern_is own (was_bases c old.now.trees bases was) (image_then name put alters store bases was fits.0.profile_is) in
+        let left = renewed_image format c session new.now.trees bases was.it.pattern pattern_is own (was_bases c old.now.trees bases was) (image_then name put alters store c bases was fits.0.profile_is) in
         subst (Leads new Done) (sym (reindex_done c before bases fits.1.1)) (refl, changed.layout, left),
   )
 
-  pub upgrade_works : IsUtf8 (version_of format) → Alters meta_tree (Replaces (IsEntryOf (codes "version")) (entry (codes "version") (version_of format))) mid new
+  pub upgrade_works : (c : Conditions) → IsUtf8 (version_of format) → Alters meta_tree (Replaces (IsEntryOf (codes "version")) (entry (codes "version") (version_of format))) mid new
       → Works (λ _ before. IsUpgradable (version_of format) profile c before) (upgraded c) old new (Ok Done)
-  upgrade_works readable alters = (
+  upgrade_works c readable alters = (
     goes_then old mid new first alters.on,
     λ before fits store image.
         let name = codes "version" in
@@ -130,10 +161,10 @@ module _ (format : Format) (profile : List Directive) (c : Conditions) (old mid 
         let at = upgradable_image format c session old.now.trees before bases image fits.1.1 in
         let was = at.0 in
         let changed = rows name put alters store in
-        let texts = version_put mid.now.trees new.now.trees was.version was.text was.it.pattern (texts_mid name put alters store bases was) put readable changed.rows in
+        let texts = version_put mid.now.trees new.now.trees was.version was.text was.it.pattern (texts_mid name put alters store c bases was) put readable changed.rows in
         let said = subst (λ v. HasTexts new.now.trees v was.text was.it.pattern) (sym fits.0.version_is) texts in
         let own = subst (λ t. HasTexts new.now.trees c.version t was.it.pattern) at.1 said in
         let pattern_is = ap (option_map pattern_text) (sym was.rule) ∙ was.it.pattern_is in
-        let left = renewed_image format c session new.now.trees bases was.it.pattern pattern_is own (was_bases c old.now.trees bases was) (image_then name put alters store bases was fits.0.profile_is) in
+        let left = renewed_image format c session new.now.trees bases was.it.pattern pattern_is own (was_bases c old.now.trees bases was) (image_then name put alters store c bases was fits.0.profile_is) in
         subst (Leads new Done) (sym (upgrade_done c before bases fits.1.1)) (refl, changed.layout, left),
   )

@@ -4,6 +4,9 @@ use Rattle.std.specs.List.{AllByRecursion}
 use Rattle.sqlite.specs.Tree.{Trees}
 use Rattle.sqlite.specs.Effect.{IsDatabase}
 use Rattle.sqlite.specs.State.{State}
+use Rattle.zeb_profile.specs.declared.directives.Directive.{Directive}
+use Rattle.zeb_profile.specs.Canonical.{canonical_text}
+use Rattle.zeb_register.specs.Formats.{Format, version_of}
 use Rattle.zeb_register.specs.Sql.{IsKeyed}
 use Rattle.zeb_register.specs.Store.{IsStore, LacksLists, LacksRegisters}
 use Rattle.zeb_register.specs.Tables.{no_schema, store_schema}
@@ -13,9 +16,11 @@ use Rattle.zeb_change.specs.declared.refusals.Refusal.{Refusal}
 use Rattle.zeb_change.specs.declared.refusals.Refusal.TheVariants.{Store}
 use Rattle.zeb_engine.specs.Answers.{Answer, refused, reply_answer}
 use Rattle.zeb_change.specs.Refused.{Why, store_failed}
+use Rattle.zeb_change.specs.Base.{Base}
 use Rattle.zeb_change.specs.Conditions.{Conditions}
-use Rattle.zeb_image.specs.Holdings.{Holdings, nothing_yet}
+use Rattle.zeb_image.specs.Holdings.{Holdings, nothing_yet, under}
 use Rattle.zeb_image.specs.Image.{IsImage, Keeps}
+use Rattle.zeb_engine.specs.Checking.{CanBeRemade, IsRemade}
 use Rattle.zeb_engine.specs.Steps.{Answered, Outcome, Step}
 use Rattle.zeb_engine.specs.Transactions.{AsksStore}
 
@@ -64,6 +69,12 @@ CommitsBy Told old db = (before : Holdings) → Keeps old before → (answer : A
 
 abbrev pub CommitsCommand : Conditions → Command → State → Trees → Type 0
 CommitsCommand c command = CommitsBy (Step c command)
+
+-- what a reindex leaves on the tables of a store, whatever the registers held
+abbrev pub CommitsReindex : Format → List Directive → State → Trees → Type 0
+CommitsReindex format profile old db = IsStore old →
+    IsRemade format profile old.now.trees db
+    × ((bases : List Base) → CanBeRemade profile old.now.trees bases → Stands db (under (version_of format) (canonical_text profile) bases))
 
 -- what is held after an accepted step of a command: it was answered so, or its store failed
 abbrev pub IsCarriedOut : Conditions → Command → Holdings → Answer → Trees → Type 0

@@ -6,9 +6,10 @@ use Rattle.sqlite.specs.Tree.{Trees}
 use Rattle.sqlite.specs.State.{State}
 use Rattle.zeb_profile.specs.declared.directives.Directive.{Directive}
 use Rattle.zeb_profile.specs.Indexes.{identifier_pattern}
-use Rattle.zeb_profile.specs.Canonical.{pattern_text}
+use Rattle.zeb_profile.specs.Canonical.{canonical_text, pattern_text}
 use Rattle.zeb_profile.specs.Laws.{IsProfile}
 use Rattle.zeb_register.specs.declared.RegFault.{RegFault}
+use Rattle.zeb_register.specs.Formats.{Format, version_of}
 use Rattle.zeb_register.specs.Store.{IsStore, HasDatabase}
 use Rattle.zeb_engine.specs.declared.writes.Write.{Write}
 use Rattle.zeb_engine.specs.declared.writes.Write.TheVariants as write
@@ -19,11 +20,12 @@ use Rattle.zeb_engine.specs.Answers.{IsFailure, refused}
 use Rattle.zeb_change.specs.Refused.{why_of}
 use Rattle.zeb_change.specs.Conditions.{Conditions}
 use Rattle.zeb_change.specs.Outcomes.{register_refusal}
-use Rattle.zeb_image.specs.Holdings.{Holdings, base_named}
+use Rattle.zeb_image.specs.Holdings.{Holdings, base_named, under}
 use Rattle.zeb_change.specs.Base.{Base}
 use Rattle.zeb_image.specs.Image.{HasTexts, IsImage}
 use Rattle.zeb_image.specs.NameOf.{name_bytes}
-use Rattle.zeb_engine.specs.Checking.{TellsSound}
+use Rattle.zeb_engine.specs.Checking.{CanBeRemade, IsRemade, TellsSound}
+use Rattle.zeb_engine.specs.Crashes.{IsStoreDisk}
 use Rattle.zeb_engine.specs.Steps.{Outcome, holding, ready, initialised, turned, created, dropped, reindexed, ruled, upgradable, upgraded}
 
 -- these conditions are those of a layout's version and of a profile, whose identifier rule has this pattern
@@ -116,3 +118,25 @@ ReadsSound (write.Create name) s result = Unit {0}
 ReadsSound (write.Drop name id) s result = Unit {0}
 ReadsSound (write.Reindex alloc profile) s result = IsStore s → TellsSound profile.now s.now.trees result
 ReadsSound (write.Upgrade alloc profile) s result = Unit {0}
+
+-- a reindex makes the registers anew, whatever rows the tables held
+abbrev pub Remakes : Format → Write → State → State → Type 0
+Remakes format (write.Init profile pattern) old new = Unit {0}
+Remakes format (write.Create name) old new = Unit {0}
+Remakes format (write.Drop name id) old new = Unit {0}
+Remakes format (write.Reindex alloc profile) old new = IsStore old → IsStore new × IsRemade format profile.now old.now.trees new.now.trees
+Remakes format (write.Upgrade alloc profile) old new = Unit {0}
+
+-- and these tables are what it commits
+abbrev pub CommitsRemade : Format → Write → State → Trees → Type 0
+CommitsRemade format (write.Init profile pattern) old db = Unit {0}
+CommitsRemade format (write.Create name) old db = Unit {0}
+CommitsRemade format (write.Drop name id) old db = Unit {0}
+CommitsRemade format (write.Reindex alloc profile) old db = IsStore old → IsStoreDisk db × IsRemade format profile.now old.now.trees db
+CommitsRemade format (write.Upgrade alloc profile) old db = Unit {0}
+
+-- the register of the databases whose lists are there, once its registers are made anew
+abbrev pub HoldsRemade : Format → List Directive → State → State → Type 0
+HoldsRemade format profile old new = IsStore old →
+    IsStore new × IsRemade format profile old.now.trees new.now.trees
+    × ((bases : List Base) → CanBeRemade profile old.now.trees bases → IsImage new.now.trees (under (version_of format) (canonical_text profile) bases))

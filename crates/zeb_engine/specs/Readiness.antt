@@ -74,6 +74,7 @@ KeepsRule profile trees =
 pub record IsReadyToReindex (version : List ℕ) (profile : List Directive) (trees : Trees) : Type 0 where
   pub has_version : KeepsText trees (codes "version") version
   pub has_rule : KeepsRule profile trees
+  pub readable : AreReadableTexts trees (codes "identifier")
 
 -- Over which texts a reindex is refused so before it begins. Each case leaves no other, but a failure of the store or of memory.
 abbrev pub RefusesReindex : List ℕ → List Directive → Trees → Refusal → Type 0

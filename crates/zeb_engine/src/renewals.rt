@@ -1,6 +1,6 @@
 //! The commands that make the registers anew from the kept records, each in one transaction.
 
-ghost use Rattle.std.specs.Prelude.{◌≡◌, false};
+ghost use Rattle.std.specs.Prelude.{◌≡◌, false, OnOk};
 ghost use Rattle.sqlite.specs.Held.{state};
 ghost use Rattle.sqlite.specs.State.{HasCleanDisk, Survives};
 ghost use Rattle.zeb_register.specs.Formats.{version_of};
@@ -8,7 +8,8 @@ ghost use Rattle.zeb_change.specs.declared.settings.Limits.{Limits};
 ghost use Rattle.zeb_change.specs.Conditions.{conditions};
 ghost use Rattle.zeb_change.specs.Reading.{NoReadFault};
 ghost use Rattle.zeb_engine.specs.Checking.{ReindexesTables, StaysUpgraded, UpgradesTables};
-ghost use Rattle.zeb_engine.specs.Crashes.{Commits};
+ghost use Rattle.zeb_engine.specs.Crashes.{Commits, CommitsReindex};
+ghost use Rattle.zeb_engine.specs.PrivateWriting.{HoldsRemade};
 ghost use Rattle.zeb_engine.specs.Steps.{reindexed, upgraded};
 ghost use Rattle.zeb_engine.specs.Transactions.{Commanded};
 ghost use Rattle.zeb_engine.specs.Works.{Always, Serves};
@@ -41,10 +42,16 @@ pub(crate) fn reindex<S: Alter, L: Layout>(
         (state S.Store connection.new) result }
     ensures told { HasCleanDisk (state S.Store connection.new)
         → ReindexesTables (version_of L.format) profile.now (state S.Store connection.old) result }
+    ensures remade { HasCleanDisk (state S.Store connection.new)
+        → OnOk result (HoldsRemade L.format profile.now (state S.Store connection.old) (state S.Store connection.new)) }
+    ensures survives_remade { Survives (state S.Store connection.old) (state S.Store connection.new)
+        (CommitsReindex L.format profile.now (state S.Store connection.old)) }
     ensures unread { NoReadFault result }
 {
-    // Its profile is some text's, and has a rule for identifiers.
+    // Its profile is some text's, both texts of the session are UTF-8, and it has a rule for identifiers.
     profile.is_of_some_text();
+    let _version = L::version();
+    let _text = profile.text();
     let _rule = profile.identifier_rule();
     check_rule::<S, L>(alloc, connection, profile)?;
     transact::<S, L>(connection, &Write::Reindex { alloc, profile })

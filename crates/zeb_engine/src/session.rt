@@ -12,7 +12,7 @@ ghost use Rattle.zeb_engine.specs.Analysed.{AnswersAnalysis};
 ghost use Rattle.zeb_engine.specs.Answers.{IsFailure, answer_of, refused};
 ghost use Rattle.zeb_change.specs.Refused.{why_of};
 ghost use Rattle.zeb_change.specs.Conditions.{conditions};
-ghost use Rattle.zeb_engine.specs.Checking.{ChecksTables, ReindexesTables, StaysUpgraded, UpgradesTables};
+ghost use Rattle.zeb_engine.specs.Checking.{ChecksTables, ReindexLeaves, ReindexesTables, StaysUpgraded, UpgradesTables};
 ghost use Rattle.zeb_engine.specs.Readiness.{GoesByTexts, LooksFirst};
 ghost use Rattle.zeb_change.specs.Reading.{NoReadFault};
 ghost use Rattle.zeb_engine.specs.Steps.{Step, holding, OnlyAsks};
@@ -68,8 +68,9 @@ impl<S: Alter + Drop, L: Layout> Drop for Session<S, L> {
 
 impl<S: Alter, L: Layout> Session<S, L> {
     ghost use Rattle.zeb_engine.specs.Works.{FindOpen, ServesCommand};
-    ghost use Rattle.zeb_engine.specs.Crashes.{Bears, CommitsCommand, CommitsAdopted, CommitsOne, Endures, EnduresRun, KeepsDisk, Stands};
+    ghost use Rattle.zeb_engine.specs.Crashes.{Bears, CommitsCommand, CommitsAdopted, CommitsOne, CommitsReindex, Endures, EnduresRun, KeepsDisk, Stands};
     ghost use Rattle.zeb_engine.specs.Headline.{Headline};
+    ghost use Rattle.zeb_engine.specs.PrivateWriting.{HoldsRemade};
     ghost use Rattle.zeb_engine.specs.Adopting.{HasOtherTables, HasOwnTables, StaysOpen};
     ghost use Rattle.zeb_image.specs.Holdings.{Holdings};
     ghost use Rattle.zeb_image.specs.Image.{IsImage, Keeps};
@@ -197,6 +198,14 @@ impl<S: Alter, L: Layout> Session<S, L> {
         // A reindex goes by the texts and by the kept records, whatever the other tables hold.
         ensures reindexes { HasCleanDisk (state S.Store self.new.connection) → command.now ≡ Command.Reindex
             → ReindexesTables (version_of L.format) self.old.profile (state S.Store self.old.connection) result }
+        // Accepted, it leaves the lists and each text but the profile's, and registers of these lists, whatever the registers held.
+        ensures remade { HasCleanDisk (state S.Store self.new.connection) → command.now ≡ Command.Reindex
+            → OnOk result (ReindexLeaves L.format self.old.profile (state S.Store self.old.connection)
+            (state S.Store self.new.connection)) }
+        // It commits nothing else, accepted or not.
+        ensures survives_remade { command.now ≡ Command.Reindex
+            → Survives (state S.Store self.old.connection) (state S.Store self.new.connection)
+            (CommitsReindex L.format self.old.profile (state S.Store self.old.connection)) }
         // A check tells of all tables whether they are an image, whatever they hold.
         ensures checked { HasCleanDisk (state S.Store self.new.connection) → command.now ≡ Command.Check
             → ChecksTables (version_of L.format) self.old.profile (state S.Store self.old.connection) result }
@@ -254,6 +263,12 @@ impl<S: Alter, L: Layout> Session<S, L> {
             → GoesByTexts (version_of L.format) self.old.profile (state S.Store self.old.connection) result }
         ensures reindexes { HasCleanDisk (state S.Store self.new.connection) → command.now ≡ Command.Reindex
             → ReindexesTables (version_of L.format) self.old.profile (state S.Store self.old.connection) result }
+        ensures remade { HasCleanDisk (state S.Store self.new.connection) → command.now ≡ Command.Reindex
+            → OnOk result (HoldsRemade L.format self.old.profile (state S.Store self.old.connection)
+            (state S.Store self.new.connection)) }
+        ensures survives_remade { command.now ≡ Command.Reindex
+            → Survives (state S.Store self.old.connection) (state S.Store self.new.connection)
+            (CommitsReindex L.format self.old.profile (state S.Store self.old.connection)) }
         ensures checked { HasCleanDisk (state S.Store self.new.connection) → command.now ≡ Command.Check
             → ChecksTables (version_of L.format) self.old.profile (state S.Store self.old.connection) result }
         ensures upgrades { HasCleanDisk (state S.Store self.new.connection) → command.now ≡ Command.Upgrade

@@ -104,18 +104,18 @@ module _ (format : Format) (profile : List Directive) (s : State) (store : IsSto
         let at : (d : ExpectedDatabase) (id : ℤ) → Has ds d → id ≡ id_of (string_bytes d.name) → all id ≡ map kept_of d.records.items =
         λ d id there same. found_at id_of bases_of one_base (base_of d) (mapped_has base_of ds d there) id same in
         record {
-          id_of = id_of;
-          records_of = all;
-          distinct = λ a b here there same. ap (λ (x : Base). x.name) (one_base a b (has_contained bases_of a here) (has_contained bases_of b there) same);
-          listed = λ id name last. (
-            λ row. let it = (agrees.listed id name last).0 row in (base_of it.0, contains_had bases_of (base_of it.0) (mapped_has base_of ds it.0 it.1.0), it.1.1, it.2, it.3),
-            λ h.
-                let z = has_mapped base_of ds h.0 (has_contained bases_of h.0 h.1) in
-                (agrees.listed id name last).1 (z.0, (z.1, h.2 ∙ ap (λ (x : Base). id_of x.name) z.2), h.3 ∙ ap (λ (x : Base). x.name) z.2, h.4 ∙ ap (λ (x : Base). pos x.last) z.2),
-          );
-          of_base = λ b there. found_at id_of bases_of one_base b (has_contained bases_of b there) (id_of b.name) refl;
-          of_none = λ id none k there. (let it = at_has id_of bases_of id k (has_contained (all id) k there) in none it.0 (contains_had bases_of it.0 it.1) it.2);
-          stored = record {
+          lists = record {
+            id_of = id_of;
+            records_of = all;
+            distinct = λ a b here there same. ap (λ (x : Base). x.name) (one_base a b (has_contained bases_of a here) (has_contained bases_of b there) same);
+            listed = λ id name last. (
+              λ row. let it = (agrees.listed id name last).0 row in (base_of it.0, contains_had bases_of (base_of it.0) (mapped_has base_of ds it.0 it.1.0), it.1.1, it.2, it.3),
+              λ h.
+                  let z = has_mapped base_of ds h.0 (has_contained bases_of h.0 h.1) in
+                  (agrees.listed id name last).1 (z.0, (z.1, h.2 ∙ ap (λ (x : Base). id_of x.name) z.2), h.3 ∙ ap (λ (x : Base). x.name) z.2, h.4 ∙ ap (λ (x : Base). pos x.last) z.2),
+            );
+            of_base = λ b there. found_at id_of bases_of one_base b (has_contained bases_of b there) (id_of b.name) refl;
+            of_none = λ id none k there. (let it = at_has id_of bases_of id k (has_contained (all id) k there) in none it.0 (contains_had bases_of it.0 it.1) it.2);
             kept = λ id sysno ident bytes. (
               λ row.
                   let it = (agrees.kept id sysno ident bytes).0 row in
@@ -134,28 +134,28 @@ module _ (format : Format) (profile : List Directive) (s : State) (store : IsSto
                     h.4 ∙ ap (λ (k : Kept). k.bytes) r.2,
                   ),
             );
-            content = agrees.content;
-            held = agrees.held;
-            posted = record {
-              rising = registers_rise format s.now.trees agrees.content agrees.held;
-              each = λ id n o. (
-                λ there.
-                    let it = (agrees.posted id o.key (record { sysno = n; seq = o.seq; pos = o.pos })).0 there in
-                    let l = listed_there profile s ds is.databases it.0 it.1.0 in
-                    let found = (l.1.postings (record { key = o.key; posting = record { sysno = n; seq = o.seq; pos = o.pos } })).0 it.2 in
-                    (found.0, contains_had (all id) found.0 (subst (λ (l : List Kept). Has l found.0) (sym (at it.0 id it.1.0 it.1.1)) (has_contained (map kept_of it.0.records.items) found.0 found.1)), found.2, found.3),
-                λ h.
-                    let b = at_has id_of bases_of id h.0 (has_contained (all id) h.0 h.1) in
-                    let z = has_mapped base_of ds b.0 b.1 in
-                    let l = listed_there profile s ds is.databases z.0 z.1 in
-                    let in_it : Has (map kept_of z.0.records.items) h.0 = subst (λ (x : Base). Has x.records h.0) z.2 b.3 in
-                    (agrees.posted id o.key (record { sysno = n; seq = o.seq; pos = o.pos })).1 (
-                      z.0,
-                      (z.1, b.2 ∙ ap (λ (x : Base). id_of x.name) z.2),
-                      (l.1.postings (record { key = o.key; posting = record { sysno = n; seq = o.seq; pos = o.pos } })).1 (h.0, contains_had (map kept_of z.0.records.items) h.0 in_it, h.2, h.3),
-                    ),
-              );
-            };
+          };
+          content = agrees.content;
+          held = agrees.held;
+          posted = record {
+            rising = registers_rise format s.now.trees agrees.content agrees.held;
+            each = λ id n o. (
+              λ there.
+                  let it = (agrees.posted id o.key (record { sysno = n; seq = o.seq; pos = o.pos })).0 there in
+                  let l = listed_there profile s ds is.databases it.0 it.1.0 in
+                  let found = (l.1.postings (record { key = o.key; posting = record { sysno = n; seq = o.seq; pos = o.pos } })).0 it.2 in
+                  (found.0, contains_had (all id) found.0 (subst (λ (l : List Kept). Has l found.0) (sym (at it.0 id it.1.0 it.1.1)) (has_contained (map kept_of it.0.records.items) found.0 found.1)), found.2, found.3),
+              λ h.
+                  let b = at_has id_of bases_of id h.0 (has_contained (all id) h.0 h.1) in
+                  let z = has_mapped base_of ds b.0 b.1 in
+                  let l = listed_there profile s ds is.databases z.0 z.1 in
+                  let in_it : Has (map kept_of z.0.records.items) h.0 = subst (λ (x : Base). Has x.records h.0) z.2 b.3 in
+                  (agrees.posted id o.key (record { sysno = n; seq = o.seq; pos = o.pos })).1 (
+                    z.0,
+                    (z.1, b.2 ∙ ap (λ (x : Base). id_of x.name) z.2),
+                    (l.1.postings (record { key = o.key; posting = record { sysno = n; seq = o.seq; pos = o.pos } })).1 (h.0, contains_had (map kept_of z.0.records.items) h.0 in_it, h.2, h.3),
+                  ),
+            );
           };
         }
 

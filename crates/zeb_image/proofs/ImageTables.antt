@@ -47,17 +47,17 @@ module _ (format : Format) (profile : List Directive) (s : State) (bases : List 
 
   pub image_sound : CanAllBeHeld profile s.now.trees
   image_sound = record {
-    readable = λ id name last row. (let it = (image.listed id name last).0 row in ((it.0.last, it.4), subst IsUtf8 (sym it.3) (name_text it.0.name (are.named it.0 it.1))));
+    readable = λ id name last row. (let it = (image.lists.listed id name last).0 row in ((it.0.last, it.4), subst IsUtf8 (sym it.3) (name_text it.0.name (are.named it.0 it.1))));
     each = λ id name last row.
-        let it = (image.listed id name (pos last)).0 row in
+        let it = (image.lists.listed id name (pos last)).0 row in
         let base = are.each it.0 it.1 in
         let same : last ≡ it.0.last = number_inside last it.0.last it.4 in
         record {
           named = subst IsDatabaseName (sym it.3) (are.named it.0 it.1);
           few = subst (λ (n : ℕ). n ≤ 999999999) (sym same) base.few;
           records = λ sysno ident bytes r.
-              let k = (image.stored.kept id sysno ident bytes).0 r in
-              let there : Contains it.0.records k.0 = subst (λ (l : List Kept). Contains l k.0) (ap image.records_of it.2 ∙ image.of_base it.0 it.1) k.1 in (
+              let k = (image.lists.kept id sysno ident bytes).0 r in
+              let there : Contains it.0.records k.0 = subst (λ (l : List Kept). Contains l k.0) (ap image.lists.records_of it.2 ∙ image.lists.of_base it.0 it.1) k.1 in (
                 k.0.sysno,
                 k.2,
                 record {
@@ -74,30 +74,30 @@ module _ (format : Format) (profile : List Directive) (s : State) (bases : List 
   module _ (store : IsStore s) (expected : Expected) (is : IsExpectation format profile s.now.trees expected) where
     -- a database has the id of its name
     named_id : (l : ListedDatabase) (d : ExpectedDatabase) → HasDatabase s.now.trees l.id.0 (string_bytes d.name) (pos d.last)
-        → (b : Base) × Contains bases b × (l.id.0 ≡ image.id_of (string_bytes d.name)) × (string_bytes d.name ≡ b.name)
-    named_id l d row = let it = (image.listed l.id.0 (string_bytes d.name) (pos d.last)).0 row in (it.0, it.1, it.2 ∙ ap image.id_of (sym it.3), it.3)
+        → (b : Base) × Contains bases b × (l.id.0 ≡ image.lists.id_of (string_bytes d.name)) × (string_bytes d.name ≡ b.name)
+    named_id l d row = let it = (image.lists.listed l.id.0 (string_bytes d.name) (pos d.last)).0 row in (it.0, it.1, it.2 ∙ ap image.lists.id_of (sym it.3), it.3)
 
     -- a kept record is in an expected database
-    kept_there : (id : ℤ) (k : Kept) → Contains (image.records_of id) k
-        → (d : ExpectedDatabase) × (l : ListedDatabase) × Has expected.databases.items d × IsMadeOf profile s.now.trees l d × (id ≡ l.id.0) × (id ≡ image.id_of (string_bytes d.name))
+    kept_there : (id : ℤ) (k : Kept) → Contains (image.lists.records_of id) k
+        → (d : ExpectedDatabase) × (l : ListedDatabase) × Has expected.databases.items d × IsMadeOf profile s.now.trees l d × (id ≡ l.id.0) × (id ≡ image.lists.id_of (string_bytes d.name))
         × ((r : Record) × Has d.records.items r × (k ≡ kept_of r))
-    kept_there id k there = elim (based image.id_of bases id) [
+    kept_there id k there = elim (based image.lists.id_of bases id) [
       | inl found ↦
           let b = found.0 in
-          let row = (image.listed id b.name (pos b.last)).1 (b, contains_had bases b found.1, found.2, refl, refl) in
+          let row = (image.lists.listed id b.name (pos b.last)).1 (b, contains_had bases b found.1, found.2, refl, refl) in
           let it = made_there profile s expected.databases.items is.databases id b.name (pos b.last) row in
-          let kept : HasRecord s.now.trees id (pos k.sysno) k.ident k.bytes = (image.stored.kept id (pos k.sysno) k.ident k.bytes).1 (k, there, refl, refl, refl) in
+          let kept : HasRecord s.now.trees id (pos k.sysno) k.ident k.bytes = (image.lists.kept id (pos k.sysno) k.ident k.bytes).1 (k, there, refl, refl, refl) in
           let r = record_there profile s store it.1 it.0 it.3 (pos k.sysno) k.ident k.bytes (subst (λ (i : ℤ). HasRecord s.now.trees i (pos k.sysno) k.ident k.bytes) it.4 kept) in
-          (it.0, it.1, it.2, it.3, it.4, found.2 ∙ ap image.id_of it.5, (r.0, r.1, same_kept k (kept_of r.0) (number_inside k.sysno r.0.sysno r.2) r.3 r.4))
-      | inr none ↦ absurd (image.of_none id (λ b h. none b (has_contained bases b h)) k there)
+          (it.0, it.1, it.2, it.3, it.4, found.2 ∙ ap image.lists.id_of it.5, (r.0, r.1, same_kept k (kept_of r.0) (number_inside k.sysno r.0.sysno r.2) r.3 r.4))
+      | inr none ↦ absurd (image.lists.of_none id (λ b h. none b (has_contained bases b h)) k there)
     ]
 
     -- and the other way round
-    there_kept : (id : ℤ) (l : ListedDatabase) (d : ExpectedDatabase) (made : IsMadeOf profile s.now.trees l d) (r : Record) → id ≡ l.id.0 → Has d.records.items r → Contains (image.records_of id) (kept_of r)
+    there_kept : (id : ℤ) (l : ListedDatabase) (d : ExpectedDatabase) (made : IsMadeOf profile s.now.trees l d) (r : Record) → id ≡ l.id.0 → Has d.records.items r → Contains (image.lists.records_of id) (kept_of r)
     there_kept id l d made r same there =
         let row = subst (λ (i : ℤ). HasRecord s.now.trees i (pos r.sysno) (string_bytes r.ident) r.bytes.items) (sym same) (row_there profile s store l d made r there) in
-        let k = (image.stored.kept id (pos r.sysno) (string_bytes r.ident) r.bytes.items).0 row in
-        subst (Contains (image.records_of id)) (sym (same_kept (kept_of r) k.0 (number_inside r.sysno k.0.sysno k.2) k.3 k.4)) k.1
+        let k = (image.lists.kept id (pos r.sysno) (string_bytes r.ident) r.bytes.items).0 row in
+        subst (Contains (image.lists.records_of id)) (sym (same_kept (kept_of r) k.0 (number_inside r.sysno k.0.sysno k.2) k.3 k.4)) k.1
 
     module _ (pattern : List ℕ) (pattern_is : option_map pattern_text (identifier_pattern profile) ≡ Some pattern) (texts : HasTexts s.now.trees (version_of format) (canonical_text profile) pattern) where
       told_texts : HasTexts s.now.trees (string_bytes expected.version) (string_bytes expected.profile) (string_bytes expected.identifier)
@@ -112,13 +112,13 @@ module _ (format : Format) (profile : List Directive) (s : State) (bases : List 
           let there = listed_there profile s ds is.databases in
           record {
             texts = told_texts.each;
-            id_of = image.id_of;
+            id_of = image.lists.id_of;
             distinct = λ one two here below same.
                 let l = there one here in
                 let m = there two below in
                 let a = named_id l.0 one l.2 in
                 let b = named_id m.0 two m.2 in
-                a.3 ∙ image.distinct a.0 b.0 a.1 b.1 (ap image.id_of (sym a.3) ∙ same ∙ ap image.id_of b.3) ∙ sym b.3;
+                a.3 ∙ image.lists.distinct a.0 b.0 a.1 b.1 (ap image.lists.id_of (sym a.3) ∙ same ∙ ap image.lists.id_of b.3) ∙ sym b.3;
             listed = λ id name last. (
               λ row.
                   let it = made_there profile s ds is.databases id name last row in
@@ -134,21 +134,21 @@ module _ (format : Format) (profile : List Directive) (s : State) (bases : List 
             );
             kept = λ id sysno ident bytes. (
               λ row.
-                  let k = (image.stored.kept id sysno ident bytes).0 row in
+                  let k = (image.lists.kept id sysno ident bytes).0 row in
                   let at = kept_there id k.0 k.1 in
                   let r = at.6 in
                   (at.0, r.0, (at.2, at.5), r.1, k.2 ∙ ap (λ (x : Kept). pos x.sysno) r.2, k.3 ∙ ap (λ (x : Kept). x.ident) r.2, k.4 ∙ ap (λ (x : Kept). x.bytes) r.2),
               λ h.
                   let l = there h.0 h.2.0 in
                   let ids : id ≡ l.0.id.0 = h.2.1 ∙ sym (named_id l.0 h.0 l.2).2 in
-                  (image.stored.kept id sysno ident bytes).1 (kept_of h.1, there_kept id l.0 h.0 l.1 h.1 ids h.3, h.4, h.5, h.6),
+                  (image.lists.kept id sysno ident bytes).1 (kept_of h.1, there_kept id l.0 h.0 l.1 h.1 ids h.3, h.4, h.5, h.6),
             );
-            content = image.stored.content;
-            held = image.stored.held;
+            content = image.content;
+            held = image.held;
             posted = λ id key p. (
               λ h.
                   let o : Occurrence = record { key = key; seq = p.seq; pos = p.pos } in
-                  let found = (image.stored.posted.each id p.sysno o).0 h in
+                  let found = (image.posted.each id p.sysno o).0 h in
                   let at = kept_there id found.0 found.1 in
                   let r = at.6 in (
                     at.0,
@@ -166,7 +166,7 @@ module _ (format : Format) (profile : List Directive) (s : State) (bases : List 
                   let ids : id ≡ l.0.id.0 = h.1.1 ∙ sym (named_id l.0 h.0 l.2).2 in
                   let found = (l.1.postings (record { key = key; posting = p })).0 h.2 in
                   let r = has_mapped kept_of h.0.records.items found.0 (has_contained (map kept_of h.0.records.items) found.0 found.1) in
-                  (image.stored.posted.each id p.sysno o).1 (
+                  (image.posted.each id p.sysno o).1 (
                     kept_of r.0,
                     there_kept id l.0 h.0 l.1 r.0 ids r.1,
                     ap (λ (x : Kept). x.sysno) (sym r.2) ∙ found.2,

@@ -18,7 +18,7 @@ use Rattle.zeb_change.specs.Occurs.{OccursIn}
 use Rattle.zeb_change.specs.Folding.{ident_in}
 use Rattle.zeb_change.specs.Base.{Base, Kept}
 use Rattle.zeb_image.specs.Image.{AreBases, IsImageOf, IsImageUnder}
-use Rattle.zeb_change.specs.Stored.{ArePosted, AreStored, IsBase, IsKept}
+use Rattle.zeb_change.specs.Stored.{ArePosted, IsBase, IsKept}
 use Rattle.zeb_register.specs.Formats.{Format}
 
 turned_round : (one other : List Directive) → SaysTheSame one other → SaysTheSame other one
@@ -68,20 +68,8 @@ module _ (one other : List Directive) (same : SaysTheSame one other) where
     );
   }
 
-  module _ (format : Format) (trees : Trees) where
-    stored_so : (records_of : ℤ → List Kept) → AreStored format one trees records_of → AreStored format other trees records_of
-    stored_so records_of are = record { kept = are.kept; content = are.content; held = are.held; posted = posted_so records_of are.content are.posted }
-
-    image_of_so : (bases : List Base) → IsImageOf format one trees bases → IsImageOf format other trees bases
-    image_of_so bases is = record {
-      id_of = is.id_of;
-      records_of = is.records_of;
-      distinct = is.distinct;
-      listed = is.listed;
-      of_base = is.of_base;
-      of_none = is.of_none;
-      stored = stored_so is.records_of is.stored;
-    }
+  image_of_so : (format : Format) (trees : Trees) (bases : List Base) → IsImageOf format one trees bases → IsImageOf format other trees bases
+  image_of_so format trees bases is = record { lists = is.lists; content = is.content; held = is.held; posted = posted_so is.lists.records_of is.content is.posted }
 
 -- an image is one under each profile of its text
 pub under_other : (one other : List Directive) → ∥ IsProfile other ∥₁ → (trees : Trees) (version text : List ℕ) (bases : List Base) → text ≡ canonical_text other

@@ -1,4 +1,4 @@
--- Registers made anew from the lists of an image: they make an image again, and lists that none of it has are no image's.
+-- Registers made anew from the lists of databases: they make an image of these, and lists of what can be held are sound and can be read.
 use Rattle.std.proofs.Common.{◌≡◌, ◌≢◌, ◌⊎◌, ◌↔◌, ◌∙◌, ℕ, ℤ, pos, List, [], ◌∷◌, ◌++◌, map, inl, inr, refl, sym, ap, subst, string_bytes, IsUtf8, Less, arith}
 use Rattle.std.specs.List.{Contains}
 use Rattle.std.specs.List.Sorted.{IsStrictlySortedBy}
@@ -20,7 +20,7 @@ use Rattle.zeb_register.proofs.FormatLemmas.{registers_rise}
 use Rattle.zeb_register.proofs.RowsAreLists.{one_last}
 use Rattle.zeb_change.specs.Base.{Base, Kept}
 use Rattle.zeb_change.specs.Occurs.{OccursIn, occurs}
-use Rattle.zeb_image.specs.Image.{AreBases, IsImageOf}
+use Rattle.zeb_image.specs.Image.{AreBases, AreListsOf, IsImageOf}
 use Rattle.zeb_image.specs.Rebuilding.{AreReadableLists, AreSound, IsSound}
 use Rattle.zeb_image.proofs.Bases.{less_differs}
 use Rattle.zeb_image.proofs.Ids.{ids_told}
@@ -83,61 +83,61 @@ module _ (s : State) (store : IsStore s) (list : List ListedDatabase) (are : Are
   pub listed_id : (id : ℤ) (name : List ℕ) (last : ℤ) → HasDatabase s.now.trees id name last → Has (map id_in list) id
   listed_id id name last there = let it = (are.each id name last).0 there in subst (Has (map id_in list)) (sym it.2) (mapped_has id_in list it.0 it.1)
 
--- ---- an image's lists
+-- ---- the lists of databases
 
-module _ (format : Format) (told profile : List Directive) (lists : Trees) (bases : List Base) (image : IsImageOf format told lists bases) where
+module _ (profile : List Directive) (lists : Trees) (bases : List Base) (these : AreListsOf lists bases) where
   -- what follows from the lists is an image
   pub rebuilt : (other : Format) (new : Trees) → KeepsLists lists new → (ids : List ℤ) → ((id : ℤ) (name : List ℕ) (last : ℤ) → HasDatabase lists id name last → Has ids id)
       → (content : Content) → holds_in other new content → ArePostedIn profile lists ids content → IsImageOf other profile new bases
   rebuilt other new keeps ids all content held are = record {
-    id_of = image.id_of;
-    records_of = image.records_of;
-    distinct = image.distinct;
-    listed = λ id name last.
-        let still = database_still lists new keeps id name last in
-        (λ there. (image.listed id name last).0 (still.1 there), λ base. still.0 ((image.listed id name last).1 base));
-    of_base = image.of_base;
-    of_none = image.of_none;
-    stored = record {
+    lists = record {
+      id_of = these.id_of;
+      records_of = these.records_of;
+      distinct = these.distinct;
+      listed = λ id name last.
+          let still = database_still lists new keeps id name last in
+          (λ there. (these.listed id name last).0 (still.1 there), λ base. still.0 ((these.listed id name last).1 base));
+      of_base = these.of_base;
+      of_none = these.of_none;
       kept = λ id sysno ident bytes.
           let still = record_still lists new keeps id sysno ident bytes in
-          (λ there. (image.stored.kept id sysno ident bytes).0 (still.1 there), λ kept. still.0 ((image.stored.kept id sysno ident bytes).1 kept));
-      content = content;
-      held = held;
-      posted = record { rising = registers_rise other new content held; each = each };
+          (λ there. (these.kept id sysno ident bytes).0 (still.1 there), λ kept. still.0 ((these.kept id sysno ident bytes).1 kept));
     };
+    content = content;
+    held = held;
+    posted = record { rising = registers_rise other new content held; each = each };
   }
     where
-      known : (id : ℤ) (kept : Kept) → Contains (image.records_of id) kept → Has ids id
+      known : (id : ℤ) (kept : Kept) → Contains (these.records_of id) kept → Has ids id
       known id kept there = elim (told_in ids id) [
         | inl here ↦ here
-        | inr none ↦ absurd (image.of_none id (λ base in_bases same. none (all id base.name (pos base.last) ((image.listed id base.name (pos base.last)).1 (base, in_bases, same, refl, refl)))) kept there)
+        | inr none ↦ absurd (these.of_none id (λ base in_bases same. none (all id base.name (pos base.last) ((these.listed id base.name (pos base.last)).1 (base, in_bases, same, refl, refl)))) kept there)
       ]
 
-      each : (id : ℤ) (n : ℕ) (o : Occurrence) → posted content id n o ↔ occurs profile (image.records_of id) n o
+      each : (id : ℤ) (n : ℕ) (o : Occurrence) → posted content id n o ↔ occurs profile (these.records_of id) n o
       each id n o = (
         λ there.
             let row = ((are.each id n o).0 there).1 in
-            let it = (image.stored.kept id (pos n) row.0 row.1).0 row.2 in
+            let it = (these.kept id (pos n) row.0 row.1).0 row.2 in
             let number : n ≡ it.0.sysno = (let e = it.2 in cc) in
             (it.0, it.1, sym number, subst (λ b. OccursIn profile (record { sysno = n; ident = row.0; bytes = b }) o) it.4 row.3),
         λ there.
             let kept = there.0 in
-            let row : HasRecord lists id (pos n) kept.ident kept.bytes = (image.stored.kept id (pos n) kept.ident kept.bytes).1 (kept, there.1, ap pos (sym there.2), refl, refl) in
+            let row : HasRecord lists id (pos n) kept.ident kept.bytes = (these.kept id (pos n) kept.ident kept.bytes).1 (kept, there.1, ap pos (sym there.2), refl, refl) in
             (are.each id n o).1 (known id kept there.1, (kept.ident, kept.bytes, row, there.3)),
       )
 
   -- a row of a listed database is one of its records
-  row_kept : (base : Base) → Contains bases base → (id : ℤ) → id ≡ image.id_of base.name → (sysno : ℤ) (ident bytes : List ℕ) → HasRecord lists id sysno ident bytes
+  row_kept : (base : Base) → Contains bases base → (id : ℤ) → id ≡ these.id_of base.name → (sysno : ℤ) (ident bytes : List ℕ) → HasRecord lists id sysno ident bytes
       → (kept : Kept) × Contains base.records kept × (sysno ≡ pos kept.sysno) × (ident ≡ kept.ident) × (bytes ≡ kept.bytes)
   row_kept base in_bases id same sysno ident bytes there =
-      let it = (image.stored.kept id sysno ident bytes).0 there in
-      (it.0, subst (λ l. Contains l it.0) (ap image.records_of same ∙ image.of_base base in_bases) it.1, it.2, it.3, it.4)
+      let it = (these.kept id sysno ident bytes).0 there in
+      (it.0, subst (λ l. Contains l it.0) (ap these.records_of same ∙ these.of_base base in_bases) it.1, it.2, it.3, it.4)
 
   -- the lists of databases that can be held under a profile are sound under it
-  pub image_sound : AreBases profile bases → AreSound profile lists
-  image_sound are id name last listed n ident bytes there =
-      let base = (image.listed id name last).0 listed in
+  pub lists_sound : AreBases profile bases → AreSound profile lists
+  lists_sound are id name last listed n ident bytes there =
+      let base = (these.listed id name last).0 listed in
       let it = row_kept base.0 base.1 id base.2 (pos n) ident bytes there in
       let is = are.each base.0 base.1 in
       let number : n ≡ it.0.sysno = (let e = it.2 in cc) in
@@ -147,13 +147,13 @@ module _ (format : Format) (told profile : List Directive) (lists : Trees) (base
         number = (is.from_one it.0 it.1, omega (arith, is.to_last it.0 it.1, is.few));
       })
 
-  pub image_readable : AreBases profile bases → AreReadableLists lists
-  image_readable are = record {
+  pub lists_readable : AreBases profile bases → AreReadableLists lists
+  lists_readable are = record {
     databases = λ id name last listed.
-        let base = (image.listed id name last).0 listed in
+        let base = (these.listed id name last).0 listed in
         ((base.0.last, base.4), subst IsUtf8 (sym base.3) (name_text base.0.name (are.named base.0 base.1)));
     records = λ id name last listed sysno ident bytes there.
-        let base = (image.listed id name last).0 listed in
+        let base = (these.listed id name last).0 listed in
         let it = row_kept base.0 base.1 id base.2 sysno ident bytes there in
         ((it.0.sysno, it.2), subst IsUtf8 (sym it.3) ((are.each base.0 base.1).sound it.0 it.1).text);
   }

@@ -14,10 +14,11 @@ use Rattle.zeb_profile.specs.Laws.{IsProfile}
 use Rattle.zeb_register.specs.Sql.{HasRow}
 use Rattle.zeb_register.specs.Store.{IsStore, HasDatabase, LacksLists, LacksRegisters, entry, meta_tree}
 use Rattle.zeb_image.specs.Names.{IsDatabaseName}
-use Rattle.zeb_change.specs.Stored.{IsBase, AreStored}
+use Rattle.zeb_change.specs.Stored.{IsBase, AreKept, ArePosted}
 use Rattle.zeb_image.specs.Holdings.{Holdings, nothing_yet, under}
 use Rattle.zeb_change.specs.Base.{Base, Kept}
-use Rattle.zeb_register.specs.Formats.{Format, version_of}
+use Rattle.zeb_register.specs.Content.{Content}
+use Rattle.zeb_register.specs.Formats.{Format, holds_in, version_of}
 
 -- ---- what can be held
 
@@ -40,17 +41,24 @@ abbrev pub AreListed : Trees → List Base → (List ℕ → ℤ) → Type 0
 AreListed trees bases id_of = (id : ℤ) (name : List ℕ) (last : ℤ) → HasDatabase trees id name last
     ↔ ((base : Base) × Contains bases base × (id ≡ id_of base.name) × (name ≡ base.name) × (last ≡ pos base.last))
 
--- ---- all tables
-
--- under some ids, a different one for each name: the databases, their records and the postings of these, and no others
-pub record IsImageOf (format : Format) (profile : List Directive) (trees : Trees) (bases : List Base) : Type 0 where
+-- under some ids, a different one for each name: the rows of the databases and of their records, and no others, whatever the registers hold
+pub record AreListsOf (trees : Trees) (bases : List Base) : Type 0 where
   pub id_of : List ℕ → ℤ
   pub records_of : ℤ → List Kept
   pub distinct : (a b : Base) → Contains bases a → Contains bases b → id_of a.name ≡ id_of b.name → a.name ≡ b.name
   pub listed : AreListed trees bases id_of
   pub of_base : (base : Base) → Contains bases base → records_of (id_of base.name) ≡ base.records
   pub of_none : (id : ℤ) → ((base : Base) → Contains bases base → id ≢ id_of base.name) → (kept : Kept) → ¬ Contains (records_of id) kept
-  pub stored : AreStored format profile trees records_of
+  pub kept : AreKept trees records_of
+
+-- ---- all tables
+
+-- the databases, their records and the postings of these, and no others
+pub record IsImageOf (format : Format) (profile : List Directive) (trees : Trees) (bases : List Base) : Type 0 where
+  pub lists : AreListsOf trees bases
+  pub content : Content
+  pub held : holds_in format trees content
+  pub posted : ArePosted profile lists.records_of content
 
 -- the tables of a register of this version and under this profile
 pub record IsImageUnder (profile : List Directive) (trees : Trees) (version text : List ℕ) (bases : List Base) : Type 0 where

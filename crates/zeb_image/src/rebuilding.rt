@@ -3,15 +3,14 @@
 ghost use Rattle.std.specs.Prelude.{◌≡◌, ◌≢◌, ℕ, IsTrue, OnOk, List};
 ghost use Rattle.sqlite.specs.Held.{state};
 ghost use Rattle.sqlite.specs.State.{HasCleanDisk, Survives};
-ghost use Rattle.zeb_profile.specs.declared.directives.Directive.{Directive};
 ghost use Rattle.zeb_register.specs.Calls.{GoesOn, Inside};
 ghost use Rattle.zeb_register.specs.Content.{Content, IsStorable};
-ghost use Rattle.zeb_register.specs.Formats.{Format, holds_in};
+ghost use Rattle.zeb_register.specs.Formats.{holds_in};
 ghost use Rattle.zeb_register.specs.Kept.{AreReadable};
 ghost use Rattle.zeb_register.specs.Store.{IsStore, KeepsLists};
 ghost use Rattle.zeb_change.specs.Base.{Base};
 ghost use Rattle.zeb_change.specs.Inside.{Stays};
-ghost use Rattle.zeb_image.specs.Image.{AreBases, IsImageOf};
+ghost use Rattle.zeb_image.specs.Image.{AreBases, AreListsOf, IsImageOf};
 ghost use Rattle.zeb_image.specs.Rebuilding.{AreReadableLists, AreSound, AreSoundIn};
 ghost use Rattle.zeb_image.specs.PrivateRebuilding.{HoldsSuch, IsPosted, LacksDatabase};
 
@@ -41,13 +40,13 @@ pub fn rebuild<S: Alter, L: Layout>(
         → IsStore (state S.Store tx.old.conn.now)
         → OnOk result (IsStore (state S.Store tx.new.conn.now)
         × KeepsLists (state S.Store tx.old.conn.now).now.trees (state S.Store tx.new.conn.now).now.trees
-        × ((format : Format) (told : List Directive) (bases : List Base)
-        → IsImageOf format told (state S.Store tx.old.conn.now).now.trees bases → AreBases profile.now bases
+        × ((bases : List Base)
+        → AreListsOf (state S.Store tx.old.conn.now).now.trees bases → AreBases profile.now bases
         → IsImageOf L.format profile.now (state S.Store tx.new.conn.now).now.trees bases)) }
     ensures honest { HasCleanDisk (state S.Store tx.new.conn.now) → IsTrue (state S.Store tx.old.conn.now).in_transaction
         → IsStore (state S.Store tx.old.conn.now) → result ≡ Err RegFault.Damaged
-        → (format : Format) (told : List Directive) (bases : List Base)
-        → IsImageOf format told (state S.Store tx.old.conn.now).now.trees bases → ¬ AreBases profile.now bases }
+        → (bases : List Base)
+        → AreListsOf (state S.Store tx.old.conn.now).now.trees bases → ¬ AreBases profile.now bases }
     ensures checked { HasCleanDisk (state S.Store tx.new.conn.now) → IsTrue (state S.Store tx.old.conn.now).in_transaction
         → IsStore (state S.Store tx.old.conn.now) → OnOk result (AreSound profile.now (state S.Store tx.old.conn.now).now.trees) }
     ensures damaged { HasCleanDisk (state S.Store tx.new.conn.now) → IsTrue (state S.Store tx.old.conn.now).in_transaction

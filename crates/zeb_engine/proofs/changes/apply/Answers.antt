@@ -40,8 +40,8 @@ returns-in_err-fold_files-clause-works g c = λ clean inside opened texts told f
       λ before known sees.
           let at = sees opened in
           let b = change_begun format change c.is_of_some_text.ensures before (state g.S.Store c.args.tx.now.conn.now) mid at.1 id (known opened) _ _ c.as_str-name.ensures c.last-last.ensures (c.in_ok-database.ensures.put first inside at.0) in
-          let met = c.in_err-fold_files.ensures.folded clean on.mode texts told fine (version_of format) b.image.records_of (at_first b.start) (record { last = c.last-last.ensures ∙ b.last_is; taken = c.new.ensures.0; inserted = c.new.ensures.1; updated = c.new.ensures.2; deleted = c.new.ensures.3 }) (change_way format change c.is_of_some_text.ensures before mid id b) in
-          change_refused format change c.is_of_some_text.ensures before mid id b texts (λ (q : Progress) (x : Unit {0}). IsFolded format k.profile id b.image.records_of mid new c.fold_files.new.fold q) refusal met,
+          let met = c.in_err-fold_files.ensures.folded clean on.mode texts told fine (version_of format) b.image.lists.records_of (at_first b.start) (record { last = c.last-last.ensures ∙ b.last_is; taken = c.new.ensures.0; inserted = c.new.ensures.1; updated = c.new.ensures.2; deleted = c.new.ensures.3 }) (change_way format change c.is_of_some_text.ensures before mid id b) in
+          change_refused format change c.is_of_some_text.ensures before mid id b texts (λ (q : Progress) (x : Unit {0}). IsFolded format k.profile id b.image.lists.records_of mid new c.fold_files.new.fold q) refusal met,
     )
 
 pub returns-in_err-database_put-clause-works : goal.returns-in_err-database_put-clause-works
@@ -67,8 +67,8 @@ returns-in_err-database_put-clause-works g c = λ clean inside opened texts told
       λ before known sees.
           let at = sees opened in
           let b = change_begun format change c.is_of_some_text.ensures before (state g.S.Store c.args.tx.now.conn.now) mid at.1 id (known opened) _ _ c.as_str-name.ensures c.last-last.ensures (c.in_ok-database.ensures.put first inside at.0) in
-          let met = c.in_ok-fold_files.ensures.folded second on.mode texts told fine (version_of format) b.image.records_of (at_first b.start) (record { last = c.last-last.ensures ∙ b.last_is; taken = c.new.ensures.0; inserted = c.new.ensures.1; updated = c.new.ensures.2; deleted = c.new.ensures.3 }) (change_way format change c.is_of_some_text.ensures before mid id b) in
-          let done = change_done format change c.is_of_some_text.ensures before mid id b texts (λ (q : Progress) (x : Unit {0}). IsFolded format k.profile id b.image.records_of mid now c.fold_files.new.fold q) tt met in
+          let met = c.in_ok-fold_files.ensures.folded second on.mode texts told fine (version_of format) b.image.lists.records_of (at_first b.start) (record { last = c.last-last.ensures ∙ b.last_is; taken = c.new.ensures.0; inserted = c.new.ensures.1; updated = c.new.ensures.2; deleted = c.new.ensures.3 }) (change_way format change c.is_of_some_text.ensures before mid id b) in
+          let done = change_done format change c.is_of_some_text.ensures before mid id b texts (λ (q : Progress) (x : Unit {0}). IsFolded format k.profile id b.image.lists.records_of mid now c.fold_files.new.fold q) tt met in
           inl (fault_fails broken (λ is. c.in_err-database_put.ensures.honest clean further.mode done.2.under_way.0 (ap Err is))),
     )
 
@@ -98,8 +98,8 @@ returns-clause-works g c = λ clean inside opened texts told fine.
       },
       λ before known store image.
           let b = change_begun format change c.is_of_some_text.ensures before (state g.S.Store c.args.tx.now.conn.now) mid image id known _ _ c.as_str-name.ensures c.last-last.ensures (c.in_ok-database.ensures.put first inside store) in
-          let met = c.in_ok-fold_files.ensures.folded second on.mode texts told fine (version_of format) b.image.records_of (at_first b.start) (record { last = c.last-last.ensures ∙ b.last_is; taken = c.new.ensures.0; inserted = c.new.ensures.1; updated = c.new.ensures.2; deleted = c.new.ensures.3 }) (change_way format change c.is_of_some_text.ensures before mid id b) in
-          let done = change_done format change c.is_of_some_text.ensures before mid id b texts (λ (q : Progress) (x : Unit {0}). IsFolded format k.profile id b.image.records_of mid now fold q) tt met in
+          let met = c.in_ok-fold_files.ensures.folded second on.mode texts told fine (version_of format) b.image.lists.records_of (at_first b.start) (record { last = c.last-last.ensures ∙ b.last_is; taken = c.new.ensures.0; inserted = c.new.ensures.1; updated = c.new.ensures.2; deleted = c.new.ensures.3 }) (change_way format change c.is_of_some_text.ensures before mid id b) in
+          let done = change_done format change c.is_of_some_text.ensures before mid id b texts (λ (q : Progress) (x : Unit {0}). IsFolded format k.profile id b.image.lists.records_of mid now fold q) tt met in
           let ends = subst (λ n. Changes databases_tree (PutsDatabase c.in_ok-database_put.field-0.0 n (pos fold.progress.last)) now new) c.as_str-name.ensures (c.in_ok-database_put.ensures.put clean further.mode done.2.under_way.0) in
           subst (λ r. Leads new r (comes_to (version_of format) change.setting name texts before)) (sym said)
           (change_led format change c.is_of_some_text.ensures before mid id b texts done.0 done.1 now new fold done.2 c.in_ok-database_put.field-0.0 ends),
@@ -133,7 +133,7 @@ returns-in_err-fold_files-clause-honest g c clean inside before known store imag
     let first : HasCleanDisk mid = omega (arith, c.fold_files.ensures.crash.clean) in
     let on = c.in_ok-database.ensures.call.ok first inside in
     let b = change_begun format change c.is_of_some_text.ensures before (state g.S.Store c.args.tx.now.conn.now) mid image id known _ _ c.as_str-name.ensures c.last-last.ensures (c.in_ok-database.ensures.put first inside store) in
-    let sound = (c.in_err-fold_files.ensures.honest clean on.mode b.image.records_of (b.start, c.last-last.ensures ∙ b.last_is, change_way format change c.is_of_some_text.ensures before mid id b)).0 in
+    let sound = (c.in_err-fold_files.ensures.honest clean on.mode b.image.lists.records_of (b.start, c.last-last.ensures ∙ b.last_is, change_way format change c.is_of_some_text.ensures before mid id b)).0 in
     rw result (λ is. sound cc)
 
 pub returns-in_err-database_put-clause-honest : goal.returns-in_err-database_put-clause-honest
@@ -150,7 +150,7 @@ returns-in_err-database_put-clause-honest g c clean inside before known store im
     let on = c.in_ok-database.ensures.call.ok first inside in
     let b = change_begun format change c.is_of_some_text.ensures before (state g.S.Store c.args.tx.now.conn.now) mid image id known _ _ c.as_str-name.ensures c.last-last.ensures (c.in_ok-database.ensures.put first inside store) in
     let further = c.in_ok-fold_files.ensures.stays second on.mode in
-    let held = (c.in_ok-fold_files.ensures.honest second on.mode b.image.records_of (b.start, c.last-last.ensures ∙ b.last_is, change_way format change c.is_of_some_text.ensures before mid id b)).1 in
+    let held = (c.in_ok-fold_files.ensures.honest second on.mode b.image.lists.records_of (b.start, c.last-last.ensures ∙ b.last_is, change_way format change c.is_of_some_text.ensures before mid id b)).1 in
     let sound = failure_honest (register_refusal broken) (fault_fails broken (λ is. c.in_err-database_put.ensures.honest clean further.mode held.2.0 (ap Err is))) in
     rw result (λ is. sound cc)
 
@@ -164,5 +164,5 @@ returns-clause-work g c = λ clean inside texts told before known store image.
     let first : HasCleanDisk mid = omega (arith, c.fold_files.ensures.crash.clean) in
     let on = c.in_ok-database.ensures.call.ok first inside in
     let b = change_begun format change c.is_of_some_text.ensures before (state g.S.Store c.args.tx.now.conn.now) mid image id known _ _ c.as_str-name.ensures c.last-last.ensures (c.in_ok-database.ensures.put first inside store) in
-    let worked = c.in_ok-fold_files.ensures.work second on.mode texts told (version_of format) b.image.records_of (at_first b.start) (record { last = c.last-last.ensures ∙ b.last_is; taken = c.new.ensures.0; inserted = c.new.ensures.1; updated = c.new.ensures.2; deleted = c.new.ensures.3 }) (change_way format change c.is_of_some_text.ensures before mid id b) in
+    let worked = c.in_ok-fold_files.ensures.work second on.mode texts told (version_of format) b.image.lists.records_of (at_first b.start) (record { last = c.last-last.ensures ∙ b.last_is; taken = c.new.ensures.0; inserted = c.new.ensures.1; updated = c.new.ensures.2; deleted = c.new.ensures.3 }) (change_way format change c.is_of_some_text.ensures before mid id b) in
     (worked.0, record { bases = b.bases; is_ready = b.is_ready; start = b.start; starts = b.starts; cost = worked.1 }, worked.2)

@@ -26,7 +26,7 @@ returns-in_err-database_of-in-Update-clause-begins g c = λ clean opened under b
     let all = image_some under old.now.trees before bases is at.0.1 in
     rw told (fault_meets {X = Option Database} (λ (base : Base) found. BeginsWith kind name found under old.now.trees before × IsTrue (state g.S.Store c.database_of.new.conn).is_open) (start_of kind name (base_named name bases)) fault (λ is_damaged.
     let damaged : ◌≡◌ {A = Result (Option Database) RegFault} (Err fault) (Err register.Damaged) = ap Err is_damaged in
-    c.in_err-database_of-in-Update.ensures.honest clean at.0.0 damaged (counted old.now.trees bases all.1.image.id_of all.1.image.listed c.as_str.result.now)))
+    c.in_err-database_of-in-Update.ensures.honest clean at.0.0 damaged (counted old.now.trees bases all.1.image.lists.id_of all.1.image.lists.listed c.as_str.result.now)))
 
 pub returns-in_ok-database_of-in-Update-clause-begins : goal.returns-in_ok-database_of-in-Update-clause-begins
 returns-in_ok-database_of-in-Update-clause-begins g c = λ clean opened under before bases is keeps.

@@ -23,7 +23,7 @@ returns-in_err-database-clause-exists g c clean opened under before bases is kee
     let all = image_some under old.now.trees before bases is at.0.1 in
     rw told (fault_meets {X = Database} (λ base found. HasDatabase old.now.trees found.id.0 base.name (pos base.last) × (found.last ≡ base.last) × IsTrue (state g.S.Store c.database_of.new.conn).is_open) (existing (name_bytes c.args.name.now) bases) fault (λ is.
     let damaged : ◌≡◌ {A = Result (Option Database) RegFault} (Err fault) (Err register.Damaged) = ap Err is in
-    c.in_err-database.ensures.honest clean at.0.0 damaged (counted old.now.trees bases all.1.image.id_of all.1.image.listed c.as_str.result.now)))
+    c.in_err-database.ensures.honest clean at.0.0 damaged (counted old.now.trees bases all.1.image.lists.id_of all.1.image.lists.listed c.as_str.result.now)))
 
 pub returns-in-Some-clause-exists : goal.returns-in-Some-clause-exists
 returns-in-Some-clause-exists g c clean opened under before bases is keeps =
@@ -36,7 +36,7 @@ returns-in-Some-clause-exists g c clean opened under before bases is keeps =
     let value = c.in_ok-database.ensures.value clean at.0.0 in
     let there : IsDatabaseOf old.now.trees c.as_str.result.now (Some found) = subst (IsDatabaseOf old.now.trees c.as_str.result.now) c.in-Some.is value in
     let row : HasDatabase old.now.trees found.id.0 name (pos found.last) = subst (λ n. HasDatabase old.now.trees found.id.0 n (pos found.last)) c.as_str.ensures there in
-    let base = row_named old.now.trees bases all.1.image.id_of all.1.image.listed all.0 all.1.are found.id.0 name found.last row in
+    let base = row_named old.now.trees bases all.1.image.lists.id_of all.1.image.lists.listed all.0 all.1.are found.id.0 name found.last row in
     let open_still : IsTrue new.is_open = (c.in_ok-database.ensures.call.ok clean).0.is_open in
     let named = subst (λ n. HasDatabase old.now.trees found.id.0 n (pos base.0.last)) base.3 (subst (λ (l : ℕ). HasDatabase old.now.trees found.id.0 name (pos l)) base.4 row) in
     subst (λ said. Meets (λ (b : Base) (d : Database). HasDatabase old.now.trees d.id.0 b.name (pos b.last) × (d.last ≡ b.last) × IsTrue new.is_open) said (Ok found)) (sym (ap (found_or name) base.1)) (named, base.4, open_still)
@@ -49,7 +49,7 @@ returns-in_ok-from_str-in-None-clause-exists g c clean opened under before bases
     let all = image_some under old.now.trees before bases is at.0.1 in
     let value = c.in_ok-database.ensures.value clean at.0.0 in
     let there : IsDatabaseOf old.now.trees name None = subst (λ n. IsDatabaseOf old.now.trees n None) c.as_str.ensures (subst (IsDatabaseOf old.now.trees c.as_str.result.now) c.in-None.is value) in
-    let none = none_named old.now.trees bases all.1.image.id_of all.1.image.listed name there in
+    let none = none_named old.now.trees bases all.1.image.lists.id_of all.1.image.lists.listed name there in
     let text : string_bytes c.in_ok-from_str-in-None.field-0 ≡ name = search rules in
     inr (ap (found_or name) none ∙ ap (λ t. Err (diagnostic 235 0 t)) (sym text))
 

@@ -1,14 +1,15 @@
-use Rattle.std.proofs.Common.{◌≡◌, Err, refl, rules, ap, arith, inl, inr, subst}
+use Rattle.std.proofs.Common.{◌≡◌, Err, IsUtf8, refl, rules, ap, arith, inl, inr, subst}
 use Rattle.std.specs.Option.{option_map}
 use Rattle.sqlite.specs.Effect.{Database}
 use Rattle.sqlite.specs.Held.{state}
 use Rattle.sqlite.specs.State.{HasCleanDisk}
-use Rattle.zeb_profile.specs.Canonical.{pattern_text}
+use Rattle.zeb_profile.specs.Canonical.{canonical_text, pattern_text}
 use Rattle.zeb_register.specs.Formats.{version_of}
 use Rattle.zeb_register.proofs.Calls.{store_same}
 use Rattle.zeb_change.specs.Conditions.{conditions}
 use Rattle.zeb_engine.specs.Checking.{TellsSound}
 use Rattle.zeb_engine.proofs.Crashing.{survives_after}
+use Rattle.zeb_engine.proofs.Remaking.{commits_after_look, remade_after}
 use Rattle.zeb_engine.proofs.RenewalAnswers.{rule_met, rule_unserved}
 use Rattle.zeb_engine.proofs.Serving.{keeps_still}
 use Rattle.zeb_engine.proofs.renewals.reindex.Goals as goal
@@ -55,3 +56,23 @@ returns-clause-told g c clean store =
     let look = c.in_ok-check_rule.ensures.look first in
     let still = (look.same look.found.1).1 in
     inr (look.told store, subst (λ (d : Database). TellsSound c.args.profile.now d.trees c.transact.result) still (c.transact.ensures.sound clean (store_same old mid still store)))
+
+pub returns-clause-remade : goal.returns-clause-remade
+returns-clause-remade g c clean =
+    let old = state g.S.Store c.args.connection.now in
+    let mid = state g.S.Store c.check_rule.new.connection in
+    let first : HasCleanDisk mid = omega (arith, c.transact.ensures.survives.clean) in
+    let look = c.in_ok-check_rule.ensures.look first in
+    let readable : IsUtf8 (version_of g.L.Layout.format) × IsUtf8 (canonical_text c.args.profile.now) = (subst IsUtf8 c.version-version.ensures c.version-version.utf8, subst IsUtf8 c.text-text.ensures c.text-text.utf8) in
+    remade_after g.L.Layout.format c.args.profile.now readable c.is_of_some_text.ensures old mid (look.same look.found.1).1 look.told c.transact.result (state g.S.Store c.transact.new.connection) (c.transact.ensures.remade clean)
+
+pub returns-clause-survives_remade : goal.returns-clause-survives_remade
+returns-clause-survives_remade g c =
+    let old = state g.S.Store c.args.connection.now in
+    let mid = state g.S.Store c.check_rule.new.connection in
+    let new = state g.S.Store c.transact.new.connection in
+    let readable : IsUtf8 (version_of g.L.Layout.format) × IsUtf8 (canonical_text c.args.profile.now) = (subst IsUtf8 c.version-version.ensures c.version-version.utf8, subst IsUtf8 c.text-text.ensures c.text-text.utf8) in
+    survives_after old mid new _ _ c.check_rule.ensures.crash c.transact.ensures.survives_remade (λ clean db made.
+    let first : HasCleanDisk mid = omega (arith, c.transact.ensures.survives.clean) in
+    let look = c.in_ok-check_rule.ensures.look first in
+    commits_after_look g.L.Layout.format c.args.profile.now readable c.is_of_some_text.ensures old mid (look.same look.found.1).1 look.told db made)

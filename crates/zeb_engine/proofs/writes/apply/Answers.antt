@@ -3,6 +3,7 @@ use Rattle.sqlite.specs.Held.{state}
 use Rattle.zeb_register.specs.Store.{IsStore}
 use Rattle.zeb_change.specs.Conditions.{Conditions}
 use Rattle.zeb_image.specs.Image.{IsImage}
+use Rattle.zeb_engine.specs.Checking.{IsRemade}
 use Rattle.zeb_engine.specs.Steps.{holding}
 use Rattle.zeb_engine.specs.PrivateWriting.{AreOf}
 use Rattle.zeb_engine.proofs.WriteSteps.{init_works, begun_so, nothing_so}
@@ -65,3 +66,21 @@ returns-in-Reindex-clause-sound g c clean inside = rw c.in-Reindex.is (c.reindex
 
 pub returns-in-Upgrade-clause-sound : goal.returns-in-Upgrade-clause-sound
 returns-in-Upgrade-clause-sound g c clean inside = rw c.in-Upgrade.is tt
+
+pub returns-in-Init-clause-remade : goal.returns-in-Init-clause-remade
+returns-in-Init-clause-remade g c clean inside = rw c.in-Init.is (nothing_so c.init.result)
+
+pub returns-in-Create-clause-remade : goal.returns-in-Create-clause-remade
+returns-in-Create-clause-remade g c clean inside = rw c.in-Create.is (nothing_so c.create.result)
+
+pub returns-in-Drop-clause-remade : goal.returns-in-Drop-clause-remade
+returns-in-Drop-clause-remade g c clean inside = rw c.in-Drop.is (nothing_so c.take.result)
+
+pub returns-in-Reindex-clause-remade : goal.returns-in-Reindex-clause-remade
+returns-in-Reindex-clause-remade g c clean inside =
+    let old = state g.S.Store c.args.tx.now.conn.now in
+    let new = state g.S.Store c.reindex.new.tx.conn.now in
+    rw c.in-Reindex.is (begun_so c.reindex.result (IsStore old) (IsStore new × IsRemade g.L.Layout.format c.in-Reindex.profile.now old.now.trees new.now.trees) (c.reindex.ensures.remade clean inside))
+
+pub returns-in-Upgrade-clause-remade : goal.returns-in-Upgrade-clause-remade
+returns-in-Upgrade-clause-remade g c clean inside = rw c.in-Upgrade.is (nothing_so c.upgrade.result)

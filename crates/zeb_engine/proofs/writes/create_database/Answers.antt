@@ -32,7 +32,7 @@ returns-in_err-found-clause-serves g c clean k =
     let at = keeps opened in
     let ready = fits opened in
     let all = image_some k old.now.trees before ready.0 ready.1 at.0.1 in
-    c.in_err-found.ensures.honest clean at.0.0 damaged (counted old.now.trees ready.0 all.1.image.id_of all.1.image.listed c.as_str.result.now)))))
+    c.in_err-found.ensures.honest clean at.0.0 damaged (counted old.now.trees ready.0 all.1.image.lists.id_of all.1.image.lists.listed c.as_str.result.now)))))
 
 pub returns-in-Some-clause-serves : goal.returns-in-Some-clause-serves
 returns-in-Some-clause-serves g c clean k =
@@ -45,7 +45,7 @@ returns-in-Some-clause-serves g c clean k =
     let ready = fits opened in
     let all = image_some k old.now.trees before ready.0 ready.1 at.0.1 in
     let row = row_found old.now.trees c.as_str.result.now name c.as_str.ensures c.in_ok-found.found _ c.in-Some.is (c.in_ok-found.ensures.value clean at.0.0) in
-    let base = row_named old.now.trees ready.0 all.1.image.id_of all.1.image.listed all.0 all.1.are row.0 name row.1 row.2 in
+    let base = row_named old.now.trees ready.0 all.1.image.lists.id_of all.1.image.lists.listed all.0 all.1.are row.0 name row.1 row.2 in
     inr (step_exists k before name ready.0 ready.1 base.0 base.1))
 
 pub returns-in-None-clause-serves : goal.returns-in-None-clause-serves
@@ -60,7 +60,7 @@ returns-in-None-clause-serves g c clean k before fits keeps =
     let all = image_some k old.now.trees before ready.0 ready.1 at.0.1 in
     let value = c.in_ok-found.ensures.value first at.0.0 in
     let there : IsDatabaseOf old.now.trees name None = subst (λ n. IsDatabaseOf old.now.trees n None) c.as_str.ensures (subst (IsDatabaseOf old.now.trees c.as_str.result.now) c.in-None.is value) in
-    let none = none_named old.now.trees ready.0 all.1.image.id_of all.1.image.listed name there in
+    let none = none_named old.now.trees ready.0 all.1.image.lists.id_of all.1.image.lists.listed name there in
     c.transact.ensures.serves clean k still.0.is_open before (λ _. (ready.0, ready.1, none)) (keeps_still before old mid (c.database_of.ensures.call.same first c.requires.idle) keeps)
 
 pub returns-in-None-clause-survives : goal.returns-in-None-clause-survives
@@ -77,5 +77,5 @@ returns-in-None-clause-survives g c =
     let all = image_some k old.now.trees before ready.0 ready.1 at.0.1 in
     let value = c.in_ok-found.ensures.value first at.0.0 in
     let there : IsDatabaseOf old.now.trees name None = subst (λ n. IsDatabaseOf old.now.trees n None) c.as_str.ensures (subst (IsDatabaseOf old.now.trees c.as_str.result.now) c.in-None.is value) in
-    let none = none_named old.now.trees ready.0 all.1.image.id_of all.1.image.listed name there in
+    let none = none_named old.now.trees ready.0 all.1.image.lists.id_of all.1.image.lists.listed name there in
     made k still.0.is_open before (λ _. (ready.0, ready.1, none)) (keeps_still before old mid (c.database_of.ensures.call.same first c.requires.idle) keeps))

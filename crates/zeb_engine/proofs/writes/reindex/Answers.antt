@@ -7,7 +7,7 @@ use Rattle.zeb_register.specs.Sql.{Replaces}
 use Rattle.zeb_register.specs.Store.{IsEntryOf, entry, meta_tree}
 use Rattle.zeb_engine.specs.PrivateWriting.{IsRuled}
 use Rattle.zeb_engine.specs.Steps.{reindexed}
-use Rattle.zeb_engine.proofs.Renewing.{found_ruled, put_fails, rebuild_fails, rebuild_tells, reindex_works}
+use Rattle.zeb_engine.proofs.Renewing.{found_ruled, put_fails, rebuild_fails, rebuild_tells, reindex_remakes, reindex_works}
 use Rattle.zeb_engine.proofs.writes.reindex.Goals as goal
 
 pub returns-in_err-rebuild-clause-works : goal.returns-in_err-rebuild-clause-works
@@ -41,7 +41,7 @@ returns-clause-works g c clean inside opened k =
     let first = c.in_ok-rebuild.ensures.call.ok cleaner inside in
     let alters = subst (λ t. Alters meta_tree (Replaces (IsEntryOf (codes "profile")) (entry (codes "profile") t)) mid new) c.text.ensures (c.in_ok-meta_put.ensures.call.ok clean first.mode) in
     let readable = subst IsUtf8 c.text.ensures c.text.utf8 in
-    reindex_works g.L.Layout.format profile k old mid new first (c.in_ok-rebuild.ensures.built cleaner inside) readable alters
+    reindex_works g.L.Layout.format profile old mid new first (c.in_ok-rebuild.ensures.built cleaner inside) k readable alters
 
 pub returns-in_err-rebuild-clause-sound : goal.returns-in_err-rebuild-clause-sound
 returns-in_err-rebuild-clause-sound g c clean inside store =
@@ -59,3 +59,13 @@ pub returns-clause-sound : goal.returns-clause-sound
 returns-clause-sound g c clean inside store =
     let cleaner : HasCleanDisk (state g.S.Store c.rebuild.new.tx.conn.now) = omega (arith, c.meta_put.ensures.call.crash.clean) in
     inl (c.in_ok-rebuild.ensures.checked cleaner inside store, refl)
+
+pub returns-clause-remade : goal.returns-clause-remade
+returns-clause-remade g c clean inside =
+    let old = state g.S.Store c.args.tx.now.conn.now in
+    let mid = state g.S.Store c.rebuild.new.tx.conn.now in
+    let new = state g.S.Store c.meta_put.new.tx.conn.now in
+    let cleaner : HasCleanDisk mid = omega (arith, c.meta_put.ensures.call.crash.clean) in
+    let first = c.in_ok-rebuild.ensures.call.ok cleaner inside in
+    let alters = subst (λ t. Alters meta_tree (Replaces (IsEntryOf (codes "profile")) (entry (codes "profile") t)) mid new) c.text.ensures (c.in_ok-meta_put.ensures.call.ok clean first.mode) in
+    reindex_remakes g.L.Layout.format c.args.profile.now old mid new first (c.in_ok-rebuild.ensures.built cleaner inside) alters

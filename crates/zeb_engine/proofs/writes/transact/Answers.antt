@@ -6,8 +6,9 @@ use Rattle.zeb_change.specs.declared.refusals.Refusal.TheVariants.{Store}
 use Rattle.zeb_change.specs.Outcomes.{register_refusal}
 use Rattle.zeb_engine.specs.declared.replies.Reply.TheVariants.{Done}
 use Rattle.zeb_engine.specs.Works.{Serves}
-use Rattle.zeb_engine.specs.PrivateWriting.{Begins, Fits, written}
+use Rattle.zeb_engine.specs.PrivateWriting.{Begins, Fits, Remakes, written}
 use Rattle.zeb_engine.proofs.Crashing.{write_survives}
+use Rattle.zeb_engine.proofs.Remaking.{remade_survives, remakes_over}
 use Rattle.zeb_engine.proofs.Serving.{begins_over, early_serves, refusal_serves, reply_serves, reached_inside, sound_failed, sound_over}
 use Rattle.zeb_engine.proofs.writes.transact.Goals as goal
 use Rattle.zeb_register.specs.Formats.{version_of}
@@ -93,3 +94,24 @@ returns-clause-sound g c clean =
     let late : HasCleanDisk (state g.S.Store c.commit.new.self.0) = search rules in
     let did = c.in_ok-apply.ensures.sound (omega (arith, c.commit.ensures.survives.clean)) (rw begun refl) in
     sound_over g.S.Store c.args.write.now c.args.connection.now c.transaction-tx.result.conn.now (Ok Done) begun did
+
+pub returns-clause-remade : goal.returns-clause-remade
+returns-clause-remade g c clean =
+    let begun = c.transaction-tx.ensures.begun in
+    let write = c.args.write.now in
+    let end = c.commit.new.self.0 in
+    let late : HasCleanDisk (state g.S.Store end) = search rules in
+    let same : end ≡ c.connection-2-1.given.0 = search rules in
+    let did = c.in_ok-apply.ensures.remade (omega (arith, c.commit.ensures.survives.clean)) (rw begun refl) in
+    subst (λ h. Remakes g.L.Layout.format write (state g.S.Store c.args.connection.now) (state g.S.Store h)) same
+    (remakes_over g.L.Layout.format g.S.Store c.args.connection.now c.transaction-tx.result.conn.now (state g.S.Store c.apply.new.tx.conn.now) begun write (state g.S.Store end) (c.in_ok-commit.ensures.ok late).1 did)
+
+pub returns-in_err-commit-clause-survives_remade : goal.returns-in_err-commit-clause-survives_remade
+returns-in_err-commit-clause-survives_remade g c =
+    remade_survives g.L.Layout.format g.S.Store c.args.connection.now c.transaction-tx.result.conn.now (state g.S.Store c.apply.new.tx.conn.now) c.transaction-tx.ensures.begun c.args.write.now c.commit.new.self.0 c.connection-2-1.given.0 (search rules)
+    c.apply.ensures.crash c.commit.ensures.survives c.in_ok-apply.ensures.remade
+
+pub returns-clause-survives_remade : goal.returns-clause-survives_remade
+returns-clause-survives_remade g c =
+    remade_survives g.L.Layout.format g.S.Store c.args.connection.now c.transaction-tx.result.conn.now (state g.S.Store c.apply.new.tx.conn.now) c.transaction-tx.ensures.begun c.args.write.now c.commit.new.self.0 c.connection-2-1.given.0 (search rules)
+    c.apply.ensures.crash c.commit.ensures.survives c.in_ok-apply.ensures.remade

@@ -41,4 +41,4 @@ returns-clause-works g c clean inside opened k =
     let first = c.in_ok-rebuild.ensures.call.ok cleaner inside in
     let alters = subst (λ t. Alters meta_tree (Replaces (IsEntryOf (codes "version")) (entry (codes "version") t)) mid new) c.version.ensures (c.in_ok-meta_put.ensures.call.ok clean first.mode) in
     let readable = subst IsUtf8 c.version.ensures c.version.utf8 in
-    upgrade_works g.L.Layout.format profile k old mid new first (c.in_ok-rebuild.ensures.built cleaner inside) readable alters
+    upgrade_works g.L.Layout.format profile old mid new first (c.in_ok-rebuild.ensures.built cleaner inside) k readable alters

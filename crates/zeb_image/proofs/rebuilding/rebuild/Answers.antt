@@ -18,7 +18,7 @@ use Rattle.zeb_change.specs.Inside.{Continues}
 use Rattle.zeb_change.proofs.ChangeKeysContent.{keeps_then}
 use Rattle.zeb_change.proofs.TransactionLemmas.{goes_on, kept_then}
 use Rattle.zeb_image.specs.Rebuilding.{AreSoundIn}
-use Rattle.zeb_image.proofs.RebuiltImages.{id_in, image_readable, image_sound, listed_id, listed_there, new_id, readable_databases, rebuilt, same_databases}
+use Rattle.zeb_image.proofs.RebuiltImages.{id_in, listed_id, listed_there, lists_readable, lists_sound, new_id, readable_databases, rebuilt, same_databases}
 use Rattle.zeb_image.proofs.RebuiltPostings.{ArePostedIn, more_posted, new_lacks, nothing_posted, posted_still, readable_still, sound_still, sound_then}
 use Rattle.zeb_image.proofs.rebuilding.rebuild.Goals as goal
 
@@ -127,8 +127,8 @@ returns-clause-built g c = λ clean mode store.
     let posted = subst (λ l. ArePostedIn profile old.now.trees (map id_in l) such.content) all such.is in (
       kept.0,
       kept.1,
-      λ format told bases image sound.
-          rebuilt format told profile old.now.trees bases image g.L.Layout.format new.now.trees kept.1 (map id_in items) (listed_id old store items are) such.content such.held posted,
+      λ bases these sound.
+          rebuilt profile old.now.trees bases these g.L.Layout.format new.now.trees kept.1 (map id_in items) (listed_id old store items are) such.content such.held posted,
     )
 
 pub returns-clause-checked : goal.returns-clause-checked
@@ -152,9 +152,9 @@ returns-in_err-databases-clause-damaged g c = λ clean mode store told readable 
     c.databases_inside.ensures.honest clean done.0.mode (done.1 store).0 fault (readable_databases old.now.trees wiped.now.trees (done.1 store).2 readable.databases)
 
 pub returns-in_err-databases-clause-honest : goal.returns-in_err-databases-clause-honest
-returns-in_err-databases-clause-honest g c = λ clean mode store told format under bases image are.
+returns-in_err-databases-clause-honest g c = λ clean mode store told bases these are.
     let lists = (state g.S.Store c.args.tx.now.conn.now).now.trees in
-    returns-in_err-databases-clause-damaged g c clean mode store told (image_readable format under c.args.profile.now lists bases image are) (image_sound format under c.args.profile.now lists bases image are)
+    returns-in_err-databases-clause-damaged g c clean mode store told (lists_readable c.args.profile.now lists bases these are) (lists_sound c.args.profile.now lists bases these are)
 
 -- the database has no posting yet, and so one of its records isn't sound
 pub returns-in_err-database_post-clause-damaged : goal.returns-in_err-database_post-clause-damaged
@@ -181,9 +181,9 @@ returns-in_err-database_post-clause-damaged g c = λ clean mode store told reada
     (sound_then old.now.trees now.now.trees kept.1 profile item.id.0 (sound item.id.0 (string_bytes item.name) (pos item.last) there))
 
 pub returns-in_err-database_post-clause-honest : goal.returns-in_err-database_post-clause-honest
-returns-in_err-database_post-clause-honest g c = λ clean mode store told format under bases image are.
+returns-in_err-database_post-clause-honest g c = λ clean mode store told bases these are.
     let lists = (state g.S.Store c.args.tx.now.conn.now).now.trees in
-    returns-in_err-database_post-clause-damaged g c clean mode store told (image_readable format under c.args.profile.now lists bases image are) (image_sound format under c.args.profile.now lists bases image are)
+    returns-in_err-database_post-clause-damaged g c clean mode store told (lists_readable c.args.profile.now lists bases these are) (lists_sound c.args.profile.now lists bases these are)
 
 pub returns-in_err-database_post-clause-call : goal.returns-in_err-database_post-clause-call
 returns-in_err-database_post-clause-call g c =

@@ -5,6 +5,7 @@ use Rattle.zeb_register.specs.Store.{IsStore}
 use Rattle.zeb_change.specs.Conditions.{conditions}
 use Rattle.zeb_image.specs.Image.{IsImage, Keeps}
 use Rattle.zeb_engine.specs.Steps.{holding}
+use Rattle.zeb_engine.proofs.Remaking.{leaves_settled}
 use Rattle.zeb_engine.proofs.RunCrashes.{did_endures}
 use Rattle.zeb_engine.proofs.Unasked.{did}
 use Rattle.zeb_engine.proofs.Honest.{command_honest}
@@ -38,3 +39,10 @@ returns-clause-honest g c clean is before keeps =
     let old = state g.S.Store c.args.self.now.connection in
     let new = state g.S.Store c.carry_out-answer.new.self.connection in
     command_honest k old new c.carry_out-answer.result is before keeps c.args.command.now (c.carry_out-answer.ensures.serves clean)
+
+pub returns-clause-remade : goal.returns-clause-remade
+returns-clause-remade g c clean is =
+    let old = state g.S.Store c.args.self.now.connection in
+    let new = state g.S.Store c.carry_out-answer.new.self.connection in
+    let idle : IsTrue c.is_autocommit-settled.result = search rules in
+    leaves_settled g.L.Layout.format c.args.self.now.profile c.carry_out-answer.result old new (λ is_open. sym (c.is_autocommit-settled.ensures.settled idle is_open)) (c.carry_out-answer.ensures.remade clean is)
