@@ -40,10 +40,10 @@ last_few n xs = omega (arith, length-drop (length xs - n) xs)
 pub around_reads : (O : ℕ → Occurrence → Type 0) (index : ℕ) (register : Register) (start : List ℕ) (row_work number position below from : ℕ) (first rest : List TermCount) (a b c : Work)
     → below ≡ position - 1 → from ≡ number + 1 - position → 1 ≤ position → position ≤ number → AreTermsBefore O index register start below first → AreTermsFrom O index register start from rest
     → Works (row_work * length first) 0 0 0 a b → Works (row_work * length rest) 0 0 0 b c → Counts (row_work * (number + 1)) 0 a c
-around_reads O index register start row_work number position below from first rest a b c is_below is_from least most are_first are_rest reads_first reads_rest =
+around_reads O index register start row_work number position below from first rest a b c of_below of_from least most are_first are_rest reads_first reads_rest =
     let before : length first ≤ below = subst (λ (l : List TermCount). length l ≤ below) (sym are_first.is) (last_few below (filter (is_before start) are_first.all)) in
     let behind : length rest ≤ from = subst (λ (l : List TermCount). length l ≤ from) (sym are_rest.is) (first_few from (filter (is_from start) are_rest.all)) in
-    let few : length first + length rest ≤ number + 1 = omega (arith, before, behind, is_below, is_from, least, most) in
+    let few : length first + length rest ≤ number + 1 = omega (arith, before, behind, of_below, of_from, least, most) in
     let in_all : row_work * length first + row_work * length rest ≤ row_work * (number + 1) = omega (arith, mul-le-mul_left row_work few, mul-add row_work (length first) (length rest)) in
     counts_within (row_work * length first + row_work * length rest) (row_work * (number + 1)) 0 a c in_all
     (counts_then (row_work * length first) (row_work * length rest) 0 0 a b c (terms_count (row_work * length first) a b reads_first) (terms_count (row_work * length rest) b c reads_rest))
