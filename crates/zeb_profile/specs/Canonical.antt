@@ -1,5 +1,5 @@
 -- The canonical text of a profile: each directive but `store`, in order, on a line of its own, with one space between
--- words, registers written, names as their line spells them and numbers without leading zeros.
+-- words, registers written, names as their line spells them and numbers without leading zeros (this project's own).
 use Rattle.std.specs.Prelude.{ℕ, List, [], ◌∷◌, ◌++◌, codes, map, Option, Some, None, encode_utf8_all}
 use Rattle.std.specs.List.{flat_map, join_with_byte}
 use Rattle.std.specs.Fmt.{decimal}

@@ -1,6 +1,8 @@
--- Zebra manual, "Abstract syntaxes": the directives of a profile, one on a line. `store` names the file of the register;
--- `identifier` says where a record's identifier stands; `att` ties a use attribute to an index; `melm` gives the targets
+-- Zebra manual, "Abstract syntaxes", the directives `melm` and `att`: the directives of a profile, one on a line. `store` names the file of
+-- the register; `identifier` says where a record's identifier stands; `att` ties a use attribute to an index; `melm` gives the targets
 -- of a field or subfield; `all` gives targets of every unit of a data field.
+-- Own rules of this project, which the manual leaves open or has otherwise: the directives `store` and `identifier`; what `all` takes;
+-- that one text has them all; and which fault a line has: how many words there are is asked first, and then they from left to right.
 use Rattle.std.specs.Prelude.{ℕ, List, [], ◌∷◌, codes, Option, Some, None, Result, Ok, Err, if◌then◌else◌}
 use Rattle.std.specs.Option.{ok_or}
 use Rattle.std.specs.Str.{bytes_eq}

@@ -1,4 +1,7 @@
--- Zebra manual, "Abstract syntaxes": what the directives `att`, `melm` and `all` say of indexes and of units.
+-- Zebra manual, "Abstract syntaxes": what the directives `att` and `melm` say of indexes and of units.
+-- Own rules of this project, which the manual leaves open or has otherwise: which indexes there are, their order and their spelling; that
+-- `all` adds to every unit of a data field what its `melm` line lacks, so that a unit has each target once; what `store` and `identifier`
+-- say; and the numbers of registers.
 use Rattle.std.specs.Prelude.{ℕ, Bool, true, false, not, ◌&&◌, List, [], ◌∷◌, ◌++◌, ◌==◌, map, filter, Option, Some, None, unwrap_or, slice_index, if◌then◌else◌}
 use Rattle.std.specs.List.{find, list_any, flat_map, position, position_or_len}
 use Rattle.std.specs.Option.{option_and_then}

@@ -1,6 +1,6 @@
 -- Zebra manual, "Abstract syntaxes": a profile is a text of lines, one directive on each.
 -- The lines of a text, numbered from 1, without the blanks at their ends; the lines that say something; the
--- words of a line.
+-- words of a line. Own rule of this project: blanks are space and tab alone.
 use Rattle.std.specs.Prelude.{ℕ, ◌-◌, Bool, ◌||◌, not, List, length, take, drop, ◌==◌, nat_lt, slice_index, filter}
 use Rattle.std.specs.List.{suffix_len, position_or_len, slice_split}
 

@@ -1,4 +1,7 @@
 -- Zebra manual, "Abstract syntaxes": a whole profile. Its directives, or the fault of its first faulty line.
+-- Own rules of this project: all that is refused here, its faults and their order. A line's own fault comes before what it repeats, and
+-- both before what all lines together lack; a use attribute is tied once, to an index that some line fills; `identifier` and `store`
+-- stand just once, and `all` at most once.
 use Rattle.std.specs.Prelude.{ℕ, Bool, true, false, not, List, [], ◌∷◌, ◌++◌, ◌==◌, map, filter, Option, Some, None, Result, Ok, Err, if◌then◌else◌}
 use Rattle.std.specs.List.{find, list_any, flat_map, enumerate_from}
 use Rattle.std.specs.Str.Lines.{lines}

@@ -1,4 +1,7 @@
 -- Zebra manual, "Abstract syntaxes", the directives `melm` and `att`: what the words of a directive mean.
+-- Own rules of this project, which the manual leaves open or has otherwise: which bytes a tag, a code and a name have; that a name has at
+-- most 64 bytes, and a use number at most nine digits and isn't 0; that names are compared without regard to the case of ASCII letters;
+-- that the registers are these three; that a line has each target once; and which fault a word has.
 use Rattle.std.specs.Prelude.{ℕ, Bool, true, false, ◌&&◌, ◌||◌, List, [], ◌∷◌, ◌++◌, length, ◌==◌, nat_lt, nat_le, codes, Some, None, Result, Ok, Err, if◌then◌else◌}
 use Rattle.std.specs.List.{list_all, list_any, slice_split, before_first, after_first, position_or_len}
 use Rattle.std.specs.Char.{is_ascii_alphabetic, is_ascii_alphanumeric, is_ascii_digit, is_ascii_graphic}

@@ -7,7 +7,7 @@ use Rattle.zeb_query.specs.declared.keywords.Keyword.TheVariants.{Operator}
 use Rattle.zeb_query.specs.declared.queries.Connective.{Connective}
 use Rattle.zeb_profile.specs.declared.directives.Directive.{Directive}
 use Rattle.zeb_query.specs.Words.{Word, AreWords}
-use Rattle.zeb_query.specs.FirstFault.{words_at}
+use Rattle.zeb_query.specs.PrivateWalk.{words_at}
 use Rattle.zeb_query.specs.Grammar.{TreeValue, TermValue, NamedValue, PairValue, QueryValue, IsStructure, is_term, is_named, is_attribute, is_attribute_of_set, is_typed, is_pair, IsQuery, is_structure_of_set, keyword_spelled, kind_and_value, has_equals, is_good, text_of, parameter_count, under, with_attribute, with_type, no_head, SpellsQuery}
 use Rattle.zeb_query.specs.Plans.{PlanValue, ScanValue, plan_of, scan_of}
 use Rattle.zeb_query.specs.Checks.{Refusal}

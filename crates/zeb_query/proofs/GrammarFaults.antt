@@ -8,7 +8,7 @@ use Rattle.zeb_query.specs.declared.keywords.Keyword.{Keyword}
 use Rattle.zeb_query.specs.declared.keywords.Keyword.TheVariants.{AttributeSet, Attribute, TermType, ResultSet, Operator}
 use Rattle.zeb_query.specs.Words.{Word}
 use Rattle.zeb_query.specs.Grammar.{keyword_of, IsQuery, is_good, has_equals, kind_and_value, parameter_count, QueryValue}
-use Rattle.zeb_query.specs.FirstFault.{Due, Start, Structures, SetOrSpec, Spec, MoreWords, words_then, fault, fault_at_end, Step, Allowed, Refused, step, good_step, structure_step, start_step, spec_step}
+use Rattle.zeb_query.specs.PrivateWalk.{Due, Start, Structures, SetOrSpec, Spec, MoreWords, words_then, fault, fault_at_end, Step, Allowed, Refused, step, good_step, structure_step, start_step, spec_step}
 use Rattle.zeb_query.specs.Places.{IsBeginning, IsQueryWithin, IsBeginningWithin, IsStrange, IsUnfinished, IsUnspelled, IsCrowded, operators}
 use Rattle.zeb_query.proofs.GrammarLemmas.{append-nil, step-start, fault-step}
 use Rattle.zeb_query.proofs.GrammarLaws.{over_query}

@@ -15,8 +15,8 @@ use Rattle.zeb_query.specs.declared.keywords.Keyword.TheVariants.{AttributeSet, 
 use Rattle.zeb_query.specs.Grammar.{number_of, keyword_of, keyword_by, kind_and_value, if_any, is_equals, has_equals, is_good, is_good_spelling, IsStructure, is_attribute, is_attribute_of_set, is_typed, under, heads, no_head, inner_type, with_type, text_of, is_term, is_named, is_pair, parameter_count, IsQuery, is_structure, is_structure_of_set, AttributeValue, HeadValue, TreeValue, TermValue, NamedValue, PairValue}
 use Rattle.zeb_query.specs.Words.{Word}
 use Rattle.zeb_query.specs.PrivateReading.{word_of, left, fault_of, first_keyword, IsAfterFirst, ReadsFirst, ReadsWord, SpellsSpec, SpellsAttribute, SpellsHead, SpellsParameters, SpellsOperator, SpellsSet, Spells, first_place}
-use Rattle.zeb_query.specs.FirstFault.{Due, Start, Structures, SetOrSpec, Spec, MoreWords, words_then, fault, Step, Allowed, Refused, step, structure_step, operator_step, start_step}
-use Rattle.zeb_query.specs.Checks.{IsFault}
+use Rattle.zeb_query.specs.PrivateWalk.{Due, Start, Structures, SetOrSpec, Spec, MoreWords, words_then, fault, Step, Allowed, Refused, step, structure_step, operator_step, start_step}
+use Rattle.zeb_query.specs.PrivateReading.{IsFault}
 
 -- the type and value of a word without `=`, and of one with it
 pub kind_and_value-none : (text : List ℕ) → position_or_len is_equals text ≡ length text → kind_and_value text ≡ None

@@ -8,7 +8,7 @@ use Rattle.zeb_query.specs.declared.keywords.Keyword.{Keyword}
 use Rattle.zeb_query.specs.declared.keywords.Keyword.TheVariants.{AttributeSet, Attribute, TermType, ResultSet, Operator}
 use Rattle.zeb_query.specs.Words.{Word}
 use Rattle.zeb_query.specs.Grammar.{keyword_of, IsStructure, is_term, is_named, is_attribute, is_attribute_of_set, is_typed, is_pair, IsQuery, is_structure, is_structure_of_set, is_good, has_equals, kind_and_value, parameter_count, under, no_head, with_attribute, TreeValue, TermValue, QueryValue}
-use Rattle.zeb_query.specs.FirstFault.{Due, Start, Structures, SetOrSpec, Spec, MoreWords, words_then, fault, fault_at_end, Step, Allowed, Refused, step, good_step, structure_step, start_step, spec_step, operator_step}
+use Rattle.zeb_query.specs.PrivateWalk.{Due, Start, Structures, SetOrSpec, Spec, MoreWords, words_then, fault, fault_at_end, Step, Allowed, Refused, step, good_step, structure_step, start_step, spec_step, operator_step}
 use Rattle.zeb_query.specs.PrivateReading.{first_keyword}
 use Rattle.zeb_query.proofs.DigitLemmas.{and_parts}
 use Rattle.zeb_query.proofs.GrammarLemmas.{append-nil, step-start, step-structure, good_from_keyword}

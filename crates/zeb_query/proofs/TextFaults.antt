@@ -1,20 +1,26 @@
 -- What a text is: the query that it spells, or its fault.
-use Rattle.std.proofs.Common.{◌≡◌, ℕ, ◌<◌, ◌≤◌, Bool, true, false, cond, List, Option, Some, None, inl, inr, length, refl, ap, sym, subst, ◌∙◌, arith}
-use Rattle.std.specs.Prelude.{nat_lt, chars, [], Result, Ok, Err}
+use Rattle.std.proofs.Common.{◌≡◌, ◌⊎◌, ℕ, ◌<◌, ◌≤◌, Bool, true, false, cond, List, Option, Some, None, inl, inr, length, refl, ap, sym, subst, ◌∙◌, arith}
+use Rattle.std.specs.Prelude.{nat_lt, chars, [], if◌then◌else◌, Result, Ok, Err}
 use Rattle.std.specs.Result.{OnOk, IfOk, IfErr}
 use Rattle.std.proofs.lemmas.Bool.Decides.{nat_tests}
 use Rattle.zeb_query.specs.Words.{Word, AreWords}
-use Rattle.zeb_query.specs.FirstFault.{words_at, Start, fault, query_fault}
+use Rattle.zeb_query.specs.PrivateWalk.{words_at, Start, fault}
 use Rattle.zeb_query.specs.Grammar.{IsQuery, QueryValue, SpellsQuery}
 use Rattle.zeb_query.specs.declared.faults.QueryFault.{QueryFault}
 use Rattle.zeb_query.specs.declared.faults.QueryFault.TheVariants.{Diagnostic, Memory}
-use Rattle.zeb_query.specs.Checks.{IsFault}
+use Rattle.zeb_query.specs.PrivateReading.{IsFault}
 use Rattle.zeb_query.specs.PrivateReading.{IsDiagnostic}
 use Rattle.zeb_query.specs.Places.{IsFaultOf, IsUnspelled, IsReadable, IsFaulty, is_long, is_unspelled, is_crowded}
 use Rattle.zeb_query.proofs.WordStretches.{words_read_are, words_are_read}
 use Rattle.zeb_query.proofs.GrammarOnce.{same_query}
 use Rattle.zeb_query.proofs.GrammarLaws.{over_query}
 use Rattle.zeb_query.proofs.GrammarFaults.{pairs_same, fault_is, no_fault_is, fault_where_strange, fault_where_unfinished, fault_where_crowded}
+
+-- the number and the place of the text's fault, if the walk finds one
+abbrev pub query_fault : List ℕ → Option (ℕ × ℕ)
+query_fault text =
+    if nat_lt 65535 (length text) then Some (11, 0) else
+    fault (length text) 100 Start (words_at 0 (chars text))
 
 -- what is spelled by the words that are read
 pub read_query : (text : List ℕ) (query : QueryValue) → SpellsQuery text query → IsQuery (words_at 0 (chars text)) query
@@ -89,6 +95,23 @@ readable text e = at (nat_lt 65535 (length text)) refl e
 
 pub faultless : (text : List ℕ) → IsReadable text → query_fault text ≡ None
 faultless text r = of_words text r.spelled.words None r.short r.spelled.are_words (over_query r.spelled.spelled (length text) 100 r.room)
+
+-- ---- each text is one or the other
+
+pub apart : (text : List ℕ) (number place : ℕ) → IsReadable text → IsFaulty text number place → ⊥
+apart text number place read faulty =
+    let e : ◌≡◌ {A = Option (ℕ × ℕ)} None (Some (number, place)) = sym (faultless text read) ∙ found text number place faulty in
+    absurd cc
+
+pub one_fault : (text : List ℕ) (m p n q : ℕ) → IsFaulty text m p → IsFaulty text n q → (m ≡ n) × (p ≡ q)
+one_fault text m p n q x y = pairs_same (sym (found text m p x) ∙ found text n q y)
+
+pub read_or_faulty : (text : List ℕ) → IsReadable text ⊎ ((number : ℕ) × (place : ℕ) × IsFaulty text number place)
+read_or_faulty text = at (query_fault text) refl
+  where
+    at : (found_fault : Option (ℕ × ℕ)) → query_fault text ≡ found_fault → IsReadable text ⊎ ((number : ℕ) × (place : ℕ) × IsFaulty text number place)
+    at None is = inl (readable text is)
+    at (Some pair) is = inr (pair.0, pair.1, stands text pair.0 pair.1 is)
 
 -- ---- the fault of a call
 

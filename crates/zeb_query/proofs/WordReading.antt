@@ -11,7 +11,7 @@ use Rattle.std.proofs.lemmas.Str.{length-encode, encode_ascii, encodes-append, c
 use Rattle.zeb_query.specs.declared.words.Spelling.{Spelling}
 use Rattle.zeb_query.specs.declared.words.Spelling.TheVariants.{Plain, Quoted, Bad}
 use Rattle.zeb_query.specs.Words.{Word, is_blank, Sign, Itself, Escaped, sign_text, meant, is_sign, IsCutOff, IsWritten, is_plain, is_braced, is_quoted, is_open}
-use Rattle.zeb_query.specs.FirstFault.{Begun, unquoted, words_at, in_word, in_quotes, plain_word, quoted_word, with_front}
+use Rattle.zeb_query.specs.PrivateWalk.{Begun, unquoted, words_at, in_word, in_quotes, plain_word, quoted_word, with_front}
 
 -- the words of a text that stands after the front, one word after another
 abbrev pub AreWordsAfter : List ℕ → List ℕ → List Word → Type 0

@@ -4,7 +4,7 @@ use Rattle.std.specs.Prelude.{map}
 use Rattle.std.specs.List.{AllPass, flat_map}
 use Rattle.std.proofs.lemmas.List.{append-nil}
 use Rattle.zeb_query.specs.Words.{Word, is_blank, IsWritten, Stretch, stretch_text, stretch_word, IsStretch, AreWords}
-use Rattle.zeb_query.specs.FirstFault.{words_at}
+use Rattle.zeb_query.specs.PrivateWalk.{words_at}
 use Rattle.zeb_query.proofs.WordReading.{AreWordsAfter, bytes, words_read}
 use Rattle.zeb_query.proofs.WordFinding.{words_within}
 

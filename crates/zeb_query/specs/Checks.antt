@@ -60,11 +60,6 @@ answered (Some refusal) x = Err refusal
 abbrev pub refused : {A : Type 0} → ℕ → ℕ → List ℕ → Result A Refusal
 refused number place addinfo = Err (record { number = number; place = place; addinfo = addinfo })
 
--- the error is want of memory, or the diagnostic with this number and place and without an addinfo
-abbrev pub IsFault : QueryFault → Option (ℕ × ℕ) → Type 0
-IsFault Memory expected = Unit {0}
-IsFault (Diagnostic number place addinfo) expected = (expected ≡ Some (number, place)) × (string_bytes addinfo ≡ [])
-
 -- ---- checks
 
 -- where a diagnostic applies, and the diagnostic with its place and addinfo

@@ -1,10 +1,10 @@
 pub mod Words
 pub mod Grammar
 pub mod Places
-pub mod FirstFault
 pub mod Attributes
 pub mod Checks
 pub mod Plans
 pub mod Worked
+pub mod PrivateWalk
 pub mod PrivateReading
 pub mod PrivatePlanning

@@ -16,7 +16,7 @@ use Rattle.zeb_query.specs.declared.keywords.Keyword.{Keyword}
 use Rattle.zeb_query.specs.declared.keywords.Keyword.TheVariants.{Attribute, Operator}
 use Rattle.zeb_query.specs.declared.holding.Holding.{Holding}
 use Rattle.zeb_query.specs.Words.{Word}
-use Rattle.zeb_query.specs.FirstFault.{words_at, in_word, in_quotes, escaped, plain_word, quoted_word, with_front, Due, fault}
+use Rattle.zeb_query.specs.PrivateWalk.{words_at, in_word, in_quotes, escaped, plain_word, quoted_word, with_front, Due, fault}
 use Rattle.zeb_query.specs.Grammar.{keyword_of, IsStructure, IsQuery, under, is_good, text_of, kind_and_value, parameter_count, AttributeValue, HeadValue, TreeValue}
 use Rattle.zeb_query.specs.Attributes.{HoldingValue, is_bib1, is_other_kind, or_else}
 
@@ -26,6 +26,11 @@ use Rattle.zeb_query.specs.Attributes.{HoldingValue, is_bib1, is_other_kind, or_
 abbrev pub IsDiagnostic : QueryFault → ℕ → ℕ → List ℕ → Type 0
 IsDiagnostic Memory number place addinfo = Unit {0}
 IsDiagnostic (Diagnostic n p a) number place addinfo = (n ≡ number) × (p ≡ place) × (string_bytes a ≡ addinfo)
+
+-- the fault is the diagnostic with this number and place and without an addinfo, or want of memory
+abbrev pub IsFault : QueryFault → Option (ℕ × ℕ) → Type 0
+IsFault Memory expected = Unit {0}
+IsFault (Diagnostic number place addinfo) expected = (expected ≡ Some (number, place)) × (string_bytes addinfo ≡ [])
 
 -- ---- words
 

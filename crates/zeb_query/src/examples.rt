@@ -2,7 +2,7 @@
 ghost use Rattle.std.specs.Prelude.{◌≡◌, ◌<◌, ℕ, List, length, [], ◌∷◌, ◌++◌, false, true, Some, None, Ok, codes};
 ghost use Rattle.zeb_text.specs.Symbols.{Star, literal};
 ghost use Rattle.zeb_profile.specs.declared.registers.Register.TheVariants.{Word, Phrase, Number};
-ghost use Rattle.zeb_query.specs.FirstFault.{query_fault};
+ghost use Rattle.zeb_query.specs.Places.{IsReadable, IsFaulty};
 ghost use Rattle.zeb_query.specs.Plans.{TermOf, PairOf, NearOf, RecordNumberOf, AlwaysOf, NumberOf, OrderedOf, CompleteOf, PhraseOf, AllWordsOf, AnyWordOf};
 ghost use Rattle.zeb_query.specs.Checks.{refused};
 ghost use Rattle.zeb_query.specs.Worked.{PlansAs, PlansUnder, ScansAs, titles_alone, times};
@@ -12,18 +12,18 @@ use crate::{DistanceRelation, Operator, Order, Relation};
 /// Texts and their faults: where a query goes on no more, or isn't at its end, with places in bytes; the 101st operator; and
 /// each text of more than 65,535 bytes.
 pub fn faults_at_examples()
-    ensures unfinished { query_fault (codes "@and x") ≡ Some (108, 6) }
-    ensures empty { query_fault [] ≡ Some (108, 0) }
-    ensures brace { query_fault (codes "{moby dick}") ≡ Some (108, 0) }
-    ensures endless { query_fault (34 ∷ codes "moby") ≡ Some (108, 0) }
-    ensures second { query_fault (codes "moby dick") ≡ Some (108, 5) }
-    ensures no_term { query_fault (codes "@attr 1=4") ≡ Some (108, 9) }
-    ensures no_type { query_fault (codes "@attr =4 x") ≡ Some (108, 6) }
-    ensures no_value { query_fault (codes "@attr 1= x") ≡ Some (108, 6) }
-    ensures bytes { query_fault (195 ∷ 169 ∷ codes " {") ≡ Some (108, 3) }
-    ensures at_sign { query_fault (codes "@foo") ≡ None }
-    ensures operators { query_fault (times 101 (codes "@and ")) ≡ Some (6, 500) }
-    ensures long { (text : List ℕ) → 65535 < length text → query_fault text ≡ Some (11, 0) }
+    ensures unfinished { IsFaulty (codes "@and x") 108 6 }
+    ensures empty { IsFaulty [] 108 0 }
+    ensures brace { IsFaulty (codes "{moby dick}") 108 0 }
+    ensures endless { IsFaulty (34 ∷ codes "moby") 108 0 }
+    ensures second { IsFaulty (codes "moby dick") 108 5 }
+    ensures no_term { IsFaulty (codes "@attr 1=4") 108 9 }
+    ensures no_type { IsFaulty (codes "@attr =4 x") 108 6 }
+    ensures no_value { IsFaulty (codes "@attr 1= x") 108 6 }
+    ensures bytes { IsFaulty (195 ∷ 169 ∷ codes " {") 108 3 }
+    ensures at_sign { IsReadable (codes "@foo") }
+    ensures operators { IsFaulty (times 101 (codes "@and ")) 6 500 }
+    ensures long { (text : List ℕ) → 65535 < length text → IsFaulty text 11 0 }
 {}
 
 /// Queries under a small profile, and one under a profile that has no index for 1016, with their first diagnostics: number, place

@@ -11,7 +11,7 @@ pub enum QueryFault {
     Diagnostic {
         /// The diagnostic's number.
         number: u32,
-        /// The position, in bytes from the start of the query's text, of the word at fault.
+        /// The position, in bytes from the start of the query's text, of the word at fault, or of the end where a word is due.
         place: usize,
         /// What the diagnostic is about; empty where the number and the place say it all.
         addinfo: String,

@@ -2,10 +2,9 @@
 ghost use Rattle.std.specs.Prelude.{◌≡◌, ◌≢◌, ◌+◌, ◌<◌, ◌≤◌, ℕ, suc, ◌∷◌, Some, None, length, map, IfOk, OnOk, IfErr, IfSome, true, string_bytes, []};
 ghost use Rattle.zeb_query.specs.declared.keywords.Keyword.TheVariants.{Attribute as AttributeKeyword, TermType as TermTypeKeyword, Operator};
 ghost use Rattle.std.specs.Option.{option_map};
-ghost use Rattle.zeb_query.specs.PrivateReading.{word_of, left, first_keyword, fault_of, pair_value, SpellsSpec, SpellsAttribute, SpellsHead, SpellsParameters, SpellsOperator, SpellsSet, Spells};
+ghost use Rattle.zeb_query.specs.PrivateReading.{IsFault, word_of, left, first_keyword, fault_of, pair_value, SpellsSpec, SpellsAttribute, SpellsHead, SpellsParameters, SpellsOperator, SpellsSet, Spells};
 ghost use Rattle.zeb_query.specs.Grammar.{attribute_value, head_value, tree_value, query_value, PairValue, IsQuery, kind_and_value, has_equals, heads, parameter_count};
-ghost use Rattle.zeb_query.specs.FirstFault.{Start, Structures, SetOrSpec, Spec, fault, words_then};
-ghost use Rattle.zeb_query.specs.Checks.{IsFault};
+ghost use Rattle.zeb_query.specs.PrivateWalk.{Start, Structures, SetOrSpec, Spec, fault, words_then};
 
 use crate::digits::number_of;
 use crate::keywords::Keyword;
@@ -28,10 +27,9 @@ struct Rest<'a> {
 
 impl<'a> Rest<'a> {
     ghost use Rattle.std.specs.Prelude.{◌≡◌, ◌≢◌, ◌<◌, ℕ, ◌∷◌, [], Some, length, IfOk, IfErr, IfSome, IfNone, true, string_bytes};
-    ghost use Rattle.zeb_query.specs.PrivateReading.{word_of, left, first_place, first_keyword, fault_of, ReadsWord, ReadsFirst};
+    ghost use Rattle.zeb_query.specs.PrivateReading.{IsFault, word_of, left, first_place, first_keyword, fault_of, ReadsWord, ReadsFirst};
     ghost use Rattle.zeb_query.specs.Grammar.{keyword_of, is_good};
-    ghost use Rattle.zeb_query.specs.FirstFault.{Due, fault_at_end};
-    ghost use Rattle.zeb_query.specs.Checks.{IsFault};
+    ghost use Rattle.zeb_query.specs.PrivateWalk.{Due, fault_at_end};
 
     /// The fault that the first of these words is one that no query has here, or that there is none.
     fn unspelled(&self, alloc: Global) -> QueryFault

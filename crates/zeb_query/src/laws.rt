@@ -1,19 +1,17 @@
 //! Laws of words, of the grammar and of plans, each the contract of a function that does nothing.
-ghost use Rattle.std.specs.Prelude.{◌≡◌, ◌↔◌, ℕ, List, [], ◌∷◌, None, Some, Ok, codes};
+ghost use Rattle.std.specs.Prelude.{◌≡◌, ◌⊎◌, ℕ, List, [], ◌∷◌, Ok, codes};
 ghost use Rattle.std.specs.Result.{result_err};
 ghost use Rattle.zeb_profile.specs.declared.Profile.{Profile};
 ghost use Rattle.zeb_query.specs.declared.words.Spelling.TheVariants.{Bad, Plain, Quoted};
 ghost use Rattle.zeb_query.specs.Words.{Word, AreWords};
-ghost use Rattle.zeb_query.specs.FirstFault.{words_at, query_fault};
 ghost use Rattle.zeb_query.specs.Grammar.{QueryValue, no_head, SpellsQuery};
 ghost use Rattle.zeb_query.specs.Places.{IsReadable, IsFaulty};
 ghost use Rattle.zeb_query.specs.Checks.{first_that_applies, query_checks};
 ghost use Rattle.zeb_query.specs.Plans.{PlanValue, held_in, looked_into, AllLookInto, plan_of, scan_of, scan_query_checks};
 
-/// A text has one list of words that stand in it one after the other, with the blanks before, between and after them; and
-/// these words, with their places, are those that are found from the left, one character after another.
+/// Each text has one list of words that stand in it one after the other, with the blanks before, between and after them.
 pub fn a_text_has_one_list_of_words()
-    ensures are { (text : List ℕ) (words : List Word) → (AreWords text words) ↔ (words ≡ words_at 0 text) }
+    ensures some { (text : List ℕ) → (words : List Word) × AreWords text words }
     ensures once { (text : List ℕ) (x y : List Word) → AreWords text x → AreWords text y → x ≡ y }
 {}
 
@@ -41,17 +39,11 @@ pub fn no_text_spells_two_queries()
     ensures { (text : List ℕ) (x y : QueryValue) → SpellsQuery text x → SpellsQuery text y → x ≡ y }
 {}
 
-/// The texts without a fault are just those of at most 65,535 bytes that spell a query with at most 100 operators.
-pub fn a_text_without_fault_spells_a_query()
-    ensures { (text : List ℕ) → (query_fault text ≡ None) ↔ IsReadable text }
-{}
-
-/// Where the fault of a text stands. 108 stands at the first word that no query has after the words before it, and without
-/// such a word at the end, where the words are the beginning of a query and no query; before it there are at most 100
-/// operators. 6 stands at the 101st operator, where some query begins with the words up to it. So of the two the first is
-/// answered, and 11, at place 0, for a text of more than 65,535 bytes.
-pub fn faults_stand_where_no_query_goes_on()
-    ensures { (text : List ℕ) (number place : ℕ) → (query_fault text ≡ Some (number, place)) ↔ IsFaulty text number place }
+/// Each text is a query that is read, or has a fault; none is both, and none has two faults.
+pub fn a_text_is_read_or_has_one_fault()
+    ensures some { (text : List ℕ) → IsReadable text ⊎ ((number : ℕ) × (place : ℕ) × IsFaulty text number place) }
+    ensures apart { (text : List ℕ) (number place : ℕ) → IsReadable text → ¬ IsFaulty text number place }
+    ensures once { (text : List ℕ) (m p n q : ℕ) → IsFaulty text m p → IsFaulty text n q → (m ≡ n) × (p ≡ q) }
 {}
 
 /// A plan is refused by the first check that applies of all checks of the query's operators, named sets and terms, in the

@@ -30,8 +30,7 @@ pub use examples::{
 };
 pub use faults::QueryFault;
 pub use laws::{
-    a_plan_looks_into_its_register, a_text_has_one_list_of_words,
-    a_text_without_fault_spells_a_query, faults_stand_where_no_query_goes_on,
+    a_plan_looks_into_its_register, a_text_has_one_list_of_words, a_text_is_read_or_has_one_fault,
     no_text_spells_two_queries, the_first_diagnostic_is_told,
     the_first_diagnostic_of_a_scan_is_told, words_at_examples,
 };

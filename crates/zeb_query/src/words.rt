@@ -1,7 +1,7 @@
 //! Cutting a text into words, with their places.
 ghost use Rattle.std.specs.Prelude.{◌≡◌, ◌+◌, ◌++◌, ◌∷◌, [], ℕ, List, IfOk, OnOk, map, chars, string_bytes};
 ghost use Rattle.std.specs.Char.{len_utf8};
-ghost use Rattle.zeb_query.specs.FirstFault.{words_at, unquoted};
+ghost use Rattle.zeb_query.specs.PrivateWalk.{words_at, unquoted};
 ghost use Rattle.zeb_query.specs.Words.{is_blank};
 ghost use Rattle.zeb_query.specs.PrivateReading.{word_of};
 
@@ -51,7 +51,7 @@ struct Cutter {
 impl Cutter {
     ghost use Rattle.std.specs.Prelude.{◌≡◌, ◌+◌, ◌++◌, ◌∷◌, [], ℕ, List, IfOk, OnOk, map, string_bytes};
     ghost use Rattle.std.specs.Char.{len_utf8};
-    ghost use Rattle.zeb_query.specs.FirstFault.{unquoted};
+    ghost use Rattle.zeb_query.specs.PrivateWalk.{unquoted};
     ghost use Rattle.zeb_query.specs.PrivateReading.{words_with, word_of};
 
     /// Takes one more character, which stands at the place.

@@ -1,6 +1,6 @@
 use Rattle.std.proofs.Common.{◌≡◌, ℕ, ◌-◌, ◌≤◌, length, map}
 use Rattle.std.specs.Prelude.{string_bytes}
-use Rattle.zeb_query.specs.FirstFault.{words_then}
+use Rattle.zeb_query.specs.PrivateWalk.{words_then}
 use Rattle.zeb_query.specs.PrivateReading.{fault_of, SpellsParameters}
 use Rattle.zeb_query.proofs.grammar.parameters_of.Given as goal
 

@@ -2,7 +2,7 @@ use Rattle.std.proofs.Common.{map, ap, subst, ◌∙◌}
 use Rattle.std.specs.Prelude.{chars}
 use Rattle.std.proofs.lemmas.Result.{IfOk-weaker}
 use Rattle.zeb_query.specs.Grammar.{IsQuery, query_value}
-use Rattle.zeb_query.specs.FirstFault.{words_at}
+use Rattle.zeb_query.specs.PrivateWalk.{words_at}
 use Rattle.zeb_query.specs.PrivateReading.{word_of}
 use Rattle.zeb_query.proofs.WordStretches.{words_are_read}
 use Rattle.zeb_query.proofs.TextFaults.{too_long, read_whole, read_faulty}

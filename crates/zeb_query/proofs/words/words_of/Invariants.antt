@@ -1,6 +1,6 @@
 use Rattle.std.proofs.Common.{◌≡◌, ◌+◌, length, drop}
 use Rattle.std.specs.Str.{chars}
-use Rattle.zeb_query.specs.FirstFault.{words_at}
+use Rattle.zeb_query.specs.PrivateWalk.{words_at}
 use Rattle.zeb_query.specs.PrivateReading.{words_with}
 use Rattle.zeb_query.proofs.words.words_of.Given as goal
 

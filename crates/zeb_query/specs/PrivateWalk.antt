@@ -1,10 +1,9 @@
--- The words of a text and its fault, found from the left one after another. This is no standard's rule but a way to compute what
--- two other files say, and nothing of it need be believed. The words that are found are just those of `AreWords`, by
--- `a_text_has_one_list_of_words`. The fault that is found is just that of `IsFaulty`, by `faults_stand_where_no_query_goes_on`, and
--- there is none just where the text `IsReadable`, by `a_text_without_fault_spells_a_query`.
+-- The words of a text and its fault as the private functions that read it find them, from the left one after another. No public clause
+-- reaches this file: it stands in specs/ since the contracts of private functions can cite nothing else. What is found is proved to be
+-- just what `AreWords` and `IsFaulty` say.
 use Rattle.std.specs.Char.{len_utf8}
 use Rattle.std.specs.Option.{is_some}
-use Rattle.std.specs.Prelude.{Bool, List, None, Option, Some, [], chars, encode_utf8, false, if◌then◌else◌, length, nat_lt, suc, true, zero, ℕ, ◌++◌, ◌+◌, ◌==◌, ◌∷◌}
+use Rattle.std.specs.Prelude.{Bool, List, None, Option, Some, [], encode_utf8, false, if◌then◌else◌, suc, true, zero, ℕ, ◌++◌, ◌+◌, ◌==◌, ◌∷◌}
 use Rattle.zeb_query.specs.declared.keywords.Keyword.{Keyword}
 use Rattle.zeb_query.specs.declared.keywords.Keyword.TheVariants.{Attribute, AttributeSet, Operator, ResultSet, TermType}
 use Rattle.zeb_query.specs.declared.queries.Connective.{Connective}
@@ -130,9 +129,3 @@ fault end room due (word ∷ words) =
       | Allowed room_left due_next ↦ fault end room_left due_next words
       | Refused number ↦ Some (number, word.place)
     ]
-
--- the number and the place of the text's fault, if it has one
-abbrev pub query_fault : List ℕ → Option (ℕ × ℕ)
-query_fault text =
-    if nat_lt 65535 (length text) then Some (11, 0) else
-    fault (length text) 100 Start (words_at 0 (chars text))
