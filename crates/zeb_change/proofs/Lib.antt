@@ -7,6 +7,8 @@ pub mod PostedLemmas
 pub mod Reposted
 pub mod NotedChanges
 pub mod Leading
+pub mod Reordering
+pub mod Commuting
 pub mod UnderWay
 pub mod TakenLemmas
 pub mod TurnLemmas

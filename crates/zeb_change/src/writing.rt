@@ -9,7 +9,7 @@ ghost use Rattle.zeb_register.specs.Formats.{holds_in};
 ghost use Rattle.zeb_register.specs.Store.{IsStore, KeepsLists};
 ghost use Rattle.zeb_change.specs.Costs.{IsWorkFor};
 ghost use Rattle.zeb_change.specs.Noted.{IsNothingNoted, Settles};
-ghost use Rattle.zeb_change.specs.PrivatePending.{AreGivenAs, ArePutAt};
+ghost use Rattle.zeb_change.specs.PrivatePending.{AreGivenInOrder, ArePutAt};
 
 use crate::counts::counts_are_numbers;
 use crate::pending::{KeyChange, Pending};
@@ -18,9 +18,10 @@ use std::alloc::{AllocError, Global};
 use zeb_extract::Key;
 use zeb_register::{DatabaseId, Layout, RecordChange, RegFault, Work};
 
-/// The changes of a key as a layout takes them.
+/// The changes of a key as a layout takes them, by the numbers of their records: a layout reads and writes a row once for changes that
+/// stand next to each other. Those of one record stay in the order in which they were noted.
 fn given<'a>(alloc: Global, changes: &'a [KeyChange]) -> Result<Vec<RecordChange<'a>>, AllocError>
-    ensures { IfOk result (λ given. AreGivenAs changes.now given.items) }
+    ensures { IfOk result (λ given. AreGivenInOrder changes.now given.items) }
 {
     let mut given = Vec::with_capacity(alloc, changes.len())?;
     for change in changes {
@@ -30,6 +31,7 @@ fn given<'a>(alloc: Global, changes: &'a [KeyChange]) -> Result<Vec<RecordChange
             new: &change.new,
         })?;
     }
+    given.sort_by_key(|change| change.sysno)?;
     Ok(given)
 }
 
@@ -65,8 +67,8 @@ fn write_key<S: Alter, L: Layout>(
     Ok(())
 }
 
-/// Writes all noted changes into the registers of a database, key by key in the order of keys. Nothing is noted then, and the registers
-/// hold what they would have held had each change been written as it was noted.
+/// Writes all noted changes into the registers of a database, key by key in the order of keys, and those of a key by the numbers of their
+/// records. Nothing is noted then, and the registers hold what they would have held had each change been written as it was noted.
 ///
 /// `Damaged` where other places stand in the registers than the changes say. The transaction is to be given up then, and where the store or
 /// the memory fails.

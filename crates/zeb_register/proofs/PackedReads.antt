@@ -1,5 +1,5 @@
 -- What one row of the packed tables says of a key.
-use Rattle.std.proofs.Common.{◌≡◌, ◌∙◌, ◌<◌, ◌/◌, ℕ, ℤ, pos, List, [], ◌∷◌, inl, length, drop, slice_get, None, refl, sym, ap, ap₂, subst, arith}
+use Rattle.std.proofs.Common.{◌≡◌, ◌∙◌, ◌<◌, ◌/◌, ℕ, ℤ, pos, List, [], ◌∷◌, inl, ◌++◌, length, drop, slice_get, Some, None, false, refl, sym, ap, ap₂, subst, arith}
 use Rattle.std.specs.List.Sorted.{IsStrictlySortedBy}
 use Rattle.sqlite.specs.declared.types.Value.TheVariants.{Int, Blob}
 use Rattle.sqlite.specs.Order.{Row, column}
@@ -12,14 +12,16 @@ use Rattle.zeb_profile.specs.Indexes.{register_code}
 use Rattle.zeb_register.specs.Content.{Content, IsStorable, posted}
 use Rattle.zeb_register.specs.Occurring.{HasKey, IsCount}
 use Rattle.zeb_register.specs.PackedBlocks.{HoldsBlocks, part_in}
-use Rattle.zeb_register.specs.PackedChanges.{HoldsBlockRows, SpellsIn, block_key}
+use Rattle.zeb_register.specs.declared.statements.keys.KeyOf.{KeyOf}
+use Rattle.zeb_register.specs.KeyColumns.{IsOfNumbered, numbered_columns}
+use Rattle.zeb_register.specs.PackedChanges.{HoldsBlockRows, IsTold, SpellsIn, block_key}
 use Rattle.zeb_register.specs.PackedRows.{IsRecordNumber}
 use Rattle.zeb_register.specs.PlainRows.{key_row}
 use Rattle.zeb_register.specs.Sql.{IsListOf}
 use Rattle.zeb_register.specs.Store.{IsRest, blocks_tree, dict_tree}
 use Rattle.zeb_register.proofs.ContentLemmas.{told_apart}
 use Rattle.zeb_register.proofs.CountLemmas.{count_none}
-use Rattle.zeb_register.proofs.LookUps.{none_is}
+use Rattle.zeb_register.proofs.LookUps.{first_is, none_is}
 use Rattle.zeb_register.proofs.PackedLemmas.{block_spells, block_there, dict_there, one_spelled, part_in_block, part_in_list}
 use Rattle.zeb_register.proofs.PackedTerms.{records_number}
 
@@ -42,7 +44,7 @@ row_spells trees content db key block row holds there =
     let is : row ≡ Blob it.3 ∷ [] = ap (drop 1) same in
     (it.3, ap (λ (r : Row). column r 0) is, block_spells trees content db key block it.3 holds (subst (IsRest blocks_tree (block_front db key block) trees) is there))
 
-some_or : (list : List Posting) → ((p : Posting) → ¬ Has list p) → [] ≡ list
+pub some_or : (list : List Posting) → ((p : Posting) → ¬ Has list p) → [] ≡ list
 some_or [] none = refl
 some_or (p ∷ list) none = absurd (none p (inl refl))
 
@@ -53,6 +55,12 @@ no_block trees content db key block rows holds list none = some_or (part_in bloc
     let there : IsRest blocks_tree (block_front db key (p.sysno / 256)) trees (row (p.sysno / 256)) = block_there trees content db key p holds (part_in_list block (content db key) p h) in
     let at = part_in_block block (content db key) p h in
     none_is (IsRest blocks_tree (block_front db key block) trees) rows (row block) list none (subst (λ b. IsRest blocks_tree (block_front db key b) trees (row b)) at there))
+
+-- a row that is shown is one of the key and the block
+pub block_is_there : (trees : Trees) (at : KeyOf) (stored number : ℤ) → stored ≡ number → (rows : List Row) (row : Row) → IsListOf (IsRest blocks_tree (numbered_columns at stored) trees) rows → slice_get rows 0 ≡ Some row
+    → ¬ IsTold false (IsOfNumbered at number) blocks_tree trees
+block_is_there trees at stored number is rows row list first told =
+    told (numbered_columns at stored ++ row) (first_is (IsRest blocks_tree (numbered_columns at stored) trees) rows row list first) (refl, refl, refl, refl, ap Int is)
 
 pub empty_lies : (block : ℕ) → LiesIn block []
 unfolding IsStrictlySortedBy

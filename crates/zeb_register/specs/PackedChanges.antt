@@ -14,7 +14,8 @@ use Rattle.zeb_register.specs.declared.registers.Place.{Place}
 use Rattle.zeb_register.specs.declared.registers.RecordChange.{RecordChange}
 use Rattle.zeb_register.specs.declared.packed_parts.Parted.{Parted}
 use Rattle.zeb_register.specs.declared.packed_parts.Held.{Held}
-use Rattle.zeb_register.specs.Content.{AreChangedAt, Content, IsRising, place_cmp, posting_at}
+use Rattle.zeb_register.specs.declared.packed_changes.Known.{Known}
+use Rattle.zeb_register.specs.Content.{AreChangedAt, AreListChanges, Content, IsRising, place_cmp, posting_at}
 use Rattle.zeb_register.specs.Occurring.{IsCount}
 use Rattle.zeb_register.specs.PackedBlocks.{IsBlockRow, block_row, dict_row, part_in}
 use Rattle.zeb_register.specs.RowTerms.{IsInRecord}
@@ -115,9 +116,27 @@ pub record HoldsBlockRows (trees : Trees) (content : Content) : Type 0 where
   pub numbered : (db : ℤ) (key : Key) (p : Posting) → Has (content db key) p → IsNumbered p
   pub blocks : (row : Row) → HasRow trees blocks_tree row ↔ IsBlockRow content row
 
--- Changes are put into the rows of a key's blocks: where these held a content, and so many records had the key, they hold the content
--- that is changed so, and so many have the key then.
-abbrev pub PutsChanges : ℤ → Key → List RecordChange → ℕ → ℕ → ℕ → Trees → Trees → Type 0
-PutsChanges db key changes records after tree old new =
-    (now : Content) → HoldsBlockRows old now → IsCount (IsInRecord (now db key)) records
-    → (next : Content) × AreChangedAt db key changes now next × HoldsBlockRows new next × IsCount (IsInRecord (next db key)) after
+-- so many records have the key of the list
+abbrev pub IsCounted : ℕ → List Posting → Type 0
+IsCounted records list = IsCount (IsInRecord list) records
+
+-- the same, and none of its postings lies in the block
+abbrev pub IsClear : ℕ → ℕ → List Posting → Type 0
+IsClear block records list = IsCounted records list × (part_in block list ≡ [])
+
+-- what is known of a key is so of its list
+pub record IsKnown (known : Known) (list : List Posting) : Type 0 where
+  pub count : IsCounted known.records list
+  pub below : (p : Posting) → Has list p → p.sysno / 256 < known.clear_from
+
+-- Changes are put into the rows of a key's blocks: where these held a content with such a list of the key, they hold the content that is
+-- changed so, with such a list.
+abbrev pub PutsChanges : ℤ → Key → List RecordChange → (List Posting → Type 0) → (List Posting → Type 0) → ℕ → Trees → Trees → Type 0
+PutsChanges db key changes Before After tree old new =
+    (now : Content) → HoldsBlockRows old now → Before (now db key)
+    → (next : Content) × AreChangedAt db key changes now next × HoldsBlockRows new next × After (next db key)
+
+-- the rows hold no content with such a list of the key that can be changed so
+abbrev pub CannotChange : ℤ → Key → List RecordChange → (List Posting → Type 0) → Trees → Type 0
+CannotChange db key changes Before trees =
+    (now : Content) → HoldsBlockRows trees now → Before (now db key) → (new : List Posting) → ¬ AreListChanges changes (now db key) new

@@ -1,13 +1,17 @@
 -- Steps of private functions, which no public clause speaks of: the rows that single statements show, and what they write.
-use Rattle.std.specs.Prelude.{◌≡◌, ◌≢◌, ◌↔◌, ◌⊎◌, ℕ, ℤ, pos, false, List, [], ◌∷◌, IsTrue, IsUtf8}
+use Rattle.std.specs.Prelude.{◌≡◌, ◌≢◌, ◌↔◌, ◌⊎◌, ℕ, ℤ, pos, false, List, [], ◌∷◌, IsTrue, IsUtf8, Result, IfErr}
 use Rattle.std.specs.List.{AllByRecursion}
 use Rattle.std.specs.Ordering.{is_lt}
 use Rattle.sqlite.specs.declared.types.Value.TheVariants.{Int, Text, Blob}
 use Rattle.sqlite.specs.Effect.{IsDatabase}
 use Rattle.sqlite.specs.Order.{Row, column, value_cmp}
 use Rattle.sqlite.specs.Schema.{Schema}
-use Rattle.sqlite.specs.State.{State, IsUnchanged}
+use Rattle.sqlite.specs.State.{HasCleanDisk, State, IsUnchanged}
 use Rattle.sqlite.specs.Tree.{Trees}
+use Rattle.sqlite.specs.declared.error.Error.{Error}
+use Rattle.sqlite.specs.declared.error.Error.TheVariants.{SqliteFailure}
+use Rattle.sqlite.specs.declared.error.ErrorCode.TheVariants.{ConstraintViolation}
+use Rattle.sqlite_schema.specs.declared.schema.Constraint.{Constraint}
 use Rattle.zeb_register.specs.Calls.{OnlyReads}
 use Rattle.zeb_register.specs.Kept.{IsRecordCount}
 use Rattle.zeb_register.specs.Sql.{HasRow, IsListOf, Replaces}
@@ -16,6 +20,11 @@ use Rattle.zeb_register.specs.Store.{HasDatabase, HasRecord, IsRest, IsStore, en
 -- the table has one row more
 abbrev pub Gains : Row → ℕ → Trees → Trees → Type 0
 Gains row tree old new = (columns : Row) → HasRow new tree columns ↔ (HasRow old tree columns ⊎ (columns ≡ row))
+
+-- a statement inside a transaction that a rule of the tables refuses changes nothing
+abbrev pub IsUnchangedByViolation : {A : Type 0} → State → State → Result A Error → Type 0
+IsUnchangedByViolation old new result =
+    HasCleanDisk new → IsTrue old.in_transaction → IfErr result (λ e. (rule : Constraint) → e ≡ SqliteFailure (ConstraintViolation rule) → OnlyReads old new)
 
 -- the tables of the schema are there, with no row, and the transaction goes on
 pub record IsMade (schema : Schema) (s : State) : Type 0 where

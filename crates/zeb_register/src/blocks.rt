@@ -28,7 +28,11 @@ use zeb_extract::Key;
 use zeb_profile::Register;
 
 /// The layout with one row of `blocks` for each key and each 256 system numbers in which it has a posting, one row of `dict` for each key,
-/// and no row of `postings`. It counts the rows of these tables that are read and written.
+/// and no row of `postings`.
+///
+/// Of the calls that read lists, terms and totals it counts the rows of these tables that are read. Of a change it counts a row of each
+/// table, read and written, for each record and key. That is an upper bound: the records of one block that stand next to each other share
+/// its row, and all records of a call share that of `dict`.
 #[derive(Clone, Copy, Debug, PartialEq, Eq)]
 pub struct Blocks;
 

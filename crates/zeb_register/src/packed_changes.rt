@@ -1,15 +1,19 @@
 //! One row of a key in packed registers, read and written inside a transaction: that of a block, and that of `dict`.
 
-ghost use Rattle.std.specs.Prelude.{IsUtf8, ◌≡◌, ◌≢◌, ◌≤◌, List, IfOk, OnOk};
+ghost use Rattle.std.specs.Prelude.{IsUtf8, ◌≡◌, ◌≢◌, ◌<◌, ◌≤◌, ◌^◌, List, false, length, pos, IfOk, OnOk};
+ghost use Rattle.sqlite.specs.declared.types.Value.TheVariants.{Int};
 ghost use Rattle.sqlite.specs.Held.{state};
+ghost use Rattle.sqlite.specs.Order.{column};
 ghost use Rattle.zeb_blocks.specs.Blocks.{LiesIn};
 ghost use Rattle.zeb_register.specs.Calls.{Inside, OnlyReads};
 ghost use Rattle.zeb_register.specs.Clauses.{Writes};
 ghost use Rattle.zeb_register.specs.Clauses.{InStore, TellsHeldInside};
-ghost use Rattle.zeb_register.specs.Content.{Content, IsStorable, posted};
-ghost use Rattle.zeb_register.specs.Occurring.{HasKey, IsCount};
+ghost use Rattle.zeb_register.specs.Content.{Content, IsStorable};
+ghost use Rattle.zeb_register.specs.KeyColumns.{IsOfNumbered};
 ghost use Rattle.zeb_register.specs.PackedBlocks.{HoldsBlocks, part_in};
-ghost use Rattle.zeb_register.specs.PackedChanges.{HoldsBlockRows, IfTold, IsBlockIn, IsDictIn, PutsBlock, PutsCount, SpellsIn};
+ghost use Rattle.zeb_register.specs.PackedChanges.{HoldsBlockRows, IfTold, IsBlockIn, IsDictIn, IsKnown, IsTold};
+ghost use Rattle.zeb_register.specs.PackedChanges.{PutsBlock, PutsCount, SpellsIn};
+ghost use Rattle.zeb_register.specs.PackedRows.{IsRecordNumber};
 ghost use Rattle.zeb_register.specs.Store.{blocks_tree, dict_tree};
 
 use crate::packed::{add_spelled, records_at};
@@ -19,7 +23,7 @@ use crate::statements::packed_changes::{
 };
 use crate::values::{read, stored};
 use crate::{DatabaseId, RegFault};
-use sqlite::{Alter, Row, Transaction};
+use sqlite::{Alter, Error, ErrorCode, Row, Transaction};
 use std::alloc::Global;
 use zeb_blocks::{Posting, spell};
 use zeb_extract::Key;
@@ -59,26 +63,71 @@ fn spelled_list(alloc: Global, row: &Row, block: u64) -> Result<Vec<Posting>, Re
     Ok(list)
 }
 
-/// How many records have a key: 0 where it has no row of `dict`. `Damaged` where the row doesn't say 1 to 999,999,999.
-pub(crate) fn key_records<S: Alter>(
+/// What is known of a key before changes are put into its rows, and behind each run of them.
+#[derive(Clone, Copy, Debug)]
+pub(crate) struct Known {
+    /// Where lists are made.
+    pub(crate) alloc: Global,
+    /// How many records have the key.
+    pub(crate) records: u64,
+    /// The key has no posting in this block, and none in a block behind it.
+    pub(crate) clear_from: u64,
+}
+
+impl Known {
+    /// What is known behind changes of records of a block, after which so many records have the key.
+    pub(crate) fn behind(self, block: u64, records: u64) -> Known
+        requires { block < 2 ^ 56 }
+        ensures records { result.records ≡ records }
+        ensures keeps { self.clear_from ≤ result.clear_from }
+        ensures behind { block < result.clear_from }
+    {
+        let clear_from = self.clear_from.max(block + 1);
+        Known {
+            alloc: self.alloc,
+            records,
+            clear_from,
+        }
+    }
+}
+
+/// What the row of `dict` tells of a key: without one no record has it, and no block. `Damaged` where the row doesn't say 1 to 999,999,999.
+pub(crate) fn key_known<S: Alter>(
     tx: &mut Transaction<'_, S>,
     db: DatabaseId,
     key: &Key,
-) -> Result<u64, RegFault>
+) -> Result<Known, RegFault>
     ensures same { tx.new.conn.ghost_name ≡ tx.old.conn.ghost_name }
     ensures call { Inside (state S.Store tx.old.conn.now) (state S.Store tx.new.conn.now) result (λ _. OnlyReads) }
     ensures value { TellsHeldInside HoldsBlocks (state S.Store tx.old.conn.now) (state S.Store tx.new.conn.now) result
-        (λ content records. IsCount (HasKey (posted content db.0) key.now) records) }
-    ensures few { IfOk result (λ records. records ≤ 999999999) }
+        (λ content known. IsKnown known (content db.0 key.now)) }
     ensures honest { InStore (state S.Store tx.old.conn.now) (state S.Store tx.new.conn.now) (λ trees. result ≡ Err RegFault.Damaged
         → (content : Content) → IsStorable content → ¬ HoldsBlocks trees content) }
     ensures text { OnOk result (IsUtf8 key.now.term) }
 {
     let rows = dict_records(tx, KeyOf { db, key })?;
+    let alloc = *rows.allocator();
     match rows.first() {
-        Some(row) => records_at(row, 0),
-        None => Ok(0),
+        Some(row) => known_at(alloc, row),
+        None => Ok(Known {
+            alloc,
+            records: 0,
+            clear_from: 0,
+        }),
     }
+}
+
+/// What a row of `dict` tells of its key: how many records have it, and nothing of its blocks.
+fn known_at(alloc: Global, row: &Row) -> Result<Known, RegFault>
+    ensures ok { IfOk result (λ known. (column row.now 0 ≡ Int (pos known.records)) × (2 ^ 56 ≤ known.clear_from)) }
+    ensures honest { result ≡ Err RegFault.Damaged → 0 < length row.now → ¬ IsRecordNumber (column row.now 0) }
+{
+    let records = records_at(row, 0)?;
+    Ok(Known {
+        alloc,
+        records,
+        clear_from: u64::MAX,
+    })
 }
 
 /// Puts a list in the place of the row of a key's block, or takes the row where the list is empty. It is told whether the row is there.
@@ -110,6 +159,57 @@ pub(crate) fn block_write<S: Alter>(
     }
     block_add(tx, at, number, &bytes)?;
     Ok(())
+}
+
+/// Puts the row of a key's block where the key is told to have none: none either where the list is empty. `Damaged` where it has one.
+pub(crate) fn block_begin<S: Alter>(
+    alloc: Global,
+    tx: &mut Transaction<'_, S>,
+    db: DatabaseId,
+    key: &Key,
+    block: u64,
+    list: &[Posting],
+) -> Result<(), RegFault>
+    requires { LiesIn block list.now }
+    ensures same { tx.new.conn.ghost_name ≡ tx.old.conn.ghost_name }
+    ensures call { Writes blocks_tree (IfTold false (IsBlockIn db.0 key.now block) (PutsBlock db.0 key.now block list.now))
+        (state S.Store tx.old.conn.now) (state S.Store tx.new.conn.now) result }
+    ensures honest { InStore (state S.Store tx.old.conn.now) (state S.Store tx.new.conn.now) (λ trees. result ≡ Err RegFault.Damaged
+        → ¬ IsTold false (IsBlockIn db.0 key.now block) blocks_tree trees) }
+{
+    let number = stored(block)?;
+    let at = KeyOf { db, key };
+    if list.is_empty() {
+        return block_absent(tx, at, number);
+    }
+    let bytes = spell(alloc, block, list)?;
+    match block_add(tx, at, number, &bytes) {
+        Ok(_) => Ok(()),
+        Err(Error::SqliteFailure(ErrorCode::ConstraintViolation(rule))) => {
+            block_absent(tx, at, number)?;
+            let refused = Error::SqliteFailure(ErrorCode::ConstraintViolation(rule));
+            Err(refused.into())
+        }
+        Err(error) => Err(error.into()),
+    }
+}
+
+/// `Damaged` where the key has a row for the block.
+fn block_absent<S: Alter>(
+    tx: &mut Transaction<'_, S>,
+    at: KeyOf<'_>,
+    number: i64,
+) -> Result<(), RegFault>
+    ensures same { tx.new.conn.ghost_name ≡ tx.old.conn.ghost_name }
+    ensures call { Inside (state S.Store tx.old.conn.now) (state S.Store tx.new.conn.now) result (λ _. OnlyReads) }
+    ensures honest { InStore (state S.Store tx.old.conn.now) (state S.Store tx.new.conn.now) (λ trees. result ≡ Err RegFault.Damaged
+        → ¬ IsTold false (IsOfNumbered at.entry number) blocks_tree trees) }
+{
+    let rows = block_bytes(tx, at, number)?;
+    match rows.first() {
+        Some(_) => Err(RegFault::Damaged),
+        None => Ok(()),
+    }
 }
 
 /// Puts a number in the row of a key, or takes the row where no record has the key. It is told whether the row is there.

@@ -1,5 +1,5 @@
 //! A key's places changed in many records, in packed registers: the row of a block is read and written once for the records of it that
-//! stand next to each other, and the row of `dict` once for all.
+//! stand next to each other, and the row of `dict` once for all. A block that the key can have no row for is only written.
 
 ghost use Rattle.std.specs.Prelude.{IsUtf8, ◌≡◌, ◌≤◌, ◌∷◌, List, length, take, IsTrue, OnOk};
 ghost use Rattle.std.specs.List.{AllByRecursion};
@@ -8,19 +8,18 @@ ghost use Rattle.zeb_blocks.specs.declared.postings.Posting.{Posting};
 ghost use Rattle.zeb_register.specs.Calls.{Alters, GoesOn, Inside};
 ghost use Rattle.zeb_register.specs.Clauses.{ChangesTable, DamagedHeld, InStore};
 ghost use Rattle.zeb_register.specs.Content.{AreChangedAt, AreListChanges, Content, OldsRise};
-ghost use Rattle.zeb_register.specs.Occurring.{IsCount};
 ghost use Rattle.zeb_register.specs.PackedBlocks.{HoldsBlocks};
-ghost use Rattle.zeb_register.specs.PackedChanges.{HoldsBlockRows, IsInBlock, IsStorableChange, PutsChanges};
-ghost use Rattle.zeb_register.specs.RowTerms.{IsInRecord};
+ghost use Rattle.zeb_register.specs.PackedChanges.{CannotChange, IsClear, IsCounted, IsInBlock, IsKnown, IsStorableChange, PutsChanges};
 ghost use Rattle.zeb_register.specs.Store.{IsStore, KeepsLists, blocks_tree};
 ghost use Rattle.zeb_register.specs.Tallies.{Works};
 
 use crate::packed::counted;
-use crate::packed_changes::{block_list, block_write, dict_write, key_records};
+use crate::packed_changes::{Known, block_begin, block_list, block_write, dict_write, key_known};
 use crate::packed_parts::Held;
 use crate::registers::{RecordChange, Work};
 use crate::{DatabaseId, RegFault};
 use sqlite::{Alter, Transaction};
+use std::alloc::Global;
 use zeb_extract::Key;
 
 /// How many system numbers belong to one block.
@@ -54,38 +53,38 @@ pub(crate) fn changes_put<S: Alter>(
         (OldsRise changes.now) (λ content. (new : List Posting) → ¬ AreListChanges changes.now (content db.0 key.now) new) }
     ensures text { OnOk result (IsUtf8 key.now.term) }
 {
-    let records = key_records(tx, db, key)?;
-    let after = runs_put(tx, db, key, records, changes)?;
-    dict_write(tx, db, key, after, records != 0)
+    let known = key_known(tx, db, key)?;
+    let after = runs_put(tx, db, key, known, changes)?;
+    dict_write(tx, db, key, after, known.records != 0)
 }
 
-/// Puts changes into the rows of a key's blocks, where so many records have the key; returns how many have it then.
+/// Puts changes into the rows of a key's blocks, where so much is known of the key; returns how many records have it then.
 fn runs_put<S: Alter>(
     tx: &mut Transaction<'_, S>,
     db: DatabaseId,
     key: &Key,
-    records: u64,
+    known: Known,
     changes: &[RecordChange<'_>],
 ) -> Result<u64, RegFault>
     requires { AllByRecursion IsStorableChange changes.now }
     ensures same { tx.new.conn.ghost_name ≡ tx.old.conn.ghost_name }
     ensures call { Inside (state S.Store tx.old.conn.now) (state S.Store tx.new.conn.now) result (λ _ a b. IsTrue a.is_open → GoesOn a b) }
     ensures put { ChangesTable blocks_tree (state S.Store tx.old.conn.now) (state S.Store tx.new.conn.now) result
-        (λ after. PutsChanges db.0 key.now changes.now records after) }
+        (λ after. PutsChanges db.0 key.now changes.now (IsKnown known) (IsCounted after)) }
     ensures damaged { InStore (state S.Store tx.old.conn.now) (state S.Store tx.new.conn.now) (λ trees. result ≡ Err RegFault.Damaged
-        → OldsRise changes.now → (now : Content) → HoldsBlockRows trees now
-        → IsCount (IsInRecord (now db.0 key.now)) records → (new : List Posting) → ¬ AreListChanges changes.now (now db.0 key.now) new) }
+        → OldsRise changes.now → CannotChange db.0 key.now changes.now (IsKnown known) trees) }
 {
-    let mut records = records;
+    let mut known = known;
     let mut done = 0;
     while done < changes.len() {
         let block = changes[done].sysno / BLOCK_RECORDS;
         let rest = &changes[done..];
         let run = &rest[..run_length(rest, block)];
-        records = run_put(tx, db, key, block, records, run)?;
+        let records = run_put(tx, db, key, block, known, run)?;
+        known = known.behind(block, records);
         done += run.len();
     }
-    Ok(records)
+    Ok(known.records)
 }
 
 /// How many changes there are before the first that is not of a record of the block.
@@ -102,8 +101,31 @@ fn run_length(changes: &[RecordChange<'_>], block: u64) -> usize
     changes.len()
 }
 
-/// Puts changes of records of one block into its row, which is read and written once.
+/// Puts changes of records of one block into its row. Where the key is known to have none there, no row is looked for.
 fn run_put<S: Alter>(
+    tx: &mut Transaction<'_, S>,
+    db: DatabaseId,
+    key: &Key,
+    block: u64,
+    known: Known,
+    run: &[RecordChange<'_>],
+) -> Result<u64, RegFault>
+    requires stored { AllByRecursion IsStorableChange run.now }
+    requires inside { AllByRecursion (IsInBlock block) run.now }
+    ensures same { tx.new.conn.ghost_name ≡ tx.old.conn.ghost_name }
+    ensures call { Inside (state S.Store tx.old.conn.now) (state S.Store tx.new.conn.now) result
+        (λ after. Alters blocks_tree (PutsChanges db.0 key.now run.now (IsKnown known) (IsCounted after))) }
+    ensures damaged { InStore (state S.Store tx.old.conn.now) (state S.Store tx.new.conn.now) (λ trees. result ≡ Err RegFault.Damaged
+        → OldsRise run.now → CannotChange db.0 key.now run.now (IsKnown known) trees) }
+{
+    if block < known.clear_from {
+        return row_renew(tx, db, key, block, known.records, run);
+    }
+    row_begin(tx, known.alloc, db, key, block, known.records, run)
+}
+
+/// Puts changes of records of one block into its row, which is read and written once.
+fn row_renew<S: Alter>(
     tx: &mut Transaction<'_, S>,
     db: DatabaseId,
     key: &Key,
@@ -115,10 +137,9 @@ fn run_put<S: Alter>(
     requires inside { AllByRecursion (IsInBlock block) run.now }
     ensures same { tx.new.conn.ghost_name ≡ tx.old.conn.ghost_name }
     ensures call { Inside (state S.Store tx.old.conn.now) (state S.Store tx.new.conn.now) result
-        (λ after. Alters blocks_tree (PutsChanges db.0 key.now run.now records after)) }
+        (λ after. Alters blocks_tree (PutsChanges db.0 key.now run.now (IsCounted records) (IsCounted after))) }
     ensures damaged { InStore (state S.Store tx.old.conn.now) (state S.Store tx.new.conn.now) (λ trees. result ≡ Err RegFault.Damaged
-        → OldsRise run.now → (now : Content) → HoldsBlockRows trees now
-        → IsCount (IsInRecord (now db.0 key.now)) records → (new : List Posting) → ¬ AreListChanges run.now (now db.0 key.now) new) }
+        → OldsRise run.now → CannotChange db.0 key.now run.now (IsCounted records) trees) }
 {
     let list = block_list(tx, db, key, block)?;
     let is_there = !list.is_empty();
@@ -130,5 +151,33 @@ fn run_put<S: Alter>(
     let after = held.changed_by(run)?;
     let alloc = *after.list.allocator();
     block_write(alloc, tx, db, key, block, &after.list, is_there)?;
+    Ok(after.records)
+}
+
+/// Puts changes of records of one block into a row of it, where the key has none.
+fn row_begin<S: Alter>(
+    tx: &mut Transaction<'_, S>,
+    alloc: Global,
+    db: DatabaseId,
+    key: &Key,
+    block: u64,
+    records: u64,
+    run: &[RecordChange<'_>],
+) -> Result<u64, RegFault>
+    requires stored { AllByRecursion IsStorableChange run.now }
+    requires inside { AllByRecursion (IsInBlock block) run.now }
+    ensures same { tx.new.conn.ghost_name ≡ tx.old.conn.ghost_name }
+    ensures call { Inside (state S.Store tx.old.conn.now) (state S.Store tx.new.conn.now) result
+        (λ after. Alters blocks_tree (PutsChanges db.0 key.now run.now (IsClear block records) (IsCounted after))) }
+    ensures damaged { InStore (state S.Store tx.old.conn.now) (state S.Store tx.new.conn.now) (λ trees. result ≡ Err RegFault.Damaged
+        → OldsRise run.now → CannotChange db.0 key.now run.now (IsClear block records) trees) }
+{
+    let held = Held {
+        block,
+        list: Vec::new(alloc),
+        records,
+    };
+    let after = held.changed_by(run)?;
+    block_begin(alloc, tx, db, key, block, &after.list)?;
     Ok(after.records)
 }

@@ -6,7 +6,7 @@ ghost use Rattle.sqlite.specs.Held.{state};
 ghost use Rattle.zeb_register.specs.Calls.{Inside};
 ghost use Rattle.zeb_register.specs.Clauses.{Writes};
 ghost use Rattle.zeb_register.specs.KeyColumns.{IsOfKey, IsOfNumbered, key_columns, numbered_columns};
-ghost use Rattle.zeb_register.specs.RowStatements.{Gains, ListsInside, Renews};
+ghost use Rattle.zeb_register.specs.RowStatements.{Gains, IsUnchangedByViolation, ListsInside, Renews};
 ghost use Rattle.zeb_register.specs.Sql.{Loses};
 ghost use Rattle.zeb_register.specs.Store.{IsRest, blocks_tree, dict_tree};
 
@@ -61,6 +61,7 @@ pub(crate) fn block_add<S: Alter>(
     ensures same { tx.new.conn.ghost_name ≡ tx.old.conn.ghost_name }
     ensures call { Writes blocks_tree (Gains (numbered_columns at.entry number ++ Blob bytes.now ∷ []))
         (state S.Store tx.old.conn.now) (state S.Store tx.new.conn.now) result }
+    ensures violated { IsUnchangedByViolation (state S.Store tx.old.conn.now) (state S.Store tx.new.conn.now) result }
 {
     let db = at.db.column();
     let reg = u32::from(at.key.register.code());

@@ -1,8 +1,9 @@
-use Rattle.std.proofs.Common.{◌≡◌, ◌∙◌, ◌+◌, ◌++◌, ◌∷◌, [], List, ap, refl, subst, subst₂, sym, take}
+use Rattle.std.proofs.Common.{◌≡◌, ◌∙◌, ◌+◌, ◌++◌, ◌∷◌, [], List, ap, refl, rules, subst, subst₂, sym, take}
 use Rattle.std.proofs.lemmas.List.{take_all, take_more}
+use Rattle.std.proofs.lemmas.List.Sorted.{IsNonDecreasingBy-from_sort_by_key, answers_always}
 use Rattle.zeb_register.specs.declared.registers.RecordChange.{RecordChange}
 use Rattle.zeb_change.specs.declared.pending.KeyChange.{KeyChange}
-use Rattle.zeb_change.specs.PrivatePending.{AreGivenAs}
+use Rattle.zeb_change.specs.PrivatePending.{AreGivenAs, number_in}
 use Rattle.zeb_change.proofs.Leading.{given_more}
 use Rattle.zeb_change.proofs.writing.given.Goals as goal
 
@@ -19,4 +20,9 @@ loop-change-preserved c =
     }
 
 pub returns : goal.returns
-returns c = subst (λ (cs : List KeyChange). AreGivenAs cs c.loop-change.given.items) (take_all c.loop-change.change-index c.args.changes.now c.loop-change-test.false) c.loop-change.invariant.so_far
+returns c = record {
+  noted = c.loop-change.given.items;
+  same = subst (λ (cs : List KeyChange). AreGivenAs cs c.loop-change.given.items) (take_all c.loop-change.change-index c.args.changes.now c.loop-change-test.false) c.loop-change.invariant.so_far;
+  rising = IsNonDecreasingBy-from_sort_by_key number_in _ c.in_ok-sort_by_key.ensures.sorted (λ a r q k. search rules);
+  stable = c.sort_by_key.ensures.stable number_in (answers_always _ _ _ (λ f a r g h. search rules));
+}

@@ -4,15 +4,10 @@ use Rattle.sqlite.specs.Effect.{Database}
 use Rattle.sqlite.specs.Held.{state}
 use Rattle.sqlite.specs.State.{HasCleanDisk}
 use Rattle.zeb_register.specs.Calls.{GoesOn}
-use Rattle.zeb_register.specs.Content.{posted}
-use Rattle.zeb_register.specs.Occurring.{HasKey}
 use Rattle.zeb_register.specs.PackedBlocks.{HoldsBlocks}
-use Rattle.zeb_register.specs.PackedChanges.{PutsChanges}
-use Rattle.zeb_register.specs.RowTerms.{IsInRecord}
+use Rattle.zeb_register.specs.PackedChanges.{IsCounted, IsKnown, PutsChanges}
 use Rattle.zeb_register.specs.Store.{blocks_tree}
 use Rattle.zeb_register.proofs.Calls.{changes_after, goes_keeps, goes_then, on_err_so, reads_goes, store_same}
-use Rattle.zeb_register.proofs.CountLemmas.{count_so}
-use Rattle.zeb_register.proofs.OccurringLemmas.{key_posted}
 use Rattle.zeb_register.proofs.PackedLemmas.{block_rows}
 use Rattle.zeb_register.proofs.PackedWrites.{all_lists, all_put, dict_told}
 use Rattle.zeb_register.proofs.packed_runs.changes_put.Goals as goal
@@ -23,8 +18,8 @@ returns-clause-call g c =
     let third = state g.S.Store c.runs_put.new.tx.conn.now in
     let done_before = λ (clean : HasCleanDisk (state g.S.Store c.dict_write.new.tx.conn.now)) (inside : IsTrue first.in_transaction). (
     let clean2 : HasCleanDisk third = omega (arith, c.dict_write.ensures.call.crash.clean) in
-    let clean1 : HasCleanDisk (state g.S.Store c.key_records.new.tx.conn.now) = omega (arith, c.dict_write.ensures.call.crash.clean, c.runs_put.ensures.call.crash.clean) in
-    let reads = c.in_ok-records.ensures.call.ok clean1 inside in
+    let clean1 : HasCleanDisk (state g.S.Store c.key_known.new.tx.conn.now) = omega (arith, c.dict_write.ensures.call.crash.clean, c.runs_put.ensures.call.crash.clean) in
+    let reads = c.in_ok-known.ensures.call.ok clean1 inside in
     let goes : GoesOn first third = goes_then _ _ _ (reads_goes _ _ reads) (c.in_ok-after.ensures.call.ok clean2 reads.mode reads.is_open) in
     goes) in record {
       ok = λ clean inside. let goes = done_before clean inside in
@@ -37,40 +32,40 @@ returns-clause-call g c =
 pub returns-clause-change : goal.returns-clause-change
 returns-clause-change g c clean inside store =
     let first = state g.S.Store c.args.tx.now.conn.now in
-    let second = state g.S.Store c.key_records.new.tx.conn.now in
+    let second = state g.S.Store c.key_known.new.tx.conn.now in
     let third = state g.S.Store c.runs_put.new.tx.conn.now in
     let fourth = state g.S.Store c.dict_write.new.tx.conn.now in
     let clean2 : HasCleanDisk third = omega (arith, c.dict_write.ensures.call.crash.clean) in
     let clean1 : HasCleanDisk second = omega (arith, c.dict_write.ensures.call.crash.clean, c.runs_put.ensures.call.crash.clean) in
-    let reads = c.in_ok-records.ensures.call.ok clean1 inside in
+    let reads = c.in_ok-known.ensures.call.ok clean1 inside in
     let goes = goes_then first second third (reads_goes first second reads) (c.in_ok-after.ensures.call.ok clean2 reads.mode reads.is_open) in
     let db = c.args.db.0 in
     let key = c.args.key.now in
     let changes = c.args.changes.now in
-    let records = c.in_ok-records.records in
+    let known = c.in_ok-known.known in
     let after = c.in_ok-after.after in
-    let there = not (records == 0) in
-    let runs = changes_after blocks_tree (PutsChanges db key changes records after) first second third reads inside (c.in_ok-after.ensures.put clean2 reads.mode (store_same first second reads.now_is store)) in
+    let there = not (known.records == 0) in
+    let runs = changes_after blocks_tree (PutsChanges db key changes (IsKnown known) (IsCounted after)) first second third reads inside (c.in_ok-after.ensures.put clean2 reads.mode (store_same first second reads.now_is store)) in
     IfOk-weaker c.dict_write.result _ _ (λ _ done.
     let dict = done.rows runs.layout in (
       dict.layout,
-      all_lists db key changes records after first third fourth runs there dict,
+      all_lists db key changes known after first third fourth runs there dict,
       λ before holds.
-          let count = count_so (HasKey (posted before db) key) (IsInRecord (before db key)) records (key_posted before db key) (c.in_ok-records.ensures.value clean1 inside store before holds) in
-          all_put db key changes records after first third fourth runs there dict before holds count (dict_told db key records (records == 0) first.now.trees before holds count refl),
+          let is = c.in_ok-known.ensures.value clean1 inside store before holds in
+          all_put db key changes known after first third fourth runs there dict before holds is (dict_told db key known.records (known.records == 0) first.now.trees before holds is.count refl),
     )) (c.dict_write.ensures.call.ok clean goes.mode)
 
-pub returns-in_err-records-clause-damaged : goal.returns-in_err-records-clause-damaged
-returns-in_err-records-clause-damaged g c clean inside store is rises content storable holds new all = c.in_err-records.ensures.honest clean inside store (search rules) content storable holds
+pub returns-in_err-known-clause-damaged : goal.returns-in_err-known-clause-damaged
+returns-in_err-known-clause-damaged g c clean inside store is rises content storable holds new all = c.in_err-known.ensures.honest clean inside store (search rules) content storable holds
 
 pub returns-in_err-after-clause-damaged : goal.returns-in_err-after-clause-damaged
 returns-in_err-after-clause-damaged g c clean inside store is rises content storable holds new all =
     let first = state g.S.Store c.args.tx.now.conn.now in
-    let second = state g.S.Store c.key_records.new.tx.conn.now in
+    let second = state g.S.Store c.key_known.new.tx.conn.now in
     let clean1 : HasCleanDisk second = omega (arith, c.runs_put.ensures.call.crash.clean) in
-    let reads = c.in_ok-records.ensures.call.ok clean1 inside in
+    let reads = c.in_ok-known.ensures.call.ok clean1 inside in
     let db = c.args.db.0 in
     let key = c.args.key.now in
     let rows = block_rows second.now.trees content (subst (λ (d : Database). HoldsBlocks d.trees content) (sym reads.now_is) holds) in
-    let count = count_so (HasKey (posted content db) key) (IsInRecord (content db key)) c.in_ok-records.records (key_posted content db key) (c.in_ok-records.ensures.value clean1 inside store content holds) in
-    c.in_err-after.ensures.damaged clean reads.mode (store_same first second reads.now_is store) (search rules) rises content rows count new all
+    let known = c.in_ok-known.ensures.value clean1 inside store content holds in
+    c.in_err-after.ensures.damaged clean reads.mode (store_same first second reads.now_is store) (search rules) rises content rows known new all

@@ -1,12 +1,13 @@
-use Rattle.std.proofs.Common.{◌<◌, arith, drop, get_or, length, refl, rules, subst, suc, sym, take}
+use Rattle.std.proofs.Common.{◌≡◌, ◌<◌, ◌/◌, arith, drop, get_or, length, refl, rules, subst, suc, sym, take}
+use Rattle.std.proofs.lemmas.List.{take_all}
 use Rattle.sqlite.specs.Held.{state}
 use Rattle.sqlite.specs.State.{HasCleanDisk}
-use Rattle.zeb_register.specs.PackedChanges.{PutsChanges}
+use Rattle.zeb_register.specs.PackedChanges.{IsCounted, IsKnown, PutsChanges}
 use Rattle.zeb_register.specs.Store.{Changes, blocks_tree}
-use Rattle.zeb_register.proofs.Calls.{changes_then, stays_then}
+use Rattle.zeb_register.proofs.Calls.{changes_so, changes_then, stays_then}
 use Rattle.zeb_register.proofs.CallsInTurn.{quiet_then}
 use Rattle.zeb_register.proofs.ListChanges.{no_change, run, run_all, run_first, run_long, run_made, run_more, run_within}
-use Rattle.zeb_register.proofs.PackedWrites.{puts_then}
+use Rattle.zeb_register.proofs.PackedWrites.{puts_behind, puts_so, puts_then}
 use Rattle.zeb_register.proofs.packed_runs.runs_put.Goals as goal
 
 pub loop-done-smaller : goal.loop-done-smaller
@@ -42,14 +43,20 @@ loop-done-preserved g c =
       put = λ clean inside store.
           let was : HasCleanDisk mid = omega (arith, c.run_put.ensures.call.crash.clean) in
           let before = so_far.put was inside store in
-          let more = (it.call.ok clean (so_far.stays was inside).inside).rows before.layout in
-          let both = changes_then blocks_tree (PutsChanges db key (take done xs) c.args.records c.loop-done.records) (PutsChanges db key (run xs done n) c.loop-done.records c.in_ok-records.records) _ first mid last
-          (puts_then db key (take done xs) (run xs done n) c.args.records c.loop-done.records c.in_ok-records.records first.now.trees mid.now.trees last.now.trees) before more in
-          subst (λ l. Changes blocks_tree (PutsChanges db key l c.args.records c.in_ok-records.records) first last) (sym (run_more xs done n)) both;
+          let block = (get_or xs done no_change).sysno / 256 in
+          let known = c.loop-done.known in
+          let next = c.behind-known.result in
+          let counts = (it.call.ok clean (so_far.stays was inside).inside).rows before.layout in
+          let more = changes_so blocks_tree (PutsChanges db key (run xs done n) (IsKnown known) (IsCounted c.in_ok-records.records)) (PutsChanges db key (run xs done n) (IsKnown known) (IsKnown next)) mid last (λ puts.
+          puts_behind db key block (run xs done n) known next mid.now.trees last.now.trees c.run_length.ensures.inside c.behind-known.ensures.keeps c.behind-known.ensures.behind
+          (subst (λ records. PutsChanges db key (run xs done n) (IsKnown known) (IsCounted records) blocks_tree mid.now.trees last.now.trees) (sym c.behind-known.ensures.records) puts)) counts in
+          let both = changes_then blocks_tree (PutsChanges db key (take done xs) (IsKnown c.args.known) (IsKnown known)) (PutsChanges db key (run xs done n) (IsKnown known) (IsKnown next)) _ first mid last
+          (puts_then db key (take done xs) (run xs done n) (IsKnown c.args.known) (IsKnown known) (IsKnown next) first.now.trees mid.now.trees last.now.trees) before more in
+          subst (λ l. Changes blocks_tree (PutsChanges db key l (IsKnown c.args.known) (IsKnown next)) first last) (sym (run_more xs done n)) both;
     }
 
 pub returns-in_err-records-clause-damaged : goal.returns-in_err-records-clause-damaged
-returns-in_err-records-clause-damaged g c clean inside store is rises now holds count new all =
+returns-in_err-records-clause-damaged g c clean inside store is rises now holds known new all =
     let mid = state g.S.Store c.loop-done.tx.conn.now in
     let key = c.args.key.now in
     let db = c.args.db.0 in
@@ -59,6 +66,20 @@ returns-in_err-records-clause-damaged g c clean inside store is rises now holds 
     let was : HasCleanDisk mid = omega (arith, c.run_put.ensures.call.crash.clean) in
     let so_far = c.loop-done.invariant in
     let before = so_far.put was inside store in
-    let next = before.rows now holds count in
+    let next = before.rows now holds known in
     let made = run_made xs done n (now db key) (next.0 db key) new next.1.list all in
     c.in_err-records.ensures.damaged clean (so_far.stays was inside).inside before.layout (search rules) (run_all xs done n _ rises) next.0 next.2 next.3 made.0 made.1
+
+pub returns-clause-put : goal.returns-clause-put
+returns-clause-put g c clean inside store =
+    let first = state g.S.Store c.args.tx.now.conn.now in
+    let mid = state g.S.Store c.loop-done.tx.conn.now in
+    let db = c.args.db.0 in
+    let key = c.args.key.now in
+    let xs = c.args.changes.now in
+    let done = c.loop-done.done in
+    let known = c.loop-done.known in
+    let all : take done xs ≡ xs = take_all done xs c.loop-done-test.false in
+    let puts = changes_so blocks_tree (PutsChanges db key (take done xs) (IsKnown c.args.known) (IsKnown known)) (PutsChanges db key (take done xs) (IsKnown c.args.known) (IsCounted known.records)) first mid
+    (puts_so db key (take done xs) (IsKnown c.args.known) (IsKnown c.args.known) (IsKnown known) (IsCounted known.records) first.now.trees mid.now.trees (λ list is. is) (λ list is. is.count)) (c.loop-done.invariant.put clean inside store) in
+    subst (λ l. Changes blocks_tree (PutsChanges db key l (IsKnown c.args.known) (IsCounted known.records)) first mid) all puts

@@ -1,7 +1,7 @@
 use Rattle.std.proofs.Common.{◌≡◌, ◌≤◌, ◌-◌, IsTrue, length, take}
 use Rattle.sqlite.specs.Held.{state}
 use Rattle.sqlite.specs.State.{HasCleanDisk, Survives}
-use Rattle.zeb_register.specs.PackedChanges.{PutsChanges}
+use Rattle.zeb_register.specs.PackedChanges.{IsKnown, PutsChanges}
 use Rattle.zeb_register.specs.Store.{Changes, IsStore, blocks_tree}
 use Rattle.zeb_register.proofs.Calls.{Stays}
 use Rattle.zeb_register.proofs.packed_runs.runs_put.Given as goal
@@ -15,7 +15,7 @@ invariant-loop-done g l =
       within : l.done ≤ length l.changes;
       crash : Survives old now (λ _. ⊥);
       stays : HasCleanDisk now → IsTrue old.in_transaction → Stays old now;
-      put : HasCleanDisk now → IsTrue old.in_transaction → IsStore old → Changes blocks_tree (PutsChanges l.db.0 l.key (take l.done l.changes) l.fn.records l.records) old now;
+      put : HasCleanDisk now → IsTrue old.in_transaction → IsStore old → Changes blocks_tree (PutsChanges l.db.0 l.key (take l.done l.changes) (IsKnown l.fn.known) (IsKnown l.known)) old now;
     }
 
 abbrev pub decreases-loop-done : goal.decreases-loop-done

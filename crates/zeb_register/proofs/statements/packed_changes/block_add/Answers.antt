@@ -2,6 +2,7 @@ use Rattle.std.proofs.Common.{rules, pos}
 use Rattle.std.proofs.Math.Facts.{to_z-of_z}
 use Rattle.zeb_profile.specs.Indexes.{register_code}
 use Rattle.zeb_register.proofs.Calls.{alters, refused_keeps}
+use Rattle.zeb_register.proofs.CallsInTurn.{violated}
 use Rattle.zeb_register.proofs.PackedRowStatements.{adds_block}
 use Rattle.zeb_register.proofs.Columns.{column_is}
 use Rattle.zeb_register.proofs.statements.packed_changes.block_add.Goals as goal
@@ -12,3 +13,6 @@ returns-clause-call g c = record {
   err = λ clean inside. refused_keeps _ _ _ _ c.execute.result (c.execute.ensures.runs clean inside);
   crash = search rules;
 }
+
+pub returns-clause-violated : goal.returns-clause-violated
+returns-clause-violated g c clean inside = violated _ _ _ _ c.execute.result (c.execute.ensures.runs clean inside) inside

@@ -1,21 +1,31 @@
-use Rattle.std.proofs.Common.{◌≡◌, ◌∙◌, Some, None, ap, slice_get, sym}
+use Rattle.std.proofs.Common.{◌≡◌, ◌∙◌, Some, None, ap, refl, slice_get, sym}
 use Rattle.std.proofs.lemmas.Result.{IfOk-weaker}
 use Rattle.std.specs.Option.{option_copied}
 use Rattle.sqlite.specs.Held.{state}
+use Rattle.zeb_register.specs.Content.{posted}
+use Rattle.zeb_register.specs.Occurring.{HasKey}
 use Rattle.zeb_register.specs.PlainRows.{key_row}
+use Rattle.zeb_register.specs.RowTerms.{IsInRecord}
 use Rattle.zeb_register.specs.Sql.{IsListOf}
 use Rattle.zeb_register.specs.Store.{IsRest, dict_tree}
+use Rattle.zeb_register.proofs.CountLemmas.{count_so}
 use Rattle.zeb_register.proofs.LookUps.{first_is}
+use Rattle.zeb_register.proofs.OccurringLemmas.{key_posted}
 use Rattle.zeb_register.proofs.PackedReads.{no_row, row_counts, row_number}
-use Rattle.zeb_register.proofs.packed_changes.key_records.Goals as goal
+use Rattle.zeb_register.proofs.PackedWrites.{known_none, known_some}
+use Rattle.zeb_register.proofs.packed_changes.key_known.Goals as goal
 
 pub returns-in-Some-clause-value : goal.returns-in-Some-clause-value
 returns-in-Some-clause-value g c clean inside store =
     let trees = (state g.S.Store c.args.tx.now.conn.now).now.trees in
+    let db = c.args.db.0 in
     let key = c.args.key.now in
     let got : slice_get c.in_ok-rows.rows.items 0 ≡ Some c.in-Some.row.now = sym (c.first.ensures.value ∙ ap (λ l. slice_get l 0) c.deref.ensures.value) ∙ ap option_copied c.in-Some.is in
-    let held : IsListOf (IsRest dict_tree (key_row c.args.db.0 key) trees) c.in_ok-rows.rows.items = (c.in_ok-rows.ensures.call.ok clean inside).1 store in
-    IfOk-weaker c.records_at.result _ _ (λ records shown content holds. row_counts trees content c.args.db.0 key holds c.in-Some.row.now records (first_is _ c.in_ok-rows.rows.items c.in-Some.row.now held got) shown.0) c.records_at.ensures.ok
+    let held : IsListOf (IsRest dict_tree (key_row db key) trees) c.in_ok-rows.rows.items = (c.in_ok-rows.ensures.call.ok clean inside).1 store in
+    let there = first_is _ c.in_ok-rows.rows.items c.in-Some.row.now held got in
+    IfOk-weaker c.known_at.result _ _ (λ known shown content holds.
+    let posts = row_counts trees content db key holds c.in-Some.row.now known.records there shown.0 in
+    known_some known (content db key) (holds.numbered db key) (count_so (HasKey (posted content db) key) (IsInRecord (content db key)) known.records (key_posted content db key) posts) shown.1) c.known_at.ensures.ok
 
 pub returns-in-Some-clause-honest : goal.returns-in-Some-clause-honest
 returns-in-Some-clause-honest g c clean inside store is content storable holds =
@@ -24,12 +34,14 @@ returns-in-Some-clause-honest g c clean inside store is content storable holds =
     let got : slice_get c.in_ok-rows.rows.items 0 ≡ Some c.in-Some.row.now = sym (c.first.ensures.value ∙ ap (λ l. slice_get l 0) c.deref.ensures.value) ∙ ap option_copied c.in-Some.is in
     let held : IsListOf (IsRest dict_tree (key_row c.args.db.0 key) trees) c.in_ok-rows.rows.items = (c.in_ok-rows.ensures.call.ok clean inside).1 store in
     let able = row_number trees content c.args.db.0 key holds c.in-Some.row.now storable (first_is _ c.in_ok-rows.rows.items c.in-Some.row.now held got) in
-    c.records_at.ensures.honest is able.0 able.1
+    c.known_at.ensures.honest is able.0 able.1
 
 pub returns-clause-value : goal.returns-clause-value
 returns-clause-value g c clean inside store content holds =
     let trees = (state g.S.Store c.args.tx.now.conn.now).now.trees in
+    let db = c.args.db.0 in
     let key = c.args.key.now in
     let none : slice_get c.in_ok-rows.rows.items 0 ≡ None = sym (c.first.ensures.value ∙ ap (λ l. slice_get l 0) c.deref.ensures.value) ∙ ap option_copied c.in-None.is in
-    let held : IsListOf (IsRest dict_tree (key_row c.args.db.0 key) trees) c.in_ok-rows.rows.items = (c.in_ok-rows.ensures.call.ok clean inside).1 store in
-    no_row trees content c.args.db.0 key holds c.in_ok-rows.rows.items held none
+    let held : IsListOf (IsRest dict_tree (key_row db key) trees) c.in_ok-rows.rows.items = (c.in_ok-rows.ensures.call.ok clean inside).1 store in
+    let count = no_row trees content db key holds c.in_ok-rows.rows.items held none in
+    known_none _ (content db key) (count_so (HasKey (posted content db) key) (IsInRecord (content db key)) 0 (key_posted content db key) count) refl

@@ -1,0 +1,44 @@
+use Rattle.std.proofs.Common.{◌∙◌, ap, false, rules, subst, sym}
+use Rattle.sqlite.specs.Held.{state}
+use Rattle.zeb_blocks.specs.Blocks.{LiesIn}
+use Rattle.zeb_register.specs.PackedBlocks.{part_in}
+use Rattle.zeb_register.specs.PackedChanges.{IfTold, IsBlockIn, IsClear, IsCounted, PutsBlock, PutsChanges}
+use Rattle.zeb_register.specs.Store.{Changes, blocks_tree}
+use Rattle.zeb_register.proofs.Calls.{changes_so}
+use Rattle.zeb_register.proofs.PackedReads.{empty_lies}
+use Rattle.zeb_register.proofs.PackedWrites.{clear_told, puts_run}
+use Rattle.zeb_register.proofs.packed_runs.row_begin.Goals as goal
+
+pub changed_by-requires-clause-lies : goal.changed_by-requires-clause-lies
+changed_by-requires-clause-lies g c = subst (LiesIn c.args.block) (sym c.new.ensures.items) (empty_lies c.args.block)
+
+pub returns-in_err-block_begin-clause-damaged : goal.returns-in_err-block_begin-clause-damaged
+returns-in_err-block_begin-clause-damaged g c clean inside store is rises now holds clear new all =
+    let first = state g.S.Store c.args.tx.now.conn.now in
+    c.in_err-block_begin.ensures.honest clean inside store (search rules) (clear_told c.args.db.0 c.args.key.now c.args.block first.now.trees now holds clear.1)
+
+pub returns-clause-call : goal.returns-clause-call
+returns-clause-call g c = record {
+  ok = λ clean inside. let first = state g.S.Store c.args.tx.now.conn.now in
+      let second = state g.S.Store c.block_begin.new.tx.conn.now in
+      let put = c.in_ok-block_begin.ensures.call.ok clean inside in
+      let db = c.args.db.0 in
+      let key = c.args.key.now in
+      let block = c.args.block in
+      let list = c.in_ok-after.after.list.items in
+      let Before = IsClear block c.args.records in
+      let After = IsCounted c.in_ok-after.after.records in
+      let Writes = IfTold false (IsBlockIn db key block) (PutsBlock db key block list) in
+      record {
+        on = put.on;
+        rows = λ store.
+            let puts = subst (λ l. Changes blocks_tree (IfTold false (IsBlockIn db key block) (PutsBlock db key block l)) first second) c.deref.ensures.value (put.rows store) in
+            changes_so blocks_tree Writes (PutsChanges db key c.args.run.now Before After) first second
+            (puts_run db key block c.args.run.now Before After list first.now.trees second.now.trees c.requires.inside c.in_ok-after.ensures.lies (λ now holds clear.
+            let it = c.in_ok-after.ensures.held (now db key) (holds.rising db key) (record { part = c.new.ensures.items ∙ sym clear.1; count = clear.0 }) in
+            (it.0, it.1, it.2.part ∙ ap (λ b. part_in b it.0) c.in_ok-after.ensures.block, it.2.count)) false (λ now holds clear. clear_told db key block first.now.trees now holds clear.1))
+            puts;
+      };
+  err = search rules;
+  crash = search rules;
+}
