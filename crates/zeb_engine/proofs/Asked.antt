@@ -1,18 +1,19 @@
 -- A query of a database: what each refusal answers before the database is asked, and what a look at the register comes to.
-use Rattle.std.proofs.Common.{◌≡◌, ◌⊎◌, ℕ, List, Option, Some, None, Result, Ok, Err, OnOk, string_bytes, refl, sym, ap, subst, inl, inr}
+use Rattle.std.proofs.Common.{◌≡◌, ◌⊎◌, ℕ, List, Option, Some, None, Result, Ok, Err, IfErr, OnOk, string_bytes, refl, sym, ap, subst, inl, inr}
 use Rattle.sqlite.specs.Effect.{Database}
 use Rattle.sqlite.specs.State.{State}
 use Rattle.zeb_query.specs.declared.faults.QueryFault.{QueryFault}
 use Rattle.zeb_query.specs.declared.faults.QueryFault.TheVariants.{Diagnostic, Memory}
-use Rattle.zeb_query.specs.Checks.{IsFault}
-use Rattle.zeb_query.specs.FirstFault.{query_fault}
+use Rattle.zeb_query.specs.Places.{IsFaultOf, IsReadable}
 use Rattle.zeb_register.specs.Calls.{ChangesNothing}
+use Rattle.sqlite.specs.Tree.{Trees}
+use Rattle.zeb_register.specs.Content.{Content}
 use Rattle.zeb_register.specs.Formats.{Format, holds_in}
 use Rattle.zeb_register.proofs.Calls.{store_same}
 use Rattle.zeb_change.specs.declared.refusals.Refusal.{Refusal}
 use Rattle.zeb_engine.specs.declared.replies.Reply.{Reply}
 use Rattle.zeb_engine.specs.Adopting.{StaysOpen}
-use Rattle.zeb_engine.specs.Alone.{Alone, IsSaid, Said}
+use Rattle.zeb_engine.specs.Alone.{Alone, IsSaid, RefusedAlone, Said}
 use Rattle.zeb_engine.specs.Answers.{Answer, answer_of, refused, IsFailure}
 use Rattle.zeb_change.specs.Refused.{Why, diagnostic, why_of, Meets}
 use Rattle.zeb_change.specs.Conditions.{Conditions}
@@ -29,20 +30,19 @@ use Rattle.zeb_engine.proofs.Serving.{keeps_still}
 module _ (Says : Base → Answer → Type 0) (name query : List ℕ) (bases : List Base) where
   -- the answer of the definition, or a failure
   abbrev pub Ends : Answer → Type 0
-  Ends answer = AskedAmong Says name bases (query_fault query) answer ⊎ IsFailure answer
+  Ends answer = AskedAmong Says name query bases answer ⊎ IsFailure answer
 
   -- what is answered is a refusal
   pub refused_ends : (result : Result Reply Refusal) (refusal : Refusal) → result ≡ Err refusal → Ends (refused (why_of refusal)) → Ends (answer_of result)
   refused_ends result refusal is ends = subst (λ (r : Result Reply Refusal). Ends (answer_of r)) (sym is) ends
 
-  pub query_ends : (e : QueryFault) → IsFault e (query_fault query) → Ends (refused (why_of (query_refusal e)))
+  pub query_ends : (e : QueryFault) → IsFaultOf e query → Ends (refused (why_of (query_refusal e)))
   query_ends Memory is = inr (inr refl)
-  query_ends (Diagnostic number place addinfo) is =
-      inl (subst (λ (fault : Option (ℕ × ℕ)). AskedAmong Says name bases fault (refused (diagnostic number place (string_bytes addinfo)))) (sym is.0) (ap (λ text. refused (diagnostic number place text)) is.1))
+  query_ends (Diagnostic number place addinfo) is = inl (inr (number, place, is.0, ap (λ text. refused (diagnostic number place text)) is.1))
 
-  module _ (sound : query_fault query ≡ None) where
+  module _ (readable : IsReadable query) where
     in_base : (answer : Answer) → AskedIn Says name (base_named name bases) answer → Ends answer
-    in_base answer is = inl (subst (λ (fault : Option (ℕ × ℕ)). AskedAmong Says name bases fault answer) (sym sound) is)
+    in_base answer is = inl (inl (readable, is))
 
     no_base : (why : Why) (o : Option Base) → found_or name o ≡ Err why → AskedIn Says name o (refused why)
     no_base why (Some base) said = absurd (cc)
@@ -86,3 +86,11 @@ alone_after format Says name old mid new (Ok reply) nothing opened alone store c
     subst (λ (d : Database). IsSaid Says name d.trees content (answer_of (Ok reply))) same.1
     (alone (store_same old mid same.1 store) content (subst (λ (d : Database). holds_in format d.trees content) (sym same.1) has))
 alone_after format Says name old mid new (Err refusal) nothing opened alone store content has = tt
+
+-- why it is refused
+pub refused_after : (format : Format) (Refuses : Trees → Content → Refusal → Type 0) (old mid : State) (result : Result Reply Refusal) → ChangesNothing old mid → StaysOpen old mid
+    → RefusedAlone format Refuses mid result → RefusedAlone format Refuses old result
+refused_after format Refuses old mid result nothing opened told store content storable has =
+    let same = nothing opened.1 in
+    subst (λ (d : Database). IfErr result (λ why. IsFailure (refused (why_of why)) ⊎ Refuses d.trees content why)) same.1
+    (told (store_same old mid same.1 store) content storable (subst (λ (d : Database). holds_in format d.trees content) (sym same.1) has))

@@ -15,7 +15,8 @@ use Rattle.zeb_engine.specs.Analysed.{AnswersAnalysis, IsAnalysed}
 use Rattle.zeb_engine.specs.Answers.{Answer, answer_of, refused, IsFailure}
 use Rattle.zeb_change.specs.Refused.{Why, why_of, Meets}
 use Rattle.zeb_change.specs.Conditions.{Conditions}
-use Rattle.zeb_engine.specs.Alone.{Alone, AnswersAlone, FindSays, ScanSays}
+use Rattle.zeb_engine.specs.Alone.{Alone, AnswersAlone, FindAlone, FindSays, RefusedAlone, RefusesFind, ScanSays}
+use Rattle.zeb_engine.specs.Readiness.{IsReadyFor}
 use Rattle.zeb_image.specs.Holdings.{Holdings}
 use Rattle.zeb_change.specs.Base.{Base}
 use Rattle.zeb_image.specs.Image.{Keeps}
@@ -23,7 +24,7 @@ use Rattle.zeb_engine.specs.Steps.{Turn, Outcome, Ends, OnlyAnswers, FoundFrom, 
 use Rattle.zeb_engine.specs.Works.{Always, Asks, Finds, ScansFrom, Serves, ServesBy, ServesCommand}
 use Rattle.zeb_engine.proofs.Serving.{early_serves, keeps_still}
 use Rattle.zeb_engine.proofs.Turns.{turn_refused}
-use Rattle.zeb_register.specs.Formats.{Format}
+use Rattle.zeb_register.specs.Formats.{Format, version_of}
 
 pub ready_met : {X : Type 0} (Good : List Base → X → Type 0) (said : Result (List Base) Why) (x : X) → Meets Good said (Ok x) → (bases : List Base) × (said ≡ Ok bases) × Good bases x
 ready_met Good (Ok bases) x met = (bases, refl, met)
@@ -100,10 +101,12 @@ module _ (result : Result Reply Refusal) (files : Vec (Vec ℕ Global) Global) (
 
 pub find_alone : (format : Format) (profile : List Directive) (s : State) (result : Result Reply Refusal) (database : DbName) (query : String Global) (first count : ℕ)
     → (name asked : List ℕ) (from many : ℕ) → name ≡ name_bytes database → asked ≡ string_bytes query → from ≡ first → many ≡ count
-    → Alone format (FindSays profile asked from many) name s result → AnswersAlone format profile (Find database query first count) s result
-find_alone format profile s result database query first count name asked from many is_name is_asked is_from is_many alone =
-    subst₂ (λ (n q : List ℕ). Alone format (FindSays profile q first count) n s result) is_name is_asked
-    (subst₂ (λ (f m : ℕ). Alone format (FindSays profile asked f m) name s result) is_from is_many alone)
+    → Alone format (FindSays profile asked from many) name s result
+    → (IsReadyFor (version_of format) profile s.now.trees → RefusedAlone format (RefusesFind profile name asked from many) s result)
+    → AnswersAlone format profile (Find database query first count) s result
+find_alone format profile s result database query first count name asked from many is_name is_asked is_from is_many alone refuses =
+    subst₂ (λ (n q : List ℕ). FindAlone format profile n q first count s result) is_name is_asked
+    (subst₂ (λ (f m : ℕ). FindAlone format profile name asked f m s result) is_from is_many (alone, refuses))
 
 pub scan_alone : (format : Format) (profile : List Directive) (s : State) (result : Result Reply Refusal) (database : DbName) (query : String Global) (number position : ℕ)
     → (name asked : List ℕ) (many at : ℕ) → name ≡ name_bytes database → asked ≡ string_bytes query → many ≡ number → at ≡ position

@@ -16,8 +16,7 @@ use Rattle.zeb_profile.specs.Indexes.{unit_targets}
 use Rattle.zeb_query.specs.Checks.{Refusal}
 use Rattle.zeb_query.specs.Plans.{PlanValue, ScanValue, plan_of, scan_of}
 use Rattle.zeb_query.specs.Places.{IsReadable}
-use Rattle.zeb_query.specs.FirstFault.{query_fault}
-use Rattle.zeb_query.proofs.TextFaults.{readable}
+use Rattle.zeb_query.proofs.TextFaults.{read_or_faulty}
 use Rattle.zeb_extract.specs.declared.keys.Occurrence.{Occurrence}
 use Rattle.zeb_extract.specs.Listing.{listing}
 use Rattle.zeb_extract.proofs.Listed.{occurrences_are_listed}
@@ -238,11 +237,10 @@ module _ (Says : Base → Answer → Type 0) (name : List ℕ) where
   -- by a query's text, where it has no fault
   asked_by_query : (query : List ℕ) → (IsReadable query → (base : Base) → IsThere (Says base)) → (said : Result (List Base) Why) → IsThere (AskedFrom Says name query said)
   asked_by_query query each (Err why) = (refused why, refl)
-  asked_by_query query each (Ok bases) = from (query_fault query) refl
-    where
-      from : (fault : Option (ℕ × ℕ)) → query_fault query ≡ fault → IsThere (AskedAmong Says name bases fault)
-      from (Some fault) is = (refused (diagnostic fault.0 fault.1 []), refl)
-      from None is = named_there (each (readable query is)) (base_named name bases)
+  asked_by_query query each (Ok bases) = elim (read_or_faulty query) [
+    | inl readable ↦ let said = named_there (each readable) (base_named name bases) in (said.0, inl (readable, said.1))
+    | inr faulty ↦ (refused (diagnostic faulty.0 faulty.1 []), inr (faulty.0, faulty.1, faulty.2, refl))
+  ]
 
 counted_there : (c : Conditions) (name : List ℕ) (said : Result (List Base) Why) → IsThere (CountedFrom c name said)
 counted_there c name (Err why) = (refused why, refl)

@@ -9,7 +9,7 @@ use Rattle.zeb_query.specs.declared.faults.QueryFault.{QueryFault}
 use Rattle.zeb_query.specs.declared.faults.QueryFault.TheVariants.{Diagnostic, Memory}
 use Rattle.zeb_query.specs.Checks.{Fails, Refusal as PlanRefusal}
 use Rattle.zeb_query.specs.Grammar.{QueryValue, SpellsQuery}
-use Rattle.zeb_query.specs.FirstFault.{query_fault}
+use Rattle.zeb_query.specs.Places.{IsReadable}
 use Rattle.zeb_query.specs.Plans.{PlanValue, plan_of}
 use Rattle.zeb_extract.specs.declared.keys.Occurrence.{Occurrence}
 use Rattle.zeb_register.specs.Content.{posted}
@@ -29,9 +29,9 @@ use Rattle.zeb_change.specs.Base.{Base, Kept}
 use Rattle.zeb_image.specs.Holdings.{base_named}
 use Rattle.zeb_change.specs.Outcomes.{query_refusal}
 use Rattle.zeb_engine.specs.Steps.{FindAnswers}
-use Rattle.zeb_engine.specs.Works.{KeepsEach}
 use Rattle.zeb_engine.proofs.Asked.{Ends, said_ends}
 use Rattle.zeb_engine.proofs.Held.{IsHeld, kept_as_named, named_as_kept}
+use Rattle.zeb_engine.proofs.Showing.{KeepsEach}
 use Rattle.zeb_change.proofs.BaseLemmas.{base_numbered}
 use Rattle.zeb_change.proofs.KeptLemmas.{has_taken}
 
@@ -73,7 +73,7 @@ has_dropped zero xs x h = h
 has_dropped (suc n) [] x h = absurd h
 has_dropped (suc n) (y ∷ xs) x h = inr (has_dropped n xs x h)
 
-asked_has : (numbers asked : List ℕ) (first count : ℕ) → asked_of numbers first count ≡ Ok asked → (n : ℕ) → Has asked n → Has numbers n
+pub asked_has : (numbers asked : List ℕ) (first count : ℕ) → asked_of numbers first count ≡ Ok asked → (n : ℕ) → Has asked n → Has numbers n
 asked_has numbers asked first count said n there =
     let part = part_if (nat_lt 1 first && nat_lt (length numbers) first) (diagnostic 13 0 (decimal first)) (take count (drop (first - 1) numbers)) asked said in
     has_dropped (first - 1) numbers n (has_taken count (drop (first - 1) numbers) n (subst (λ (l : List ℕ). Has l n) (sym part) there))
@@ -92,8 +92,10 @@ module _ (format : Format) (profile : List Directive) (trees : Trees) (id : ℤ)
   asked_kept plan numbers asked first count are said n there =
       let holds = (are.each n).0 (asked_has numbers asked first count said n there) in
       let of = known_kept n (holder_known (posted held.content id) in_tables plan n holds) in (
-        (of.0.ident, of.0.bytes, (held.kept (pos n) of.0.ident of.0.bytes).1 (of.0, of.1, ap pos (sym of.2), refl, refl)),
-        λ ident bytes row. let k = (held.kept (pos n) ident bytes).0 row in subst IsUtf8 (sym k.3) (held.sound.sound k.0 k.1).text,
+        (
+          (of.0.ident, (of.0.bytes, (held.kept (pos n) of.0.ident of.0.bytes).1 (of.0, of.1, ap pos (sym of.2), refl, refl))),
+          λ ident bytes row. let k = (held.kept (pos n) ident bytes).0 row in subst IsUtf8 (sym k.3) (held.sound.sound k.0 k.1).text,
+        ),
         (let number = base_numbered profile base held.sound of.0 of.1 in omega (arith, number.1, of.2)),
       )
 
@@ -103,7 +105,7 @@ module _ (format : Format) (profile : List Directive) (trees : Trees) (id : ℤ)
 
   -- ---- the answers
 
-  module _ (name query : List ℕ) (first count : ℕ) (bases : List Base) (sound : query_fault query ≡ None) (named : base_named name bases ≡ Some base) (value : QueryValue) (spells : SpellsQuery query value) where
+  module _ (name query : List ℕ) (first count : ℕ) (bases : List Base) (readable : IsReadable query) (named : base_named name bases ≡ Some base) (value : QueryValue) (spells : SpellsQuery query value) where
     abbrev pub FindEnds : Answer → Type 0
     FindEnds = Ends (FindAnswers profile query first count) name query bases
 
@@ -112,7 +114,7 @@ module _ (format : Format) (profile : List Directive) (trees : Trees) (id : ℤ)
     named_alike_kept n ident = (named_as_kept format profile trees id base held n ident, kept_as_named format profile trees id base held n ident)
 
     planned_ends : (answer : Answer) → IsPlanned (posted held.content id) (has_ident_in trees id) (plan_of profile value) first count answer → FindEnds answer
-    planned_ends answer is = said_ends (FindAnswers profile query first count) name query bases sound base named answer (
+    planned_ends answer is = said_ends (FindAnswers profile query first count) name query bases readable base named answer (
       value,
       spells,
       planned_as (posted held.content id) (occurs profile base.records) held.occurring (has_ident_in trees id) (has_name base.records) named_alike_kept first count answer (plan_of profile value) is,

@@ -35,8 +35,10 @@ pub mod ChangeBegins
 pub mod Held
 pub mod Showing
 pub mod Finds
+pub mod FindRefusals
 pub mod Lookups
 pub mod Scans
+pub mod StoreCauses
 pub mod Dumps
 pub mod Stats
 pub mod Readers
@@ -65,3 +67,4 @@ pub mod EveryAnswerAnalyses
 pub mod EveryAnswer
 pub mod CheckFollows
 pub mod AskedReads
+pub mod NoWork

@@ -13,7 +13,9 @@ use Rattle.zeb_engine.specs.Answers.{IsFailure, refused}
 use Rattle.zeb_change.specs.Base.{Base}
 use Rattle.zeb_image.specs.Holdings.{base_named}
 use Rattle.zeb_image.specs.Image.{AreBases, AreListed}
+use Rattle.zeb_change.specs.declared.refusals.Refusal.TheVariants as refusal
 use Rattle.zeb_change.specs.Outcomes.{register_refusal}
+use Rattle.zeb_engine.specs.PrivateLooking.{MissesDatabase}
 use Rattle.zeb_image.proofs.Bases.{named_found, named_there}
 
 -- a fault of the tables that is no damage is a failure
@@ -31,6 +33,20 @@ pub fault_fails_or : (X : Type 0) (fault : RegFault) → (fault ≡ register.Dam
 fault_fails_or X register.Damaged damaged = inr (damaged refl)
 fault_fails_or X register.Store damaged = inl (inl refl)
 fault_fails_or X register.Memory damaged = inl (inr refl)
+
+-- a fault of the tables is a failure, or damage that has a cause
+pub fault_or_damage : (X : Type 0) (fault : RegFault) → (fault ≡ register.Damaged → X)
+    → IsFailure (refused (why_of (register_refusal fault))) ⊎ ((register_refusal fault ≡ refusal.Damaged) × X)
+fault_or_damage X register.Damaged damaged = inr (refl, damaged refl)
+fault_or_damage X register.Store damaged = inl (inl refl)
+fault_or_damage X register.Memory damaged = inl (inr refl)
+
+-- a fault while a database is looked up
+pub fault_misses : (trees : Trees) (name : List ℕ) (fault : RegFault) → (fault ≡ register.Damaged → ¬ AreCountedDatabases trees name)
+    → IsFailure (refused (why_of (register_refusal fault))) ⊎ MissesDatabase trees name (register_refusal fault)
+fault_misses trees name register.Damaged hidden = inr (inr (refl, hidden refl))
+fault_misses trees name register.Store hidden = inl (inl refl)
+fault_misses trees name register.Memory hidden = inl (inr refl)
 
 module _ (trees : Trees) (bases : List Base) (id_of : List ℕ → ℤ) (listed : AreListed trees bases id_of) where
   pub counted : (name : List ℕ) → AreCountedDatabases trees name

@@ -6,8 +6,7 @@ use Rattle.zeb_profile.specs.declared.directives.Directive.{Directive}
 use Rattle.zeb_query.specs.Checks.{Refusal}
 use Rattle.zeb_query.specs.Grammar.{QueryValue}
 use Rattle.zeb_query.specs.Plans.{PlanValue, ScanValue, plan_of, scan_of}
-use Rattle.zeb_query.specs.FirstFault.{query_fault}
-use Rattle.zeb_query.proofs.TextFaults.{one_query}
+use Rattle.zeb_query.proofs.TextFaults.{apart, one_fault, one_query}
 use Rattle.zeb_extract.specs.declared.keys.Occurrence.{Occurrence}
 use Rattle.zeb_analysis.proofs.ToldOnce.{told_once as analyses_once}
 use Rattle.zeb_register.specs.declared.registers.TermCount.{TermCount}
@@ -16,8 +15,8 @@ use Rattle.zeb_register.proofs.RisingLists.{same_list}
 use Rattle.zeb_engine.specs.declared.commands.Command.{Command}
 use Rattle.zeb_engine.specs.declared.commands.Command.TheVariants.{Init, Check, Reindex, Upgrade, Create, Drop, Stat, Dump, Change, Find, Scan, Analyse}
 use Rattle.zeb_engine.specs.Analysed.{IsAnalysed, analysis_answer}
-use Rattle.zeb_engine.specs.Answers.{Answer, found, scanned}
-use Rattle.zeb_change.specs.Refused.{Why}
+use Rattle.zeb_engine.specs.Answers.{Answer, found, refused, scanned}
+use Rattle.zeb_change.specs.Refused.{Why, diagnostic}
 use Rattle.zeb_change.specs.Conditions.{Conditions}
 use Rattle.zeb_search.specs.Holds.{TreeHolds}
 use Rattle.zeb_search.specs.Lists.{AreNumbers}
@@ -98,15 +97,19 @@ module _ (one other : Answer) where
   asked_once : (Says : Base → Answer → Type 0) → ((base : Base) → Says base one → Says base other → one ≡ other) → (name query : List ℕ) (said : Result (List Base) Why)
       → AskedFrom Says name query said one → AskedFrom Says name query said other → one ≡ other
   asked_once Says each name query (Err why) x y = x ∙ sym y
-  asked_once Says each name query (Ok bases) x y = go (query_fault query) x y
+  asked_once Says each name query (Ok bases) x y = go x y
     where
       there : (base : Option Base) → AskedIn Says name base one → AskedIn Says name base other → one ≡ other
       there None a b = a ∙ sym b
       there (Some base) a b = each base a b
 
-      go : (fault : Option (ℕ × ℕ)) → AskedAmong Says name bases fault one → AskedAmong Says name bases fault other → one ≡ other
-      go (Some fault) a b = a ∙ sym b
-      go None a b = there (base_named name bases) a b
+      go : AskedAmong Says name query bases one → AskedAmong Says name query bases other → one ≡ other
+      go (inl a) (inl b) = there (base_named name bases) a.1 b.1
+      go (inl a) (inr b) = absurd (apart query b.0 b.1 a.0 b.2)
+      go (inr a) (inl b) = absurd (apart query a.0 a.1 b.0 a.2)
+      go (inr a) (inr b) =
+          let same : (a.0 ≡ b.0) × (a.1 ≡ b.1) = one_fault query a.0 a.1 b.0 b.1 a.2 b.2 in
+          a.3 ∙ ap₂ (λ (number place : ℕ). refused (diagnostic number place [])) same.0 same.1 ∙ sym b.3
 
   told_once : (said : Option Outcome) → IsTold said one → IsTold said other → one ≡ other
   told_once None x y = absurd x

@@ -1,5 +1,5 @@
 -- What the definition answers is never damage, nor a failure of the store, of the memory or of a reader.
-use Rattle.std.proofs.Common.{◌+◌, ◌-◌, ℕ, Bool, true, false, cond, List, [], ◌∷◌, Option, Some, None, Result, Ok, Err, map, length, take, drop, nat_le, nat_lt, sym, subst, string_bytes}
+use Rattle.std.proofs.Common.{◌+◌, ◌-◌, ℕ, Bool, true, false, cond, inl, inr, List, [], ◌∷◌, Option, Some, None, Result, Ok, Err, map, length, take, drop, nat_le, nat_lt, sym, subst, string_bytes}
 use Rattle.std.specs.Prelude.{◌&&◌, ◌||◌, ⊤}
 use Rattle.std.specs.Str.{bytes_eq}
 use Rattle.std.specs.Fmt.{decimal}
@@ -12,7 +12,6 @@ use Rattle.zeb_profile.specs.Canonical.{canonical_text}
 use Rattle.zeb_register.specs.Formats.{plain_rows, version_of}
 use Rattle.zeb_query.specs.Checks.{Refusal}
 use Rattle.zeb_query.specs.Plans.{PlanValue, ScanValue, plan_of, scan_of}
-use Rattle.zeb_query.specs.FirstFault.{query_fault}
 use Rattle.zeb_extract.specs.declared.keys.Occurrence.{Occurrence}
 use Rattle.zeb_extract.specs.declared.naming.IdentFault.{IdentFault}
 use Rattle.zeb_extract.specs.declared.naming.IdentFault.TheVariants as ident
@@ -260,15 +259,15 @@ module _ (O : ℕ → Occurrence → Type 0) (number position : ℕ) (answer : A
 asked_own : (Says : Base → Answer → Type 0) → ((base : Base) (answer : Answer) → Says base answer → IsOwnAnswer answer) → (name query : List ℕ) (answer : Answer) (said : Result (List Base) Why) → AreOwn said
     → AskedFrom Says name query said answer → IsOwnAnswer answer
 asked_own Says each name query answer (Err why) own is = subst IsOwnAnswer (sym is) own
-asked_own Says each name query answer (Ok bases) own is = go (query_fault query) is
+asked_own Says each name query answer (Ok bases) own is = go is
   where
     there : (base : Option Base) → AskedIn Says name base answer → IsOwnAnswer answer
     there None h = subst IsOwnAnswer (sym h) tt
     there (Some base) h = each base answer h
 
-    go : (fault : Option (ℕ × ℕ)) → AskedAmong Says name bases fault answer → IsOwnAnswer answer
-    go (Some fault) h = subst IsOwnAnswer (sym h) tt
-    go None h = there (base_named name bases) h
+    go : AskedAmong Says name query bases answer → IsOwnAnswer answer
+    go (inl read) = there (base_named name bases) read.1
+    go (inr faulty) = subst IsOwnAnswer (sym faulty.3) tt
 
 -- ---- the commands that count and show
 

@@ -11,7 +11,9 @@ use Rattle.zeb_register.proofs.RowsAreLists.{one_text}
 use Rattle.zeb_change.specs.declared.refusals.Refusal.{Refusal}
 use Rattle.zeb_change.specs.declared.refusals.Refusal.TheVariants as refusal
 use Rattle.zeb_change.specs.Outcomes.{register_refusal}
-use Rattle.zeb_change.specs.Refused.{NeverUnready}
+use Rattle.zeb_change.specs.Refused.{NeverUnready, why_of}
+use Rattle.zeb_engine.specs.Answers.{IsFailure, refused}
+use Rattle.zeb_engine.specs.PrivateLooking.{IsUnready}
 use Rattle.zeb_engine.specs.Readiness.{GoesByTexts, HidesText, IsReadyFor, IsRefusedOver, KeepsText}
 
 -- ---- one text
@@ -32,6 +34,24 @@ module _ (version : List ℕ) (profile : List Directive) where
   fault_texts trees register.Damaged hidden = inl (hidden refl)
   fault_texts trees register.Store hidden = tt
   fault_texts trees register.Memory hidden = tt
+
+  -- a register that is ready is refused by a failure alone
+  pub unready_fails : (trees : Trees) → IsReadyFor version profile trees → (it : Refusal) → IsUnready it → IsRefusedOver version profile trees it
+      → ◌≢◌ {A = Result (Unit {0}) Refusal} (Err it) (Err refusal.Damaged) → IsFailure (refused (why_of it))
+  unready_fails trees texts refusal.NotInitialised few is whole = absurd (is version texts.has_version)
+  unready_fails trees texts refusal.OldFormat few is whole = absurd (is.1 texts.has_version)
+  unready_fails trees texts refusal.ProfileChanged few is whole = absurd (is.1 texts.has_profile)
+  unready_fails trees texts (refusal.Diagnostic number place addinfo) few is whole = absurd few
+  unready_fails trees texts refusal.Exists few is whole = absurd few
+  unready_fails trees texts (refusal.Record file nth fault) few is whole = absurd few
+  unready_fails trees texts (refusal.Unknown file nth) few is whole = absurd few
+  unready_fails trees texts refusal.DatabaseFull few is whole = absurd few
+  unready_fails trees texts refusal.TooManyRecords few is whole = absurd few
+  unready_fails trees texts refusal.Damaged few is whole = absurd (whole refl)
+  unready_fails trees texts refusal.IdentifierRuleChanged few is whole = absurd few
+  unready_fails trees texts (refusal.ReadFault file) few is whole = absurd few
+  unready_fails trees texts refusal.Store few is whole = inl refl
+  unready_fails trees texts refusal.Memory few is whole = inr refl
 
   -- ---- after a look at the register
 
@@ -55,6 +75,12 @@ module _ (version : List ℕ) (profile : List Directive) where
   pub ready_then : {T X : Type 0} (s : State) (x : X) → GoesByTexts version profile s (Ok x) → (result : Result T Refusal) → NeverUnready result → GoesByTexts version profile s result
   ready_then s x is (Ok reply) never = is
   ready_then s x is (Err it) never = λ store. other_texts s.now.trees it (is store) never
+
+-- a fault that is no damage is answered by another refusal
+pub fault_whole : {T : Type 0} (fault : RegFault) → (fault ≡ register.Damaged → ⊥) → ◌≢◌ {A = Result T Refusal} (Err (register_refusal fault)) (Err refusal.Damaged)
+fault_whole register.Damaged whole is = whole refl
+fault_whole register.Store whole is = cc
+fault_whole register.Memory whole is = cc
 
 -- a fault of the tables is no such refusal
 pub fault_never : {T : Type 0} (fault : RegFault) → NeverUnready {T = T} (Err (register_refusal fault))

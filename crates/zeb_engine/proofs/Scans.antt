@@ -6,7 +6,7 @@ use Rattle.zeb_query.specs.declared.faults.QueryFault.{QueryFault}
 use Rattle.zeb_query.specs.declared.faults.QueryFault.TheVariants.{Diagnostic, Memory}
 use Rattle.zeb_query.specs.Checks.{Fails, Refusal}
 use Rattle.zeb_query.specs.Grammar.{QueryValue, SpellsQuery}
-use Rattle.zeb_query.specs.FirstFault.{query_fault}
+use Rattle.zeb_query.specs.Places.{IsReadable}
 use Rattle.zeb_query.specs.Plans.{ScanValue, scan_of}
 use Rattle.zeb_extract.specs.declared.keys.Occurrence.{Occurrence}
 use Rattle.zeb_register.specs.declared.registers.TermCount.{TermCount}
@@ -54,13 +54,13 @@ terms_answered O profile value number position plan planned terms are =
     subst (λ r. IsScanPlanned O r number position (scanned plan.register (map (λ t. (t.term, t.records)) terms))) (sym planned) (terms, are, refl)
 
 module _ (format : Format) (profile : List Directive) (trees : Trees) (id : ℤ) (base : Base) (held : IsHeld format profile trees id base)
-    (name query : List ℕ) (number position : ℕ) (bases : List Base) (sound : query_fault query ≡ None) (named : base_named name bases ≡ Some base) (value : QueryValue) (spells : SpellsQuery query value) where
+    (name query : List ℕ) (number position : ℕ) (bases : List Base) (readable : IsReadable query) (named : base_named name bases ≡ Some base) (value : QueryValue) (spells : SpellsQuery query value) where
   abbrev pub ScanEnds : Answer → Type 0
   ScanEnds = Ends (ScanAnswers profile query number position) name query bases
 
   -- what is answered by the registers is answered by the records' bytes
   planned_ends : (answer : Answer) → IsScanPlanned (posted held.content id) (scan_of profile value) number position answer → ScanEnds answer
-  planned_ends answer is = said_ends (ScanAnswers profile query number position) name query bases sound base named answer
+  planned_ends answer is = said_ends (ScanAnswers profile query number position) name query bases readable base named answer
       (value, spells, scan_planned_as (posted held.content id) (occurs profile base.records) held.occurring number position answer (scan_of profile value) is)
 
   pub plan_ends : (e : QueryFault) → Fails e (scan_of profile value) → ScanEnds (refused (why_of (query_refusal e)))

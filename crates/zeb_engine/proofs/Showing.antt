@@ -1,5 +1,5 @@
 -- The hits that are shown: their records by number, and what stays known of the tables while they are read.
-use Rattle.std.proofs.Common.{◌≡◌, ◌≢◌, ◌∙◌, ◌<◌, ◌≤◌, ◌^◌, nat_lt, arith, ℕ, ℤ, pos, ◌+◌, List, [], ◌∷◌, ◌++◌, length, get_or, take, String, string_bytes, Option, Some, None, refl, sym, ap, ap₂, subst, inl, inr}
+use Rattle.std.proofs.Common.{◌≡◌, ◌≢◌, ◌⊎◌, ◌∙◌, ◌<◌, ◌≤◌, ◌^◌, nat_lt, arith, ℕ, ℤ, pos, ◌+◌, List, [], ◌∷◌, ◌++◌, length, get_or, take, String, string_bytes, Option, Some, None, refl, sym, ap, ap₂, subst, inl, inr}
 use Rattle.std.specs.declared.alloc.Global.{Global}
 use Rattle.std.proofs.lemmas.List.{take_more, map-append, get_or_default}
 use Rattle.std.proofs.lemmas.Bool.{cases_Bool}
@@ -7,13 +7,23 @@ use Rattle.std.proofs.lemmas.Bool.Decides.{nat_tests}
 use Rattle.sqlite.specs.Tree.{Trees}
 use Rattle.sqlite.specs.Effect.{Database}
 use Rattle.sqlite.specs.State.{State}
+use Rattle.sqlite_rules.specs.Lists.{Has}
 use Rattle.sqlite_rules.proofs.ListLemmas.{has_at, has_either}
 use Rattle.zeb_register.specs.Calls.{ChangesNothing}
 use Rattle.zeb_register.specs.Kept.{IsIdentOf, AreReadableIdents}
 use Rattle.zeb_register.proofs.Calls.{store_same}
 use Rattle.zeb_search.specs.Registers.{has_ident_in}
+use Rattle.zeb_change.specs.declared.refusals.Refusal.{Refusal}
+use Rattle.zeb_change.specs.declared.refusals.Refusal.TheVariants.{Damaged}
+use Rattle.zeb_change.specs.Refused.{why_of}
+use Rattle.zeb_engine.specs.Alone.{CanBeShown, HidesOne}
+use Rattle.zeb_engine.specs.Answers.{IsFailure, refused}
 use Rattle.zeb_engine.specs.Finding.{AreShown}
-use Rattle.zeb_engine.specs.Works.{KeepsEach, ShowsStore}
+use Rattle.zeb_engine.specs.Works.{ShowsStore}
+
+-- a record of each of the numbers is kept, its identifier is UTF-8, and a column stores the number
+abbrev pub KeepsEach : Trees → ℤ → List ℕ → Type 0
+KeepsEach trees db numbers = (n : ℕ) → Has numbers n → CanBeShown trees db n × (n < 2 ^ 63)
 
 -- what is seen stays while nothing changes
 pub still_shows : (old now : State) (trees : Trees) → ChangesNothing old now → ShowsStore old trees → ShowsStore now trees
@@ -47,12 +57,21 @@ module _ (trees : Trees) (db : ℤ) where
     | inr more ↦ absurd (let none : found ≡ None = large (grind (arith, nat_tests)) in cc)
   ]
 
-  -- each number that is looked up has a record
-  pub each_kept : (numbers : List ℕ) (index number : ℕ) (found : Option (String Global)) → index < length numbers → number ≡ get_or numbers index 0 → KeepsEach trees db numbers → (number < 2 ^ 63 → IsIdentOf trees db (pos number) found) → found ≢ None
-  each_kept numbers index number None within is keeps none same =
-      let kept = keeps number (has_at numbers index number within (is ∙ get_or_default numbers index 0 number within)) in
-      none kept.2 kept.0.0 kept.0.1 kept.0.2
-  each_kept numbers index number (Some ident) within is keeps named same = cc
+  -- ---- a record that can't be shown
 
-  pub each_readable : (numbers : List ℕ) (index number : ℕ) → index < length numbers → number ≡ get_or numbers index 0 → KeepsEach trees db numbers → AreReadableIdents trees db (pos number)
-  each_readable numbers index number within is keeps = (keeps number (has_at numbers index number within (is ∙ get_or_default numbers index 0 number within))).1
+  -- one of the numbers that are looked up has no identifier
+  pub none_shown : (numbers : List ℕ) (index number : ℕ) (found : Option (String Global)) → index < length numbers → number ≡ get_or numbers index 0 → ((n : ℕ) → Has numbers n → n < 2 ^ 63)
+      → (number < 2 ^ 63 → IsIdentOf trees db (pos number) found) → found ≡ None → HidesOne trees db numbers
+  none_shown numbers index number None within is small none same =
+      let there = has_at numbers index number within (is ∙ get_or_default numbers index 0 number within) in
+      (number, there, λ shown. none (small number there) shown.0.0 shown.0.1.0 shown.0.1.1)
+  none_shown numbers index number (Some ident) within is small named same = cc
+
+  -- it has one that can't be read
+  pub hidden_shown : (numbers : List ℕ) (index number : ℕ) → index < length numbers → number ≡ get_or numbers index 0 → (¬ AreReadableIdents trees db (pos number)) → HidesOne trees db numbers
+  hidden_shown numbers index number within is hidden = (number, has_at numbers index number within (is ∙ get_or_default numbers index 0 number within), λ shown. hidden shown.1)
+
+  -- where each record is kept and its identifier can be read, only a failure refuses
+  pub kept_fails : (numbers : List ℕ) (it : Refusal) → KeepsEach trees db numbers → IsFailure (refused (why_of it)) ⊎ ((it ≡ Damaged) × HidesOne trees db numbers) → IsFailure (refused (why_of it))
+  kept_fails numbers it keeps (inl failed) = failed
+  kept_fails numbers it keeps (inr damaged) = absurd (damaged.1.2 (keeps damaged.1.0 damaged.1.1).0)

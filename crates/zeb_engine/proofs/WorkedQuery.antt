@@ -1,5 +1,5 @@
 -- The word of a title, asked for by a query's text.
-use Rattle.std.proofs.Common.{◌≡◌, ◌↔◌, ℕ, List, [], ◌∷◌, None, Ok, refl, sym, subst, codes, string_bytes}
+use Rattle.std.proofs.Common.{◌≡◌, ◌↔◌, ℕ, List, [], ◌∷◌, None, Ok, inl, inr, refl, sym, subst, codes, string_bytes}
 use Rattle.std.specs.Str.{chars, is_utf8}
 use lib.Utf8.{encode}
 use Rattle.ucd_category.proofs.Computing.{ucd_category}
@@ -8,10 +8,12 @@ use Rattle.zeb_text.specs.Folding.{folded}
 use Rattle.zeb_text.specs.Words.{is_word_character, runs_of}
 use Rattle.zeb_text.specs.Truncation.{truncated}
 use Rattle.zeb_query.specs.Words.{Word}
-use Rattle.zeb_query.specs.FirstFault.{words_at, unquoted, query_fault}
+use Rattle.zeb_query.specs.PrivateWalk.{words_at, unquoted}
+use Rattle.zeb_query.specs.Places.{IsReadable}
 use Rattle.zeb_query.specs.Grammar.{QueryValue, TermValue, IsQuery, is_term, is_attribute, is_structure, kind_and_value, no_head, under, with_attribute, SpellsQuery}
 use Rattle.zeb_query.specs.Attributes.{holding_of}
 use Rattle.zeb_query.proofs.WordStretches.{words_are_read}
+use Rattle.zeb_query.proofs.TextFaults.{apart, readable}
 use Rattle.zeb_query.specs.Plans.{leaf_plan, plan_asked, plan_of}
 use Rattle.zeb_extract.specs.Sample.{title_profile}
 use Rattle.zeb_engine.specs.declared.commands.Command.{Command}
@@ -51,9 +53,9 @@ spells_words = is_structure _ _ (is_attribute (plain 0 (codes "@attr")) (plain 6
 spells : SpellsQuery text query
 spells = record { words = words_at 0 (chars text); are_words = words_are_read (chars text); spelled = subst (λ words. IsQuery words query) (sym words_are) spells_words }
 
-sound : query_fault text ≡ None
+is_readable : IsReadable text
 unfolding chars is_utf8 encode kind_and_value
-sound = refl
+is_readable = readable text refl
 
 planned : plan_of title_profile query ≡ Ok (title_plan (codes "whale"))
 unfolding leaf_plan plan_asked holding_of chars is_utf8 encode caseless ucd_category folded is_word_character runs_of truncated
@@ -76,13 +78,14 @@ module _ (version : List ℕ) (limits : Limits) (answer : Answer) where
   -- the text has no fault, and the database is there
   here : Answers answer → FoundFrom c (codes "Default") text 1 20 (ready c (one_book version)) answer
   here is =
-      let among = subst (λ fault. AskedAmong (FindAnswers title_profile text 1 20) (codes "Default") (book_base ∷ []) fault answer) (sym sound) is in
-      subst (λ bases. FoundFrom c (codes "Default") text 1 20 bases answer) (sym (ready_held c (book_base ∷ []))) among
+      subst (λ bases. FoundFrom c (codes "Default") text 1 20 bases answer) (sym (ready_held c (book_base ∷ []))) (inl (is_readable, is))
 
   there : FoundFrom c (codes "Default") text 1 20 (ready c (one_book version)) answer → Answers answer
-  there is =
-      let among = subst (λ bases. FoundFrom c (codes "Default") text 1 20 bases answer) (ready_held c (book_base ∷ [])) is in
-      subst (λ fault. AskedAmong (FindAnswers title_profile text 1 20) (codes "Default") (book_base ∷ []) fault answer) sound among
+  there is = go (subst (λ bases. FoundFrom c (codes "Default") text 1 20 bases answer) (ready_held c (book_base ∷ [])) is)
+    where
+      go : AskedAmong (FindAnswers title_profile text 1 20) (codes "Default") text (book_base ∷ []) answer → Answers answer
+      go (inl read) = read.1
+      go (inr faulty) = absurd (apart text faulty.0 faulty.1 is_readable faulty.2)
 
   -- asked under any names for the four parts of the command
   asked_as : (name words : List ℕ) (first count : ℕ) → name ≡ codes "Default" → words ≡ text → first ≡ 1 → count ≡ 20

@@ -24,3 +24,4 @@ pub mod Worked
 pub mod Crashes
 pub mod Lasting
 pub mod Reads
+pub mod Causes

@@ -5,6 +5,7 @@ use Rattle.sqlite.specs.Tree.{Trees}
 use Rattle.sqlite.specs.State.{State}
 use Rattle.zeb_profile.specs.declared.directives.Directive.{Directive}
 use Rattle.zeb_register.specs.Calls.{ChangesNothing}
+use Rattle.zeb_register.specs.Catalog.{AreCountedDatabases, IsDatabaseOf}
 use Rattle.zeb_register.specs.Formats.{plain_rows, version_of}
 use Rattle.zeb_register.specs.Store.{IsStore, AreReadableTexts}
 use Rattle.zeb_change.specs.declared.refusals.Refusal.{Refusal}
@@ -15,6 +16,7 @@ use Rattle.zeb_engine.specs.declared.looks.Standing.TheVariants.{Upgraded, First
 use Rattle.zeb_engine.specs.Adopting.{StaysOpen}
 use Rattle.zeb_engine.specs.Answers.{IsFailure, refused}
 use Rattle.zeb_engine.specs.Readiness.{IsReadyFor, KeepsText}
+use Rattle.zeb_engine.specs.Steps.{no_database}
 
 -- what a look did to the connection, and what it found on the tables of a store
 pub record IsLook {T : Type 0} (Finds : Trees → T → Type 0) (Refuses : Trees → Refusal → Type 0) (old new : State) (result : Result T Refusal) : Type 0 where
@@ -62,3 +64,8 @@ IsUnready Damaged = Unit {0}
 IsUnready Store = Unit {0}
 IsUnready Memory = Unit {0}
 IsUnready other = ⊥
+
+-- over which tables the database of a name isn't found: none has the name, or its last number is below 0
+abbrev pub MissesDatabase : Trees → List ℕ → Refusal → Type 0
+MissesDatabase trees name refusal =
+    (IsDatabaseOf trees name None × (why_of refusal ≡ no_database name)) ⊎ ((refusal ≡ Damaged) × (¬ AreCountedDatabases trees name))

@@ -5,7 +5,7 @@ use Rattle.std.specs.List.{flat_map}
 use Rattle.std.specs.Str.{bytes_eq}
 use Rattle.zeb_profile.specs.declared.directives.Directive.{Directive}
 use Rattle.zeb_profile.specs.Canonical.{canonical_text}
-use Rattle.zeb_query.specs.FirstFault.{query_fault}
+use Rattle.zeb_query.specs.Places.{IsFaulty, IsReadable}
 use Rattle.zeb_marc.specs.Splits.{Split}
 use Rattle.zeb_register.specs.Formats.{plain_rows, version_of}
 use Rattle.zeb_engine.specs.declared.commands.Command.{Command}
@@ -120,13 +120,15 @@ abbrev pub AskedIn : (Says : Base → Answer → Type 0) → List ℕ → Option
 AskedIn Says name None answer = answer ≡ refused (no_database name)
 AskedIn Says name (Some base) answer = Says base answer
 
-abbrev pub AskedAmong : (Says : Base → Answer → Type 0) → List ℕ → List Base → Option (ℕ × ℕ) → Answer → Type 0
-AskedAmong Says name bases (Some fault) answer = answer ≡ refused (diagnostic fault.0 fault.1 [])
-AskedAmong Says name bases None answer = AskedIn Says name (base_named name bases) answer
+-- a text that is read is asked of the database of this name; another is refused by its fault
+abbrev pub AskedAmong : (Says : Base → Answer → Type 0) → (name query : List ℕ) → List Base → Answer → Type 0
+AskedAmong Says name query bases answer =
+    (IsReadable query × AskedIn Says name (base_named name bases) answer)
+    ⊎ ((number : ℕ) × (place : ℕ) × IsFaulty query number place × (answer ≡ refused (diagnostic number place [])))
 
 abbrev pub AskedFrom : (Says : Base → Answer → Type 0) → (name query : List ℕ) → Result (List Base) Why → Answer → Type 0
 AskedFrom Says name query (Err why) answer = answer ≡ refused why
-AskedFrom Says name query (Ok bases) answer = AskedAmong Says name bases (query_fault query) answer
+AskedFrom Says name query (Ok bases) answer = AskedAmong Says name query bases answer
 
 abbrev pub FoundFrom : Conditions → List ℕ → List ℕ → ℕ → ℕ → Result (List Base) Why → Answer → Type 0
 FoundFrom c name query first count = AskedFrom (FindAnswers c.profile query first count) name query

@@ -1,11 +1,9 @@
 -- What commands do to a connection, and to what its tables hold.
-use Rattle.std.specs.Prelude.{◌≡◌, ◌⊎◌, ◌<◌, ◌^◌, ℕ, ℤ, pos, List, [], ◌∷◌, Result, Ok, Err, IsTrue, OnOk}
+use Rattle.std.specs.Prelude.{◌≡◌, ◌⊎◌, ℕ, List, [], ◌∷◌, Result, Ok, Err, IsTrue, OnOk}
 use Rattle.sqlite.specs.Tree.{Trees}
 use Rattle.sqlite.specs.State.{State, KeepsCommit}
-use Rattle.sqlite_rules.specs.Lists.{Has}
 use Rattle.zeb_register.specs.Calls.{GoesOn}
-use Rattle.zeb_register.specs.Store.{IsStore, HasRecord}
-use Rattle.zeb_register.specs.Kept.{AreReadableIdents}
+use Rattle.zeb_register.specs.Store.{IsStore}
 use Rattle.zeb_engine.specs.declared.commands.Command.{Command}
 use Rattle.zeb_engine.specs.declared.replies.Reply.{Reply}
 use Rattle.zeb_change.specs.declared.refusals.Refusal.{Refusal}
@@ -39,11 +37,6 @@ Works Fits outcome old new (Err refusal) =
 -- an open connection shows these tables, and they are the store's
 abbrev pub ShowsStore : State → Trees → Type 0
 ShowsStore s trees = IsTrue s.is_open → IsStore s × (s.now.trees ≡ trees)
-
--- a record of each of the numbers is kept, its identifier is UTF-8, and a column stores the number
-abbrev pub KeepsEach : Trees → ℤ → List ℕ → Type 0
-KeepsEach trees db numbers =
-    (n : ℕ) → Has numbers n → ((ident : List ℕ) × (bytes : List ℕ) × HasRecord trees db (pos n) ident bytes) × AreReadableIdents trees db (pos n) × (n < 2 ^ 63)
 
 -- ---- outside a transaction
 

@@ -9,6 +9,7 @@ ghost use Rattle.zeb_register.specs.Calls.{ChangesNothing};
 ghost use Rattle.zeb_register.specs.Formats.{version_of};
 ghost use Rattle.zeb_engine.specs.Adopting.{StaysOpen};
 ghost use Rattle.zeb_engine.specs.Answers.{IsFailure, refused};
+ghost use Rattle.zeb_engine.specs.Causes.{HasStoreCause};
 ghost use Rattle.zeb_change.specs.Refused.{why_of};
 ghost use Rattle.zeb_change.specs.Conditions.{conditions};
 ghost use Rattle.zeb_change.specs.declared.settings.Limits.{Limits};
@@ -51,6 +52,8 @@ fn bytes_of<S: Alter>(
     ensures crash { Survives (state S.Store connection.old) (state S.Store connection.new) (λ _. ⊥) }
     ensures unread { NoReadFault result }
     ensures ready { NeverUnready result }
+    ensures caused { HasCleanDisk (state S.Store connection.new)
+        → HasStoreCause (state S.Store connection.old) (state S.Store connection.new) result }
 {
     let mut bytes = Vec::new(alloc);
     let mut next: u64 = 0;
@@ -84,6 +87,9 @@ pub(crate) fn dump<S: Alter, L: Layout>(
     ensures unread { NoReadFault result }
     ensures ready { HasCleanDisk (state S.Store connection.new)
         → GoesByTexts (version_of L.format) profile.now (state S.Store connection.old) result }
+    // The store fails for a cause.
+    ensures caused { HasCleanDisk (state S.Store connection.new)
+        → HasStoreCause (state S.Store connection.old) (state S.Store connection.new) result }
 {
     // Its profile is some text's.
     profile.is_of_some_text();

@@ -1,10 +1,10 @@
 //! Finding records by a query.
 
-ghost use Rattle.std.specs.Prelude.{◌≡◌, ◌⊎◌, List, false, map, string_bytes, IfOk, IfErr, OnOk, IsTrue, Ok};
+ghost use Rattle.std.specs.Prelude.{◌≡◌, ◌⊎◌, ◌<◌, ◌^◌, ℕ, List, false, map, string_bytes, IfOk, IfErr, OnOk, IsTrue, Ok};
 ghost use Rattle.sqlite.specs.Held.{state};
 ghost use Rattle.sqlite.specs.State.{HasCleanDisk, Survives};
 ghost use Rattle.sqlite.specs.Tree.{Trees};
-ghost use Rattle.zeb_query.specs.FirstFault.{query_fault};
+ghost use Rattle.sqlite_rules.specs.Lists.{Has};
 ghost use Rattle.zeb_register.specs.Calls.{ChangesNothing};
 ghost use Rattle.zeb_register.specs.Formats.{version_of};
 ghost use Rattle.zeb_search.specs.Registers.{has_ident_in};
@@ -13,7 +13,7 @@ ghost use Rattle.zeb_engine.specs.Adopting.{StaysOpen};
 ghost use Rattle.zeb_engine.specs.Answers.{answer_of, refused, IsFailure};
 ghost use Rattle.zeb_change.specs.Refused.{why_of, NeverUnready, Meets};
 ghost use Rattle.zeb_change.specs.Conditions.{conditions};
-ghost use Rattle.zeb_engine.specs.Alone.{Alone, FindSays};
+ghost use Rattle.zeb_engine.specs.Alone.{Alone, FindSays, HidesOne, RefusedAlone, RefusesFind};
 ghost use Rattle.zeb_engine.specs.Finding.{AreShown, asked_of};
 ghost use Rattle.zeb_engine.specs.Reads.{FindReads};
 ghost use Rattle.zeb_image.specs.Holdings.{Holdings};
@@ -22,7 +22,7 @@ ghost use Rattle.zeb_image.specs.Image.{Keeps};
 ghost use Rattle.zeb_image.specs.NameOf.{name_bytes};
 ghost use Rattle.zeb_change.specs.Reading.{NoReadFault};
 ghost use Rattle.zeb_engine.specs.Steps.{ready, AskedAmong, FindAnswers};
-ghost use Rattle.zeb_engine.specs.Works.{KeepsEach, ShowsStore};
+ghost use Rattle.zeb_engine.specs.Works.{ShowsStore};
 
 use crate::readiness::existing_database;
 use crate::replies::{Hit, Reply};
@@ -46,7 +46,7 @@ pub(crate) struct Question<'a> {
     pub count: u32,
 }
 
-/// The hits with their identifiers; `Damaged` where one of them is no kept record.
+/// The hits with their identifiers; `Damaged` where one of them is no kept record, or its identifier is no UTF-8.
 fn show<S: Alter>(
     alloc: Global,
     connection: &mut Connection<S>,
@@ -62,9 +62,10 @@ fn show<S: Alter>(
     ensures shown { HasCleanDisk (state S.Store connection.new) → (trees : Trees) → ShowsStore (state S.Store connection.old) trees
         → IfOk result (λ shown. AreShown (has_ident_in trees database.0) numbers.now (map (λ hit.
         (hit.sysno, string_bytes hit.ident)) shown.items)) }
-    ensures failed { HasCleanDisk (state S.Store connection.new) → (trees : Trees) → ShowsStore (state S.Store connection.old) trees
-        → KeepsEach trees database.0 numbers.now
-        → IfErr result (λ refusal. IsFailure (refused (why_of refusal))) }
+    ensures refused { HasCleanDisk (state S.Store connection.new) → (trees : Trees) → ShowsStore (state S.Store connection.old) trees
+        → ((n : ℕ) → Has numbers.now n → n < 2 ^ 63)
+        → IfErr result (λ refusal. IsFailure (refused (why_of refusal))
+        ⊎ ((refusal ≡ Refusal.Damaged) × HidesOne trees database.0 numbers.now)) }
     ensures crash { Survives (state S.Store connection.old) (state S.Store connection.new) (λ _. ⊥) }
     ensures unread { NoReadFault result }
     ensures ready { NeverUnready result }
@@ -124,7 +125,7 @@ pub(crate) fn find<S: Alter, L: Layout>(
         → (limits : Limits) (before : Holdings) (bases : List Base)
         → ready (conditions (version_of L.format) profile.now limits) before ≡ Ok bases → Keeps (state S.Store connection.old) before
         → AskedAmong (FindAnswers profile.now question.entry.query.now question.entry.first question.entry.count)
-        (name_bytes name.now) bases (query_fault question.entry.query.now) (answer_of result)
+        (name_bytes name.now) question.entry.query.now bases (answer_of result)
         ⊎ IsFailure (answer_of result) }
     ensures crash { Survives (state S.Store connection.old) (state S.Store connection.new) (λ _. ⊥) }
     ensures unread { NoReadFault result }
@@ -133,11 +134,16 @@ pub(crate) fn find<S: Alter, L: Layout>(
     ensures alone { HasCleanDisk (state S.Store connection.new)
         → Alone L.format (FindSays profile.now question.entry.query.now question.entry.first question.entry.count) (name_bytes name.now)
         (state S.Store connection.old) result }
+    // Refused, on such tables, it is refused by the definition, or for damage in a row that it has to read.
+    ensures refused { HasCleanDisk (state S.Store connection.new)
+        → RefusedAlone L.format (RefusesFind profile.now (name_bytes name.now) question.entry.query.now question.entry.first
+        question.entry.count) (state S.Store connection.old) result }
     // No row is written; of terms no more are read than the searched registers have, once for each pattern with a star and each entry that
     // isn't named, and no more lists than those that the query asks for.
     ensures work { HasCleanDisk (state S.Store connection.new)
         → OnOk result (FindReads L.format L.row_work L.block_rows profile.now (name_bytes name.now)
         question.entry.query.now (state S.Store connection.old) work.old work.new) }
+    ensures no_work { L.row_work ≡ 0 → work.new ≡ work.old }
 {
     // Its profile is some text's.
     profile.is_of_some_text();

@@ -1,6 +1,6 @@
 //! Whether a register may be used by a session, and which of its databases is meant.
 
-ghost use Rattle.std.specs.Prelude.{◌≡◌, ◌⊎◌, ℕ, List, false, pos, Ok, IsTrue, OnOk, IfOk, IfErr};
+ghost use Rattle.std.specs.Prelude.{◌≡◌, ◌≢◌, ◌⊎◌, ℕ, List, false, pos, Ok, Err, IsTrue, OnOk, IfOk, IfErr};
 ghost use Rattle.sqlite.specs.Held.{state};
 ghost use Rattle.sqlite.specs.State.{HasCleanDisk, Survives};
 ghost use Rattle.zeb_register.specs.Calls.{ChangesNothing};
@@ -8,6 +8,7 @@ ghost use Rattle.zeb_register.specs.Formats.{version_of};
 ghost use Rattle.zeb_register.specs.Store.{IsStore, HasDatabase};
 ghost use Rattle.zeb_engine.specs.Adopting.{StaysOpen};
 ghost use Rattle.zeb_engine.specs.Answers.{IsFailure, refused};
+ghost use Rattle.zeb_engine.specs.Causes.{HasStoreCause};
 ghost use Rattle.zeb_change.specs.Refused.{why_of, NeverUnready, Meets};
 ghost use Rattle.zeb_change.specs.Conditions.{Conditions, conditions};
 ghost use Rattle.zeb_change.specs.declared.settings.Limits.{Limits};
@@ -15,8 +16,8 @@ ghost use Rattle.zeb_image.specs.Holdings.{Holdings};
 ghost use Rattle.zeb_change.specs.Base.{Base};
 ghost use Rattle.zeb_image.specs.Image.{Keeps};
 ghost use Rattle.zeb_image.specs.NameOf.{name_bytes};
-ghost use Rattle.zeb_engine.specs.PrivateLooking.{IsUnready};
-ghost use Rattle.zeb_engine.specs.Readiness.{GoesByTexts};
+ghost use Rattle.zeb_engine.specs.PrivateLooking.{IsUnready, MissesDatabase};
+ghost use Rattle.zeb_engine.specs.Readiness.{GoesByTexts, IsReadyFor};
 ghost use Rattle.zeb_change.specs.Reading.{NoReadFault};
 ghost use Rattle.zeb_engine.specs.Steps.{ready, existing};
 
@@ -56,8 +57,18 @@ pub(crate) fn check_ready<S: Alter, L: Layout>(
         → GoesByTexts (version_of L.format) profile.now (state S.Store connection.old) result }
     ensures unread { NoReadFault result }
     ensures few { IfErr result IsUnready }
+    ensures open { HasCleanDisk (state S.Store connection.new)
+        → OnOk result (StaysOpen (state S.Store connection.old) (state S.Store connection.new)) }
+    // The texts of a register that is ready can be read.
+    ensures whole { HasCleanDisk (state S.Store connection.new) → IsStore (state S.Store connection.old)
+        → IsReadyFor (version_of L.format) profile.now (state S.Store connection.old).now.trees → result ≢ Err Refusal.Damaged }
+    ensures caused { HasCleanDisk (state S.Store connection.new)
+        → HasStoreCause (state S.Store connection.old) (state S.Store connection.new) result }
     ensures crash { Survives (state S.Store connection.old) (state S.Store connection.new) (λ _. ⊥) }
 {
+    // Both texts of the session are UTF-8.
+    let _version = L::version();
+    let _text = profile.text();
     let Some(version) = meta_of(connection, VERSION)? else {
         return Err(Refusal::NotInitialised);
     };
@@ -97,6 +108,11 @@ pub(crate) fn existing_database<S: Alter, L: Layout>(
     ensures crash { Survives (state S.Store connection.old) (state S.Store connection.new) (λ _. ⊥) }
     ensures row { HasCleanDisk (state S.Store connection.new) → IsStore (state S.Store connection.old)
         → IfOk result (λ found. HasDatabase (state S.Store connection.old).now.trees found.id.0 (name_bytes name.now) (pos found.last)) }
+    ensures misses { HasCleanDisk (state S.Store connection.new) → IsStore (state S.Store connection.old)
+        → IfErr result (λ refusal. IsFailure (refused (why_of refusal))
+        ⊎ MissesDatabase (state S.Store connection.old).now.trees (name_bytes name.now) refusal) }
+    ensures caused { HasCleanDisk (state S.Store connection.new)
+        → HasStoreCause (state S.Store connection.old) (state S.Store connection.new) result }
 {
     match database_of(connection, name.as_str())? {
         Some(database) => Ok(database),

@@ -4,7 +4,6 @@ ghost use Rattle.std.specs.Prelude.{◌≡◌, ◌⊎◌, ◌++◌, List, false,
 ghost use Rattle.sqlite.specs.Held.{state};
 ghost use Rattle.sqlite.specs.State.{HasCleanDisk, Survives};
 ghost use Rattle.zeb_query.specs.Plans.{scan_value};
-ghost use Rattle.zeb_query.specs.FirstFault.{query_fault};
 ghost use Rattle.zeb_register.specs.Calls.{ChangesNothing};
 ghost use Rattle.zeb_register.specs.Formats.{holds_in, version_of};
 ghost use Rattle.zeb_register.specs.Content.{Content, IsStorable, posted};
@@ -80,6 +79,7 @@ fn terms_around<S: Alter, L: Layout>(
     ensures work { HasCleanDisk (state S.Store connection.new)
         → OnOk result (ScanReads L.format L.row_work around.now.number around.now.position (state S.Store connection.old)
         work.old work.new) }
+    ensures no_work { L.row_work ≡ 0 → work.new ≡ work.old }
 {
     let below = (around.position as u64).saturating_sub(1);
     let from = (around.number as u64 + 1).saturating_sub(around.position as u64);
@@ -113,7 +113,7 @@ pub(crate) fn scan<S: Alter, L: Layout>(
         → (limits : Limits) (before : Holdings) (bases : List Base)
         → ready (conditions (version_of L.format) profile.now limits) before ≡ Ok bases → Keeps (state S.Store connection.old) before
         → AskedAmong (ScanAnswers profile.now around.entry.query.now around.entry.number around.entry.position)
-        (name_bytes name.now) bases (query_fault around.entry.query.now) (answer_of result)
+        (name_bytes name.now) around.entry.query.now bases (answer_of result)
         ⊎ IsFailure (answer_of result) }
     ensures crash { Survives (state S.Store connection.old) (state S.Store connection.new) (λ _. ⊥) }
     ensures unread { NoReadFault result }
@@ -126,6 +126,7 @@ pub(crate) fn scan<S: Alter, L: Layout>(
     ensures work { HasCleanDisk (state S.Store connection.new)
         → OnOk result (ScanReads L.format L.row_work around.entry.number around.entry.position (state S.Store connection.old)
         work.old work.new) }
+    ensures no_work { L.row_work ≡ 0 → work.new ≡ work.old }
 {
     // Its profile is some text's.
     profile.is_of_some_text();

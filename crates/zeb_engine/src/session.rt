@@ -5,13 +5,14 @@ ghost use Rattle.std.specs.List.{AllByRecursion};
 ghost use Rattle.std.specs.Result.{IsErr};
 ghost use Rattle.sqlite.specs.Held.{state};
 ghost use Rattle.sqlite.specs.State.{HasCleanDisk, IsLive, Opens, Survives};
-ghost use Rattle.zeb_engine.specs.Costs.{CommandCosts};
+ghost use Rattle.zeb_engine.specs.Costs.{CommandCosts, CountsNothing, no_work};
 ghost use Rattle.zeb_engine.specs.Reads.{CommandReads};
 ghost use Rattle.zeb_engine.specs.Alone.{AnswersAlone};
 ghost use Rattle.zeb_engine.specs.Analysed.{AnswersAnalysis};
 ghost use Rattle.zeb_engine.specs.Answers.{IsFailure, answer_of, refused};
 ghost use Rattle.zeb_change.specs.Refused.{why_of};
 ghost use Rattle.zeb_change.specs.Conditions.{conditions};
+ghost use Rattle.zeb_engine.specs.Causes.{HasStoreCause};
 ghost use Rattle.zeb_engine.specs.Checking.{ChecksTables, ReindexLeaves, ReindexesTables, StaysUpgraded, UpgradesTables};
 ghost use Rattle.zeb_engine.specs.Readiness.{GoesByTexts, LooksFirst};
 ghost use Rattle.zeb_change.specs.Reading.{NoReadFault};
@@ -70,6 +71,7 @@ impl<S: Alter, L: Layout> Session<S, L> {
     ghost use Rattle.zeb_engine.specs.Works.{FindOpen, ServesCommand};
     ghost use Rattle.zeb_engine.specs.Crashes.{Bears, CommitsCommand, CommitsAdopted, CommitsOne, CommitsReindex, Endures, EnduresRun, KeepsDisk, Stands};
     ghost use Rattle.zeb_engine.specs.Headline.{Headline};
+    ghost use Rattle.zeb_engine.specs.PrivateChanging.{IsNoChange};
     ghost use Rattle.zeb_engine.specs.PrivateWriting.{HoldsRemade};
     ghost use Rattle.zeb_engine.specs.Adopting.{HasOtherTables, HasOwnTables, StaysOpen};
     ghost use Rattle.zeb_image.specs.Holdings.{Holdings};
@@ -216,7 +218,8 @@ impl<S: Alter, L: Layout> Session<S, L> {
         ensures stays { HasCleanDisk (state S.Store self.new.connection) → command.now ≡ Command.Upgrade
             → StaysUpgraded (version_of L.format) self.old.profile (state S.Store self.old.connection)
             (state S.Store self.new.connection) result }
-        // A find, a scan and a stat are answered by the registers, on any tables that hold a content.
+        // A find, a scan and a stat are answered by the registers, on any tables that hold a content. A find of a ready register is refused
+        // by the definition, read so, or for damage in a row that it has to read, as where a hit has no record to show.
         ensures alone { HasCleanDisk (state S.Store self.new.connection)
             → AnswersAlone L.format self.old.profile command.now (state S.Store self.old.connection) result }
         // An analysis is answered by its files, whatever the tables hold, and also where the connection is shut.
@@ -237,6 +240,12 @@ impl<S: Alter, L: Layout> Session<S, L> {
         ensures read_work { HasCleanDisk (state S.Store self.new.connection)
             → CommandReads L.format L.row_work L.block_rows self.old.profile command.now
             (state S.Store self.old.connection) result self.new.work }
+        // A dump finds the store failed only for a cause.
+        ensures caused { HasCleanDisk (state S.Store self.new.connection) → (name : _) → command.now ≡ Command.Dump name
+            → HasStoreCause (state S.Store self.old.connection) (state S.Store self.new.connection) result }
+        // Over a layout whose rows count nothing no work is counted.
+        ensures no_work { HasCleanDisk (state S.Store self.new.connection) → L.row_work ≡ 0
+            → CountsNothing command.now (state S.Store self.old.connection) result self.new.work }
     {
         let answer = self.carry_out(command);
         // What is shown is what was committed.
@@ -288,6 +297,9 @@ impl<S: Alter, L: Layout> Session<S, L> {
         ensures read_work { HasCleanDisk (state S.Store self.new.connection)
             → CommandReads L.format L.row_work L.block_rows self.old.profile command.now
             (state S.Store self.old.connection) result self.new.work }
+        ensures caused { HasCleanDisk (state S.Store self.new.connection) → (name : _) → command.now ≡ Command.Dump name
+            → HasStoreCause (state S.Store self.old.connection) (state S.Store self.new.connection) result }
+        ensures no_work { L.row_work ≡ 0 → IsNoChange command.now → self.new.work ≡ no_work }
     {
         self.work = Work::default();
         match command {

@@ -106,6 +106,7 @@ fn holdings_of<S: Alter, L: Layout>(
     ensures crash { Survives (state S.Store connection.old) (state S.Store connection.new) (λ _. ⊥) }
     ensures unread { NoReadFault result }
     ensures ready { NeverUnready result }
+    ensures no_work { L.row_work ≡ 0 → work.new ≡ work.old }
 {
     let mut holdings = Vec::with_capacity(alloc, targets.len())?;
     for target in targets {
@@ -141,6 +142,7 @@ pub(crate) fn stat<S: Alter, L: Layout>(
     // The terms and occurrences are counted in the registers, on any tables that hold a content.
     ensures alone { HasCleanDisk (state S.Store connection.new)
         → Alone L.format (StatSays profile.now) (name_bytes name.now) (state S.Store connection.old) result }
+    ensures no_work { L.row_work ≡ 0 → work.new ≡ work.old }
 {
     // Its profile is some text's.
     profile.is_of_some_text();

@@ -22,9 +22,10 @@ use zeb_register::{Expected, Layout, RegFault};
 /// Whether the tables are the image of a register of this layout under this profile: its texts, its databases with their last numbers
 /// and their records, and the registers that follow from these, and no other row.
 ///
-/// It reads every row of every table, or ends at the first that is part of no image, and changes nothing. All records and their postings
-/// are held at once: for `n` bytes of records some multiple of `n` bytes of memory. `Store` and `Memory` where it can't be told; never
-/// `Damaged`.
+/// It changes nothing, and never answers `Damaged`; `Store` and `Memory` where it can't be told.
+///
+/// Two things no clause says, and so they aren't proved: it reads every row of every table, or ends at the first that is part of no image;
+/// and it holds all records and their postings at once, for `n` bytes of records some multiple of `n` bytes of memory.
 pub fn is_image<S: Alter, L: Layout>(
     alloc: Global,
     connection: &mut Connection<S>,

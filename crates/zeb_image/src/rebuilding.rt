@@ -24,8 +24,10 @@ use zeb_register::{
 };
 
 /// Takes every row of the registers out, in whichever format, and puts in this layout's rows of what the kept records have under the
-/// profile. Texts, databases and records stay. One record is held at a time, and what is noted of keys, some 64 MB at most: each key of a
-/// database is written once each time that so much is noted, and once at the end, in the order of keys.
+/// profile. Texts, databases and records stay.
+///
+/// Three things no clause says, and so they aren't proved: one record is held at a time; what is noted of keys takes some 64 MB at most;
+/// and each key of a database is written once each time that so much is noted, and once at the end, in the order of keys.
 ///
 /// `Damaged` where a record isn't one of ISO 2709 with the identifier that it is kept under, where its number isn't 1 to 999,999,999, and
 /// where a row of the lists can't be read.

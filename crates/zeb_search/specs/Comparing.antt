@@ -1,4 +1,6 @@
 -- How numbers, texts and places of words stand to each other (ANSI/NISO Z39.50-2003: Bib-1, relation attributes; the proximity operator).
+-- Own rules of this project: that texts stand in the order of their bytes, that a distance is counted in words of one unit, and that
+-- a word is at no distance from itself.
 use Rattle.std.specs.Prelude.{◌≡◌, ◌≢◌, ◌⊎◌, ◌+◌, ◌<◌, ◌≤◌, ℕ, Bool, true, false, List}
 use Rattle.std.specs.declared.cmp.Ordering.TheVariants as ordering
 use Rattle.std.specs.Ordering.{nat_cmp}

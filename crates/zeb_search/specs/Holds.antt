@@ -1,6 +1,9 @@
--- On which records a query holds (ANSI/NISO Z39.50-2003, attribute set Bib-1 and the proximity operator; YAZ manual, Prefix Query Format),
--- by a set of occurrences: it says of a record's number and an occurrence whether the record has it. Read with the bytes of kept records it
--- tells what a find means; read with the postings of the registers, what they say by themselves.
+-- On which records a query holds (ANSI/NISO Z39.50-2003, attribute set Bib-1 and the proximity operator; YAZ manual, Prefix Query Format).
+-- Own rules of this project: that a record may be named by its system number (structure 107), that the first position is that of a
+-- unit's first word, that texts stand in the order of their bytes and numbers are below 10^18, that phrases and words near each other
+-- are of one unit, and that a term without a pattern holds on no record.
+-- All is said by a set of occurrences: it says of a record's number and an occurrence whether the record has it. Read with the bytes of
+-- kept records it tells what a find means; read with the postings of the registers, what they say by themselves.
 use Rattle.std.specs.Prelude.{◌≡◌, ◌≢◌, ◌⊎◌, ◌+◌, ◌<◌, ◌^◌, ℕ, Bool, true, List, [], ◌∷◌, Some, None, IsUtf8, chars}
 use Rattle.sqlite_rules.specs.Lists.{Has}
 use Rattle.zeb_text.specs.Symbols.{Symbol}

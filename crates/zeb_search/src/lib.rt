@@ -1,6 +1,7 @@
 //! A query's plan, answered by the registers of one database: the numbers of the records on which it holds.
 //!
-//! What a plan holds on is ANSI/NISO Z39.50-2003, attribute set Bib-1, and its proximity operator.
+//! What relations, positions, completeness and proximity ask for is ANSI/NISO Z39.50-2003, attribute set Bib-1 and the proximity operator.
+//! The heads of `specs/Holds.antt` and `specs/Comparing.antt` say which rules are this project's own.
 #![tactic(auto)]
 
 mod distances;

@@ -5,11 +5,11 @@ ghost use Rattle.sqlite.specs.Held.{state};
 ghost use Rattle.sqlite.specs.State.{HasCleanDisk, Survives};
 ghost use Rattle.zeb_register.specs.Calls.{ChangesNothing};
 ghost use Rattle.zeb_register.specs.Formats.{version_of};
-ghost use Rattle.zeb_engine.specs.Alone.{Alone, FindSays, ScanSays};
+ghost use Rattle.zeb_engine.specs.Alone.{Alone, FindSays, RefusedAlone, RefusesFind, ScanSays};
 ghost use Rattle.zeb_change.specs.Conditions.{conditions};
 ghost use Rattle.zeb_image.specs.NameOf.{name_bytes};
 ghost use Rattle.zeb_engine.specs.Checking.{ChecksTables};
-ghost use Rattle.zeb_engine.specs.Readiness.{GoesByTexts};
+ghost use Rattle.zeb_engine.specs.Readiness.{GoesByTexts, IsReadyFor};
 ghost use Rattle.zeb_engine.specs.Reads.{FindReads, ScanReads};
 ghost use Rattle.zeb_change.specs.Reading.{NoReadFault};
 ghost use Rattle.zeb_engine.specs.Transactions.{Commanded};
@@ -48,9 +48,14 @@ impl<S: Alter, L: Layout> Session<S, L> {
         ensures alone { HasCleanDisk (state S.Store self.new.connection)
             → Alone L.format (FindSays self.old.profile question.entry.query.now question.entry.first question.entry.count)
             (name_bytes database.now) (state S.Store self.old.connection) result }
+        ensures refused { HasCleanDisk (state S.Store self.new.connection)
+            → IsReadyFor (version_of L.format) self.old.profile (state S.Store self.old.connection).now.trees
+            → RefusedAlone L.format (RefusesFind self.old.profile (name_bytes database.now) question.entry.query.now question.entry.first
+            question.entry.count) (state S.Store self.old.connection) result }
         ensures work { HasCleanDisk (state S.Store self.new.connection)
             → OnOk result (FindReads L.format L.row_work L.block_rows self.old.profile (name_bytes database.now)
             question.entry.query.now (state S.Store self.old.connection) self.old.work self.new.work) }
+        ensures no_work { L.row_work ≡ 0 → self.new.work ≡ self.old.work }
     {
         check_ready::<S, L>(&mut self.connection, &self.profile)?;
         find::<S, L>(
@@ -83,6 +88,7 @@ impl<S: Alter, L: Layout> Session<S, L> {
         ensures work { HasCleanDisk (state S.Store self.new.connection)
             → OnOk result (ScanReads L.format L.row_work around.entry.number around.entry.position
             (state S.Store self.old.connection) self.old.work self.new.work) }
+        ensures no_work { L.row_work ≡ 0 → self.new.work ≡ self.old.work }
     {
         check_ready::<S, L>(&mut self.connection, &self.profile)?;
         scan::<S, L>(
@@ -110,6 +116,7 @@ impl<S: Alter, L: Layout> Session<S, L> {
             → GoesByTexts (version_of L.format) self.old.profile (state S.Store self.old.connection) result }
         ensures checked { HasCleanDisk (state S.Store self.new.connection)
             → ChecksTables (version_of L.format) self.old.profile (state S.Store self.old.connection) result }
+        ensures unworked { self.new.work ≡ self.old.work }
     {
         // What is shown is what was committed.
         let _settled = self.connection.is_autocommit();

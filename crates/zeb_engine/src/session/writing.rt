@@ -36,6 +36,7 @@ impl<S: Alter, L: Layout> Session<S, L> {
         ensures unread { NoReadFault result }
         ensures ready { HasCleanDisk (state S.Store self.new.connection)
             → GoesByTexts (version_of L.format) self.old.profile (state S.Store self.old.connection) result }
+        ensures unworked { self.new.work ≡ self.old.work }
     {
         check_ready::<S, L>(&mut self.connection, &self.profile)?;
         create_database::<S, L>(&mut self.connection, name)
@@ -54,6 +55,7 @@ impl<S: Alter, L: Layout> Session<S, L> {
         ensures unread { NoReadFault result }
         ensures ready { HasCleanDisk (state S.Store self.new.connection)
             → GoesByTexts (version_of L.format) self.old.profile (state S.Store self.old.connection) result }
+        ensures unworked { self.new.work ≡ self.old.work }
     {
         check_ready::<S, L>(&mut self.connection, &self.profile)?;
         drop_database::<S, L>(self.alloc, &mut self.connection, name)

@@ -17,12 +17,23 @@ use Rattle.zeb_image.specs.NameOf.{name_bytes}
 use Rattle.zeb_change.specs.Outcomes.{query_refusal, register_refusal}
 use Rattle.zeb_engine.specs.Steps.{FindAnswers}
 use Rattle.zeb_change.specs.Refused.{Meets}
-use Rattle.zeb_engine.proofs.Asked.{existing_ends, refused_ends}
+use Rattle.zeb_engine.proofs.Asked.{existing_ends, query_ends, refused_ends}
 use Rattle.zeb_engine.proofs.Finds.{asked_ends, asked_kept, found_ends, hits_answered, idents_readable, plan_ends}
 use Rattle.zeb_engine.proofs.ListedDatabases.{fault_fails}
 use Rattle.zeb_engine.proofs.Lookups.{base_found, hits_asked, still_holds}
+use Rattle.zeb_engine.proofs.FindRefusals.{asked_refused, asked_small, hits_refused, misses_refused, plan_refused, query_refused, show_refused}
 use Rattle.zeb_engine.proofs.ReadyTexts.{fault_never}
+use Rattle.zeb_engine.proofs.Showing.{kept_fails}
 use Rattle.zeb_engine.proofs.find.find.Goals as goal
+
+pub returns-in_err-query-clause-found : goal.returns-in_err-query-clause-found
+returns-in_err-query-clause-found g c clean opened limits before bases is keeps =
+    let name = name_bytes c.args.name.now in
+    let query = c.args.question.query.now in
+    let says = FindAnswers c.args.profile.now query c.args.question.first c.args.question.count in
+    let fault = c.in_err-query.field-0.0 in
+    let told : c.from_residual.result ≡ Err (query_refusal fault) = search rules in
+    refused_ends says name query bases c.from_residual.result (query_refusal fault) told (query_ends says name query bases fault c.in_err-query.ensures.faulty)
 
 pub returns-in_err-database-clause-found : goal.returns-in_err-database-clause-found
 returns-in_err-database-clause-found g c clean opened limits before bases is keeps =
@@ -34,7 +45,7 @@ returns-in_err-database-clause-found g c clean opened limits before bases is kee
     let s1 = state g.S.Store c.existing_database.new.connection in
     let refusal = c.in_err-database.field-0.0 in
     let told : c.from_residual-in_err-database.result ≡ Err refusal = search rules in
-    refused_ends says name query bases c.from_residual-in_err-database.result refusal told (existing_ends says name query bases c.in_ok-query.ensures.sound {X = Database}
+    refused_ends says name query bases c.from_residual-in_err-database.result refusal told (existing_ends says name query bases c.in_ok-query.ensures.readable {X = Database}
     (λ base d. HasDatabase s0.now.trees d.id.0 base.name (pos base.last) × (d.last ≡ base.last) × IsTrue s1.is_open) refusal (c.in_err-database.ensures.exists clean opened k before bases is keeps))
 
 pub returns-in_err-plan-clause-found : goal.returns-in_err-plan-clause-found
@@ -50,7 +61,7 @@ returns-in_err-plan-clause-found g c clean opened limits before bases is keeps =
     let fault = c.in_err-plan.field-0.0 in
     let told : c.from_residual-in_err-plan.result ≡ Err (query_refusal fault) = search rules in
     refused_ends says name query bases c.from_residual-in_err-plan.result (query_refusal fault) told (plan_ends g.L.Layout.format k.profile s0.now.trees id at.base at.held name query c.args.question.first c.args.question.count bases
-    c.in_ok-query.ensures.sound at.named (query_value c.in_ok-query.query) c.in_ok-query.ensures.spelled fault c.in_err-plan.ensures.planned)
+    c.in_ok-query.ensures.readable at.named (query_value c.in_ok-query.query) c.in_ok-query.ensures.spelled fault c.in_err-plan.ensures.planned)
 
 pub returns-in_err-hits-clause-found : goal.returns-in_err-hits-clause-found
 returns-in_err-hits-clause-found g c clean opened limits before bases is keeps =
@@ -89,7 +100,7 @@ returns-in_err-asked-clause-found g c clean opened limits before bases is keeps 
     let Asked = λ (wanted : List ℕ) (asked : Bor (List ℕ)). asked.now ≡ wanted in
     let met = subst (λ (l : List ℕ). Meets Asked (asked_of l c.args.question.first c.args.question.count) (Err refusal)) c.deref.ensures.value c.in_err-asked.ensures.asked in
     refused_ends says name query bases c.from_residual-in_err-asked.result refusal told (asked_ends g.L.Layout.format k.profile s0.now.trees id at.base at.held name query c.args.question.first c.args.question.count bases
-    c.in_ok-query.ensures.sound at.named (query_value c.in_ok-query.query) c.in_ok-query.ensures.spelled plan c.in_ok-plan.ensures.planned numbers hits Asked refusal met)
+    c.in_ok-query.ensures.readable at.named (query_value c.in_ok-query.query) c.in_ok-query.ensures.spelled plan c.in_ok-plan.ensures.planned numbers hits Asked refusal met)
 
 pub returns-in_err-shown-clause-found : goal.returns-in_err-shown-clause-found
 returns-in_err-shown-clause-found g c clean opened limits before bases is keeps =
@@ -112,7 +123,8 @@ returns-in_err-shown-clause-found g c clean opened limits before bases is keeps 
     let kept = asked_kept g.L.Layout.format k.profile s0.now.trees id at.base at.held plan numbers asked.now c.args.question.first c.args.question.count shown.hits shown.said in
     let refusal = c.in_err-shown.field-0.0 in
     let told : c.from_residual-in_err-shown.result ≡ Err refusal = search rules in
-    refused_ends says name query bases c.from_residual-in_err-shown.result refusal told (inr (c.in_err-shown.ensures.failed clean s0.now.trees shown.shows kept))
+    refused_ends says name query bases c.from_residual-in_err-shown.result refusal told
+    (inr (kept_fails s0.now.trees id asked.now refusal kept (c.in_err-shown.ensures.refused clean s0.now.trees shown.shows (λ n there. (kept n there).1))))
 
 pub returns-clause-found : goal.returns-clause-found
 returns-clause-found g c clean opened limits before bases is keeps =
@@ -132,7 +144,7 @@ returns-clause-found g c clean opened limits before bases is keeps =
     let shown = hits_asked g.L.Layout.format at.held.content s0 s1 s2 at.still id plan c.args.question.first c.args.question.count numbers _ asked (c.in_ok-hits.ensures.value clean2 at.still.store at.held.content at.still.held)
     c.deref.ensures.value c.in_ok-asked.ensures.asked (c.hits.ensures.call.same clean2 c.existing_database.ensures.idle) in
     let counted : c.len.result ≡ length numbers = search rules in
-    rw counted (found_ends g.L.Layout.format k.profile s0.now.trees id at.base at.held name query c.args.question.first c.args.question.count bases c.in_ok-query.ensures.sound at.named
+    rw counted (found_ends g.L.Layout.format k.profile s0.now.trees id at.base at.held name query c.args.question.first c.args.question.count bases c.in_ok-query.ensures.readable at.named
     (query_value c.in_ok-query.query) c.in_ok-query.ensures.spelled plan c.in_ok-plan.ensures.planned numbers shown.hits asked.now shown.said (map (λ hit. (hit.sysno, string_bytes hit.ident)) c.in_ok-shown.shown.items) (c.in_ok-shown.ensures.shown clean s0.now.trees shown.shows))
 
 pub returns-clause-alone : goal.returns-clause-alone
@@ -157,6 +169,83 @@ returns-clause-alone g c clean store content held =
       hits_answered (posted content id) (has_ident_in s0.now.trees id) c.args.profile.now c.args.question.query.now c.args.question.first c.args.question.count (query_value c.in_ok-query.query) c.in_ok-query.ensures.spelled
           plan c.in_ok-plan.ensures.planned numbers shown.hits asked.now shown.said (map (λ hit. (hit.sysno, string_bytes hit.ident)) c.in_ok-shown.shown.items) (c.in_ok-shown.ensures.shown clean s0.now.trees shown.shows),
     )
+
+pub returns-in_err-query-clause-refused : goal.returns-in_err-query-clause-refused
+returns-in_err-query-clause-refused g c clean store content storable held =
+    let fault = c.in_err-query.field-0.0 in
+    let told : c.from_residual.result ≡ Err (query_refusal fault) = search rules in
+    let trees = (state g.S.Store c.args.connection.now).now.trees in
+    rw told (query_refused c.args.profile.now (name_bytes c.args.name.now) c.args.question.query.now c.args.question.first c.args.question.count trees content fault c.in_err-query.ensures.faulty)
+
+pub returns-in_err-database-clause-refused : goal.returns-in_err-database-clause-refused
+returns-in_err-database-clause-refused g c clean store content storable held =
+    let refusal = c.in_err-database.field-0.0 in
+    let told : c.from_residual-in_err-database.result ≡ Err refusal = search rules in
+    let trees = (state g.S.Store c.args.connection.now).now.trees in
+    rw told (misses_refused c.args.profile.now (name_bytes c.args.name.now) c.args.question.query.now c.args.question.first c.args.question.count trees content c.in_ok-query.ensures.readable
+    refusal (c.in_err-database.ensures.misses clean store))
+
+pub returns-in_err-plan-clause-refused : goal.returns-in_err-plan-clause-refused
+returns-in_err-plan-clause-refused g c clean store content storable held =
+    let fault = c.in_err-plan.field-0.0 in
+    let told : c.from_residual-in_err-plan.result ≡ Err (query_refusal fault) = search rules in
+    let trees = (state g.S.Store c.args.connection.now).now.trees in
+    rw told (plan_refused c.args.profile.now (name_bytes c.args.name.now) c.args.question.query.now c.args.question.first c.args.question.count trees content c.in_ok-query.ensures.readable
+    c.in_ok-database.database.id.0 (pos c.in_ok-database.database.last) (c.in_ok-database.ensures.row clean store) (query_value c.in_ok-query.query) c.in_ok-query.ensures.spelled
+    fault c.in_err-plan.ensures.planned)
+
+pub returns-in_err-hits-clause-refused : goal.returns-in_err-hits-clause-refused
+returns-in_err-hits-clause-refused g c clean store content storable held =
+    let s0 = state g.S.Store c.args.connection.now in
+    let s1 = state g.S.Store c.existing_database.new.connection in
+    let clean1 : HasCleanDisk s1 = omega (arith, c.hits.ensures.call.crash.clean) in
+    let still = still_holds g.L.Layout.format content s0 s1 (c.existing_database.ensures.same clean1) (c.in_ok-database.ensures.found clean1).1 store held in
+    let id = c.in_ok-database.database.id.0 in
+    let plan = plan_value c.in_ok-plan.plan in
+    let fault = c.in_err-hits.field-0.0 in
+    let told : c.from_residual-in_err-hits.result ≡ Err (register_refusal fault) = search rules in
+    rw told (hits_refused c.args.profile.now (name_bytes c.args.name.now) c.args.question.query.now c.args.question.first c.args.question.count s0.now.trees content c.in_ok-query.ensures.readable
+    id (pos c.in_ok-database.database.last) (c.in_ok-database.ensures.row clean1 store) (query_value c.in_ok-query.query) c.in_ok-query.ensures.spelled plan c.in_ok-plan.ensures.planned fault
+    (λ is readable. c.in_err-hits.ensures.honest clean still.store (ap Err is) (subst (λ (t : Trees). NamesReadable t id plan) (sym still.trees) readable) content storable still.held))
+
+pub returns-in_err-asked-clause-refused : goal.returns-in_err-asked-clause-refused
+returns-in_err-asked-clause-refused g c clean store content storable held =
+    let s0 = state g.S.Store c.args.connection.now in
+    let s1 = state g.S.Store c.existing_database.new.connection in
+    let clean1 : HasCleanDisk s1 = omega (arith, c.hits.ensures.call.crash.clean) in
+    let still = still_holds g.L.Layout.format content s0 s1 (c.existing_database.ensures.same clean1) (c.in_ok-database.ensures.found clean1).1 store held in
+    let id = c.in_ok-database.database.id.0 in
+    let plan = plan_value c.in_ok-plan.plan in
+    let numbers = c.in_ok-hits.hits.items in
+    let hits = subst (λ (t : Trees). AreNumbers (HoldsIn t content id plan) numbers) still.trees (c.in_ok-hits.ensures.value clean still.store content still.held) in
+    let refusal = c.in_err-asked.field-0.0 in
+    let told : c.from_residual-in_err-asked.result ≡ Err refusal = search rules in
+    let Asked = λ (wanted : List ℕ) (asked : Bor (List ℕ)). asked.now ≡ wanted in
+    let met = subst (λ (l : List ℕ). Meets Asked (asked_of l c.args.question.first c.args.question.count) (Err refusal)) c.deref.ensures.value c.in_err-asked.ensures.asked in
+    rw told (asked_refused c.args.profile.now (name_bytes c.args.name.now) c.args.question.query.now c.args.question.first c.args.question.count s0.now.trees content c.in_ok-query.ensures.readable
+    id (pos c.in_ok-database.database.last) (c.in_ok-database.ensures.row clean1 store) (query_value c.in_ok-query.query) c.in_ok-query.ensures.spelled plan c.in_ok-plan.ensures.planned
+    numbers hits Asked refusal met)
+
+pub returns-in_err-shown-clause-refused : goal.returns-in_err-shown-clause-refused
+returns-in_err-shown-clause-refused g c clean store content storable held =
+    let s0 = state g.S.Store c.args.connection.now in
+    let s1 = state g.S.Store c.existing_database.new.connection in
+    let s2 = state g.S.Store c.hits.new.connection in
+    let clean2 : HasCleanDisk s2 = omega (arith, c.show.ensures.crash.clean) in
+    let clean1 : HasCleanDisk s1 = omega (arith, clean2, c.hits.ensures.call.crash.clean) in
+    let still = still_holds g.L.Layout.format content s0 s1 (c.existing_database.ensures.same clean1) (c.in_ok-database.ensures.found clean1).1 store held in
+    let id = c.in_ok-database.database.id.0 in
+    let plan = plan_value c.in_ok-plan.plan in
+    let numbers = c.in_ok-hits.hits.items in
+    let asked = c.in_ok-asked.asked in
+    let shown = hits_asked g.L.Layout.format content s0 s1 s2 still id plan c.args.question.first c.args.question.count numbers _ asked (c.in_ok-hits.ensures.value clean2 still.store content still.held)
+    c.deref.ensures.value c.in_ok-asked.ensures.asked (c.hits.ensures.call.same clean2 c.existing_database.ensures.idle) in
+    let small = asked_small s0.now.trees content storable id plan c.in_ok-plan.ensures.numbers numbers asked.now c.args.question.first c.args.question.count shown.hits shown.said in
+    let refusal = c.in_err-shown.field-0.0 in
+    let told : c.from_residual-in_err-shown.result ≡ Err refusal = search rules in
+    rw told (show_refused c.args.profile.now (name_bytes c.args.name.now) c.args.question.query.now c.args.question.first c.args.question.count s0.now.trees content c.in_ok-query.ensures.readable
+    id (pos c.in_ok-database.database.last) (c.in_ok-database.ensures.row clean1 store) (query_value c.in_ok-query.query) c.in_ok-query.ensures.spelled plan c.in_ok-plan.ensures.planned
+    numbers shown.hits asked.now shown.said refusal (c.in_err-shown.ensures.refused clean s0.now.trees shown.shows small))
 
 pub returns-clause-work : goal.returns-clause-work
 returns-clause-work g c clean store content held =

@@ -1,18 +1,20 @@
-use Rattle.std.proofs.Common.{rules, ◌≡◌, ◌<◌, ◌^◌, ◌∙◌, ◌++◌, ◌∷◌, [], ℕ, List, map, string_bytes, Option, Result, Err, String, arith, ap, get_or, refl, subst, sym, take, pos, ◌+◌}
+use Rattle.std.proofs.Common.{rules, ◌≡◌, ◌<◌, ◌^◌, ◌∙◌, ◌++◌, ◌∷◌, [], ℕ, List, map, string_bytes, Option, Result, Err, String, arith, ap, get_or, inr, refl, subst, sym, take, pos, ◌+◌}
 use Rattle.std.specs.declared.alloc.Global.{Global}
 use Rattle.sqlite.specs.Held.{state}
 use Rattle.sqlite.specs.State.{HasCleanDisk}
+use Rattle.sqlite.specs.Tree.{Trees}
 use Rattle.zeb_register.specs.Kept.{IsIdentOf, AreReadableIdents}
 use Rattle.zeb_register.specs.declared.RegFault.{RegFault}
 use Rattle.zeb_register.specs.declared.RegFault.TheVariants as register
 use Rattle.std.proofs.lemmas.List.{map-append}
 use Rattle.zeb_search.specs.Registers.{has_ident_in}
 use Rattle.zeb_engine.specs.declared.replies.Hit.{Hit}
+use Rattle.zeb_engine.specs.Alone.{HidesOne}
 use Rattle.zeb_engine.specs.Finding.{AreShown}
 use Rattle.zeb_change.specs.Outcomes.{register_refusal}
 use Rattle.zeb_query.proofs.HoldingLemmas.{take_whole}
-use Rattle.zeb_engine.proofs.ListedDatabases.{fault_fails}
-use Rattle.zeb_engine.proofs.Showing.{still_shows, shown_more, ident_stored, each_kept, each_readable}
+use Rattle.zeb_engine.proofs.ListedDatabases.{fault_or_damage}
+use Rattle.zeb_engine.proofs.Showing.{hidden_shown, ident_stored, none_shown, shown_more, still_shows}
 use Rattle.zeb_engine.proofs.find.show.Goals as goal
 
 abbrev told : Hit → ℕ × List ℕ
@@ -48,8 +50,8 @@ returns-clause-shown g c clean trees shows =
     let whole = take_whole c.args.numbers.now c.loop-number.number-index (omega (arith, c.loop-number-test.false)) in
     subst (λ numbers. AreShown (has_ident_in trees c.args.database.0) numbers (map told c.loop-number.shown.items)) whole (c.loop-number.invariant.shown clean trees shows)
 
-pub returns-in_default-clause-failed : goal.returns-in_default-clause-failed
-returns-in_default-clause-failed g c clean trees shows keeps =
+pub returns-in_default-clause-refused : goal.returns-in_default-clause-refused
+returns-in_default-clause-refused g c clean trees shows small =
     let old = state g.S.Store c.args.connection.now in
     let now = state g.S.Store c.loop-number.connection in
     let index = c.loop-number.number-index in
@@ -57,18 +59,19 @@ returns-in_default-clause-failed g c clean trees shows keeps =
     let opened = (c.in_ok-ident.ensures.call.ok clean).0.was_open in
     let at = still_shows old now trees (c.loop-number.invariant.same first) shows opened in
     let value : get_or c.args.numbers.now index 0 < 2 ^ 63 → IsIdentOf trees c.args.database.0 (pos (get_or c.args.numbers.now index 0)) c.in_ok-ident.field-0 = λ less. subst (λ t. IsIdentOf t c.args.database.0 (pos (get_or c.args.numbers.now index 0)) c.in_ok-ident.field-0) at.1 (c.in_ok-ident.ensures.value clean at.0 less) in
-    absurd (each_kept trees c.args.database.0 c.args.numbers.now index (get_or c.args.numbers.now index 0) c.in_ok-ident.field-0 c.loop-number-test.true refl keeps value c.in_default.is)
+    inr (refl, none_shown trees c.args.database.0 c.args.numbers.now index (get_or c.args.numbers.now index 0) c.in_ok-ident.field-0 c.loop-number-test.true refl small value c.in_default.is)
 
-pub returns-in_err-ident-clause-failed : goal.returns-in_err-ident-clause-failed
-returns-in_err-ident-clause-failed g c clean trees shows keeps =
+pub returns-in_err-ident-clause-refused : goal.returns-in_err-ident-clause-refused
+returns-in_err-ident-clause-refused g c clean trees shows small =
     let old = state g.S.Store c.args.connection.now in
     let now = state g.S.Store c.loop-number.connection in
     let index = c.loop-number.number-index in
+    let number = get_or c.args.numbers.now index 0 in
     let first : HasCleanDisk now = omega (arith, c.ident_of.ensures.call.crash.clean) in
     let fault = c.in_err-ident.field-0.0 in
     let told : c.from_residual-in_err-ident.result ≡ Err (register_refusal fault) = search rules in
-    rw told (fault_fails fault (λ is.
+    rw told (fault_or_damage (HidesOne trees c.args.database.0 c.args.numbers.now) fault (λ is.
     let damaged : ◌≡◌ {A = Result (Option (String Global)) RegFault} (Err fault) (Err register.Damaged) = ap Err is in
     let at = still_shows old now trees (c.loop-number.invariant.same first) shows (c.in_err-ident.ensures.opened clean damaged) in
-    c.in_err-ident.ensures.honest clean at.0 damaged
-    (subst (λ db. AreReadableIdents db c.args.database.0 (pos (get_or c.args.numbers.now index 0))) (sym at.1) (each_readable trees c.args.database.0 c.args.numbers.now index (get_or c.args.numbers.now index 0) c.loop-number-test.true refl keeps))))
+    hidden_shown trees c.args.database.0 c.args.numbers.now index number c.loop-number-test.true refl
+    (subst (λ (t : Trees). ¬ AreReadableIdents t c.args.database.0 (pos number)) at.1 (c.in_err-ident.ensures.honest clean at.0 damaged))))

@@ -1,4 +1,4 @@
-use Rattle.std.proofs.Common.{rules, ◌≡◌, ◌∙◌, not, List, Option, Some, None, Result, Ok, Err, String, codes, string_bytes, sym, ap, subst, inl, inr, arith, IsTrue}
+use Rattle.std.proofs.Common.{rules, ◌≡◌, ◌∙◌, not, List, Option, Some, None, Result, Ok, Err, String, codes, string_bytes, sym, ap, subst, inl, inr, arith, IsTrue, IsUtf8}
 use Rattle.std.specs.declared.alloc.Global.{Global}
 use Rattle.std.specs.Option.{option_map}
 use Rattle.std.specs.Str.{bytes_eq}
@@ -14,14 +14,15 @@ use Rattle.zeb_engine.specs.Steps.{ready}
 use Rattle.zeb_change.specs.Refused.{Meets}
 use Rattle.zeb_engine.proofs.ListedDatabases.{fault_meets}
 use Rattle.zeb_engine.proofs.Ready.{version_in, profile_in, image_still, same_inside, told_version, told_profile, version_readable, profile_readable, texts_differ, texts_agree, ready_none, ready_old, ready_changed, ready_good}
+use Rattle.zeb_engine.proofs.StoreCauses.{fault_caused, may_after}
 use Rattle.zeb_engine.proofs.readiness.check_ready.Goals as goal
 use Rattle.zeb_register.specs.Formats.{version_of}
 use Rattle.sqlite.specs.Effect.{Database}
 use Rattle.zeb_register.specs.Store.{AreReadableTexts, IsValueOf}
 use Rattle.zeb_register.proofs.Calls.{store_same}
 use Rattle.zeb_engine.specs.Readiness.{KeepsText}
-use Rattle.zeb_engine.proofs.Looking.{one_readable}
-use Rattle.zeb_engine.proofs.ReadyTexts.{fault_texts, other_text, text_found, text_missing}
+use Rattle.zeb_engine.proofs.Looking.{kept_readable, one_readable}
+use Rattle.zeb_engine.proofs.ReadyTexts.{fault_texts, fault_whole, other_text, text_found, text_missing}
 
 pub returns-in_err-version-clause-ready : goal.returns-in_err-version-clause-ready
 returns-in_err-version-clause-ready g c clean limits before keeps =
@@ -223,3 +224,52 @@ returns-clause-texts g c clean store =
       has_version = subst (KeepsText old.now.trees (codes "version")) agrees kept;
       has_profile = subst (KeepsText old.now.trees (codes "profile")) as_said there;
     }
+
+pub returns-clause-open : goal.returns-clause-open
+returns-clause-open g c clean =
+    let first : HasCleanDisk (state g.S.Store c.meta_of.new.conn) = omega (arith, c.meta_of-2.ensures.call.crash.clean) in
+    ((c.in_ok-version.ensures.call.ok first).0.was_open, (c.in_ok-text.ensures.call.ok clean).0.is_open)
+
+pub returns-in_err-version-clause-whole : goal.returns-in_err-version-clause-whole
+returns-in_err-version-clause-whole g c clean store texts =
+    let old = state g.S.Store c.args.connection.now in
+    let fault = c.in_err-version.field-0.0 in
+    let told : c.from_residual.result ≡ Err (register_refusal fault) = search rules in
+    let readable = kept_readable old store (codes "version") (version_of g.L.Layout.format) (subst IsUtf8 c.version-version.ensures c.version-version.utf8) texts.has_version in
+    rw told (fault_whole {T = Unit {0}} fault (λ is.
+    let damaged : ◌≡◌ {A = Result (Option (String Global)) RegFault} (Err fault) (Err register.Damaged) = ap Err is in
+    c.in_err-version.ensures.honest clean store damaged readable))
+
+pub returns-in_err-text-clause-whole : goal.returns-in_err-text-clause-whole
+returns-in_err-text-clause-whole g c clean store texts =
+    let old = state g.S.Store c.args.connection.now in
+    let mid = state g.S.Store c.meta_of.new.conn in
+    let first : HasCleanDisk mid = omega (arith, c.meta_of-2.ensures.call.crash.clean) in
+    let same = (c.in_ok-version.ensures.call.ok first).0.now_is in
+    let fault = c.in_err-text.field-0.0 in
+    let told : c.from_residual-in_err-text.result ≡ Err (register_refusal fault) = search rules in
+    let readable = kept_readable old store (codes "profile") (canonical_text c.args.profile.now) (subst IsUtf8 c.text-text.ensures c.text-text.utf8) texts.has_profile in
+    rw told (fault_whole {T = Unit {0}} fault (λ is.
+    let damaged : ◌≡◌ {A = Result (Option (String Global)) RegFault} (Err fault) (Err register.Damaged) = ap Err is in
+    c.in_err-text.ensures.honest clean (store_same old mid same store) damaged (subst (λ (d : Database). AreReadableTexts d.trees (codes "profile")) (sym same) readable)))
+
+pub returns-in_err-version-clause-caused : goal.returns-in_err-version-clause-caused
+returns-in_err-version-clause-caused g c clean store =
+    let fault = c.in_err-version.field-0.0 in
+    let told : c.from_residual.result ≡ Err (register_refusal fault) = search rules in
+    rw told (fault_caused fault (λ is.
+    let failed : ◌≡◌ {A = Result (Option (String Global)) RegFault} (Err fault) (Err register.Store) = ap Err is in
+    c.in_err-version.ensures.refused clean store failed))
+
+pub returns-in_err-text-clause-caused : goal.returns-in_err-text-clause-caused
+returns-in_err-text-clause-caused g c clean store =
+    let old = state g.S.Store c.args.connection.now in
+    let mid = state g.S.Store c.meta_of.new.conn in
+    let new = state g.S.Store c.meta_of-2.new.conn in
+    let first : HasCleanDisk mid = omega (arith, c.meta_of-2.ensures.call.crash.clean) in
+    let still = (c.in_ok-version.ensures.call.ok first).0 in
+    let fault = c.in_err-text.field-0.0 in
+    let told : c.from_residual-in_err-text.result ≡ Err (register_refusal fault) = search rules in
+    rw told (fault_caused fault (λ is.
+    let failed : ◌≡◌ {A = Result (Option (String Global)) RegFault} (Err fault) (Err register.Store) = ap Err is in
+    may_after old mid new c.meta_of.ensures.call.crash (λ _. still.is_open) (λ _. c.in_err-text.ensures.refused clean (store_same old mid still.now_is store) failed)))

@@ -1,17 +1,18 @@
-use Rattle.std.proofs.Common.{rules, ◌≡◌, ◌∙◌, ℕ, pos, Option, Some, None, Result, Ok, Err, string_bytes, sym, ap, subst, inr, IsTrue}
+use Rattle.std.proofs.Common.{rules, ◌≡◌, ◌∙◌, ℕ, pos, Option, Some, None, Result, Ok, Err, string_bytes, sym, ap, subst, inl, inr, IsTrue}
 use Rattle.sqlite.specs.Held.{state}
 use Rattle.zeb_register.specs.declared.RegFault.{RegFault}
 use Rattle.zeb_register.specs.declared.RegFault.TheVariants as register
 use Rattle.zeb_register.specs.declared.catalog.Database.{Database}
-use Rattle.zeb_register.specs.Catalog.{IsDatabaseOf}
+use Rattle.zeb_register.specs.Catalog.{AreCountedDatabases, IsDatabaseOf}
 use Rattle.zeb_register.specs.Store.{HasDatabase}
 use Rattle.zeb_change.specs.Refused.{diagnostic, Meets}
 use Rattle.zeb_change.specs.Base.{Base}
 use Rattle.zeb_image.specs.NameOf.{name_bytes}
 use Rattle.zeb_change.specs.Outcomes.{register_refusal}
 use Rattle.zeb_engine.specs.Steps.{found_or, existing}
-use Rattle.zeb_engine.proofs.ListedDatabases.{fault_meets, fault_fails_or, counted, row_named, none_named}
+use Rattle.zeb_engine.proofs.ListedDatabases.{fault_misses, fault_meets, fault_fails_or, counted, row_named, none_named}
 use Rattle.zeb_engine.proofs.ReadyImages.{image_some}
+use Rattle.zeb_engine.proofs.StoreCauses.{fault_caused}
 use Rattle.zeb_engine.proofs.readiness.existing_database.Goals as goal
 
 pub returns-in_err-database-clause-exists : goal.returns-in_err-database-clause-exists
@@ -68,3 +69,29 @@ returns-in-Some-clause-row g c clean store =
     let value = c.in_ok-database.ensures.value clean store in
     let there : IsDatabaseOf old.now.trees c.as_str.result.now (Some found) = subst (IsDatabaseOf old.now.trees c.as_str.result.now) c.in-Some.is value in
     subst (λ n. HasDatabase old.now.trees found.id.0 n (pos found.last)) c.as_str.ensures there
+
+pub returns-in_err-database-clause-misses : goal.returns-in_err-database-clause-misses
+returns-in_err-database-clause-misses g c clean store =
+    let old = state g.S.Store c.args.connection.now in
+    let fault = c.in_err-database.field-0.0 in
+    let told : c.from_residual.result ≡ Err (register_refusal fault) = search rules in
+    rw told (fault_misses old.now.trees (name_bytes c.args.name.now) fault (λ is.
+    let damaged : ◌≡◌ {A = Result (Option Database) RegFault} (Err fault) (Err register.Damaged) = ap Err is in
+    subst (λ n. ¬ AreCountedDatabases old.now.trees n) c.as_str.ensures (c.in_err-database.ensures.honest clean store damaged)))
+
+pub returns-in_ok-from_str-in-None-clause-misses : goal.returns-in_ok-from_str-in-None-clause-misses
+returns-in_ok-from_str-in-None-clause-misses g c clean store =
+    let old = state g.S.Store c.args.connection.now in
+    let name = name_bytes c.args.name.now in
+    let value = c.in_ok-database.ensures.value clean store in
+    let none : IsDatabaseOf old.now.trees name None = subst (λ n. IsDatabaseOf old.now.trees n None) c.as_str.ensures (subst (IsDatabaseOf old.now.trees c.as_str.result.now) c.in-None.is value) in
+    let text : string_bytes c.in_ok-from_str-in-None.field-0 ≡ name = search rules in
+    inr (inl (none, ap (diagnostic 235 0) text))
+
+pub returns-in_err-database-clause-caused : goal.returns-in_err-database-clause-caused
+returns-in_err-database-clause-caused g c clean store =
+    let fault = c.in_err-database.field-0.0 in
+    let told : c.from_residual.result ≡ Err (register_refusal fault) = search rules in
+    rw told (fault_caused fault (λ is.
+    let failed : ◌≡◌ {A = Result (Option Database) RegFault} (Err fault) (Err register.Store) = ap Err is in
+    c.in_err-database.ensures.refused clean store failed))

@@ -13,12 +13,21 @@ use Rattle.zeb_change.specs.Conditions.{conditions}
 use Rattle.zeb_image.specs.NameOf.{name_bytes}
 use Rattle.zeb_change.specs.Outcomes.{query_refusal}
 use Rattle.zeb_engine.specs.Steps.{ScanAnswers}
-use Rattle.zeb_engine.proofs.Asked.{Ends, existing_ends}
+use Rattle.zeb_engine.proofs.Asked.{Ends, existing_ends, query_ends, refused_ends}
 use Rattle.zeb_engine.proofs.Held.{looked_up}
 use Rattle.zeb_engine.proofs.Scans.{plan_ends, scanned_ends, terms_answered}
 use Rattle.zeb_engine.proofs.Showing.{still_shows}
 use Rattle.zeb_engine.proofs.scan.scan.Goals as goal
 use Rattle.zeb_register.specs.Formats.{holds_in, version_of}
+
+pub returns-in_err-query-clause-scanned : goal.returns-in_err-query-clause-scanned
+returns-in_err-query-clause-scanned g c clean opened limits before bases is keeps =
+    let name = name_bytes c.args.name.now in
+    let query = c.args.around.query.now in
+    let says = ScanAnswers c.args.profile.now query c.args.around.number c.args.around.position in
+    let fault = c.in_err-query.field-0.0 in
+    let told : c.from_residual.result ≡ Err (query_refusal fault) = search rules in
+    refused_ends says name query bases c.from_residual.result (query_refusal fault) told (query_ends says name query bases fault c.in_err-query.ensures.faulty)
 
 pub returns-in_err-database-clause-scanned : goal.returns-in_err-database-clause-scanned
 returns-in_err-database-clause-scanned g c clean opened limits before bases is keeps =
@@ -30,7 +39,7 @@ returns-in_err-database-clause-scanned g c clean opened limits before bases is k
     let s1 = state g.S.Store c.existing_database.new.connection in
     let refusal = c.in_err-database.field-0.0 in
     let told : c.from_residual-in_err-database.result ≡ Err refusal = search rules in
-    subst (λ (r : Result Reply Refusal). Ends says name query bases (answer_of r)) (sym told) (existing_ends says name query bases c.in_ok-query.ensures.sound {X = Database}
+    subst (λ (r : Result Reply Refusal). Ends says name query bases (answer_of r)) (sym told) (existing_ends says name query bases c.in_ok-query.ensures.readable {X = Database}
     (λ base d. HasDatabase s0.now.trees d.id.0 base.name (pos base.last) × (d.last ≡ base.last) × IsTrue s1.is_open) refusal (c.in_err-database.ensures.exists clean opened k before bases is keeps))
 
 pub returns-in_err-plan-clause-scanned : goal.returns-in_err-plan-clause-scanned
@@ -48,7 +57,7 @@ returns-in_err-plan-clause-scanned g c clean opened limits before bases is keeps
     let fault = c.in_err-plan.field-0.0 in
     let told : c.from_residual-in_err-plan.result ≡ Err (query_refusal fault) = search rules in
     subst (λ (r : Result Reply Refusal). Ends says name query bases (answer_of r)) (sym told)
-    (plan_ends g.L.Layout.format c.args.profile.now s0.now.trees database.id.0 base.0 base.2 name query c.args.around.number c.args.around.position bases c.in_ok-query.ensures.sound base.1
+    (plan_ends g.L.Layout.format c.args.profile.now s0.now.trees database.id.0 base.0 base.2 name query c.args.around.number c.args.around.position bases c.in_ok-query.ensures.readable base.1
     (query_value c.in_ok-query.query) c.in_ok-query.ensures.spelled fault c.in_err-plan.ensures.planned)
 
 pub returns-in_err-entries-clause-scanned : goal.returns-in_err-entries-clause-scanned
@@ -85,7 +94,7 @@ returns-clause-scanned g c clean opened limits before bases is keeps =
     let held = base.2 in
     let has = subst (λ db. holds_in g.L.Layout.format db held.content) (sym there.1) held.held in
     let plan = scan_value c.in_ok-plan.plan in
-    scanned_ends g.L.Layout.format c.args.profile.now s0.now.trees database.id.0 base.0 held name query c.args.around.number c.args.around.position bases c.in_ok-query.ensures.sound base.1
+    scanned_ends g.L.Layout.format c.args.profile.now s0.now.trees database.id.0 base.0 held name query c.args.around.number c.args.around.position bases c.in_ok-query.ensures.readable base.1
     (query_value c.in_ok-query.query) c.in_ok-query.ensures.spelled plan c.in_ok-plan.ensures.planned c.in_ok-entries.entries.items (c.in_ok-entries.ensures.around clean there.0 held.content has)
 
 pub returns-clause-alone : goal.returns-clause-alone

@@ -1,4 +1,4 @@
-use Rattle.std.proofs.Common.{rules, ◌≡◌, ◌++◌, ◌∷◌, [], ℕ, List, Err, arith, ap, get_or, subst, sym, take}
+use Rattle.std.proofs.Common.{rules, ◌≡◌, ◌∙◌, ◌++◌, ◌∷◌, [], ℕ, List, Err, arith, ap, get_or, subst, sym, take}
 use Rattle.sqlite.specs.Held.{state}
 use Rattle.sqlite.specs.State.{HasCleanDisk}
 use Rattle.sqlite.specs.Tree.{Trees}
@@ -48,6 +48,7 @@ loop-target-preserved g c =
           let more = paired_more (Fits (posted content c.args.database.0) c.args.profile.now) (take index c.args.targets.now) c.loop-target.holdings.items target holding (c.loop-target.invariant.held first trees shows was content has) is in
           subst (λ (l : List Target). Paired (Fits (posted content c.args.database.0) c.args.profile.now) l c.push_reserved.new.self.items) (sym (take_more c.args.targets.now index (0, Word) c.loop-target-test.true))
           (subst (Paired (Fits (posted content c.args.database.0) c.args.profile.now) (take index c.args.targets.now ++ target ∷ [])) (sym c.push_reserved.ensures.items) more);
+      no_work = λ none. c.totals.ensures.no_work none ∙ c.loop-target.invariant.no_work none;
     }
 
 pub returns-clause-held : goal.returns-clause-held

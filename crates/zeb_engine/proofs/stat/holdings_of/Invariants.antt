@@ -23,4 +23,5 @@ invariant-loop-target g l =
       same : HasCleanDisk now → ChangesNothing old now;
       held : HasCleanDisk now → (trees : Trees) → ShowsStore old trees → IsTrue old.is_open → (content : Content) → holds_in g.L.Layout.format trees content
           → Paired (λ target holding. IsExtent (posted content l.fn.database.0) l.fn.profile target (extent_of holding)) (take l.target-index l.targets) l.holdings.items;
+      no_work : g.L.Layout.row_work ≡ 0 → l.work ≡ l.fn.work;
     }

@@ -9,6 +9,7 @@ use Rattle.zeb_engine.specs.Crashes.{Commits, CommitsBy}
 use Rattle.zeb_image.specs.Image.{IsImage}
 use Rattle.zeb_image.specs.NameOf.{name_bytes}
 use Rattle.zeb_engine.specs.Steps.{OnlyAsks, turned, TakesFiles, created, dropped, dumped_by, holding, checked, Step, initialised, reindexed, upgraded, ready, CountedFrom}
+use Rattle.zeb_engine.specs.PrivateChanging.{IsNoChange}
 use Rattle.zeb_engine.specs.Readiness.{LooksFirst}
 use Rattle.zeb_engine.specs.Works.{Always, Asks, Serves, ServesBy}
 use Rattle.zeb_engine.proofs.Commanding.{analysis_answers, analysis_serves, asks_serve, ends_serve, find_alone, find_serves, scan_alone, scan_serves}
@@ -157,7 +158,7 @@ returns-in-Find-clause-alone g c clean =
     let same_first : from ≡ c.in-Find.first = search rules in
     let same_count : many ≡ c.in-Find.count = search rules in
     rw c.in-Find.is (find_alone g.L.Layout.format c.args.self.now.profile old c.find.result c.in-Find.database c.in-Find.query c.in-Find.first c.in-Find.count (name_bytes of) c.as_str.result.now from many
-    (ap name_bytes same_name) (c.as_str.ensures.value ∙ ap string_bytes same_query) same_first same_count (c.find.ensures.alone clean))
+    (ap name_bytes same_name) (c.as_str.ensures.value ∙ ap string_bytes same_query) same_first same_count (c.find.ensures.alone clean) (c.find.ensures.refused clean))
 
 pub returns-in-Init-clause-alone : goal.returns-in-Init-clause-alone
 returns-in-Init-clause-alone g c clean = rw c.in-Init.is tt
@@ -455,3 +456,6 @@ returns-in-Dump-clause-read_work g c clean = rw c.in-Dump.is tt
 
 pub returns-in-Analyse-clause-read_work : goal.returns-in-Analyse-clause-read_work
 returns-in-Analyse-clause-read_work g c clean = rw c.in-Analyse.is tt
+
+pub returns-in-Change-clause-no_work : goal.returns-in-Change-clause-no_work
+returns-in-Change-clause-no_work g c none is = absurd (subst IsNoChange c.in-Change.is is)

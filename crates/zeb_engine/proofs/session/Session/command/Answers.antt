@@ -9,6 +9,7 @@ use Rattle.zeb_engine.proofs.Remaking.{leaves_settled}
 use Rattle.zeb_engine.proofs.RunCrashes.{did_endures}
 use Rattle.zeb_engine.proofs.Unasked.{did}
 use Rattle.zeb_engine.proofs.Honest.{command_honest}
+use Rattle.zeb_engine.proofs.NoWork.{command_counts_nothing}
 use Rattle.zeb_engine.proofs.Serving.{on_ok}
 use Rattle.zeb_engine.proofs.session.Session.command.Goals as goal
 use Rattle.zeb_register.specs.Formats.{version_of}
@@ -46,3 +47,10 @@ returns-clause-remade g c clean is =
     let new = state g.S.Store c.carry_out-answer.new.self.connection in
     let idle : IsTrue c.is_autocommit-settled.result = search rules in
     leaves_settled g.L.Layout.format c.args.self.now.profile c.carry_out-answer.result old new (λ is_open. sym (c.is_autocommit-settled.ensures.settled idle is_open)) (c.carry_out-answer.ensures.remade clean is)
+
+pub returns-clause-no_work : goal.returns-clause-no_work
+returns-clause-no_work g c clean none =
+    let k = conditions (version_of g.L.Layout.format) c.args.self.now.profile c.args.self.now.limits in
+    let old = state g.S.Store c.args.self.now.connection in
+    command_counts_nothing g.L.Layout.row_work k old c.carry_out-answer.result c.carry_out-answer.new.self.work none c.args.command.now
+    (c.carry_out-answer.ensures.work clean) (c.carry_out-answer.ensures.no_work none)

@@ -1,4 +1,4 @@
-use Rattle.std.proofs.Common.{◌≡◌, Err, IsTrue, List, rules, arith, sym, subst}
+use Rattle.std.proofs.Common.{◌≡◌, Err, IsTrue, List, rules, arith, sym, subst, inl}
 use Rattle.sqlite.specs.Held.{state}
 use Rattle.sqlite.specs.State.{HasCleanDisk}
 use Rattle.zeb_register.proofs.Calls.{nothing_then}
@@ -9,17 +9,17 @@ use Rattle.zeb_image.specs.Image.{Keeps}
 use Rattle.zeb_image.specs.NameOf.{name_bytes}
 use Rattle.zeb_engine.specs.Steps.{ready}
 use Rattle.zeb_engine.specs.Works.{Finds}
-use Rattle.zeb_engine.specs.Alone.{FindSays}
+use Rattle.zeb_engine.specs.Alone.{FindSays, RefusesFind}
 use Rattle.zeb_engine.specs.Steps.{FindAnswers}
 use Rattle.zeb_query.specs.Plans.{PlanValue}
 use Rattle.zeb_engine.specs.Reads.{IsPlanOf, PlanReads}
-use Rattle.zeb_engine.proofs.Asked.{alone_after, ready_asked, unready_asked}
+use Rattle.zeb_engine.proofs.Asked.{alone_after, ready_asked, refused_after, unready_asked}
 use Rattle.zeb_engine.proofs.AskedReads.{told_after}
 use Rattle.zeb_engine.proofs.Commanding.{ready_met}
 use Rattle.zeb_engine.proofs.Serving.{keeps_still}
 use Rattle.zeb_engine.proofs.session.Session.find.Goals as goal
 use Rattle.zeb_register.specs.Formats.{version_of}
-use Rattle.zeb_engine.proofs.ReadyTexts.{ready_then}
+use Rattle.zeb_engine.proofs.ReadyTexts.{ready_then, unready_fails}
 
 pub returns-in_err-check_ready-clause-serves : goal.returns-in_err-check_ready-clause-serves
 returns-in_err-check_ready-clause-serves g c clean =
@@ -59,6 +59,21 @@ returns-clause-alone g c clean =
     let clean1 : HasCleanDisk mid = omega (arith, c.find.ensures.crash.clean) in
     alone_after g.L.Layout.format (FindSays c.args.self.now.profile c.args.question.query.now c.args.question.first c.args.question.count) (name_bytes c.args.database.now) old mid new c.find.result
     (c.check_ready.ensures.same clean1) (c.find.ensures.open clean) (c.find.ensures.alone clean)
+
+pub returns-in_err-check_ready-clause-refused : goal.returns-in_err-check_ready-clause-refused
+returns-in_err-check_ready-clause-refused g c clean texts store content storable held =
+    let refusal = c.in_err-check_ready.field-0.0 in
+    let told : c.from_residual.result ≡ Err refusal = search rules in
+    rw told (inl (unready_fails (version_of g.L.Layout.format) c.args.self.now.profile (state g.S.Store c.args.self.now.connection).now.trees texts refusal
+    c.in_err-check_ready.ensures.few (c.in_err-check_ready.ensures.texts clean store) (c.in_err-check_ready.ensures.whole clean store texts)))
+
+pub returns-clause-refused : goal.returns-clause-refused
+returns-clause-refused g c clean texts =
+    let old = state g.S.Store c.args.self.now.connection in
+    let mid = state g.S.Store c.check_ready.new.connection in
+    let clean1 : HasCleanDisk mid = omega (arith, c.find.ensures.crash.clean) in
+    refused_after g.L.Layout.format (RefusesFind c.args.self.now.profile (name_bytes c.args.database.now) c.args.question.query.now c.args.question.first c.args.question.count) old mid c.find.result
+    (c.check_ready.ensures.same clean1) (c.in_ok-check_ready.ensures.open clean1) (c.find.ensures.refused clean)
 
 pub returns-clause-reads : goal.returns-clause-reads
 returns-clause-reads g c clean =
