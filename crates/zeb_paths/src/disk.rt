@@ -24,8 +24,8 @@ impl<'a> Disk<'a> {
         Disk { rt, tally: None }
     }
 
-    /// The same, where a tally counts the records that are read. It begins anew with each reader: those of one command are all
-    /// made before the first is read.
+    /// The same, where a tally counts the records that are read. It begins anew with each reader. Those of a change are all made
+    /// before the first is read, so it counts through all its files; those of an analysis one by one, so it counts each file's.
     pub fn counted(rt: &'a HostRuntime, tally: &'a Tally<'a>) -> Disk<'a> {
         let tally = Some(tally);
         Disk { rt, tally }

@@ -19,15 +19,19 @@ with_defaults rows = fold with_default rows shape.rules
 abbrev default_row : Row
 default_row = record { id = codes "shows"; values = codes "false" ∷ []; count = None; source = Some DefaultValue; reading = AsWritten }
 
+abbrev behind_settings : List Row → List Row
+behind_settings rows = with_default (with_default (with_default rows (rule_by (codes "shows"))) (rule_by (codes "version"))) (rule_by (codes "help"))
+
 -- only `-s` has a default
 defaults_are : (rows : List Row) (is : Bool) → has_row (codes "shows") rows ≡ is → with_defaults rows ≡ cond is rows (rows ++ default_row ∷ [])
 defaults_are rows is e =
     let one = kept rows (rule_by (codes "config")) refl in
     let two = kept rows (rule_by (codes "database")) refl in
     let three = by is e in
-    ap (λ r. with_default (with_default (with_default r (rule_by (codes "database"))) (rule_by (codes "shows"))) (rule_by (codes "help"))) one
-    ∙ ap (λ r. with_default (with_default r (rule_by (codes "shows"))) (rule_by (codes "help"))) two
-    ∙ kept (with_default rows (rule_by (codes "shows"))) (rule_by (codes "help")) refl ∙ three
+    let shown = with_default rows (rule_by (codes "shows")) in
+    let four = kept shown (rule_by (codes "version")) refl in
+    ap (λ r. behind_settings (with_default r (rule_by (codes "database")))) one ∙ ap behind_settings two
+    ∙ ap (λ r. with_default r (rule_by (codes "help"))) four ∙ kept shown (rule_by (codes "help")) refl ∙ three
   where
     by : (is : Bool) → has_row (codes "shows") rows ≡ is → with_default rows (rule_by (codes "shows")) ≡ cond is rows (rows ++ default_row ∷ [])
     by true e = rw e refl

@@ -1,8 +1,12 @@
--- Words that spell settings, and words that say options and arguments, by the grammar.
+-- Words that spell settings, and words that say options and arguments, by the grammar; and words that ask for help or the version.
 use Rattle.std.proofs.Common.{◌≡◌, refl, [], ◌∷◌, codes, true}
 use Rattle.std.proofs.lemmas.Bool.{eqb-false}
 use Rattle.zeb_words.specs.Grammar.{Argument, Config, Database, Given, IsPlain, Says, Shows, Spells, apart, argument, by_equals, ended, files, joined, none, nothing, option_by_equals, shown, shows_and, values_of}
 use Rattle.zeb_words.specs.Grammar.{Option as Named, option as named}
+use Rattle.zeb_words.specs.Parses.{program_app}
+use Rattle.clap.specs.Faults.{fault_of}
+use Rattle.clap.specs.declared.error.kind.ErrorKind.TheVariants.{DisplayHelp, DisplayVersion, UnknownArgument}
+use Rattle.clap.proofs.OnLiterals.{clap_on_literals}
 
 -- `-c x.cfg`, `-c=x.cfg`, `-cx.cfg`, and an empty value
 file_apart : Spells (codes "-c" ∷ codes "x.cfg" ∷ []) (Given Config (codes "x.cfg") ∷ [])
@@ -69,3 +73,25 @@ no_value plain = plain refl
 
 empty_word : IsPlain []
 empty_word = tt
+
+-- ---- what is asked for in place of a command: the version before one, and help also behind one
+
+version_asked : fault_of program_app (codes "--version" ∷ []) ≡ DisplayVersion ∷ []
+unfolding clap_on_literals
+version_asked = refl
+
+version_before : fault_of program_app (codes "-d" ∷ codes "Books" ∷ codes "--version" ∷ codes "find" ∷ []) ≡ DisplayVersion ∷ []
+unfolding clap_on_literals
+version_before = refl
+
+version_behind : fault_of program_app (codes "find" ∷ codes "--version" ∷ []) ≡ UnknownArgument ∷ []
+unfolding clap_on_literals
+version_behind = refl
+
+version_by_letter : fault_of program_app (codes "-V" ∷ []) ≡ UnknownArgument ∷ []
+unfolding clap_on_literals
+version_by_letter = refl
+
+help_behind : fault_of program_app (codes "find" ∷ codes "--help" ∷ []) ≡ DisplayHelp ∷ []
+unfolding clap_on_literals
+help_behind = refl

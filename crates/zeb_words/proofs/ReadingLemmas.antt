@@ -10,7 +10,7 @@ use Rattle.clap.specs.Simple.{matches_of, subcommand_of}
 use Rattle.clap.specs.Kinds.{HasKind, IsAmong}
 use Rattle.clap.specs.Values.{kind_of}
 use Rattle.clap.specs.declared.error.Error.{Error}
-use Rattle.clap.specs.declared.error.kind.ErrorKind.TheVariants.{DisplayHelp, OutOfMemory}
+use Rattle.clap.specs.declared.error.kind.ErrorKind.TheVariants.{DisplayHelp, DisplayVersion, OutOfMemory}
 use Rattle.zeb_words.specs.declared.words.Usage.{Usage}
 use Rattle.zeb_words.specs.declared.words.Usage.TheVariants.{BadUsage, Refused, Help, Memory}
 use Rattle.zeb_words.specs.Parses.{AreBad, IsActRead, IsBadAct, IsFlagRead, IsFlagText, IsNumberRead, IsOwn, IsRefusedAs, IsUsageOf, program_app}
@@ -76,10 +76,13 @@ bad_words rows sub name shows given is flagged (inr past) = inr (given, is ∙ a
 pub parser_refused : (words : List (List ℕ)) (error : Error) (usage : Usage) → HasKind (fault_of program_app words) error → IsUsageOf error usage
     → IsRefusedAs words usage
 parser_refused words error BadUsage kind is = absurd is
-parser_refused words error (Refused text) (inl memory) is = absurd (is memory)
-parser_refused words error (Refused text) (inr among) is = λ none. subst (IsAmong (kind_of error)) none among
-parser_refused words error (Help text) (inl memory) is =
+parser_refused words error (Refused text) (inl memory) is = absurd (is.0 memory)
+parser_refused words error (Refused text) (inr among) is = (kind_of error, among, is.1)
+parser_refused words error (Help text) (inl memory) (inl is) =
     let bad : DisplayHelp ≡ OutOfMemory = sym is ∙ memory in
     cc
-parser_refused words error (Help text) (inr among) is = subst (λ k. IsAmong k (fault_of program_app words)) is among
+parser_refused words error (Help text) (inl memory) (inr is) =
+    let bad : DisplayVersion ≡ OutOfMemory = sym is ∙ memory in
+    cc
+parser_refused words error (Help text) (inr among) is = (kind_of error, among, is)
 parser_refused words error Memory kind is = tt

@@ -16,7 +16,6 @@ use Rattle.zeb_words.specs.declared.words.Words.{Words}
 use Rattle.zeb_words.specs.declared.words.Usage.{Usage}
 use Rattle.zeb_words.specs.declared.words.Usage.TheVariants.{BadUsage, Refused, Help, Memory}
 use Rattle.clap.specs.Kinds.{IsAmong}
-use Rattle.clap.specs.declared.error.kind.ErrorKind.TheVariants.{DisplayHelp}
 use Rattle.zeb_words.specs.declared.words.Act.{Act}
 use Rattle.zeb_words.specs.declared.words.Act.TheVariants.{Init, Create, Drop, Update, Delete, Adelete, Stat, Dump, Check, Reindex, Upgrade, Find, Scan, Batch, Shell}
 use Rattle.zeb_words.proofs.ReadingLemmas.{pair_parts}
@@ -224,9 +223,12 @@ no_default_fault rows =
     let one = with_default rows (rule_by (codes "config")) in
     let two = with_default one (rule_by (codes "database")) in
     let three = with_default two (rule_by (codes "shows")) in
+    let four = with_default three (rule_by (codes "version")) in
     ap₂ or_else (default_none rows (rule_by (codes "config")) refl)
     (ap₂ or_else (default_none one (rule_by (codes "database")) refl)
-    (ap₂ or_else (shows_none two) (ap₂ or_else (default_none three (rule_by (codes "help")) refl) refl)))
+    (ap₂ or_else (shows_none two)
+    (ap₂ or_else (default_none three (rule_by (codes "version")) refl)
+    (ap₂ or_else (default_none four (rule_by (codes "help")) refl) refl))))
 
 abbrev app : App
 app = built program_app
@@ -294,6 +296,6 @@ names_taken words named n =
 -- so words that are refused name none
 pub none_named : (words : List Text) (usage : Usage) → IsRefusedAs words usage → NamesNone words usage
 none_named words BadUsage refused = λ named n. (names_taken words named n).never refused.1
-none_named words (Refused text) refused = λ named n. refused (names_taken words named n).fault
-none_named words (Help text) refused = λ named n. subst (IsAmong DisplayHelp) (names_taken words named n).fault refused
+none_named words (Refused text) refused = λ named n. subst (IsAmong refused.0) (names_taken words named n).fault refused.1
+none_named words (Help text) refused = λ named n. subst (IsAmong refused.0) (names_taken words named n).fault refused.1
 none_named words Memory refused = tt

@@ -63,14 +63,24 @@ no_stop w rows p waiting words e passes =
     cc
 
 long_refused : (name : Text) (value : Option Text) (h : Held) → long_fault shape.rules false (arg_by_long shape.rules name) value h ≡ [] → ⊥
-long_refused name value h = by (bytes_eq (codes "help") name) refl value
+long_refused name value h = by (bytes_eq (codes "version") name) refl value
   where
-    by : (b : Bool) → bytes_eq (codes "help") name ≡ b → (value : Option Text) → long_fault shape.rules false (arg_by_long shape.rules name) value h ≡ [] → ⊥
-    by false e v fault =
-        let bad : kind.UnknownArgument ∷ [] ≡ [] = rw e at fault in
+    by_help : (b : Bool) → bytes_eq (codes "version") name ≡ false → bytes_eq (codes "help") name ≡ b → (value : Option Text)
+        → long_fault shape.rules false (arg_by_long shape.rules name) value h ≡ [] → ⊥
+    by_help false other e v fault =
+        let bad : kind.UnknownArgument ∷ [] ≡ [] = rw (other, e) at fault in
         cc
+    by_help true other e None fault =
+        let bad : kind.DisplayHelp ∷ [] ≡ [] = (none_of_both _ _ (rw (other, e) at fault)).1 in
+        cc
+    by_help true other e (Some v) fault =
+        let bad : kind.TooManyValues ∷ [] ≡ [] = rw (other, e) at fault in
+        cc
+
+    by : (b : Bool) → bytes_eq (codes "version") name ≡ b → (value : Option Text) → long_fault shape.rules false (arg_by_long shape.rules name) value h ≡ [] → ⊥
+    by false e v fault = by_help (bytes_eq (codes "help") name) e refl v fault
     by true e None fault =
-        let bad : kind.DisplayHelp ∷ [] ≡ [] = (none_of_both _ _ (rw e at fault)).1 in
+        let bad : kind.DisplayVersion ∷ [] ≡ [] = (none_of_both _ _ (rw e at fault)).1 in
         cc
     by true e (Some v) fault =
         let bad : kind.TooManyValues ∷ [] ≡ [] = rw e at fault in

@@ -6,11 +6,12 @@ use Rattle.zeb_image.specs.NameOf.{name_bytes}
 use Rattle.clap.specs.Walk.{Row, Rule, Text, first_of, one_of, all_of}
 use Rattle.clap.specs.Simple.{App, matches_of, new_app, new_rule, subcommand_of, with_rule, with_subcommand}
 use Rattle.clap.specs.Faults.{fault_of}
-use Rattle.clap.specs.Kinds.{IsAmong}
+use Rattle.clap.specs.Kinds.{IsAmong, Kinds}
 use Rattle.clap.specs.Values.{kind_of}
 use Rattle.clap.specs.declared.error.Error.{Error}
-use Rattle.clap.specs.declared.error.kind.ErrorKind.TheVariants.{DisplayHelp, OutOfMemory}
-use Rattle.clap.specs.declared.builder.action.ArgAction.TheVariants.{Append, SetTrue}
+use Rattle.clap.specs.declared.error.kind.ErrorKind.{ErrorKind}
+use Rattle.clap.specs.declared.error.kind.ErrorKind.TheVariants.{DisplayHelp, DisplayVersion, OutOfMemory}
+use Rattle.clap.specs.declared.builder.action.ArgAction.TheVariants.{Append, SetTrue, Version}
 use Rattle.clap.specs.declared.builder.value_parser.ValueParser.TheVariants as parser
 use Rattle.zeb_words.specs.declared.words.Words.{Words}
 use Rattle.zeb_words.specs.declared.words.Act.{Act}
@@ -28,6 +29,9 @@ database_rule = record (new_rule (codes "database")) { short = Some 100; value_n
 
 abbrev pub shows_rule : Rule
 shows_rule = record (new_rule (codes "shows")) { short = Some 115; action = Some SetTrue }
+
+abbrev pub version_rule : Rule
+version_rule = record (new_rule (codes "version")) { long = Some (codes "version"); action = Some Version }
 
 abbrev pub number_rule : Text → ℕ → ℕ → Rule
 number_rule name least most =
@@ -50,9 +54,11 @@ top_app =
         no_binary_name = true;
         subcommand_required = true;
         disable_help_subcommand = true;
+        disable_version_flag = true;
+        has_version = true;
       };
     } in
-    with_rule (with_rule (with_rule set config_rule) database_rule) shows_rule
+    with_rule (with_rule (with_rule (with_rule set config_rule) database_rule) shows_rule) version_rule
 
 abbrev pub naming_app : Text → App
 naming_app name = with_rule (new_app name) name_rule
@@ -180,17 +186,28 @@ IsFlagText read = (read ≡ Some (codes "true")) ⊎ (read ≡ Some (codes "fals
 abbrev pub AreBad : List Row → Option (Text × List Row) → Type 0
 AreBad rows sub = (IsFlagText (one_of (codes "shows") rows) → (named : Words) → IsReadFrom rows sub named → ⊥) ⊎ ((given : List Row) × (sub ≡ Some (codes "scan", given)) × IsPast given)
 
--- The words are refused: by the parser's text only where it finds a fault in them, with help where they ask for it, and
--- by the program itself only where the parser takes them.
+-- what the parser finds is no fault, but that help or the version is asked for
+abbrev pub IsRequest : ErrorKind → Type 0
+IsRequest kind = (kind ≡ DisplayHelp) ⊎ (kind ≡ DisplayVersion)
+
+-- among the kinds is one of a request; one of a fault
+abbrev pub HasRequest : Kinds → Type 0
+HasRequest kinds = (kind : ErrorKind) × IsAmong kind kinds × IsRequest kind
+
+abbrev pub HasMistake : Kinds → Type 0
+HasMistake kinds = (kind : ErrorKind) × IsAmong kind kinds × (IsRequest kind → ⊥)
+
+-- The words are refused: by the parser's text only where it finds a fault in them, with help or the version only where they ask
+-- for one, and by the program itself only where the parser takes them.
 abbrev pub IsRefusedAs : List Text → Usage → Type 0
 IsRefusedAs words BadUsage = (fault_of program_app words ≡ []) × AreBad (matches_of program_app words) (subcommand_of program_app words)
-IsRefusedAs words (Refused text) = fault_of program_app words ≢ []
-IsRefusedAs words (Help text) = IsAmong DisplayHelp (fault_of program_app words)
+IsRefusedAs words (Refused text) = HasMistake (fault_of program_app words)
+IsRefusedAs words (Help text) = HasRequest (fault_of program_app words)
 IsRefusedAs words Memory = ⊤
 
 -- the refusal says what the parser's error is
 abbrev pub IsUsageOf : Error → Usage → Type 0
 IsUsageOf error BadUsage = ⊥
-IsUsageOf error (Refused text) = kind_of error ≢ OutOfMemory
-IsUsageOf error (Help text) = kind_of error ≡ DisplayHelp
+IsUsageOf error (Refused text) = (kind_of error ≢ OutOfMemory) × (IsRequest (kind_of error) → ⊥)
+IsUsageOf error (Help text) = IsRequest (kind_of error)
 IsUsageOf error Memory = ⊤

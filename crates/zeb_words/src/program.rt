@@ -4,11 +4,14 @@ ghost use Rattle.std.specs.Prelude.{◌≡◌, IfOk, Some, false};
 ghost use Rattle.clap.specs.Simple.{app_of, new_app, new_rule};
 ghost use Rattle.clap.specs.Walk.{rule_of};
 ghost use Rattle.clap.specs.declared.builder.command.Command.TheViews.{out-Command};
-ghost use Rattle.zeb_words.specs.Parses.{changes_app, changing_app, find_app, naming_app, program_app, query_rule, scan_app, shows_rule, top_app, upkeep_app};
+ghost use Rattle.zeb_words.specs.Parses.{changes_app, changing_app, find_app, naming_app, program_app, query_rule, scan_app, shows_rule, top_app, upkeep_app, version_rule};
 
 use clap::builder::ValueParser;
 use clap::{Arg, ArgAction, Command, value_parser};
 use std::alloc::{AllocError, Global};
+
+/// The version, which the file VERSION of the repository names: tools/quick compares them.
+const VERSION: &str = "0.1.0";
 
 /// The program, with its options and its fifteen commands.
 pub(crate) fn program<'a>(alloc: Global) -> Result<Command<'a>, AllocError>
@@ -64,9 +67,11 @@ fn with_options<'a>(alloc: Global) -> Result<Command<'a>, AllocError>
 {
     Command::new(alloc, "zebraidx")
         .about("Indexes MARC 21 records and searches them")
+        .version(VERSION)
         .no_binary_name(true)
         .subcommand_required(true)
         .disable_help_subcommand(true)
+        .disable_version_flag(true)
         .arg(option(
             alloc,
             "config",
@@ -75,7 +80,8 @@ fn with_options<'a>(alloc: Global) -> Result<Command<'a>, AllocError>
             "The profile's file (zebra.cfg)",
         ))?
         .arg(option(alloc, "database", 'd', "NAME", "The database (Default)"))?
-        .arg(shows(alloc))
+        .arg(shows(alloc))?
+        .arg(version(alloc))
 }
 
 /// The option of this letter with a value.
@@ -98,6 +104,17 @@ fn shows<'a>(alloc: Global) -> Arg<'a>
         .short('s')
         .action(ArgAction::SetTrue)
         .help("With update: show the records' occurrences and change nothing")
+}
+
+/// The flag `--version`, which has no letter: the parser's own flag would take `-V`.
+fn version<'a>(alloc: Global) -> Arg<'a>
+    ensures rule { rule_of result ≡ version_rule }
+    ensures local { result.global ≡ false }
+{
+    Arg::new(alloc, "version")
+        .long("version")
+        .action(ArgAction::Version)
+        .help("Print version")
 }
 
 /// A command without arguments.

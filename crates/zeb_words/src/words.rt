@@ -1,8 +1,8 @@
 //! The commands of a command line, and the call that reads them.
 
-ghost use Rattle.std.specs.Prelude.{◌≡◌, IfErr, IfOk, map, string_bytes};
+ghost use Rattle.std.specs.Prelude.{◌≡◌, IfErr, IfOk, map, string_bytes, false, true};
 ghost use Rattle.zeb_words.specs.Names.{NamesNone, NamesWords};
-ghost use Rattle.zeb_words.specs.Parses.{IsParsedAs, IsRefusedAs, IsUsageOf};
+ghost use Rattle.zeb_words.specs.Parses.{IsParsedAs, IsRefusedAs, IsRequest, IsUsageOf};
 
 use crate::program::program;
 use crate::reading::words_of;
@@ -78,7 +78,7 @@ pub enum Usage {
     BadUsage,
     /// The parser refused the words; its text, which says why.
     Refused(String),
-    /// Help was asked for; its text.
+    /// Help or the version was asked for; its text.
     Help(String),
     /// A growth was refused.
     Memory,
@@ -116,8 +116,16 @@ fn usage_of(alloc: Global, error: &Error) -> Usage
         return Usage::Memory;
     }
     match format!(in alloc; "{error}") {
-        Ok(text) if error.kind() == ErrorKind::DisplayHelp => Usage::Help(text),
+        Ok(text) if is_asked_for(error.kind()) => Usage::Help(text),
         Ok(text) => Usage::Refused(text),
         Err(_) => Usage::Memory,
     }
+}
+
+/// Whether the words ask for what the error's text is: help or the version.
+fn is_asked_for(kind: ErrorKind) -> bool
+    ensures request { result ≡ true → IsRequest kind }
+    ensures mistake { result ≡ false → IsRequest kind → ⊥ }
+{
+    matches!(kind, ErrorKind::DisplayHelp | ErrorKind::DisplayVersion)
 }

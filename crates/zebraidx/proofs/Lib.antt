@@ -6,8 +6,11 @@ pub mod MemoryLemmas
 pub mod NumberLemmas
 pub mod PathLemmas
 pub mod ReaderLemmas
+pub mod RunLemmas
 pub mod ScriptAnswerLemmas
 pub mod ScriptLemmas
 pub mod ServingLemmas
+pub mod TaskLemmas
+pub mod WarningLemmas
 pub mod WordAnswerLemmas
 pub mod WordLemmas

@@ -1,5 +1,5 @@
 -- Changes by a path of which the file's bytes are told.
-use Rattle.std.proofs.Common.{◌≡◌, ◌∙◌, ◌⊎◌, ◌+◌, ◌<◌, inl, inr, ℕ, zero, suc, Bool, false, List, [], ◌∷◌, ◌++◌, length, map, ap, arith, refl, subst, sym}
+use Rattle.std.proofs.Common.{◌≡◌, ◌∙◌, ◌⊎◌, ◌+◌, ◌<◌, ◌≤◌, inl, inr, ℕ, zero, suc, Bool, false, List, [], ◌∷◌, ◌++◌, length, map, ap, arith, refl, subst, sym}
 use Rattle.std.specs.Prelude.{Option, Some, Result, Ok, Err, IfOk, IsErr, IsErrAnd, OnErr, string_bytes}
 use Rattle.std.specs.declared.alloc.AllocError.{AllocError}
 use Rattle.std.specs.Io.KnownBytes.{Appends}
@@ -10,7 +10,6 @@ use Rattle.zeb_register.specs.Calls.{ChangesNothing}
 use Rattle.zeb_change.specs.Conditions.{Conditions}
 use Rattle.zeb_change.specs.Reading.{HasFailedAt, NamesFailed, NoneFailed}
 use Rattle.zeb_change.specs.declared.refusals.Refusal.{Refusal}
-use Rattle.zeb_change.specs.declared.refusals.Refusal.TheVariants.{ReadFault}
 use Rattle.zeb_change.specs.declared.settings.Kind.{Kind}
 use Rattle.zeb_image.specs.Holdings.{Holdings}
 use Rattle.zeb_image.specs.Image.{Keeps}
@@ -25,12 +24,12 @@ use Rattle.zebraidx.specs.declared.faults.Fault.{Fault}
 use Rattle.zebraidx.specs.declared.faults.Fault.TheVariants as fault
 use Rattle.zebraidx.specs.declared.lines.Line.TheVariants.{Path}
 use Rattle.zebraidx.specs.declared.path_changes.PathChange.{PathChange}
-use Rattle.zebraidx.specs.Answers.{AnswersLine, IsFileAnswer, TakesFile, Writes}
+use Rattle.zebraidx.specs.Answers.{AnswersLine, ChangesBy, IsFileAnswer, Writes}
 use Rattle.zebraidx.specs.Lines.{first_line, after_first_line}
 use Rattle.zebraidx.specs.PathChanges.{AreFilesTold, IsLineTold, HasPath, NamesPath, file_of}
 use Rattle.zebraidx.specs.Says.{Says}
 use Rattle.zebraidx.specs.Scripts.{after_lines, line_at}
-use Rattle.zebraidx.specs.Serving.{Leads, ServesFile}
+use Rattle.zebraidx.specs.Serving.{AnswersFrom, Leads}
 use Rattle.zebraidx.specs.Words.{without_blanks}
 
 -- ---- the lines of a text
@@ -47,26 +46,24 @@ told_rest told text all n = subst (λ rest. IsLineTold told (first_line rest)) (
 
 -- ---- the change
 
--- the only reader has the number 1
-only_file : {R : Type 0} (has_failed : R → Bool) (readers : List R) (file : ℕ) → length readers ≡ 1 → HasFailedAt has_failed readers file → file ≡ 1
-only_file has_failed readers file one at = omega (arith, one, at.within, at.numbered)
+-- the reader that failed is one of these
+failed_among : {R : Type 0} (has_failed : R → Bool) (readers : List R) (file count : ℕ) → length readers ≡ count → HasFailedAt has_failed readers file → (1 ≤ file) × (file ≤ count)
+failed_among has_failed readers file count many at = (omega (arith, at.numbered), omega (arith, many, at.within, at.numbered))
 
-read_fault : {R : Type 0} (has_failed : R → Bool) (readers : List R) (refusal : Refusal) → length readers ≡ 1 → NamesFailed has_failed readers refusal → refusal ≡ ReadFault 1
-read_fault has_failed readers refusal one named = named.3 ∙ ap ReadFault (only_file has_failed readers named.0 one named.1)
-
--- what is answered where the one reader told the file's bytes
-pub served_file : {R : Type 0} (remaining : R → Option (List ℕ)) (has_failed : R → Bool) (c : Conditions) (kind : Kind) (name file : List ℕ) (old new : State) (before after : List R) (r : Result Reply Refusal)
-    → map remaining before ≡ Some file ∷ [] → length after ≡ length before
+-- what is answered where the readers told the files' bytes
+pub served_files : {R : Type 0} (remaining : R → Option (List ℕ)) (has_failed : R → Bool) (c : Conditions) (kind : Kind) (name : List ℕ) (files : List (List ℕ)) (old new : State) (before after : List R) (r : Result Reply Refusal)
+    → map remaining before ≡ map Some files → length after ≡ length before
     → ((texts : List (List ℕ)) → map remaining before ≡ map Some texts → NoneFailed has_failed after → ServesBy (TakesFiles c kind name texts) old new r)
     → NoneFailed has_failed after ⊎ IsErrAnd r (NamesFailed has_failed after) → OnErr r (ChangesNothing old new)
-    → (held : Holdings) → Keeps old held → (later : Holdings) × TakesFile c kind name file held r later × Keeps new later
-served_file remaining has_failed c kind name file old new before after r one same serves (inl fine) nothing held keeps =
-    let served = serves (file ∷ []) one fine held keeps in
+    → (held : Holdings) → Keeps old held → (later : Holdings) × ChangesBy c kind name files held r later × Keeps new later
+served_files remaining has_failed c kind name files old new before after r all same serves (inl fine) nothing held keeps =
+    let served = serves files all fine held keeps in
     (served.0, inl served.1, served.2)
-served_file remaining has_failed c kind name file old new before after (Ok reply) one same serves (inr failed) nothing held keeps = absurd failed
-served_file remaining has_failed c kind name file old new before after (Err refusal) one same serves (inr failed) nothing held keeps =
-    let single : length after ≡ 1 = same ∙ sym (length-map before remaining) ∙ ap length one in
-    (held, inr (ap Err (read_fault has_failed after refusal single failed), refl), keeps_still held old new nothing keeps)
+served_files remaining has_failed c kind name files old new before after (Ok reply) all same serves (inr failed) nothing held keeps = absurd failed
+served_files remaining has_failed c kind name files old new before after (Err refusal) all same serves (inr failed) nothing held keeps =
+    let many : length after ≡ length files = same ∙ sym (length-map before remaining) ∙ ap length all ∙ length-map files Some in
+    let among = failed_among has_failed after failed.0 (length files) many failed.1 in
+    (held, inr (failed.0, among.0, among.1, ap Err failed.3, refl), keeps_still held old new nothing keeps)
 
 -- ---- what is written
 
@@ -76,7 +73,7 @@ OfFile told change P = (file : List ℕ) → told (string_bytes change.path) ≡
 
 -- a reply that is written is the change's answer
 pub replied_file : (told : List ℕ → Option (List ℕ)) (c : Conditions) (change : PathChange) (old new : State) (wrote writes : Option (List ℕ)) (reply : Reply) (bytes : List ℕ) (failed : Bool) (Clean : Type 0)
-    → (Clean → OfFile told change (λ file. ServesFile c change.kind (name_bytes change.database) file old new (Ok reply)))
+    → (Clean → OfFile told change (λ file. AnswersFrom old new (Ok reply) (ChangesBy c change.kind (name_bytes change.database) (file ∷ []))))
     → bytes ≡ reply_text reply
     → (failed ≡ false → Appends wrote writes bytes)
     → failed ≡ false → Clean → OfFile told change (λ file. Leads old new wrote writes (λ before bytes later. IsFileAnswer c change file before bytes 0 later))
@@ -86,7 +83,7 @@ replied_file told c change old new wrote writes reply bytes failed Clean serves 
 
 -- a fault that is written is the change's refusal
 pub refused_file : (told : List ℕ → Option (List ℕ)) (c : Conditions) (change : PathChange) (old new : State) (wrote writes : Option (List ℕ)) (why : Fault) (failed : Bool) (Clean : Type 0) (r : Result ℕ AllocError)
-    → (Clean → OfFile told change (λ file. ServesFile c change.kind (name_bytes change.database) file old new (Err why)))
+    → (Clean → OfFile told change (λ file. AnswersFrom old new (Err why) (ChangesBy c change.kind (name_bytes change.database) (file ∷ []))))
     → ((refusal : Refusal) → why ≡ fault.Refused refusal → IfOk r (λ status. failed ≡ false → Writes wrote writes (λ bytes. (bytes ≡ refusal_text refusal ++ 10 ∷ []) × (status ≡ status_of refusal))))
     → (why ≡ fault.Memory → IsErr r)
     → IfOk r (λ status. failed ≡ false → Clean → OfFile told change (λ file. Leads old new wrote writes (λ before bytes later. IsFileAnswer c change file before bytes status later)))

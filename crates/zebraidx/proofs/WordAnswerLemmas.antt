@@ -1,17 +1,19 @@
 -- What is written for words, at each end.
 use Rattle.std.proofs.Common.{◌≡◌, ◌<◌, ◌⊎◌, ℕ, Bool, false, List, inl, inr, refl, arith, subst, sym}
-use Rattle.std.specs.Prelude.{Option, Result, Ok, Err, IfOk, OnErr}
+use Rattle.std.specs.Prelude.{Option, Some, Result, Ok, Err, IfOk, OnErr, String, string_bytes}
+use Rattle.std.specs.Option.{option_map}
 use Rattle.std.specs.declared.alloc.AllocError.{AllocError}
-use Rattle.std.specs.Io.KnownBytes.{IsAtEnd, Keeps}
+use Rattle.std.specs.declared.alloc.Global.{Global}
+use Rattle.std.specs.Io.KnownBytes.{Appends, IsAtEnd, Keeps}
 use Rattle.std.proofs.KnownBytes.{Appends-kept, Keeps-refl, Keeps-trans}
 use Rattle.zeb_change.specs.declared.refusals.Refusal.{Refusal}
 use Rattle.zeb_change.specs.declared.refusals.Refusal.TheVariants.{NotInitialised, OldFormat, ProfileChanged, Diagnostic, Exists, Record, Unknown, DatabaseFull, TooManyRecords, Damaged, IdentifierRuleChanged, ReadFault, Store, Memory}
 use Rattle.zeb_engine.specs.Refusals.{status_of}
-use Rattle.zeb_words.specs.Names.{NamesWords}
-use Rattle.zeb_words.specs.declared.words.Words.{Words}
 use Rattle.zeb_words.specs.declared.words.Usage.{Usage}
 use Rattle.zeb_words.specs.declared.words.Usage.TheVariants as usage
-use Rattle.zebraidx.specs.WordAnswers.{AnswersWords, misused, batched, served, named, IsFaultStatus, NamesBatch, NamesShell, TellsApart, TellsUsage}
+use Rattle.zebraidx.specs.declared.tasks.Task.{Task}
+use Rattle.zebraidx.specs.Warnings.{MayWarn}
+use Rattle.zebraidx.specs.WordAnswers.{AnswersWords, misused, batched, served, named, IsFaultStatus, NamesBatch, NamesShell, NamesTask, TellsApart, TellsUsage, WarnsAtMost}
 
 -- a refusal's status is that of a fault
 pub refusal_status : (refusal : Refusal) → IsFaultStatus (status_of refusal)
@@ -42,10 +44,16 @@ TellsUsage-kept (usage.Help text) old mid new fault_old fault_mid fault_new stat
 TellsUsage-kept usage.Memory old mid new fault_old fault_mid fault_new status kept fault_kept t =
     (t.0, Keeps-trans old mid new t.1 kept, Keeps-trans fault_old fault_mid fault_new t.2 fault_kept)
 
-TellsApart-kept : (old mid new fault_old fault_mid fault_new : Option (List ℕ)) (status : ℕ) → Keeps mid new → Keeps fault_mid fault_new
-    → TellsApart old mid fault_old fault_mid status → TellsApart old new fault_old fault_new status
-TellsApart-kept old mid new fault_old fault_mid fault_new status kept fault_kept (inl t) = inl (t.0, Keeps-trans fault_old fault_mid fault_new t.1 fault_kept)
-TellsApart-kept old mid new fault_old fault_mid fault_new status kept fault_kept (inr t) = inr (t.0, Keeps-trans old mid new t.1 kept)
+WarnsAtMost-kept : (task : Task) (fault_old fault_mid fault_new : Option (List ℕ)) → Keeps fault_mid fault_new → WarnsAtMost task fault_old fault_mid → WarnsAtMost task fault_old fault_new
+WarnsAtMost-kept task fault_old fault_mid fault_new kept (inl same) = inl (Keeps-trans fault_old fault_mid fault_new same kept)
+WarnsAtMost-kept task fault_old fault_mid fault_new kept (inr warns) =
+    let wrote = warns.1 in
+    inr (warns.0, (wrote.0, wrote.1, Appends-kept fault_old fault_mid fault_new wrote.0 wrote.2 kept))
+
+TellsApart-kept : (task : Task) (old mid new fault_old fault_mid fault_new : Option (List ℕ)) (status : ℕ) → Keeps mid new → Keeps fault_mid fault_new
+    → TellsApart task old mid fault_old fault_mid status → TellsApart task old new fault_old fault_new status
+TellsApart-kept task old mid new fault_old fault_mid fault_new status kept fault_kept (inl t) = inl (t.0, WarnsAtMost-kept task fault_old fault_mid fault_new fault_kept t.1)
+TellsApart-kept task old mid new fault_old fault_mid fault_new status kept fault_kept (inr t) = inr (t.0, Keeps-trans old mid new t.1 kept)
 
 pub kept_words : (words : List (List ℕ)) (left old mid new fault_old fault_mid fault_new : Option (List ℕ)) (status : ℕ) → Keeps mid new → Keeps fault_mid fault_new
     → AnswersWords words left old mid fault_old fault_mid status → AnswersWords words left old new fault_old fault_new status
@@ -57,21 +65,28 @@ kept_words words left old mid new fault_old fault_mid fault_new status kept faul
     passed : IsAtEnd left ⊎ Keeps old mid → IsAtEnd left ⊎ Keeps old new
     passed (inl at) = inl at
     passed (inr same) = inr (Keeps-trans old mid new same kept)
-kept_words words left old mid new fault_old fault_mid fault_new status kept fault_kept (named command is tells) =
-    named command is (TellsApart-kept old mid new fault_old fault_mid fault_new status kept fault_kept tells)
+kept_words words left old mid new fault_old fault_mid fault_new status kept fault_kept (named task names tells) =
+    named task names (TellsApart-kept task old mid new fault_old fault_mid fault_new status kept fault_kept tells)
 
--- a command that is no batch and no shell
-pub named_words : (words : List (List ℕ)) (left old new fault_old fault_new : Option (List ℕ)) (command : Words) (failed fault_failed : Bool) (r : Result ℕ AllocError) → NamesWords words command
-    → IfOk r (λ status. TellsApart old new fault_old fault_new status)
+-- a warning's line
+pub warned_once : (task : Task) (warning : Option (String Global)) (line : String Global) (bytes : List ℕ) (fault_old fault_new : Option (List ℕ)) → warning ≡ Some line
+    → MayWarn task (option_map string_bytes warning) → bytes ≡ string_bytes line → Appends fault_old fault_new bytes → WarnsAtMost task fault_old fault_new
+warned_once task warning line bytes fault_old fault_new is may same wrote =
+    let one = subst (λ w. MayWarn task (option_map string_bytes w)) is may in
+    inr (one.0, (string_bytes line, one.1, subst (Appends fault_old fault_new) same wrote))
+
+-- a task
+pub task_words : (words : List (List ℕ)) (left old new fault_old fault_new : Option (List ℕ)) (task : Task) (failed fault_failed : Bool) (r : Result ℕ AllocError) → NamesTask words task
+    → IfOk r (λ status. fault_failed ≡ false → TellsApart task old new fault_old fault_new status)
     → IfOk r (λ status. failed ≡ false → fault_failed ≡ false → AnswersWords words left old new fault_old fault_new status)
-named_words words left old new fault_old fault_new command failed fault_failed (Err e) is h = h
-named_words words left old new fault_old fault_new command failed fault_failed (Ok status) is h = λ _ _. named command is h
+task_words words left old new fault_old fault_new task failed fault_failed (Err e) names h = h
+task_words words left old new fault_old fault_new task failed fault_failed (Ok status) names h = λ _ sound. named task names (h sound)
 
-pub stopped_words : (words : List (List ℕ)) (left old new fault_old fault_new : Option (List ℕ)) (command : Words) (failed fault_failed : Bool) (r : Result ℕ AllocError) → NamesWords words command
+pub stopped_task_words : (words : List (List ℕ)) (left old new fault_old fault_new : Option (List ℕ)) (task : Task) (failed fault_failed : Bool) (r : Result ℕ AllocError) → NamesTask words task
     → OnErr r (Keeps old new)
     → OnErr r (failed ≡ false → fault_failed ≡ false → AnswersWords words left old new fault_old fault_new 3)
-stopped_words words left old new fault_old fault_new command failed fault_failed (Ok status) is h = h
-stopped_words words left old new fault_old fault_new command failed fault_failed (Err e) is h = λ _ _. named command is (inr (inr refl, h))
+stopped_task_words words left old new fault_old fault_new task failed fault_failed (Ok status) names h = h
+stopped_task_words words left old new fault_old fault_new task failed fault_failed (Err e) names h = λ _ _. named task names (inr (inr refl, h))
 
 -- a batch
 pub batch_words : (words : List (List ℕ)) (left old new fault_old fault_new : Option (List ℕ)) (failed fault_failed : Bool) (r : Result ℕ AllocError) → NamesBatch words

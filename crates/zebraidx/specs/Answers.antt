@@ -1,6 +1,6 @@
 -- What a batch writes, and its status (this program's own): the answers of its lines, one after the other, and the greatest status among them.
 -- Line after line the commands are a run from what the register held before it. `told` gives the bytes of the file at a path, where they are known.
-use Rattle.std.specs.Prelude.{◌≡◌, ◌⊎◌, ◌<◌, ◌+◌, ℕ, max, Option, Some, Result, Ok, Err, List, [], ◌∷◌, ◌++◌, length, codes, string_bytes}
+use Rattle.std.specs.Prelude.{◌≡◌, ◌⊎◌, ◌<◌, ◌≤◌, ◌+◌, ℕ, max, Option, Some, Result, Ok, Err, List, [], ◌∷◌, ◌++◌, length, codes, string_bytes}
 use Rattle.std.specs.Fmt.{decimal}
 use Rattle.std.specs.Io.KnownBytes.{Appends}
 use Rattle.zeb_engine.specs.declared.commands.Command.{Command}
@@ -39,17 +39,18 @@ abbrev pub IsAnswer : Conditions → Command → Holdings → List ℕ → ℕ �
 IsAnswer c command before bytes status later =
     (answer : Result Reply Refusal) × (bytes ≡ answer_text answer) × (status ≡ answer_status answer) × Run c before (command ∷ []) (answer_of answer ∷ []) later
 
--- an answer to a change by the bytes of one file, and what the register holds then: it is that of the change, or the file couldn't be read to its end
--- and nothing changes
-abbrev pub TakesFile : Conditions → Kind → List ℕ → List ℕ → Holdings → Result Reply Refusal → Holdings → Type 0
-TakesFile c kind name file before answer later =
-    Answered (TakesFiles c kind name (file ∷ [])) before (answer_of answer) later ⊎ ((answer ≡ Err (ReadFault 1)) × (later ≡ before))
+-- an answer to a change by files of these bytes, and what the register holds then: it is that of the change, or one of the files, which are counted
+-- from 1, couldn't be read to its end and nothing changes
+abbrev pub ChangesBy : Conditions → Kind → List ℕ → List (List ℕ) → Holdings → Result Reply Refusal → Holdings → Type 0
+ChangesBy c kind name files before answer later =
+    Answered (TakesFiles c kind name files) before (answer_of answer) later
+    ⊎ ((file : ℕ) × (1 ≤ file) × (file ≤ length files) × (answer ≡ Err (ReadFault file)) × (later ≡ before))
 
 -- what is written for a change by the path of a file of these bytes, its status, and what the register holds then
 abbrev pub IsFileAnswer : Conditions → PathChange → List ℕ → Holdings → List ℕ → ℕ → Holdings → Type 0
 IsFileAnswer c change file before bytes status later =
     (answer : Result Reply Refusal) × (bytes ≡ answer_text answer) × (status ≡ answer_status answer)
-    × TakesFile c change.kind (name_bytes change.database) file before answer later
+    × ChangesBy c change.kind (name_bytes change.database) (file ∷ []) before answer later
 
 abbrev pub bad_line : ℕ → List ℕ
 bad_line number = codes "zebraidx: bad line " ++ decimal number ++ 10 ∷ []

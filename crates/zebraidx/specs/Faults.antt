@@ -12,6 +12,14 @@ IsUnread (Unreadable path) = ⊤
 IsUnread (Refused refusal) = ⊥
 IsUnread Memory = ⊤
 
+-- something couldn't be read
+abbrev pub IsUnreadable : Result Reply Fault → Type 0
+IsUnreadable (Ok reply) = ⊥
+IsUnreadable (Err (Profile file fault)) = ⊥
+IsUnreadable (Err (Unreadable path)) = ⊤
+IsUnreadable (Err (Refused refusal)) = ⊥
+IsUnreadable (Err Memory) = ⊥
+
 -- P is so of the answer of a register, unless memory ran out in the program itself; that something couldn't be read is none
 abbrev pub GivesAnswer : (P : Result Reply Refusal → Type 0) → Result Reply Fault → Type 0
 GivesAnswer P (Ok reply) = P (Ok reply)

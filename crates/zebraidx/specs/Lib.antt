@@ -1,6 +1,7 @@
 pub mod Answers
 pub mod Numbers
 pub mod Batches
+pub mod BatchRuns
 pub mod Errands
 pub mod Faults
 pub mod Inputs
@@ -10,5 +11,7 @@ pub mod Says
 pub mod ScriptAnswers
 pub mod Scripts
 pub mod Serving
+pub mod TaskAnswers
+pub mod Warnings
 pub mod Words
 pub mod WordAnswers

@@ -1,16 +1,17 @@
--- What the lines of a batch do to a connection, and add to a writer's known bytes.
-use Rattle.std.specs.Prelude.{ℕ, List, Option, Result}
-use Rattle.sqlite.specs.Tree.{Trees}
+-- What the lines of a batch, and a task, do to a connection, and what is written or answered.
+use Rattle.std.specs.Prelude.{◌⊎◌, ℕ, List, Option, Result, Ok, Err}
 use Rattle.sqlite.specs.State.{State}
-use Rattle.zeb_register.specs.Content.{Content}
 use Rattle.zeb_change.specs.Conditions.{Conditions}
-use Rattle.zeb_change.specs.declared.settings.Kind.{Kind}
+use Rattle.zeb_change.specs.declared.refusals.Refusal.{Refusal}
 use Rattle.zeb_engine.specs.declared.replies.Reply.{Reply}
 use Rattle.zeb_image.specs.Holdings.{Holdings}
 use Rattle.zeb_image.specs.Image.{Keeps}
 use Rattle.zebraidx.specs.declared.faults.Fault.{Fault}
-use Rattle.zebraidx.specs.Answers.{TakesFile, Writes}
-use Rattle.zebraidx.specs.Faults.{GivesAnswer}
+use Rattle.zebraidx.specs.declared.tasks.Served.{Served}
+use Rattle.zebraidx.specs.declared.tasks.Task.{Task}
+use Rattle.zebraidx.specs.Answers.{Writes}
+use Rattle.zebraidx.specs.Faults.{GivesAnswer, IsUnreadable}
+use Rattle.zebraidx.specs.TaskAnswers.{AnswersTask, AreTold, ReadsWhole, paths_of}
 
 -- From tables that keep what a register holds, they lead to tables that keep what it holds then; P says what is written.
 abbrev pub Leads : State → State → Option (List ℕ) → Option (List ℕ) → (Holdings → List ℕ → Holdings → Type 0) → Type 0
@@ -21,7 +22,17 @@ Leads old new wrote writes P =
 abbrev pub Stops : State → Option (List ℕ) → Option (List ℕ) → (Holdings → List ℕ → Type 0) → Type 0
 Stops old wrote writes P = (before : Holdings) → Keeps old before → Writes wrote writes (P before)
 
--- A change by the bytes of one file: what is answered, and the tables then keep what the register holds.
-abbrev pub ServesFile : Conditions → Kind → List ℕ → List ℕ → State → State → Result Reply Fault → Type 0
-ServesFile c kind name file old new result =
-    (before : Holdings) → Keeps old before → GivesAnswer (λ answer. (later : Holdings) × TakesFile c kind name file before answer later × Keeps new later) result
+-- The same of an answer, which isn't written yet.
+abbrev pub AnswersFrom : State → State → Result Reply Fault → (Holdings → Result Reply Refusal → Holdings → Type 0) → Type 0
+AnswersFrom old new result P =
+    (before : Holdings) → Keeps old before → GivesAnswer (λ answer. (later : Holdings) × P before answer later × Keeps new later) result
+
+-- The answer to a task; of one that names paths it is said where the bytes of the files there are told. A file that is read whole may have too many bytes.
+abbrev pub ServesTask : (List ℕ → Option (List ℕ)) → Conditions → Task → State → State → Result Reply Fault → Type 0
+ServesTask told c task old new result =
+    (files : List (List ℕ)) → AreTold told (paths_of task) files → AnswersFrom old new result (AnswersTask c task files) ⊎ (ReadsWhole task × IsUnreadable result)
+
+-- What a task is answered, as the reply alone.
+abbrev pub replied : Result Served Fault → Result Reply Fault
+replied (Ok served) = Ok served.reply
+replied (Err fault) = Err fault

@@ -15,7 +15,7 @@ use crate::program::{ANSWERED, FAILED, MISUSED};
 use crate::script::Batch;
 use crate::shell::run_shell_lines;
 use crate::sinks::Sink;
-use crate::tasks::{Errand, Task, open_register, perform};
+use crate::tasks::{Errand, Task, Told, open_register, perform};
 use std::alloc::{AllocError, Global};
 use std::io::Write;
 use zeb_engine::Session;
@@ -61,7 +61,7 @@ pub fn run_words<R: Source, W: Write, V: Write, P: Paths>(
     }
 }
 
-/// Writes why the words name no command, or the help that they ask for, and answers the status.
+/// Writes why the words name no command, or the help or the version that they ask for, and answers the status.
 fn refuse_words<W: Write, V: Write>(
     usage: Usage,
     output: &mut Sink<W>,
@@ -94,7 +94,7 @@ fn misuse<V: Write>(text: &str, fault_output: &mut Sink<V>) -> u8
     MISUSED
 }
 
-/// Carries out a task, and answers the status.
+/// Carries out a task, writes its answer and what it warns of, and answers the status.
 fn run_task<W: Write, V: Write, P: Paths>(
     alloc: Global,
     config: String,
@@ -104,13 +104,17 @@ fn run_task<W: Write, V: Write, P: Paths>(
     fault_output: &mut Sink<V>,
 ) -> Result<u8, AllocError>
     ensures range { IfOk result (λ status. status ≤ FAILED) }
-    ensures apart { IfOk result (λ status. TellsApart (W.contents output.old.writer) (W.contents output.new.writer)
+    ensures apart { IfOk result (λ status. fault_output.new.failed ≡ false →
+        TellsApart task.now (W.contents output.old.writer) (W.contents output.new.writer)
         (V.contents fault_output.old.writer) (V.contents fault_output.new.writer) status) }
     ensures stopped { OnErr result (Keeps (W.contents output.old.writer) (W.contents output.new.writer)) }
 {
     match perform(alloc, config, task, paths) {
-        Ok(text) => {
+        Ok(Told { text, warning }) => {
             output.write(text.as_slice());
+            if let Some(line) = &warning {
+                fault_output.write(line.as_bytes());
+            }
             Ok(ANSWERED)
         }
         Err(fault) => tell(alloc, &fault, fault_output),

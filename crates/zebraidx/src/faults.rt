@@ -55,6 +55,8 @@ impl From<Refusal> for Fault {
 }
 
 impl From<WalkFault> for Fault {
+    ghost from_gives = { λ _ fault. IsUnread fault };
+
     fn from(fault: WalkFault) -> Fault {
         match fault {
             WalkFault::Unreadable(path) => Fault::Unreadable(path),

@@ -1,7 +1,8 @@
 //! The files at the paths that words or a line name.
 
-ghost use Rattle.std.specs.Prelude.{◌≡◌, ◌∷◌, [], ℕ, List, Some, map, string_bytes, IfErr, IfOk};
+ghost use Rattle.std.specs.Prelude.{◌≡◌, ℕ, List, Some, map, string_bytes, IfErr, IfOk};
 ghost use Rattle.zebraidx.specs.Faults.{IsUnread};
+ghost use Rattle.zebraidx.specs.TaskAnswers.{AreTold};
 ghost use Rattle.zebraidx.specs.declared.faults.Fault.TheVariants.{Memory};
 
 use crate::faults::Fault;
@@ -42,11 +43,12 @@ pub fn readers_of<P: Paths>(
     paths: &P,
     named: &[String],
 ) -> Result<Vec<P::Reader>, Fault>
-    // One path, to a file of which the bytes are told: its reader alone is given, or memory runs out.
-    ensures told { (path file : List ℕ) → map string_bytes named.now ≡ path ∷ [] → P.tells paths.now path ≡ Some file
-        → IfOk result (λ readers. map P.Reader.remaining readers.items ≡ Some file ∷ []) }
-    ensures memory { (path file : List ℕ) → map string_bytes named.now ≡ path ∷ [] → P.tells paths.now path ≡ Some file
+    // Where the bytes of a file at each path are told, just the readers of these files are given, or memory runs out.
+    ensures told { (files : List (List ℕ)) → AreTold (P.tells paths.now) (map string_bytes named.now) files
+        → IfOk result (λ readers. map P.Reader.remaining readers.items ≡ map Some files) }
+    ensures memory { (files : List (List ℕ)) → AreTold (P.tells paths.now) (map string_bytes named.now) files
         → IfErr result (λ fault. fault ≡ Memory) }
+    ensures unread { IfErr result IsUnread }
 {
     let mut readers = Vec::new(alloc);
     let mut walk = Walk::new(alloc, paths, named)?;
@@ -66,19 +68,32 @@ pub fn contents_of<P: Paths>(
     alloc: Global,
     paths: &P,
     named: &[String],
-) -> Result<Vec<Vec<u8>>, Fault> {
+) -> Result<Vec<Vec<u8>>, Fault>
+    // Where the bytes of a file at each path are told, they are just these.
+    ensures told { (files : List (List ℕ)) → AreTold (P.tells paths.now) (map string_bytes named.now) files
+        → IfOk result (λ contents. map (λ content. content.items) contents.items ≡ files) }
+    ensures unread { IfErr result IsUnread }
+{
     let mut contents = Vec::new(alloc);
     let mut walk = Walk::new(alloc, paths, named)?;
     for _ in 0..u64::MAX {
         let Some(path) = walk.next_file()? else {
-            break;
+            return Ok(contents);
         };
         contents.push(content_of(alloc, paths, path)?)?;
     }
-    Ok(contents)
+    // So many files are none that could be held.
+    Err(Fault::Memory)
 }
 
-fn content_of<P: Paths>(alloc: Global, paths: &P, path: String) -> Result<Vec<u8>, Fault> {
+fn content_of<P: Paths>(alloc: Global, paths: &P, path: String) -> Result<Vec<u8>, Fault>
+    ensures told { (file : List ℕ) → P.tells paths.now (string_bytes path) ≡ Some file
+        → IfOk result (λ content. content.items ≡ file) }
+    ensures unread { IfErr result IsUnread }
+{
     let mut source = paths.reader(path.clone()?);
-    read_whole(alloc, &mut source, GREATEST_INPUT).map_err(|fault| unread(fault, path))
+    match read_whole(alloc, &mut source, GREATEST_INPUT) {
+        Ok(content) => Ok(content),
+        Err(fault) => Err(unread(fault, path)),
+    }
 }

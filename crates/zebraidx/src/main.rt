@@ -7,6 +7,7 @@ mod digits;
 mod faults;
 mod files;
 mod input;
+mod laws;
 mod line_input;
 mod lines;
 mod memory;
@@ -19,6 +20,7 @@ mod sinks;
 mod tasks;
 #[cfg(test)]
 mod tests;
+mod warnings;
 mod words;
 
 use program::{FAILED, run};

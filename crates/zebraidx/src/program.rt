@@ -38,10 +38,10 @@ pub const FAILED: u8 = 3;
 ///
 /// Words name a profile's file, a database and a command, which is carried out on the register at the
 /// profile's path. Its answer goes to the output, and to the fault output why there is none: words that
-/// aren't understood, a profile or a path that can't be read, a refusal. The command `batch` runs the
-/// lines of the input in one session; what they answer goes to the output, as that of a script does. The
-/// command `shell` does the same with each line as it comes: its answer is passed on before the next line
-/// is read. It ends where a write has failed, too.
+/// aren't understood, a profile or a path that can't be read, a refusal. An analysis that is answered may
+/// warn of records there. The command `batch` runs the lines of the input in one session; what they answer
+/// goes to the output, as that of a script does. The command `shell` does the same with each line as it
+/// comes: its answer is passed on before the next line is read. It ends where a write has failed, too.
 ///
 /// The status is the greatest met: 0 answered, 1 refused, 2 a line that is none or words that aren't
 /// understood, 3 where the input or a path couldn't be read, a write or the store failed or memory ran

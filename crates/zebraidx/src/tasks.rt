@@ -1,15 +1,21 @@
 //! The tasks that words name, each carried out on the register that the profile names.
 
-ghost use Rattle.std.specs.Prelude.{◌≡◌, ◌∷◌, [], ℕ, List, Some, map, string_bytes};
+ghost use Rattle.std.specs.Prelude.{◌≡◌, ◌⊎◌, ℕ, [], List, map, string_bytes, IfErr, IfOk};
+ghost use Rattle.std.specs.Option.{option_map};
 ghost use Rattle.sqlite.specs.Held.{state};
 ghost use Rattle.sqlite.specs.State.{HasCleanDisk};
 ghost use Rattle.zeb_change.specs.Conditions.{conditions};
 ghost use Rattle.zeb_image.specs.NameOf.{name_bytes};
 ghost use Rattle.zeb_register.specs.Formats.{version_of};
-ghost use Rattle.zebraidx.specs.Serving.{ServesFile};
+ghost use Rattle.zebraidx.specs.Answers.{ChangesBy};
+ghost use Rattle.zebraidx.specs.Faults.{IsUnread, IsUnreadable};
+ghost use Rattle.zebraidx.specs.Serving.{AnswersFrom, ServesTask, replied};
+ghost use Rattle.zebraidx.specs.TaskAnswers.{AnalysesFiles, AnswersCommand, AreTold, ReadsWhole, paths_of};
+ghost use Rattle.zebraidx.specs.Warnings as spec;
 
 use crate::faults::Fault;
 use crate::files::{contents_of, read_profile, readers_of};
+use crate::warnings::{Place, unmarked_of, warning};
 use sqlite::Alter;
 use std::alloc::Global;
 use zeb_engine::{Command, DbName, Kind, Limits, Refusal, Reply, Session, render};
@@ -45,74 +51,104 @@ pub enum Errand {
 }
 
 impl Errand {
-    ghost use Rattle.zebraidx.specs.Errands.{RunsLinesOf};
+    ghost use Rattle.zebraidx.specs.Errands.{IsErrandOf};
 
     /// What an act on this database asks for.
     pub fn of(database: DbName, act: Act) -> Errand
-        ensures { RunsLinesOf act result }
+        ensures { IsErrandOf database act result }
     {
-        let command = match act {
-            Act::Init => Command::Init,
-            Act::Create(name) => Command::Create(name),
-            Act::Drop(name) => Command::Drop(name),
-            Act::Stat => Command::Stat(database),
-            Act::Dump => Command::Dump(database),
-            Act::Check => Command::Check,
-            Act::Reindex => Command::Reindex,
-            Act::Upgrade => Command::Upgrade,
+        match act {
+            Act::Init => to_ask(Command::Init),
+            Act::Create(name) => to_ask(Command::Create(name)),
+            Act::Drop(name) => to_ask(Command::Drop(name)),
+            Act::Stat => to_ask(Command::Stat(database)),
+            Act::Dump => to_ask(Command::Dump(database)),
+            Act::Check => to_ask(Command::Check),
+            Act::Reindex => to_ask(Command::Reindex),
+            Act::Upgrade => to_ask(Command::Upgrade),
             Act::Find {
                 query,
                 first,
                 count,
-            } => Command::Find {
+            } => to_ask(Command::Find {
                 database,
                 query,
                 first,
                 count,
-            },
+            }),
             Act::Scan {
                 query,
                 number,
                 position,
-            } => Command::Scan {
+            } => to_ask(Command::Scan {
                 database,
                 query,
                 number,
                 position,
-            },
-            Act::Update { paths, shows: true } => return Errand::Task(Task::Analyse(paths)),
+            }),
+            Act::Update { paths, shows: true } => Errand::Task(Task::Analyse(paths)),
             Act::Update {
                 paths,
                 shows: false,
-            } => return Errand::Task(change(Kind::Update, database, paths)),
-            Act::Delete(paths) => return Errand::Task(change(Kind::Delete, database, paths)),
-            Act::Adelete(paths) => return Errand::Task(change(Kind::Adelete, database, paths)),
-            Act::Batch => return Errand::Batch,
-            Act::Shell => return Errand::Shell,
-        };
-        Errand::Task(Task::Ask(command))
+            } => to_change(Kind::Update, database, paths),
+            Act::Delete(paths) => to_change(Kind::Delete, database, paths),
+            Act::Adelete(paths) => to_change(Kind::Adelete, database, paths),
+            Act::Batch => Errand::Batch,
+            Act::Shell => Errand::Shell,
+        }
     }
 }
 
-fn change(kind: Kind, database: DbName, paths: Vec<String>) -> Task {
-    Task::Change {
+fn to_ask(command: Command) -> Errand
+    ensures { result ≡ Errand.Task (Task.Ask command) }
+{
+    Errand::Task(Task::Ask(command))
+}
+
+fn to_change(kind: Kind, database: DbName, paths: Vec<String>) -> Errand
+    ensures { result ≡ Errand.Task (Task.Change kind database paths) }
+{
+    Errand::Task(Task::Change {
         kind,
         database,
         paths,
-    }
+    })
 }
 
-/// Carries a task out under the profile in this file, and gives what is printed.
+/// What a task is answered.
+#[derive(Debug, Drop)]
+pub struct Served {
+    /// What the register replies.
+    pub reply: Reply,
+    /// Which of the records that are analysed don't say that they are in Unicode.
+    pub unmarked: Vec<Place>,
+}
+
+/// What is written for a task that is answered.
+#[derive(Debug, Drop)]
+pub struct Told {
+    /// Its answer.
+    pub text: Vec<u8>,
+    /// A line that warns of records, where there is need.
+    pub warning: Option<String>,
+}
+
+/// Carries a task out under the profile in this file, and gives what is written.
 pub fn perform<P: Paths>(
     alloc: Global,
     config: String,
     task: &Task,
     paths: &mut P,
-) -> Result<Vec<u8>, Fault> {
+) -> Result<Told, Fault>
+    ensures { IfOk result (λ told. spec.MayWarn task.now (option_map string_bytes told.warning)) }
+{
     let profile = read_profile(alloc, paths, config)?;
     let mut session = open_register(alloc, paths, profile)?;
-    let reply = carry_out(alloc, &mut session, paths, task)?;
-    Ok(render(alloc, &reply)?)
+    let Served { reply, unmarked } = carry_out(alloc, &mut session, paths, task)?;
+    Ok(Told {
+        text: render(alloc, &reply)?,
+        warning: warning(alloc, &unmarked, &reply)?,
+    })
 }
 
 /// Opens the register at the profile's path.
@@ -136,15 +172,52 @@ pub fn carry_out<S: Alter, L: Layout, P: Paths>(
     session: &mut Session<S, L>,
     paths: &P,
     task: &Task,
-) -> Result<Reply, Fault> {
+) -> Result<Served, Fault>
+    ensures answer { HasCleanDisk (state S.Store session.new.connection)
+        → ServesTask (P.tells paths.now) (conditions (version_of L.format) session.old.profile session.old.limits) task.now
+        (state S.Store session.old.connection) (state S.Store session.new.connection) (replied result) }
+    // Where something couldn't be read, the register was asked for nothing.
+    ensures unread { IfErr result (λ fault. IsUnread fault → session.new ≡ session.old) }
+    // Where the bytes of a file at each path are told; and of another task than an analysis nothing is to be warned of.
+    ensures unmarked { (files : List (List ℕ)) → AreTold (P.tells paths.now) (paths_of task.now) files
+        → IfOk result (λ served. served.unmarked.items ≡ spec.unmarked_by task.now files) }
+    ensures quiet { ¬ ReadsWhole task.now → IfOk result (λ served. served.unmarked.items ≡ []) }
+{
     match task {
-        Task::Ask(command) => Ok(session.command(command)?),
+        Task::Ask(command) => to_serve(ask(session, command), Vec::new(alloc)),
         Task::Change {
             kind,
             database,
             paths: named,
-        } => change_by_paths(alloc, session, paths, *kind, database, named),
+        } => {
+            let reply = change_by_paths(alloc, session, paths, *kind, database, named);
+            to_serve(reply, Vec::new(alloc))
+        }
         Task::Analyse(named) => analyse_paths(alloc, session, paths, named),
+    }
+}
+
+/// A reply, with the records that are to be warned of.
+fn to_serve(reply: Result<Reply, Fault>, unmarked: Vec<Place>) -> Result<Served, Fault>
+    ensures reply { replied result ≡ reply }
+    ensures unmarked { IfOk result (λ served. served.unmarked ≡ unmarked) }
+{
+    match reply {
+        Ok(reply) => Ok(Served { reply, unmarked }),
+        Err(fault) => Err(fault),
+    }
+}
+
+/// Asks a register for one command.
+fn ask<S: Alter, L: Layout>(session: &mut Session<S, L>, command: &Command) -> Result<Reply, Fault>
+    ensures answer { HasCleanDisk (state S.Store session.new.connection)
+        → AnswersFrom (state S.Store session.old.connection) (state S.Store session.new.connection) result
+        (AnswersCommand (conditions (version_of L.format) session.old.profile session.old.limits) command.now) }
+    ensures read { IfErr result (λ fault. ¬ IsUnread fault) }
+{
+    match session.command(command) {
+        Ok(reply) => Ok(reply),
+        Err(refusal) => Err(Fault::Refused(refusal)),
     }
 }
 
@@ -159,11 +232,12 @@ pub fn change_by_paths<S: Alter, L: Layout, P: Paths>(
 ) -> Result<Reply, Fault>
     ensures clean { HasCleanDisk (state S.Store session.new.connection) → HasCleanDisk (state S.Store session.old.connection) }
     ensures under { (session.new.profile ≡ session.old.profile) × (session.new.limits ≡ session.old.limits) }
-    // One path, to a file of which the bytes are told.
+    // Where the bytes of a file at each path are told.
     ensures told { HasCleanDisk (state S.Store session.new.connection)
-        → (path file : List ℕ) → map string_bytes named.now ≡ path ∷ [] → P.tells paths.now path ≡ Some file
-        → ServesFile (conditions (version_of L.format) session.old.profile session.old.limits) kind (name_bytes database.now) file
-        (state S.Store session.old.connection) (state S.Store session.new.connection) result }
+        → (files : List (List ℕ)) → AreTold (P.tells paths.now) (map string_bytes named.now) files
+        → AnswersFrom (state S.Store session.old.connection) (state S.Store session.new.connection) result
+        (ChangesBy (conditions (version_of L.format) session.old.profile session.old.limits) kind (name_bytes database.now) files) }
+    ensures unread { IfErr result (λ fault. IsUnread fault → session.new ≡ session.old) }
 {
     let mut readers = readers_of(alloc, paths, named)?;
     match session.update_from(database, kind, &mut readers) {
@@ -172,12 +246,23 @@ pub fn change_by_paths<S: Alter, L: Layout, P: Paths>(
     }
 }
 
+/// Analyses the records in the files at and below the paths.
 fn analyse_paths<S: Alter, L: Layout, P: Paths>(
     alloc: Global,
     session: &mut Session<S, L>,
     paths: &P,
     named: &[String],
-) -> Result<Reply, Fault> {
+) -> Result<Served, Fault>
+    // Where the bytes of a file at each path are told.
+    ensures told { HasCleanDisk (state S.Store session.new.connection)
+        → (files : List (List ℕ)) → AreTold (P.tells paths.now) (map string_bytes named.now) files
+        → AnswersFrom (state S.Store session.old.connection) (state S.Store session.new.connection) (replied result)
+        (AnalysesFiles (conditions (version_of L.format) session.old.profile session.old.limits) files) ⊎ IsUnreadable (replied result) }
+    ensures unread { IfErr result (λ fault. IsUnread fault → session.new ≡ session.old) }
+    ensures unmarked { (files : List (List ℕ)) → AreTold (P.tells paths.now) (map string_bytes named.now) files
+        → IfOk result (λ served. served.unmarked.items ≡ spec.unmarked_of 1 files) }
+{
     let files = contents_of(alloc, paths, named)?;
-    Ok(session.command(&Command::Analyse { files })?)
+    let unmarked = unmarked_of(alloc, &files)?;
+    to_serve(ask(session, &Command::Analyse { files }), unmarked)
 }

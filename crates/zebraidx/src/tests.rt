@@ -17,6 +17,7 @@ mod paths;
 mod queries;
 mod records;
 mod scans;
+mod warnings;
 mod words;
 
 use fakes::{Brittle, Endless, Torn};

@@ -3,7 +3,7 @@
 use std::alloc::{AllocError, Global};
 
 /// Names, and the digits of their bytes.
-const RECORDS: [(&str, &str); 7] = [
+const RECORDS: [(&str, &str); 8] = [
     // Moby Dick, with identifier a1: the fields 001, 245 with the subfields a and b, and 260 with the subfield c.
     (
         "A",
@@ -13,6 +13,11 @@ const RECORDS: [(&str, &str); 7] = [
     (
         "B",
         "30303036346e616d206132323030303439206120343530303030313030303330303030303234353030313130303030331e62321e30301f6143616665cc811e1d",
+    ),
+    // B, with a blank in position 9 of the leader.
+    (
+        "BLANK",
+        "30303036346e616d202032323030303439206120343530303030313030303330303030303234353030313130303030331e62321e30301f6143616665cc811e1d",
     ),
     // A, with `Dock` for `Dick`.
     (

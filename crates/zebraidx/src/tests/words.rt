@@ -41,9 +41,11 @@ const BYTES: Shelved<'static> = Shelved {
 };
 
 /// Files of records, by names for their digits.
-const FILES: [(&str, &str); 8] = [
+const FILES: [(&str, &str); 10] = [
     ("a.mrc", "<A>"),
     ("b.mrc", "<B>"),
+    ("blank.mrc", "<B><BLANK>"),
+    ("blanks.mrc", "<BLANK>20<BLANK>"),
     ("none.mrc", ""),
     ("in/b.mrc", "<B>"),
     ("in/a/dock.mrc", "<DOCK>"),

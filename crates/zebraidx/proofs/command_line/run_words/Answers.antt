@@ -1,18 +1,23 @@
-use Rattle.std.proofs.Common.{map, string_bytes, inl, inr}
+use Rattle.std.proofs.Common.{[], map, string_bytes, inl, inr, arith}
+use Rattle.std.proofs.KnownBytes.{Consumes-nil}
 use Rattle.zebraidx.specs.WordAnswers.{misused}
-use Rattle.zebraidx.proofs.WordAnswerLemmas.{batch_words, named_words, shell_kept, shell_words, stopped_batch_words, stopped_shell_words, stopped_words}
+use Rattle.zebraidx.proofs.WordAnswerLemmas.{batch_words, shell_kept, shell_words, stopped_batch_words, stopped_shell_words, stopped_task_words, task_words}
 use Rattle.zebraidx.proofs.command_line.run_words.Goals as goal
 
 pub returns-in-Err-clause-answer : goal.returns-in-Err-clause-answer
 returns-in-Err-clause-answer g c = λ sound quiet. misused c.in-Err.usage c.in-Err.ensures.nameless c.in-Err.ensures.refused (c.refuse_words.ensures.told sound quiet)
 
+-- a task takes nothing of the input
+pub returns-in-Task-clause-bounded : goal.returns-in-Task-clause-bounded
+returns-in-Task-clause-bounded g c = λ other. ([], omega (arith), Consumes-nil (g.R.Source.remaining c.args.input.now))
+
 pub returns-in-Task-clause-answer : goal.returns-in-Task-clause-answer
 returns-in-Task-clause-answer g c =
-    named_words (map string_bytes c.args.words.now) _ _ _ _ _ c.in-Ok.words _ _ c.run_task.result c.in-Ok.ensures.named c.run_task.ensures.apart
+    task_words (map string_bytes c.args.words.now) _ _ _ _ _ c.in-Task.task _ _ c.run_task.result (c.in-Ok.words, c.in-Ok.ensures.named, c.in-Task.ensures) c.run_task.ensures.apart
 
 pub returns-in-Task-clause-stopped : goal.returns-in-Task-clause-stopped
 returns-in-Task-clause-stopped g c =
-    stopped_words (map string_bytes c.args.words.now) _ _ _ _ _ c.in-Ok.words _ _ c.run_task.result c.in-Ok.ensures.named c.run_task.ensures.stopped
+    stopped_task_words (map string_bytes c.args.words.now) _ _ _ _ _ c.in-Task.task _ _ c.run_task.result (c.in-Ok.words, c.in-Ok.ensures.named, c.in-Task.ensures) c.run_task.ensures.stopped
 
 pub returns-in-Batch-clause-unread : goal.returns-in-Batch-clause-unread
 returns-in-Batch-clause-unread g c = λ other.

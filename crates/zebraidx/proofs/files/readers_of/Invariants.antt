@@ -1,13 +1,14 @@
-use Rattle.std.proofs.Common.{◌≡◌, ◌∷◌, [], ℕ, List, Some, map, string_bytes}
+use Rattle.std.proofs.Common.{◌≡◌, List, ℕ, map, string_bytes}
 use Rattle.zeb_paths.specs.Walks.{paths_left}
+use Rattle.zebraidx.specs.TaskAnswers.{AreTold}
 use Rattle.zebraidx.proofs.ReaderLemmas.{IsMet}
 use Rattle.zebraidx.proofs.files.readers_of.Given as goal
 
--- One path that is told is still left, or the reader of its file is there.
+-- The readers of the first files are there, and the paths of the others are left.
 abbrev pub invariant-loop : goal.invariant-loop
 invariant-loop g l =
     record {
       paths : l.walk.paths.now ≡ l.paths;
-      met : (path file : List ℕ) → map string_bytes l.named ≡ path ∷ [] → g.P.Paths.tells l.paths path ≡ Some file
-          → IsMet g.P.Reader.Source.remaining path file l.readers.items (paths_left l.walk.steps.items);
+      met : (files : List (List ℕ)) → AreTold (g.P.Paths.tells l.paths) (map string_bytes l.named) files
+          → IsMet g.P.Reader.Source.remaining (g.P.Paths.tells l.paths) files l.readers.items (paths_left l.walk.steps.items);
     }

@@ -1,4 +1,4 @@
-use Rattle.std.proofs.Common.{◌∙◌, arith, sym, refl, ap, ◌≡◌, Bool, true, false}
+use Rattle.std.proofs.Common.{◌∙◌, sym, refl, ap, ◌≡◌, Bool, true, false}
 use Rattle.std.proofs.lemmas.Slice.Eq.{bytes_eq-Decides}
 use Rattle.std.specs.Prelude.{codes}
 use Rattle.zebraidx.proofs.ScriptLemmas.{reached_start, reached_next, reached_boundary, reached_divider, reached_end, after_first_line-IsUtf8, not_empty, is_empty}

@@ -1,5 +1,4 @@
-use Rattle.std.proofs.Common.{◌≡◌, ◌≤◌, ◌<◌, ◌+◌, ◌++◌, length, ℕ, List}
-use Rattle.zebraidx.specs.Scripts.{after_lines, line_at, IsDivider}
+use Rattle.std.proofs.Common.{length}
 use Rattle.zebraidx.proofs.ScriptLemmas.{IsReached}
 use denote.Text.{Utf8}
 use denote.Shadow.{shadow}
