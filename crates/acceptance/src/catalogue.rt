@@ -27,8 +27,8 @@ const WORDS: [&str; 13] = [
 /// Dates with no, one or two numbers.
 const DATES: [&str; 5] = ["c1851.", "1851-1902", "[n.d.]", "1902", "007, 1852"];
 
-/// Numbers by a fixed rule, a linear congruential one, so that each run makes the same records.
-#[derive(Drop)]
+/// Numbers by a fixed rule, a linear congruential one, so that each run makes the same records. A copy gives the same numbers again.
+#[derive(Clone, Copy)]
 pub struct Draw {
     state: u32,
 }

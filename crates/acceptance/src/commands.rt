@@ -16,23 +16,25 @@ mod beside_slow;
 mod changes;
 mod checks;
 mod crashes;
+mod damages;
 mod databases;
 mod drawn;
-mod failing_disk;
 mod finds;
 mod limits;
 mod other_stores;
 mod packed;
 mod reads;
 mod refused_memory;
-mod refused_renewals;
 mod renewals;
 mod scans;
+mod statements;
 mod steps;
 mod stories;
 mod streams;
 mod together;
+mod two_blocks;
 mod versions;
+mod works;
 
 /// Titles by their words, records named by their control number.
 pub const TITLES: &str = "store books.db\nidentifier 001\natt 4 Title\nmelm 245 Title\n";

@@ -1,5 +1,5 @@
-//! Tests over the public names of several crates, and no product code: calls on the register's tables and commands over a
-//! register, as rows of steps and the answers that they have to get.
+//! Tests over the public names of several crates, and no product code: commands over a register, and words, as rows and the answers
+//! that they have to get.
 #![tactic(auto)]
 
 #[cfg(test)]
@@ -7,17 +7,9 @@ mod catalogue;
 #[cfg(test)]
 mod commands;
 #[cfg(test)]
-mod disks;
-#[cfg(test)]
-mod paths;
-#[cfg(test)]
 mod query_lists;
 #[cfg(test)]
-mod samples;
-#[cfg(test)]
 mod slow_find;
-#[cfg(test)]
-mod tables;
 #[cfg(test)]
 mod texts;
 #[cfg(test)]

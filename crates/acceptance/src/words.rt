@@ -5,7 +5,7 @@ use std::process::Abort;
 use zeb_words::{Act, Usage, Words, read_words};
 
 /// Lines of words with one space between, and what is read: the profile's file, the database and the command, or why there is none.
-const ROWS: [(&str, &str); 39] = [
+const ROWS: [(&str, &str); 43] = [
     ("init", "zebra.cfg Default Init"),
     ("stat", "zebra.cfg Default Stat"),
     ("dump", "zebra.cfg Default Dump"),
@@ -79,8 +79,12 @@ const ROWS: [(&str, &str); 39] = [
     ("update", "refused"),
     ("stat -d Books", "refused"),
     ("nothing", "refused"),
+    ("-V", "refused"),
+    ("find --version x", "refused"),
     ("--help", "help"),
     ("find --help", "help"),
+    ("--version", "zebraidx 0.1.0\n"),
+    ("-d Books --version find", "zebraidx 0.1.0\n"),
 ];
 
 /// The words with one space between are read. A refused allocation is answered by `Memory`, and the same call is then made once
@@ -113,9 +117,17 @@ fn shown(rt: &(impl Abort + AllocGlobal), line: &str) -> Result<String, AllocErr
         ),
         Err(Usage::BadUsage) => format!(in rt.alloc(); "bad usage"),
         Err(Usage::Refused(_)) => format!(in rt.alloc(); "refused"),
-        Err(Usage::Help(_)) => format!(in rt.alloc(); "help"),
+        Err(Usage::Help(text)) => help_or_version(rt, text),
         Err(Usage::Memory) => format!(in rt.alloc(); "memory"),
     }
+}
+
+/// That it is help, or else the version as it is printed.
+fn help_or_version(rt: &(impl Abort + AllocGlobal), text: String) -> Result<String, AllocError> {
+    if text.as_str().contains("Usage: ") {
+        return format!(in rt.alloc(); "help");
+    }
+    Ok(text)
 }
 
 #[test]

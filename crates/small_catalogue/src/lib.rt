@@ -18,6 +18,9 @@ const SHOWN: u32 = 10;
 
 /// Opens the register in the file that the profile names, and makes its tables where the file has none. Refused (`Store`, `Memory`)
 /// where the file can't be opened, another program holds it, or it has other tables.
+///
+/// Proved here is that an opened session has this profile. No clause here says which file it is over, what it is refused for, or that
+/// tables are made: `Session::adopt` says of a connection what becomes of its tables, and of files nothing is told.
 pub fn open(rt: &HostRuntime, profile: Profile) -> Result<Session<FileStore<File>, Blocks>, Refusal>
     ensures given { IfOk result (λ session. session.profile ≡ profile) }
 {
@@ -33,6 +36,9 @@ pub fn open(rt: &HostRuntime, profile: Profile) -> Result<Session<FileStore<File
 }
 
 /// Takes in all records of the readers, or none: a new one gets the next number, and one that is there keeps its own.
+///
+/// Proved here is that nothing changes where it is refused and the disk is clean. No clause here says what an accepted one leaves, of
+/// numbers too: `Session::update_from` does, under its premises.
 pub fn take_in<S: Alter, L: Layout, R: Source>(
     session: &mut Session<S, L>,
     database: &DbName,
@@ -45,6 +51,9 @@ pub fn take_in<S: Alter, L: Layout, R: Source>(
 }
 
 /// The records on which a query holds: how many, and the first ten of them.
+///
+/// Proved here is that nothing changes where the disk is clean. No clause here says which records are answered: `Session::command`
+/// does, under its premises.
 pub fn find<S: Alter, L: Layout>(
     alloc: Global,
     session: &mut Session<S, L>,

@@ -1,7 +1,7 @@
 //! Files are analysed, with nothing kept.
 
 use super::{BOOKS, Script, Step, TITLES};
-use crate::samples::{BARE, CUT, MOBY};
+use tables::samples::{BARE, CUT, MOBY};
 
 /// `MOBY` under `BOOKS`: the register's name, the place of the field, the place in it and the term.
 const MOBY_LINES: &str = "record 1 1 a1

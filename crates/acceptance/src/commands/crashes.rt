@@ -1,17 +1,18 @@
 //! Commands over files that stop at some call, each call in turn. What is opened again after it dumps and checks as before the command
 //! that was under way, or as after it, whichever layout and profile it is opened under.
 
-use super::failing_disk::answered;
+use super::refused_memory::lacks_memory;
 use super::renewals::SUBJECTS;
+use super::statements::Statement;
 use super::stories::{Part, done};
-use super::{BOOKS, Row, Step, adopted, answer, command_of, told};
-use crate::disks::connected;
-use crate::samples::{DOCK, DOCK_ALONE, MOBY, MOBY_TEXT};
+use super::{BOOKS, Row, Step, adopted, answer, command_of, prints, told};
 use sqlite::{Connection, FileStore, Files};
-use sqlite_disk::{Crash, Fuse, Memory};
+use sqlite_disk::{Crash, Disk, Fuse, Memory};
 use std::alloc::{AllocGlobal, Global};
 use std::process::Abort;
 use std::test::Fail;
+use tables::disks::connected;
+use tables::samples::{CAFE, CAFE_DOCK, CAFE_MOBY, DOCK, DOCK_ALONE, MOBY, MOBY_TEXT};
 use zeb_engine::{Limits, Session};
 use zeb_register::{Blocks, Layout, Rows};
 
@@ -55,6 +56,11 @@ const BEGUN: &[Row<'static>] = &[
     (Step::Update(&[&[MOBY]]), "inserted 1 updated 0 deleted 0\n"),
 ];
 
+/// The looks of a packed register under `BOOKS` that has no record, with its database and without.
+const EMPTY: Looks = [ANOTHER_FORMAT, ("", SOUND), ANOTHER_PROFILE];
+
+const DROPPED: Looks = [ANOTHER_FORMAT, (NO_DATABASE, SOUND), ANOTHER_PROFILE];
+
 const CHANGED: Case = Case {
     begun: &[],
     profile: BOOKS,
@@ -66,10 +72,43 @@ const CHANGED: Case = Case {
     ],
     looks: &[
         [NOT_BEGUN, NOT_BEGUN, NOT_BEGUN],
-        [ANOTHER_FORMAT, (NO_DATABASE, SOUND), ANOTHER_PROFILE],
+        DROPPED,
         KEEPS_MOBY,
         [ANOTHER_FORMAT, (DOCK_ALONE, SOUND), ANOTHER_PROFILE],
-        [ANOTHER_FORMAT, ("", SOUND), ANOTHER_PROFILE],
+        EMPTY,
+    ],
+};
+
+const KEPT: &[Row<'static>] = &[
+    (Step::Init, "ok\n"),
+    (
+        Step::Update(&[&[CAFE, MOBY]]),
+        "inserted 2 updated 0 deleted 0\n",
+    ),
+];
+
+/// A record that is replaced thrice in a command, one that is asked for twice, and the database.
+const TAKEN: Case = Case {
+    begun: &[Part::Packed(BOOKS, KEPT)],
+    profile: BOOKS,
+    rows: &[
+        (
+            Step::Update(&[&[DOCK], &[MOBY, DOCK]]),
+            "inserted 0 updated 3 deleted 0\n",
+        ),
+        (
+            Step::Adelete(&[&[CAFE, CAFE]]),
+            "inserted 0 updated 0 deleted 1\n",
+        ),
+        (Step::Drop("Default"), "ok\n"),
+        (Step::Create("Default"), "ok\n"),
+    ],
+    looks: &[
+        [ANOTHER_FORMAT, (CAFE_MOBY, SOUND), ANOTHER_PROFILE],
+        [ANOTHER_FORMAT, (CAFE_DOCK, SOUND), ANOTHER_PROFILE],
+        [ANOTHER_FORMAT, (DOCK_ALONE, SOUND), ANOTHER_PROFILE],
+        DROPPED,
+        EMPTY,
     ],
 };
 
@@ -80,6 +119,33 @@ const REINDEXED: Case = Case {
     looks: &[
         KEEPS_MOBY,
         [ANOTHER_FORMAT, ANOTHER_PROFILE, (MOBY_TEXT, SOUND)],
+    ],
+};
+
+/// The registers of `MOBY`, of which a word is gone and in which one stands that no record has.
+const DAMAGED: Case = Case {
+    begun: &[
+        Part::Packed(BOOKS, BEGUN),
+        Part::Tables(&[
+            (
+                Statement::Execute("DELETE FROM blocks WHERE idx = 0 AND term = 'moby'"),
+                "1",
+            ),
+            (
+                Statement::Execute("INSERT INTO dict SELECT id, 0, 0, 'zebra', 1 FROM databases"),
+                "1",
+            ),
+        ]),
+    ],
+    profile: BOOKS,
+    rows: &[(Step::Reindex, "ok\n")],
+    looks: &[
+        [
+            ANOTHER_FORMAT,
+            (MOBY_TEXT, "zebraidx: register damaged"),
+            ANOTHER_PROFILE,
+        ],
+        KEEPS_MOBY,
     ],
 };
 
@@ -118,6 +184,37 @@ fn begun(
         log: Fuse::new(files.log, log_calls),
         db: Fuse::new(files.db, db_calls),
     })
+}
+
+/// Whether a step is answered, and not refused for the disk.
+fn is_answered<D: Disk + Drop>(
+    rt: &(impl Abort + AllocGlobal),
+    session: &mut Session<FileStore<D>, Blocks>,
+    row: &Row<'_>,
+    place: usize,
+) -> Result<bool, Fail> {
+    let (step, wanted) = row;
+    let command = command_of(rt.alloc(), step)?;
+    let given = answer(session, &command);
+    if lacks_memory(&given) {
+        return Ok(false);
+    }
+    prints(rt, &given, wanted, place)?;
+    Ok(true)
+}
+
+/// Carries the steps out until one is refused for the disk, and says how many were answered.
+fn answered<D: Disk + Drop>(
+    rt: &(impl Abort + AllocGlobal),
+    session: &mut Session<FileStore<D>, Blocks>,
+    rows: &[Row<'_>],
+) -> Result<usize, Fail> {
+    for (place, row) in rows.iter().enumerate() {
+        if !is_answered(rt, session, row, place)? {
+            return Ok(place);
+        }
+    }
+    Ok(rows.len())
 }
 
 /// How many of the commands were answered before one was refused for the disk, and the files.
@@ -215,8 +312,20 @@ fn stops_anywhere(rt: &(impl Abort + AllocGlobal), case: &Case, is_log: bool) ->
 }
 
 #[test]
-fn a_crash_leaves_what_a_check_finds_sound(rt: HostRuntime) -> Result<(), Fail> {
-    for case in [&CHANGED, &REINDEXED, &UPGRADED] {
+fn a_log_that_stops_leaves_whole_commands(rt: HostRuntime) -> Result<(), Fail> {
+    stops_anywhere(&rt, &CHANGED, true)?;
+    stops_anywhere(&rt, &TAKEN, true)
+}
+
+#[test]
+fn a_file_that_stops_leaves_whole_commands(rt: HostRuntime) -> Result<(), Fail> {
+    stops_anywhere(&rt, &CHANGED, false)?;
+    stops_anywhere(&rt, &TAKEN, false)
+}
+
+#[test]
+fn a_renewal_that_stops_leaves_what_a_check_finds(rt: HostRuntime) -> Result<(), Fail> {
+    for case in [&REINDEXED, &DAMAGED, &UPGRADED] {
         stops_anywhere(&rt, case, true)?;
         stops_anywhere(&rt, case, false)?;
     }

@@ -1,20 +1,21 @@
-//! Registers made by commands that are drawn by lot, whose rows are then changed by lot. Each command returns; one that is refused leaves
-//! all rows as they were; and a check finds a register sound just where nothing was done that harms it.
+//! Registers made by commands that are drawn by lot, side by side in either layout, whose rows are then changed by lot. Each command
+//! returns; one that is refused leaves all rows as they were; both layouts answer alike; and a check finds a register sound just where
+//! nothing was done that harms it.
 
 use super::{BOOKS, Step, adopted, answer, command_of, told};
 use crate::catalogue::Draw;
-use crate::samples::{BARE, CAFE, CUT, DOCK, MOBY};
-use crate::tables::queries::all_rows;
 use crate::texts::is_text;
 use sqlite::{Connection, MemStore, params};
 use std::alloc::AllocGlobal;
 use std::process::Abort;
 use std::test::Fail;
+use tables::queries::{TABLES, all_rows};
+use tables::samples::{BARE, CAFE, CUT, DOCK, MOBY};
 use zeb_engine::Limits;
 use zeb_register::{Blocks, Layout, Rows};
 
 /// How many registers are made in each layout.
-const REGISTERS: usize = 100;
+const REGISTERS: usize = 500;
 
 /// Of which commands a register is made.
 const MAKING: &[Step<'static>] = &[
@@ -96,7 +97,7 @@ fn asked<L: Layout>(
     step: &Step<'_>,
 ) -> Result<(Connection<MemStore>, String), Fail> {
     let mut connection = connection;
-    let before = all_rows(rt.alloc(), &mut connection)?;
+    let before = all_rows(rt.alloc(), &mut connection, &TABLES)?;
     let Ok(mut session) = adopted::<MemStore, L>(rt.alloc(), connection, BOOKS, Limits::GREATEST)
     else {
         return Err(Fail::new("the register is refused"));
@@ -105,28 +106,35 @@ fn asked<L: Layout>(
     let given = answer(&mut session, &command);
     let mut connection = session.release();
     if given.is_err() {
-        is_text(rt, &all_rows(rt.alloc(), &mut connection)?, &before, 0);
+        is_text(
+            rt,
+            &all_rows(rt.alloc(), &mut connection, &TABLES)?,
+            &before,
+            0,
+        );
     }
     let text = told(rt.alloc(), &given)?;
     Ok((connection, text))
 }
 
-/// A register that commands made.
+/// A register that commands made, and what was printed for them.
 fn made<L: Layout>(
     rt: &(impl Abort + AllocGlobal),
     draw: &mut Draw,
-) -> Result<Connection<MemStore>, Fail> {
+) -> Result<(Connection<MemStore>, String), Fail> {
     let new = Connection::open_in_memory(rt.alloc())?;
     let Ok(mut session) = adopted::<MemStore, L>(rt.alloc(), new, BOOKS, Limits::GREATEST) else {
         return Err(Fail::new("the register is refused"));
     };
     let _ = answer(&mut session, &command_of(rt.alloc(), &Step::Init)?);
+    let mut printed = String::new(rt.alloc());
     for _ in 0..=draw.below(7) {
         if let Some(step) = MAKING.get(draw.below(MAKING.len())) {
-            let _ = answer(&mut session, &command_of(rt.alloc(), step)?);
+            let given = answer(&mut session, &command_of(rt.alloc(), step)?);
+            printed.push_str(told(rt.alloc(), &given)?.as_str())?;
         }
     }
-    Ok(session.release())
+    Ok((session.release(), printed))
 }
 
 /// Whether one of the statements, drawn by lot, changes a row.
@@ -159,42 +167,51 @@ fn prints<L: Layout>(
     Ok(connection)
 }
 
-/// Everything is asked of a register. A check tells whether it was harmed; what wasn't is sound later too, and so is what is begun anew.
+/// Everything is asked of a register, and what is printed is given. A check tells whether it was harmed; what wasn't is sound later too,
+/// and so is what is begun anew.
 fn all_asked<L: Layout>(
     rt: &(impl Abort + AllocGlobal),
     connection: Connection<MemStore>,
     is_harmed: bool,
-) -> Result<(), Fail> {
+) -> Result<String, Fail> {
     let verdict = if is_harmed { DAMAGED } else { SOUND };
     let mut connection = prints::<L>(rt, connection, &Step::Check, verdict)?;
+    let mut printed = String::new(rt.alloc());
     for step in ASKED {
-        connection = asked::<L>(rt, connection, step)?.0;
+        let (left, text) = asked::<L>(rt, connection, step)?;
+        printed.push_str(text.as_str())?;
+        connection = left;
     }
     if !is_harmed {
         connection = prints::<L>(rt, connection, &Step::Check, SOUND)?;
     }
     let connection = prints::<L>(rt, connection, &Step::Init, SOUND)?;
     prints::<L>(rt, connection, &Step::Check, SOUND)?;
-    Ok(())
+    Ok(printed)
 }
 
-/// Makes registers, changes their rows, and asks everything of each.
-fn drawn<L: Layout>(rt: &(impl Abort + AllocGlobal)) -> Result<(), Fail> {
-    let mut draw = Draw::new();
-    for _ in 0..REGISTERS {
-        let mut connection = made::<L>(rt, &mut draw)?;
-        let is_harmed = is_harmed(&mut connection, &mut draw);
-        all_asked::<L>(rt, connection, is_harmed)?;
+/// Makes a register in either layout by the same commands, changes their rows by the same statements, and asks everything of each. The
+/// same is printed for the commands, and for what is asked where neither was harmed: a statement may harm one of them alone.
+fn drawn(rt: &(impl Abort + AllocGlobal), draw: &mut Draw) -> Result<(), Fail> {
+    let mut again = *draw;
+    let (mut plain, printed) = made::<Rows>(rt, draw)?;
+    let (mut packed, wanted) = made::<Blocks>(rt, &mut again)?;
+    is_text(rt, &printed, &wanted, 0);
+    let is_plain_harmed = is_harmed(&mut plain, draw);
+    let is_packed_harmed = is_harmed(&mut packed, &mut again);
+    let printed = all_asked::<Rows>(rt, plain, is_plain_harmed)?;
+    let wanted = all_asked::<Blocks>(rt, packed, is_packed_harmed)?;
+    if !is_plain_harmed && !is_packed_harmed {
+        is_text(rt, &printed, &wanted, 0);
     }
     Ok(())
 }
 
 #[test]
-fn plain_registers_drawn_by_lot_are_told_apart(rt: HostRuntime) -> Result<(), Fail> {
-    drawn::<Rows>(&rt)
-}
-
-#[test]
-fn packed_registers_drawn_by_lot_are_told_apart(rt: HostRuntime) -> Result<(), Fail> {
-    drawn::<Blocks>(&rt)
+fn registers_drawn_by_lot_answer_alike_and_are_told_apart(rt: HostRuntime) -> Result<(), Fail> {
+    let mut draw = Draw::new();
+    for _ in 0..REGISTERS {
+        drawn(&rt, &mut draw)?;
+    }
+    Ok(())
 }

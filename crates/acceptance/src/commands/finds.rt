@@ -1,7 +1,7 @@
 //! Finds: each attribute, operator and diagnostic.
 
 use super::{BOOKS, Script, Step};
-use crate::samples::{CAFE, DOCK, MOBY};
+use tables::samples::{CAFE, DOCK, MOBY};
 
 /// Use, relation, position, structure, truncation and completeness, each alone.
 const ATTRIBUTES: Script = &[(

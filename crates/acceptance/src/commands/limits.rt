@@ -1,8 +1,8 @@
 //! What limits and names there are.
 
 use super::{Script, Step, TITLES, name, run_in_memory};
-use crate::samples::{CAFE, MOBY};
 use std::test::Fail;
+use tables::samples::{CAFE, MOBY};
 use zeb_engine::{DbName, Limits};
 use zeb_register::Blocks;
 

@@ -1,12 +1,12 @@
 //! Stores before they are taken over: those without a table and this program's own are, and every other one is refused and stays.
 
 use super::{BOOKS, adopted};
-use crate::tables::queries::{execute, rows};
 use crate::texts::is_text;
 use sqlite::{Connection, MemStore};
 use std::alloc::{AllocGlobal, Global};
 use std::process::Abort;
 use std::test::Fail;
+use tables::queries::{execute, rows};
 use zeb_engine::Limits;
 use zeb_register::{Blocks, RegFault};
 
@@ -33,162 +33,128 @@ const DICT: &str =
     "CREATE TABLE dict (db INTEGER NOT NULL, idx INTEGER NOT NULL, reg INTEGER NOT NULL, term TEXT NOT NULL, \
      records INTEGER NOT NULL, PRIMARY KEY (db, idx, reg, term)) STRICT";
 
+const META_NOT_STRICT: &str =
+    "CREATE TABLE meta (name TEXT NOT NULL, value TEXT NOT NULL, PRIMARY KEY (name))";
+
+const META_WITH_A_CHECK: &str =
+    "CREATE TABLE meta (name TEXT NOT NULL, value TEXT NOT NULL, PRIMARY KEY (name), CHECK (name <> 'x')) STRICT";
+
+const META_WITHOUT_CASE: &str =
+    "CREATE TABLE meta (name TEXT NOT NULL COLLATE NOCASE, value TEXT NOT NULL, PRIMARY KEY (name)) STRICT";
+
+const RECORDS_WITH_A_COLUMN_MORE: &str =
+    "CREATE TABLE records (db INTEGER NOT NULL, sysno INTEGER NOT NULL, ident TEXT NOT NULL, \
+     bytes BLOB NOT NULL, more TEXT, PRIMARY KEY (db, sysno), UNIQUE (db, ident)) STRICT";
+
+const RECORDS_OF_ANY_IDENTIFIERS: &str =
+    "CREATE TABLE records (db INTEGER NOT NULL, sysno INTEGER NOT NULL, ident TEXT NOT NULL, \
+     bytes BLOB NOT NULL, PRIMARY KEY (db, sysno)) STRICT";
+
 /// A row that is to stay.
 const ENTRY: &str = "INSERT INTO meta (name, value) VALUES ('version', '1')";
 
 const ENTRIES: &str = "SELECT * FROM meta";
 
-/// What made a store, a query of its rows, and whether it is taken over.
-type Made = (&'static [&'static str], &'static str, bool);
+/// This program's tables, in the order in which it makes them.
+const SIX: &[&str] = &[META, DATABASES, RECORDS, POSTINGS, BLOCKS, DICT];
+
+/// What made a store, and whether it is taken over: the statements of its tables, another one in the place of one of these, the
+/// statements behind them, and a query of the rows that are to stay.
+type Made = (
+    &'static [&'static str],
+    Option<(usize, &'static str)>,
+    &'static [&'static str],
+    &'static str,
+    bool,
+);
 
 const STORES: [Made; 16] = [
-    (&[], "SELECT 1", true),
-    (
-        &[META, DATABASES, RECORDS, POSTINGS, BLOCKS, DICT, ENTRY],
-        ENTRIES,
-        true,
-    ),
+    (&[], None, &[], "SELECT 1", true),
+    (SIX, None, &[ENTRY], ENTRIES, true),
     // Another program's.
     (
-        &[
-            "CREATE TABLE notes (title TEXT)",
-            "INSERT INTO notes VALUES ('a')",
-        ],
+        &["CREATE TABLE notes (title TEXT)"],
+        None,
+        &["INSERT INTO notes VALUES ('a')"],
         "SELECT * FROM notes",
         false,
     ),
-    (&["CREATE VIEW one AS SELECT 1"], "SELECT * FROM one", false),
+    (
+        &["CREATE VIEW one AS SELECT 1"],
+        None,
+        &[],
+        "SELECT * FROM one",
+        false,
+    ),
     // One thing more.
     (
-        &[
-            META,
-            DATABASES,
-            RECORDS,
-            POSTINGS,
-            BLOCKS,
-            DICT,
-            ENTRY,
-            "CREATE TABLE notes (title TEXT)",
-        ],
+        SIX,
+        None,
+        &[ENTRY, "CREATE TABLE notes (title TEXT)"],
         ENTRIES,
         false,
     ),
     (
-        &[
-            META,
-            DATABASES,
-            RECORDS,
-            POSTINGS,
-            BLOCKS,
-            DICT,
-            ENTRY,
-            "CREATE INDEX by_value ON meta (value)",
-        ],
+        SIX,
+        None,
+        &[ENTRY, "CREATE INDEX by_value ON meta (value)"],
         ENTRIES,
         false,
     ),
     (
-        &[
-            META,
-            DATABASES,
-            RECORDS,
-            POSTINGS,
-            BLOCKS,
-            DICT,
-            ENTRY,
-            "CREATE VIEW names AS SELECT name FROM databases",
-        ],
+        SIX,
+        None,
+        &[ENTRY, "CREATE VIEW names AS SELECT name FROM databases"],
         ENTRIES,
         false,
     ),
     // The tables under other rules.
+    (SIX, Some((0, META_NOT_STRICT)), &[ENTRY], ENTRIES, false),
+    (SIX, Some((0, META_WITH_A_CHECK)), &[ENTRY], ENTRIES, false),
+    (SIX, Some((0, META_WITHOUT_CASE)), &[ENTRY], ENTRIES, false),
     (
-        &[
-            META,
-            DATABASES,
-            "CREATE TABLE records (db INTEGER NOT NULL, sysno INTEGER NOT NULL, ident TEXT NOT NULL, \
-             bytes BLOB NOT NULL, more TEXT, PRIMARY KEY (db, sysno), UNIQUE (db, ident)) STRICT",
-            POSTINGS,
-            BLOCKS,
-            DICT,
-            ENTRY,
-        ],
+        SIX,
+        Some((2, RECORDS_WITH_A_COLUMN_MORE)),
+        &[ENTRY],
         ENTRIES,
         false,
     ),
     (
-        &[
-            META,
-            DATABASES,
-            "CREATE TABLE records (db INTEGER NOT NULL, sysno INTEGER NOT NULL, ident TEXT NOT NULL, \
-             bytes BLOB NOT NULL, PRIMARY KEY (db, sysno)) STRICT",
-            POSTINGS,
-            BLOCKS,
-            DICT,
-            ENTRY,
-        ],
-        ENTRIES,
-        false,
-    ),
-    (
-        &[
-            "CREATE TABLE meta (name TEXT NOT NULL, value TEXT NOT NULL, PRIMARY KEY (name))",
-            DATABASES,
-            RECORDS,
-            POSTINGS,
-            BLOCKS,
-            DICT,
-            ENTRY,
-        ],
-        ENTRIES,
-        false,
-    ),
-    (
-        &[
-            "CREATE TABLE meta (name TEXT NOT NULL, value TEXT NOT NULL, PRIMARY KEY (name), CHECK (name <> 'x')) STRICT",
-            DATABASES,
-            RECORDS,
-            POSTINGS,
-            BLOCKS,
-            DICT,
-            ENTRY,
-        ],
-        ENTRIES,
-        false,
-    ),
-    (
-        &[
-            "CREATE TABLE meta (name TEXT NOT NULL COLLATE NOCASE, value TEXT NOT NULL, PRIMARY KEY (name)) STRICT",
-            DATABASES,
-            RECORDS,
-            POSTINGS,
-            BLOCKS,
-            DICT,
-            ENTRY,
-        ],
+        SIX,
+        Some((2, RECORDS_OF_ANY_IDENTIFIERS)),
+        &[ENTRY],
         ENTRIES,
         false,
     ),
     // Some of the tables, and all of them in another order, as this program never makes them.
-    (&[META, DATABASES, RECORDS, ENTRY], ENTRIES, false),
-    (&[RECORDS, META, DATABASES, ENTRY], ENTRIES, false),
+    (&[META, DATABASES, RECORDS], None, &[ENTRY], ENTRIES, false),
+    (&[RECORDS, META, DATABASES], None, &[ENTRY], ENTRIES, false),
     (
-        &[DICT, META, DATABASES, RECORDS, POSTINGS, BLOCKS, ENTRY],
+        &[DICT, META, DATABASES, RECORDS, POSTINGS, BLOCKS],
+        None,
+        &[ENTRY],
         ENTRIES,
         false,
     ),
     (
-        &[META, DATABASES, RECORDS, POSTINGS, BLOCKS, ENTRY],
+        &[META, DATABASES, RECORDS, POSTINGS, BLOCKS],
+        None,
+        &[ENTRY],
         ENTRIES,
         false,
     ),
 ];
 
-/// A store in memory that these statements made.
-fn made(alloc: Global, statements: &[&str]) -> Result<Connection<MemStore>, RegFault> {
+/// A store in memory that was made so.
+fn made(alloc: Global, store: &Made) -> Result<Connection<MemStore>, RegFault> {
+    let (tables, changed, more, ..) = store;
     let mut connection = Connection::open_in_memory(alloc)?;
     let mut counts = String::new(alloc);
-    for sql in statements {
+    for (place, statement) in tables.iter().chain(more.iter()).enumerate() {
+        let sql = match changed {
+            Some((at, other)) if *at == place => *other,
+            _ => *statement,
+        };
         execute(&mut connection, sql, &mut counts)?;
     }
     Ok(connection)
@@ -224,8 +190,8 @@ fn is_taken_over_as(
     store: &Made,
     place: usize,
 ) -> Result<(), Fail> {
-    let (statements, query, wanted) = store;
-    let mut connection = made(rt.alloc(), statements)?;
+    let (.., query, wanted) = store;
+    let mut connection = made(rt.alloc(), store)?;
     let before = shown(rt.alloc(), &mut connection, query)?;
     for _ in 0..2 {
         let (mut after, taken) = offered(rt.alloc(), connection);

@@ -1,56 +1,99 @@
 //! Commands while memory is refused. Whichever allocation is refused (tests/each_allocation.py of the repository refuses each
-//! in turn), a command gives its ordinary answer, or is refused for it and has changed nothing; asked again, it is answered.
+//! in turn), a command gives its ordinary answer, or is refused for it and leaves all rows; asked again, it is answered.
 
-use super::{Row, Step, TITLES, adopted, answer, command_of, told};
-use crate::samples::{CAFE, DOCK, MOBY, MOBY_CAFE};
+use super::renewals::SUBJECTS;
+use super::stories::Kept;
+use super::{BOOKS, Step, TITLES, adopted, answer, command_of, is_refused_with, told};
 use crate::texts::is_text;
-use sqlite::{Alter, Connection, MemStore};
+use sqlite::{Connection, MemStore};
 use std::alloc::{AllocError, AllocGlobal, Global};
 use std::process::Abort;
 use std::test::Fail;
-use zeb_engine::{Command, Limits, Refusal, Reply, Session};
-use zeb_register::Blocks;
+use tables::queries::state;
+use tables::samples::{CAFE, DOCK, MOBY, MOBY_CAFE};
+use zeb_engine::{Command, Limits, Refusal, Reply};
+use zeb_register::{Blocks, Layout, Rows};
 
-/// Commands, and what is printed for them.
-pub const STEPS: [Row<'static>; 12] = [
-    (Step::Init, "ok\n"),
-    (Step::Create("Default"), "ok\n"),
+/// In which layout and under which profile a command is given, and what is printed for it.
+type Given = (Kept, &'static str, Step<'static>, &'static str);
+
+/// Each command. Then a plain register is made anew under another profile, packed, and made anew under the first profile.
+const GIVEN: [Given; 22] = [
+    (Kept::Packed, TITLES, Step::Init, "ok\n"),
+    (Kept::Packed, TITLES, Step::Create("Default"), "ok\n"),
     (
+        Kept::Packed,
+        TITLES,
         Step::Update(&[&[MOBY], &[CAFE]]),
         "inserted 2 updated 0 deleted 0\n",
     ),
-    (Step::Find("@attr 1=4 whale"), "hits 1\n1 a1\n"),
     (
+        Kept::Packed,
+        TITLES,
+        Step::Find("@attr 1=4 whale"),
+        "hits 1\n1 a1\n",
+    ),
+    (
+        Kept::Packed,
+        TITLES,
         Step::Scan("Default", 3, 2, "@attr 1=4 m"),
         "dick 1\nmoby 1\nor 1\n",
     ),
     (
+        Kept::Packed,
+        TITLES,
         Step::Analyse(&[&[CAFE]]),
         "record 1 1 b2\nTitle:w 2 1 cafe\n",
     ),
-    (Step::Dump("Default"), MOBY_CAFE),
-    (Step::Stat("Default"), "records 2\nlast 2\nTitle:w 6 6\n"),
+    (Kept::Packed, TITLES, Step::Dump("Default"), MOBY_CAFE),
     (
+        Kept::Packed,
+        TITLES,
+        Step::Stat("Default"),
+        "records 2\nlast 2\nTitle:w 6 6\n",
+    ),
+    (
+        Kept::Packed,
+        TITLES,
         Step::Update(&[&[DOCK, MOBY, DOCK]]),
         "inserted 0 updated 3 deleted 0\n",
     ),
     (
+        Kept::Packed,
+        TITLES,
         Step::Adelete(&[&[CAFE, CAFE]]),
         "inserted 0 updated 0 deleted 1\n",
     ),
-    (Step::Delete(&[&[MOBY]]), "inserted 0 updated 0 deleted 1\n"),
-    (Step::Drop("Default"), "ok\n"),
+    (
+        Kept::Packed,
+        TITLES,
+        Step::Delete(&[&[MOBY]]),
+        "inserted 0 updated 0 deleted 1\n",
+    ),
+    (Kept::Packed, TITLES, Step::Drop("Default"), "ok\n"),
+    (Kept::Plain, BOOKS, Step::Init, "ok\n"),
+    (
+        Kept::Plain,
+        BOOKS,
+        Step::Update(&[&[MOBY, CAFE]]),
+        "inserted 2 updated 0 deleted 0\n",
+    ),
+    (Kept::Plain, BOOKS, Step::Check, "ok\n"),
+    (Kept::Plain, SUBJECTS, Step::Reindex, "ok\n"),
+    (Kept::Plain, SUBJECTS, Step::Check, "ok\n"),
+    (Kept::Packed, SUBJECTS, Step::Upgrade, "ok\n"),
+    (Kept::Packed, SUBJECTS, Step::Check, "ok\n"),
+    (Kept::Packed, BOOKS, Step::Reindex, "ok\n"),
+    (Kept::Packed, BOOKS, Step::Check, "ok\n"),
+    (Kept::Packed, BOOKS, Step::Upgrade, "ok\n"),
 ];
-
-/// How many hits three queries have, each `None` where it is refused. They show what is kept.
-pub type Hits = [Option<u64>; 3];
 
 pub fn lacks_memory(answer: &Result<Reply, Refusal>) -> bool {
     matches!(answer, Err(Refusal::Memory | Refusal::Store))
 }
 
 /// The command of a step, made again where memory was refused for it.
-pub fn made(alloc: Global, step: &Step<'_>) -> Result<Command, Refusal> {
+fn made(alloc: Global, step: &Step<'_>) -> Result<Command, Refusal> {
     match command_of(alloc, step) {
         Ok(command) => Ok(command),
         Err(_) => command_of(alloc, step),
@@ -58,91 +101,101 @@ pub fn made(alloc: Global, step: &Step<'_>) -> Result<Command, Refusal> {
 }
 
 /// What is printed for an answer, asked again where memory was refused for it.
-pub fn printed(alloc: Global, answer: &Result<Reply, Refusal>) -> Result<String, AllocError> {
+fn printed(alloc: Global, answer: &Result<Reply, Refusal>) -> Result<String, AllocError> {
     match told(alloc, answer) {
         Ok(text) => Ok(text),
         Err(_) => told(alloc, answer),
     }
 }
 
-/// A command's answer, asked again where memory was refused.
-fn asked<S: Alter>(session: &mut Session<S, Blocks>, command: &Command) -> Result<Reply, Refusal> {
-    let first = answer(session, command);
-    if lacks_memory(&first) {
-        return answer(session, command);
-    }
-    first
-}
-
-fn count<S: Alter>(alloc: Global, session: &mut Session<S, Blocks>, query: &str) -> Option<u64> {
-    let command = made(alloc, &Step::Find(query)).ok()?;
-    match asked(session, &command) {
-        Ok(Reply::Found { hits, .. }) => Some(hits),
-        _ => None,
+/// A store in memory, made again where memory was refused.
+fn opened(alloc: Global) -> Result<Connection<MemStore>, Fail> {
+    match Connection::open_in_memory(alloc) {
+        Ok(connection) => Ok(connection),
+        Err(_) => Ok(Connection::open_in_memory(alloc)?),
     }
 }
 
-pub fn hits<S: Alter>(alloc: Global, session: &mut Session<S, Blocks>) -> Hits {
-    [
-        count(alloc, session, "@attr 1=4 dick"),
-        count(alloc, session, "@attr 1=4 dock"),
-        count(alloc, session, "@attr 1=4 cafe"),
-    ]
-}
-
-/// A command's answer. Where memory was refused for it, nothing has changed, and it is asked again.
-fn asked_unchanged<S: Alter>(
-    rt: &(impl Abort + AllocGlobal),
-    session: &mut Session<S, Blocks>,
+/// A command's answer over a connection, which is given back; no answer where memory is refused for the session.
+fn asked<L: Layout>(
+    alloc: Global,
+    connection: Connection<MemStore>,
+    profile: &str,
     command: &Command,
-) -> Result<Reply, Refusal> {
-    let before = hits(rt.alloc(), session);
-    let first = answer(session, command);
-    if lacks_memory(&first) {
-        assert!(rt; hits(rt.alloc(), session) == before);
-        return answer(session, command);
+) -> (Connection<MemStore>, Result<Reply, Refusal>) {
+    match adopted::<MemStore, L>(alloc, connection, profile, Limits::GREATEST) {
+        Ok(mut session) => {
+            let given = answer(&mut session, command);
+            (session.release(), given)
+        }
+        Err(connection) => (connection, Err(Refusal::Memory)),
     }
-    first
 }
 
-fn answer_or_memory<S: Alter>(
+/// A command's answer over a connection, in this layout.
+fn asked_in(
+    alloc: Global,
+    connection: Connection<MemStore>,
+    kept: Kept,
+    profile: &str,
+    command: &Command,
+) -> (Connection<MemStore>, Result<Reply, Refusal>) {
+    match kept {
+        Kept::Plain => asked::<Rows>(alloc, connection, profile, command),
+        Kept::Packed => asked::<Blocks>(alloc, connection, profile, command),
+    }
+}
+
+/// The command gets its answer. Where memory is refused for it, all rows are as they were, and it is asked again.
+fn answered(
     rt: &(impl Abort + AllocGlobal),
-    session: &mut Session<S, Blocks>,
-    row: &Row<'_>,
-) -> Result<(), Fail> {
-    let (step, wanted) = row;
+    connection: Connection<MemStore>,
+    given: &Given,
+) -> Result<Connection<MemStore>, Fail> {
+    let (kept, profile, step, wanted) = given;
     let command = made(rt.alloc(), step)?;
-    let given = asked_unchanged(rt, session, &command);
-    is_text(rt, &printed(rt.alloc(), &given)?, wanted, 0);
-    Ok(())
-}
-
-/// A session, or none where memory is refused for it.
-fn opened(alloc: Global) -> Option<Session<MemStore, Blocks>> {
-    let connection = Connection::open_in_memory(alloc).ok()?;
-    adopted(alloc, connection, TITLES, Limits::GREATEST).ok()
+    let mut connection = connection;
+    let before = state(rt.alloc(), &mut connection)?;
+    let (again, first) = asked_in(rt.alloc(), connection, *kept, profile, &command);
+    connection = again;
+    if !lacks_memory(&first) {
+        is_text(rt, &printed(rt.alloc(), &first)?, wanted, 0);
+        return Ok(connection);
+    }
+    is_text(rt, &state(rt.alloc(), &mut connection)?, &before, 0);
+    let (connection, second) = asked_in(rt.alloc(), connection, *kept, profile, &command);
+    is_text(rt, &printed(rt.alloc(), &second)?, wanted, 0);
+    Ok(connection)
 }
 
 #[test]
 fn memory_or_the_ordinary_answer(rt: HostRuntime) -> Result<(), Fail> {
-    let Some(mut session) = opened(rt.alloc()) else {
-        return Ok(());
-    };
-    for row in &STEPS {
-        answer_or_memory(&rt, &mut session, row)?;
+    let mut connection = opened(rt.alloc())?;
+    // Whichever asks first makes the tables, the second where memory was refused for the first.
+    for _ in 0..2 {
+        connection = asked::<Rows>(rt.alloc(), connection, BOOKS, &Command::Check).0;
+    }
+    for given in &GIVEN {
+        connection = answered(&rt, connection, given)?;
     }
     Ok(())
 }
 
 #[test]
 fn a_refused_list_has_run_nothing(rt: HostRuntime) -> Result<(), Fail> {
-    let Some(mut session) = opened(rt.alloc()) else {
+    let connection = opened(rt.alloc())?;
+    let Ok(mut session) = adopted::<MemStore, Blocks>(
+        rt.alloc(),
+        connection,
+        TITLES,
+        Limits::GREATEST,
+    ) else {
         return Ok(());
     };
     let commands = [Command::Init];
     if let Err(refusal) = session.run_all(&commands) {
         assert!(rt; matches!(refusal, Refusal::Memory));
-        assert!(rt; hits(rt.alloc(), &mut session) == [None; 3]);
+        assert!(rt; is_refused_with(&answer(&mut session, &Command::Check), 1));
         let again = session.run_all(&commands)?;
         assert_eq!(rt; again.len(), 1);
     }

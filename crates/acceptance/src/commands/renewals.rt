@@ -1,10 +1,10 @@
 //! Registers that are checked, made anew under another profile, and turned into the packed layout.
 
+use super::statements::Statement;
 use super::stories::{Part, Story, told};
 use super::{BOOKS, Row, Script, Step};
-use crate::samples::{CAFE, MOBY, MOBY_CAFE, MOBY_TEXT};
-use crate::tables::Step as TableStep;
 use std::test::Fail;
+use tables::samples::{CAFE, MOBY, MOBY_CAFE, MOBY_TEXT};
 
 /// `BOOKS` with a use attribute of subjects, and no whole titles.
 pub const SUBJECTS: &str =
@@ -150,9 +150,9 @@ const UPGRADED: Story = &[
         ],
     ),
     Part::Tables(&[
-        (TableStep::Rows("SELECT count(*) FROM postings"), "0\n"),
+        (Statement::Rows("SELECT count(*) FROM postings"), "0\n"),
         (
-            TableStep::Rows("SELECT value FROM meta WHERE name = 'version'"),
+            Statement::Rows("SELECT value FROM meta WHERE name = 'version'"),
             "2\n",
         ),
     ]),
@@ -162,30 +162,6 @@ const UPGRADED: Story = &[
             (Step::Check, ANOTHER_FORMAT),
             (Step::Reindex, ANOTHER_FORMAT),
             (Step::Upgrade, ANOTHER_FORMAT),
-        ],
-    ),
-];
-
-const PLAIN_ROWS: &str =
-    "SELECT (SELECT count(*) FROM postings), (SELECT count(*) FROM blocks), (SELECT count(*) FROM dict)";
-
-/// What isn't whole isn't turned into anything.
-const NOT_WHOLE: Story = &[
-    PLAIN,
-    Part::Tables(&[
-        (TableStep::Rows(PLAIN_ROWS), "16|0|0\n"),
-        (
-            TableStep::Execute("DELETE FROM postings WHERE idx = 0 AND term = 'moby'"),
-            "1",
-        ),
-    ]),
-    Part::Packed(BOOKS, &[(Step::Upgrade, DAMAGED)]),
-    Part::Tables(&[(TableStep::Rows(PLAIN_ROWS), "15|0|0\n")]),
-    Part::Plain(
-        BOOKS,
-        &[
-            (Step::Find("@attr 1=4 whale"), "hits 1\n1 a1\n"),
-            (Step::Check, DAMAGED),
         ],
     ),
 ];
@@ -200,19 +176,19 @@ const ANOTHERS: Story = &[
 /// A second database with the records of the first, none of whose words is in the registers, and a word that no record has.
 const LEFT_OVER: Part<'static> = Part::Tables(&[
     (
-        TableStep::Execute("INSERT INTO databases VALUES (70, 'B', 9)"),
+        Statement::Execute("INSERT INTO databases VALUES (70, 'B', 9)"),
         "1",
     ),
     (
-        TableStep::Execute("INSERT INTO records SELECT 70, sysno + 7, ident, bytes FROM records"),
+        Statement::Execute("INSERT INTO records SELECT 70, sysno + 7, ident, bytes FROM records"),
         "2",
     ),
     (
-        TableStep::Execute("INSERT INTO postings VALUES (70, 0, 0, 'old', 8, 1, 1)"),
+        Statement::Execute("INSERT INTO postings VALUES (70, 0, 0, 'old', 8, 1, 1)"),
         "1",
     ),
     (
-        TableStep::Execute("INSERT INTO dict VALUES (70, 0, 0, 'old', 1)"),
+        Statement::Execute("INSERT INTO dict VALUES (70, 0, 0, 'old', 1)"),
         "1",
     ),
 ]);
@@ -231,7 +207,7 @@ const ANEW: &[Row<'static>] = &[
 ];
 
 const MISNAMED: Part<'static> = Part::Tables(&[(
-    TableStep::Execute("UPDATE records SET ident = 'zz' WHERE sysno = 9"),
+    Statement::Execute("UPDATE records SET ident = 'zz' WHERE sysno = 9"),
     "1",
 )]);
 
@@ -258,7 +234,7 @@ const ANEW_IN_BLOCKS: Story = &[
     Part::Packed(BOOKS, REFUSED),
 ];
 
-const STORIES: [Story; 5] = [UPGRADED, NOT_WHOLE, ANOTHERS, ANEW_IN_ROWS, ANEW_IN_BLOCKS];
+const STORIES: [Story; 4] = [UPGRADED, ANOTHERS, ANEW_IN_ROWS, ANEW_IN_BLOCKS];
 
 #[test]
 fn registers_are_upgraded_and_made_anew(rt: HostRuntime) -> Result<(), Fail> {

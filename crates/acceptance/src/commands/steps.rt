@@ -1,13 +1,13 @@
-//! Commands under a limit on the steps of each of the store's statements: what is about one record passes where a look at whole tables
-//! doesn't.
+//! Commands under a limit on the steps of each of the store's statements: what is about one record or a few terms passes where a look at
+//! whole tables doesn't.
 
 use super::streams::{Maker, TOMES, opened_under};
 use super::{BOOKS, Row, Step, adopted, answers, name};
-use crate::tables::queries::{execute, rows};
 use sqlite::{Connection, MemStore};
 use std::alloc::{AllocGlobal, Global};
 use std::process::Abort;
 use std::test::Fail;
+use tables::queries::{execute, rows};
 use zeb_engine::{Command, Kind, Limits};
 use zeb_register::Blocks;
 
@@ -52,7 +52,18 @@ impl Whole {
 const OTHER_WORD: &[u8] =
     b"00071nam a2200049 a 4500001000600000245001500006\x1er2999\x1e00\x1fatome x2999\x1e\x1d";
 
-const FOUND: &[Row<'static>] = &[(Step::Find("@attr 1=4 w2999"), "hits 1\n3000 r2999\n")];
+/// A find of one word, and scans of the first and of the last of 3,001 words.
+const FOUND: &[Row<'static>] = &[
+    (Step::Find("@attr 1=4 w2999"), "hits 1\n3000 r2999\n"),
+    (
+        Step::Scan("Default", 3, 1, "@attr 1=4 a"),
+        "tome 3000\nw0000 1\nw0001 1\n",
+    ),
+    (
+        Step::Scan("Default", 3, 3, "@attr 1=4 z"),
+        "w2998 1\nw2999 1\n",
+    ),
+];
 
 const REPLACED: &[Row<'static>] = &[
     (

@@ -1,8 +1,8 @@
 //! Registers over one layout and then the other, whose rows change between commands.
 
+use super::statements::{TableRow, tables_answer};
 use super::{Row, run};
-use crate::tables::{Row as TableRow, answers as tables_answer};
-use sqlite::{Alter, Connection};
+use sqlite::{Alter, Connection, MemStore};
 use std::alloc::AllocGlobal;
 use std::process::Abort;
 use std::test::Fail;
@@ -42,17 +42,17 @@ pub fn done<S: Alter + Drop>(
         Part::Packed(profile, rows) => run::<S, Blocks>(rt, connection, all, profile, rows),
         Part::Tables(rows) => {
             let mut connection = connection;
-            tables_answer(rt, &mut connection, &mut None, rows)?;
+            tables_answer(rt, &mut connection, rows)?;
             Ok(connection)
         }
     }
 }
 
-/// Goes through a story over a new store in memory.
-pub fn told(rt: &(impl Abort + AllocGlobal), story: Story) -> Result<(), Fail> {
+/// Goes through a story over a new store in memory, and gives the connection.
+pub fn told(rt: &(impl Abort + AllocGlobal), story: Story) -> Result<Connection<MemStore>, Fail> {
     let mut connection = Connection::open_in_memory(rt.alloc())?;
     for part in story {
         connection = done(rt, connection, part)?;
     }
-    Ok(())
+    Ok(connection)
 }

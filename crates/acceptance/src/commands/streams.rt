@@ -1,11 +1,11 @@
 //! Records from readers, one held at a time.
 
 use super::{BOOKS, Row, Step, TITLES, adopted, answers, is_refused_with, name, prints};
-use crate::samples::{BARE, CAFE, MOBY};
 use sqlite::{Connection, MemStore};
 use std::alloc::{AllocGlobal, Global};
 use std::process::Abort;
 use std::test::Fail;
+use tables::samples::{BARE, CAFE, MOBY};
 use zeb_engine::{Kind, Limits, Refusal, Reply, Session};
 use zeb_marc::{ReadFailed, Source};
 use zeb_register::Blocks;
@@ -50,13 +50,15 @@ impl Source for Stream<'_> {
     }
 }
 
-/// Makes records as they are read, one for each number up to an end.
+/// Makes records as they are read, one for each number below an end, from 0 on or down to it.
 #[derive(Drop)]
 pub struct Maker {
     /// A record, in which the bytes 0 to 3 stand for the four digits of its number.
     form: &'static [u8],
-    number: u64,
+    /// How many records were made.
+    made: u64,
     end: u64,
+    falls: bool,
     place: usize,
 }
 
@@ -69,22 +71,32 @@ const NAMESAKES: &[u8] =
     b"00070nam a2200049 a 4500001000600000245001400006\x1er\x00\x01\x02\x03\x1e00\x1faMoby Dick\x1e\x1d";
 
 impl Maker {
-    /// So many records of this form.
+    /// So many records of this form, by rising number.
     pub fn new(form: &'static [u8], end: u64) -> Maker {
         Maker {
             form,
-            number: 0,
+            made: 0,
             end,
+            falls: false,
             place: 0,
         }
     }
 
+    fn number(&self) -> u64 {
+        if self.falls {
+            self.end.saturating_sub(self.made).saturating_sub(1)
+        } else {
+            self.made
+        }
+    }
+
     fn byte(&self) -> u8 {
+        let number = self.number();
         let digit = match self.form.get(self.place).copied().unwrap_or(b' ') {
-            0 => self.number / 1000,
-            1 => self.number / 100,
-            2 => self.number / 10,
-            3 => self.number,
+            0 => number / 1000,
+            1 => number / 100,
+            2 => number / 10,
+            3 => number,
             byte => return byte,
         };
         b'0' + (digit % 10) as u8
@@ -99,7 +111,7 @@ impl Source for Maker {
     ghost has_failed = { λ _. false };
 
     fn read(&mut self, buffer: &mut [u8]) -> Result<usize, ReadFailed> {
-        if buffer.is_empty() || self.number >= self.end {
+        if buffer.is_empty() || self.made >= self.end {
             return Ok(0);
         }
         buffer[0] = self.byte();
@@ -108,7 +120,7 @@ impl Source for Maker {
             self.place = next;
         } else {
             self.place = 0;
-            self.number += 1;
+            self.made += 1;
         }
         Ok(1)
     }
@@ -272,6 +284,61 @@ fn three_thousand_records_are_made_as_they_are_read(rt: HostRuntime) -> Result<(
             ),
         ],
     )
+}
+
+const TOMES_KEPT: &[Row<'static>] = &[
+    (Step::Check, "ok\n"),
+    (Step::Find("@attr 1=4 w0255"), "hits 1\n256 r0255\n"),
+    (
+        Step::FindFrom(255, 3, "@attr 1=4 tome"),
+        "hits 300\n255 r0254\n256 r0255\n257 r0256\n",
+    ),
+    (Step::Find("@attr 1=4 moby"), "hits 0\n"),
+];
+
+const NAMESAKES_KEPT: &[Row<'static>] = &[
+    (Step::Check, "ok\n"),
+    (Step::Find("@attr 1=4 w0255"), "hits 0\n"),
+    (Step::Find("@attr 1=4 tome"), "hits 0\n"),
+    (
+        Step::FindFrom(255, 3, "@attr 1=4 \"moby dick\""),
+        "hits 300\n255 r0254\n256 r0255\n257 r0256\n",
+    ),
+];
+
+/// Forms of 300 records, which have numbers of two blocks; whether the last comes first; what is printed for their update, and then.
+const REPLACED: [(&[u8], bool, &str, &[Row<'static>]); 3] = [
+    (
+        TOMES,
+        false,
+        "inserted 300 updated 0 deleted 0\n",
+        TOMES_KEPT,
+    ),
+    (
+        NAMESAKES,
+        true,
+        "inserted 0 updated 300 deleted 0\n",
+        NAMESAKES_KEPT,
+    ),
+    (
+        TOMES,
+        true,
+        "inserted 0 updated 300 deleted 0\n",
+        TOMES_KEPT,
+    ),
+];
+
+#[test]
+fn records_are_replaced_from_the_last_to_the_first(rt: HostRuntime) -> Result<(), Fail> {
+    let mut session = opened_under(rt.alloc(), BOOKS)?;
+    answers(&rt, &mut session, &[(Step::Init, "ok\n")])?;
+    for (form, falls, wanted, rows) in &REPLACED {
+        let mut maker = Maker::new(form, 300);
+        maker.falls = *falls;
+        update_prints(&rt, &mut session, &mut [maker], wanted)?;
+        answers(&rt, &mut session, rows)?;
+    }
+    Ok(())
 }
 
 /// A list of more postings than a block of 256 system numbers has.

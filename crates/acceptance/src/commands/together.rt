@@ -2,11 +2,11 @@
 
 use super::streams::opened;
 use super::{Row, Step, command_of, is_refused_with, prints};
-use crate::samples::MOBY;
 use sqlite::MemStore;
 use std::alloc::{AllocGlobal, Global};
 use std::process::Abort;
 use std::test::Fail;
+use tables::samples::MOBY;
 use zeb_engine::{Command, Refusal, Reply, Session};
 use zeb_register::Blocks;
 

@@ -1,10 +1,10 @@
 //! A register of a version that a session does not write.
 
+use super::statements::{Statement, TableRow, tables_answer};
 use super::{Row, Step, TITLES, run};
-use crate::samples::{DOCK, MOBY};
-use crate::tables::{Row as TableRow, Step as TableStep, answers as tables_answer};
 use sqlite::{Alter, Connection, MemStore};
 use std::test::Fail;
+use tables::samples::{DOCK, MOBY};
 use zeb_engine::Limits;
 use zeb_register::{Blocks, Layout, RegFault, Rows, meta_put};
 
@@ -39,7 +39,7 @@ const BEGUN_ANEW: &[Row<'static>] = &[
 
 /// No row of the plain layout.
 const NO_POSTING: &[TableRow<'static>] = &[(
-    TableStep::Rows("SELECT count(*) FROM postings"),
+    Statement::Rows("SELECT count(*) FROM postings"),
     "0\n",
 )];
 
@@ -80,5 +80,5 @@ fn a_plain_register_is_another_format(rt: HostRuntime) -> Result<(), Fail> {
     let refused = run::<MemStore, Blocks>(&rt, plain, all, TITLES, REFUSED)?;
     let plain = run::<MemStore, Rows>(&rt, refused, all, TITLES, &[FOUND])?;
     let mut packed = run::<MemStore, Blocks>(&rt, plain, all, TITLES, BEGUN_ANEW)?;
-    tables_answer(&rt, &mut packed, &mut None, NO_POSTING)
+    tables_answer(&rt, &mut packed, NO_POSTING)
 }

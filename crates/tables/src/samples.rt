@@ -12,6 +12,10 @@ pub const CAFE: &[u8] =
 pub const DOCK: &[u8] =
     b"00109nam a2200061 a 4500001000300000245003300003260001100036\x1ea1\x1e10\x1faMoby Dock :\x1fbor, the whale /\x1e  \x1fcc1851.\x1e\x1d";
 
+/// `c3`, titled `Moby again, Moby`, of 1902.
+pub const AGAIN: &[u8] =
+    b"00095nam a2200061 a 4500001000300000245002100003260000900024\x1ec3\x1e10\x1faMoby again, Moby\x1e  \x1fc1902\x1e\x1d";
+
 /// The first 60 bytes of `MOBY`: its leader and its directory's entries.
 pub const CUT: &[u8] = b"00109nam a2200061 a 4500001000300000245003300003260001100036";
 

@@ -2,8 +2,8 @@
 
 use super::calls::Call;
 use super::moby_dick::{DEFAULT, FILLED, ROWS};
-use super::queries::POSTINGS;
 use super::{Row, Script, Step};
+use crate::queries::POSTINGS;
 
 const META: &str = "INSERT INTO meta (name, value) VALUES ('version', '1')";
 

@@ -1,6 +1,6 @@
 //! Calls on the register's tables, step by step: what each answers, and what rows it leaves.
 
-use crate::texts::is_text;
+use crate::queries::{execute, rows};
 use sqlite::{Alter, Connection};
 use std::alloc::{AllocGlobal, Global};
 use std::process::Abort;
@@ -14,7 +14,7 @@ mod lists;
 mod memory;
 mod moby_dick;
 mod numbers;
-pub mod queries;
+mod paths;
 mod readings;
 mod records;
 mod scanning;
@@ -22,7 +22,6 @@ mod schema;
 mod steps;
 
 use calls::{Call, carry_out_alone, known};
-use queries::{execute, rows};
 use readings::{Read, tell, used};
 
 /// What a script does. The calls on a database are on the one that was put or used last.
@@ -103,7 +102,7 @@ pub fn answers<S: Alter>(
 ) -> Result<(), Fail> {
     for (place, (step, wanted)) in rows.iter().enumerate() {
         let text = told(rt.alloc(), conn, db, step)?;
-        is_text(rt, &text, wanted, place);
+        assert_eq!(rt; text.as_str(), *wanted, "step {place}");
     }
     Ok(())
 }

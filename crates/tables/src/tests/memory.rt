@@ -1,10 +1,9 @@
 //! Requests for memory that are refused: to be run with each refused in turn (tests/each_allocation.py of the repository).
 
 use super::calls::{At, Call, Under};
-use super::queries::state;
 use super::readings::{In, Read};
 use super::{Row, Step, answer};
-use crate::texts::is_text;
+use crate::queries::state;
 use sqlite::{Alter, Connection, MemStore};
 use std::alloc::{AllocGlobal, Global};
 use std::process::Abort;
@@ -44,7 +43,7 @@ fn is_unchanged<S: Alter>(
     before: &str,
 ) -> Result<(), Fail> {
     assert!(rt; fault == RegFault::Memory);
-    is_text(rt, &state(rt.alloc(), conn)?, before, 0);
+    assert_eq!(rt; state(rt.alloc(), conn)?.as_str(), before);
     Ok(())
 }
 
@@ -64,7 +63,7 @@ fn answer_or_memory<S: Alter>(
             answered(rt.alloc(), conn, db, step)?
         }
     };
-    is_text(rt, &text, wanted, 0);
+    assert_eq!(rt; text.as_str(), *wanted);
     Ok(())
 }
 
@@ -126,6 +125,6 @@ fn one_request_for_memory_may_be_refused(rt: HostRuntime) -> Result<(), Fail> {
     for row in STEPS {
         answer_or_memory(&rt, &mut conn, &mut db, row)?;
     }
-    is_text(&rt, &state(rt.alloc(), &mut conn)?, "", 0);
+    assert_eq!(rt; state(rt.alloc(), &mut conn)?.as_str(), "");
     Ok(())
 }

@@ -11,31 +11,42 @@ use zeb_register::RegFault;
 pub const POSTINGS: &str =
     "SELECT name, idx, reg, term, sysno, seq, pos FROM postings JOIN databases ON id = db ORDER BY name, idx, reg, term, sysno, seq, pos";
 
+const DATABASES: &str = "SELECT * FROM databases ORDER BY id";
+
+const RECORDS: &str = "SELECT * FROM records ORDER BY db, sysno";
+
+/// All rows of databases and of records, in the order of their keys.
+pub const LISTS: [&str; 2] = [DATABASES, RECORDS];
+
 /// All rows of each table, in the order of its key.
-const TABLES: [&str; 6] = [
+pub const TABLES: [&str; 6] = [
     "SELECT * FROM meta ORDER BY name",
-    "SELECT * FROM databases ORDER BY id",
-    "SELECT * FROM records ORDER BY db, sysno",
+    DATABASES,
+    RECORDS,
     "SELECT * FROM postings ORDER BY db, idx, reg, term, sysno, seq, pos",
     "SELECT * FROM blocks ORDER BY db, idx, reg, term, block",
     "SELECT * FROM dict ORDER BY db, idx, reg, term",
 ];
 
-/// A value of a row, a text as it is and bytes in hexadecimal.
+/// Bytes in hexadecimal.
+fn show_bytes(bytes: &[u8], text: &mut String) -> Result<(), RegFault> {
+    for byte in bytes {
+        write!(text, "{byte:02x}")?;
+    }
+    Ok(())
+}
+
+/// A value of a row, a text as it is and other bytes in hexadecimal.
 fn show_value(value: ValueRef<'_>, text: &mut String) -> Result<(), RegFault> {
     match value {
         ValueRef::Null => text.push_str("null")?,
         ValueRef::Int(number) => write!(text, "{number}")?,
         ValueRef::Real(_) => text.push_str("real")?,
-        ValueRef::Text(bytes) => {
-            let shown = str::from_utf8(bytes).map_err(|_| RegFault::Damaged)?;
-            text.push_str(shown)?;
-        }
-        ValueRef::Blob(bytes) => {
-            for byte in bytes {
-                write!(text, "{byte:02x}")?;
-            }
-        }
+        ValueRef::Text(bytes) => match str::from_utf8(bytes) {
+            Ok(shown) => text.push_str(shown)?,
+            Err(_) => show_bytes(bytes, text)?,
+        },
+        ValueRef::Blob(bytes) => show_bytes(bytes, text)?,
     }
     Ok(())
 }
@@ -68,10 +79,14 @@ pub fn rows<S: Alter>(
     Ok(())
 }
 
-/// All rows of all tables.
-pub fn all_rows<S: Alter>(alloc: Global, conn: &mut Connection<S>) -> Result<String, RegFault> {
+/// All rows that these queries find.
+pub fn all_rows<S: Alter>(
+    alloc: Global,
+    conn: &mut Connection<S>,
+    queries: &[&str],
+) -> Result<String, RegFault> {
     let mut text = String::new(alloc);
-    for sql in &TABLES {
+    for sql in queries {
         rows(conn, sql, &mut text)?;
     }
     Ok(text)
@@ -79,9 +94,9 @@ pub fn all_rows<S: Alter>(alloc: Global, conn: &mut Connection<S>) -> Result<Str
 
 /// All rows. At most one request for memory is refused in a run, so a second reading isn't.
 pub fn state<S: Alter>(alloc: Global, conn: &mut Connection<S>) -> Result<String, RegFault> {
-    match all_rows(alloc, conn) {
+    match all_rows(alloc, conn, &TABLES) {
         Ok(text) => Ok(text),
-        Err(_) => all_rows(alloc, conn),
+        Err(_) => all_rows(alloc, conn, &TABLES),
     }
 }
 

@@ -1,9 +1,9 @@
 //! The greatest numbers, and those that no column stores.
 
 use super::calls::{At, Call, Under};
-use super::queries::POSTINGS;
 use super::readings::Read;
 use super::{Script, Step};
+use crate::queries::POSTINGS;
 use zeb_profile::Register;
 
 const UNDER: Under<'static> = (0xffff_ffff, Register::Number, "999999999999999999");

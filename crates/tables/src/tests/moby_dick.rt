@@ -1,9 +1,9 @@
 //! Two records as the tables hold them, and what each call reads there.
 
 use super::calls::Call;
-use super::queries::POSTINGS;
 use super::readings::Read;
 use super::{Row, Script, Step};
+use crate::queries::POSTINGS;
 use crate::samples::{CAFE, MOBY};
 use zeb_profile::Register;
 

@@ -2,9 +2,9 @@
 
 use super::calls::{At, Call, Under};
 use super::moby_dick::{DEFAULT, FILLED, ROWS};
-use super::queries::POSTINGS;
 use super::readings::Read;
 use super::{Row, Script, Step};
+use crate::queries::POSTINGS;
 use zeb_profile::Register;
 
 const WHALE: Under<'static> = (0, Register::Word, "whale");

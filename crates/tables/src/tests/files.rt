@@ -2,10 +2,10 @@
 
 use super::calls::{Call, Under};
 use super::moby_dick::{ANSWERS, BEGUN, DEFAULT, FILLED, ROWS};
-use super::queries::POSTINGS;
 use super::readings::Read;
 use super::{Script, Step, run};
 use crate::disks::connected;
+use crate::queries::POSTINGS;
 use sqlite::{Alter, Connection, Error, File, FileStore, Files};
 use sqlite_disk::Memory;
 use std::alloc::{AllocGlobal, Global};
