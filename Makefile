@@ -3,6 +3,8 @@
 # make quick      the daily check: layout, edits, names, pages, and the proofs of the crates that changed
 # make check      the gate: every proof, every test and the edits of must-fail/, from nothing; some hours of processor time
 # make words      runs the built program by words over a folder of files, and compares what it writes
+# make session    runs the session of README.md as it stands there; installs Debian's yaz and idzebra-2.0-examples where they aren't there
+# make real       takes in real records and compares what is found in them with another count; installs the same packages
 # make examples   proves and builds a small caller of the engine as a library
 # make hostile    runs the built program on the greatest inputs, and on scripts drawn by lot: SECONDS=3600 for more than a minute
 # make edits      tries the wrong bodies of edits/ too: CRATE=zeb_marc for one crate, EDIT=crates/zeb_marc/edits/no_units.edit for one
@@ -15,7 +17,7 @@
 PREFIX ?= /usr/local
 SOURCES := crates.txt $(wildcard crates/*/src/*.rt crates/*/src/*/*.rt crates/*/specs/*.antt crates/*/specs/*/*.antt)
 
-.PHONY: all help run quick check words examples hostile edits cost bench bench-zebra man install uninstall clean
+.PHONY: all help run quick check words session real examples hostile edits cost bench bench-zebra man install uninstall clean
 all: bin/zebraidx
 
 help:
@@ -42,6 +44,12 @@ check:
 words: bin/zebraidx
 	@tests/words/run
 	@tests/words/faults
+
+session: bin/zebraidx
+	@tests/words/session
+
+real: bin/zebraidx
+	@tests/real/run
 
 examples:
 	@cd crates/small_catalogue && rt lib

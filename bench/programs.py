@@ -84,6 +84,7 @@ def ran(words, folder, beside=(), given=""):
         clock = time.monotonic() - start
         through.set()
         looking.join()
+        most[0] = max(most[0], size_below(*beside))
         to.seek(0)
         said = to.read()
         if status:

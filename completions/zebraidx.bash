@@ -11,7 +11,7 @@ _zebraidx() {
   case $command:$before in
     :-c) mapfile -t COMPREPLY < <(compgen -f -- "$word") ;;
     :-d) COMPREPLY=() ;;
-    :*) mapfile -t COMPREPLY < <(compgen -W "-c -d -s --help init create drop update delete adelete stat dump check reindex upgrade find scan batch shell" -- "$word") ;;
+    :*) mapfile -t COMPREPLY < <(compgen -W "-c -d -s --help --version init create drop update delete adelete stat dump check reindex upgrade find scan batch shell" -- "$word") ;;
     update:* | delete:* | adelete:*) mapfile -t COMPREPLY < <(compgen -f -- "$word") ;;
     find:*) mapfile -t COMPREPLY < <(compgen -W "--first --count" -- "$word") ;;
     scan:*) mapfile -t COMPREPLY < <(compgen -W "--number --position" -- "$word") ;;

@@ -25,7 +25,15 @@ fn warns_of_records_without_the_sign_of_unicode(rt: HostRuntime) -> Result<(), F
             "zebraidx: warning: read as UTF-8 without 'a' in position 9 of the leader: 2 of 2 records, the first at file 1 record 1\n",
         ),
         (
-            &["-c", "other.cfg", "-s", "update", "none.mrc", "blanks.mrc", "blank.mrc"],
+            &[
+                "-c",
+                "other.cfg",
+                "-s",
+                "update",
+                "none.mrc",
+                "blanks.mrc",
+                "blank.mrc",
+            ],
             0,
             "record 2 1 b2\nTitle:w 2 1 cafe\nrecord 2 2 b2\nTitle:w 2 1 cafe\nrecord 3 1 b2\nTitle:w 2 1 cafe\nrecord 3 2 b2\nTitle:w 2 1 cafe\n",
             "zebraidx: warning: read as UTF-8 without 'a' in position 9 of the leader: 3 of 4 records, the first at file 2 record 1\n",

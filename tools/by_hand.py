@@ -1,0 +1,156 @@
+"""Failures of the memory or of the store that code makes by hand, which tools/quick refuses.
+
+Contracts allow such a failure wherever a call takes memory or reaches the store, so a body that answers one for no reason meets any of
+them. It has to come from a call that failed: by `?`, by a conversion of what only such a call gives, or by an arm that passes it on.
+"""
+import collections
+import re
+
+# What a failure is called, and of what it is one: variants of the crates' and the kit's faults, and the values without a path.
+VARIANTS = {"Memory": "memory", "OutOfMemory": "memory", "Store": "store"}
+VALUES = {"AllocError": "memory", "AllocFailed": "memory", "OpenFailed": "store"}
+# What only a call that failed gives, by what its conversion may make of it.
+OF_CALLS = {"AllocError": "memory", "AllocFailed<T>": "memory", "Error": "store", "sqlite::Error": "store"}
+# What is called so and is no failure: a line of a profile.
+NO_FAILURE = "Directive::Store"
+# Where one is made by hand, by file: in which functions and constants, each once for each time, and why.
+MADE_BY_HAND = {
+    "crates/zeb_profile/src/indexes.rt": (["number_name"], "2^32 - 1 indexes are as many as a number of an index can tell apart"),
+    "crates/zeb_profile/src/faults.rt": (["MEMORY"], "the one value that all conversions give"),
+    "crates/zeb_query/src/faults.rt": (["about"], "an addinfo that there is no memory for"),
+    "crates/zeb_register/src/packed_changes.rt": (["block_begin", "block_begin"], "the refusal of a row, which is passed on as it was told"),
+    "crates/zeb_register/src/packed_parts.rt": (["check_numbers", "check_place"], "a number or a place that no row has"),
+    "crates/zeb_register/src/values.rt": (["stored"], "a number that no column stores"),
+    "crates/zeb_image/src/rebuilding.rt": (["database_post"], "more turns than there are numbers"),
+    "crates/zeb_engine/src/session.rt": (["run_all"], "no room for the answers"),
+    "crates/zeb_engine/src/tables.rt": (["check_tables"], "a store with other tables, and no other store, as a clause says"),
+    "crates/zeb_words/src/words.rt": (["usage_of", "usage_of"], "the want of memory that the parser names, and of its text"),
+    "crates/zeb_paths/src/walk.rt": (["next_file"], "more folders than could be held"),
+    "crates/zeb_paths/src/disk.rt": (["store"], "whatever fails as a store is opened"),
+    "crates/zeb_paths/src/shelf.rt": (["store", "store"], "a shelf without a store under the path, or one that fails"),
+    "crates/zebraidx/src/batch.rt": (["run_batch"], "an open that failed"),
+    "crates/zebraidx/src/files.rt": (["readers_of", "contents_of"], "more files than could be held"),
+    "crates/zebraidx/src/memory.rt": (["open_in_memory"], "whatever fails as a store is opened"),
+    "crates/zebraidx/src/tasks.rt": (["open_register"], "an open that failed"),
+}
+
+GHOST = re.compile(r"\bghost\s+use\b[^;]*;|\b(?:requires|ensures)\b\*?\s*(?:\w+\s*)?(?=\{)|\bghost\s+\w+\s*[:=]\s*(?=\{)")
+USE = re.compile(r"\buse\b[^;]*;")
+# A failure under another name, or what an enum has under none.
+HIDING_USE = re.compile(rf"\b[A-Z]\w*\s*::|\b(?:{'|'.join([*VARIANTS, *VALUES])}|Error)\s+as\b|\bas\s+(?:Directive|{'|'.join(VALUES)})\b")
+# What would make one unseen: a macro, an attribute that makes it of something else, and code that only calls itself a test.
+HIDING = re.compile(r"\bmacro_rules\b|#\[from\]|#\[default\]\s*\w+|(?:#\[cfg\(test\)\]\s*)?\bmod\s+tests\b")
+CONVERSION = re.compile(r"^impl(?:<[^{}]*?>)? From<([^{}]*)> for .*?^\}", re.M | re.S)
+CONSTANT = re.compile(r"\b(?:const|static)\s+(?!fn\b)(?:mut\s+)?(\w+)\s*:")
+FUNCTION = re.compile(r"\bfn\s+(\w+)")
+# A pattern is followed by another one, by its arm, by its guard or by what is matched; a type by the end of a list of types.
+PATTERN_ENDS = re.compile(r"\s*(?:\([\w\s,:.]*\)|\{[\w\s,:.]*\})?[\s)]*(?:\||=|if\b)")
+TYPE_ENDS = re.compile(r"\s*,?\s*>")
+# An arm that has only one failure, up to the failure that it gives.
+PASSES = re.compile(r"[{,}]\s*(?:[\w:]+\(\s*)*(?:(?:\w+::)+|(?=AllocError))(\w+)[\s)]*=>\s*\{?\s*(?:return\s+)?(?:[\w:]+\(\s*)*&?$")
+# As much memory as no call gives.
+TOO_MUCH = re.compile(r"\b(?:with_capacity|reserve|resize)\w*\([^;{}]*\bMAX\b")
+
+
+def closed(text, at, opening="{", closing="}"):
+    """Where the bracket that opens there is closed, just behind."""
+    depth = 0
+    for found in re.finditer(re.escape(opening) + "|" + re.escape(closing), text[at:]):
+        depth += 1 if found[0] == opening else -1
+        if depth == 0:
+            return at + found.end()
+    return len(text)
+
+
+def run_of(text):
+    """The text without what only proofs see."""
+    kept, at = [], 0
+    for ghost in GHOST.finditer(text):
+        if ghost.start() >= at:
+            kept.append(text[at : ghost.start()])
+            at = ghost.end() if ghost[0].endswith(";") else closed(text, ghost.end())
+    return "".join([*kept, text[at:]])
+
+
+def without_patterns(text):
+    """The text without the patterns of `matches!`."""
+    for found in reversed([*re.finditer(r"\bmatches!\s*\(", text)]):
+        end = closed(text, found.end() - 1, "(", ")")
+        text = text[: found.end()] + text[found.end() : end].partition(",")[0] + ")" + text[end:]
+    return text
+
+
+def constants_of(text):
+    """The constants of a text, each with where it begins and ends."""
+    for found in CONSTANT.finditer(text):
+        depth = 0
+        for mark in re.finditer(r"[\[({;\])}]", text[found.end() :]):
+            depth += (mark[0] in "[({") - (mark[0] in "])}")
+            if depth == 0 and mark[0] == ";":
+                yield found[1], found.start(), found.end() + mark.start()
+                break
+
+
+class Reader:
+    """Finds the failures that are made by hand, where these constants are failures too."""
+
+    def __init__(self, constants=None):
+        self.kinds = VARIANTS | VALUES | (constants or {})
+        values = "|".join(it for it in self.kinds if it not in VARIANTS)
+        self.failure = re.compile(rf"::\s*(?:r#)?({'|'.join(VARIANTS)})\b|\b({values})\b|\bError\s*::\s*([A-Z]\w*)")
+
+    def constants_in(self, text):
+        """The constants that have failures in them, and of what they are one."""
+        return {name: self.kind_of(it) for name, begin, end in constants_of(text) for it in self.failure.finditer(text, begin, end)}
+
+    def kind_of(self, found):
+        """Of what it is a failure; sqlite's errors become failures of the store."""
+        return self.kinds.get(found[found.lastindex], "store") if found.lastindex else "memory"
+
+    def made_in(self, text):
+        """Each failure that the code makes: in which function or constant, and the words."""
+        hidden = [it[0] for it in USE.finditer(text) if HIDING_USE.search(it[0])]
+        hidden += [it[0] for it in HIDING.finditer(text) if not it[0].startswith("#[cfg")]
+        yield from [("another name", " ".join(it.split())) for it in hidden]
+        text = without_patterns(USE.sub("", text))
+        conversions = [(it.start(), it.end(), OF_CALLS.get(it[1].strip())) for it in CONVERSION.finditer(text)]
+        constants = list(constants_of(text))
+        for found in [*self.failure.finditer(text), *TOO_MUCH.finditer(text)]:
+            kind = self.kind_of(found)
+            start = found.start() - len(re.search(r"(?:\w+\s*::\s*)*\w*$", text[max(found.start() - 200, 0) : found.start()])[0])
+            inside = [name for name, begin, end in constants if begin <= start < end]
+            is_converted = any(begin <= start < end and of == kind for begin, end, of in conversions)
+            if not is_converted and not (found.lastindex and self.is_no_value(text, start, found.end(), kind)):
+                yield (inside or FUNCTION.findall(text, 0, start) or ["no function"])[-1], " ".join(text[start : found.end()].split())
+
+    def is_no_value(self, text, start, end, kind):
+        """Whether the words are a pattern, a type, a side of a comparison, or what an arm passes on; or declare their name."""
+        name, before, behind = "".join(text[start:end].split()), text[max(start - 300, 0) : start], text[end : end + 300]
+        passed = PASSES.search(before)
+        return bool(
+            name == NO_FAILURE
+            or PATTERN_ENDS.match(behind)
+            or TYPE_ENDS.match(behind)
+            or name == "AllocFailed" and behind.lstrip().startswith("<")
+            or name.endswith("::Memory") and behind.lstrip().startswith("::")
+            or before.rstrip().endswith(("<", "==", "!="))
+            or re.search(r"\b(?:const|static|struct)\s+$", before)
+            or name in VALUES and before.rstrip().endswith(":") and behind.lstrip().startswith(")")
+            or passed and self.kinds.get(passed[1]) == kind
+        )
+
+
+def made_by_hand(texts):
+    """What is made by hand and not named above, or the other way round; of files' texts without comments and strings, by their names."""
+    codes = {name: run_of(text) for name, text in texts.items()}
+    plain, constants = Reader(), {}
+    for code in codes.values():
+        constants |= plain.constants_in(code)
+    reader = Reader(constants)
+    for name, code in codes.items():
+        made = list(reader.made_in(code))
+        allowed = collections.Counter(MADE_BY_HAND.get(name, ([], ""))[0])
+        have = collections.Counter(place for place, _ in made)
+        yield from [f"{name}: {words} in {place}" for place, words in made if have[place] > allowed[place]]
+        yield from [f"{name}: {place} makes none any more" for place in allowed if have[place] < allowed[place]]
+    yield from [f"{name} isn't there any more" for name in MADE_BY_HAND if name not in codes]
