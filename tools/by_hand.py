@@ -28,10 +28,10 @@ MADE_BY_HAND = {
     "crates/zeb_paths/src/walk.rt": (["next_file"], "more folders than could be held"),
     "crates/zeb_paths/src/disk.rt": (["store"], "whatever fails as a store is opened"),
     "crates/zeb_paths/src/shelf.rt": (["store", "store"], "a shelf without a store under the path, or one that fails"),
-    "crates/zebraidx/src/batch.rt": (["run_batch"], "an open that failed"),
-    "crates/zebraidx/src/files.rt": (["readers_of", "contents_of"], "more files than could be held"),
-    "crates/zebraidx/src/memory.rt": (["open_in_memory"], "whatever fails as a store is opened"),
-    "crates/zebraidx/src/tasks.rt": (["open_register"], "an open that failed"),
+    "crates/zeb_program/src/batch.rt": (["run_batch"], "an open that failed"),
+    "crates/zeb_program/src/files.rt": (["readers_of", "contents_of"], "more files than could be held"),
+    "crates/zeb_program/src/memory.rt": (["open_in_memory"], "whatever fails as a store is opened"),
+    "crates/zeb_program/src/tasks.rt": (["open_register"], "an open that failed"),
 }
 
 GHOST = re.compile(r"\bghost\s+use\b[^;]*;|\b(?:requires|ensures)\b\*?\s*(?:\w+\s*)?(?=\{)|\bghost\s+\w+\s*[:=]\s*(?=\{)")

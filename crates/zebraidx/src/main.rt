@@ -1,35 +1,12 @@
 //! Indexes MARC 21 records and searches them by queries in Prefix Query Format.
 #![tactic(auto)]
 
-mod batch;
-mod command_line;
-mod digits;
-mod faults;
-mod files;
-mod input;
-mod laws;
-mod line_input;
-mod lines;
-mod memory;
-mod numbers;
-mod path_changes;
-mod program;
-mod script;
-mod shell;
-mod sinks;
-mod tasks;
-#[cfg(test)]
-mod tests;
-mod warnings;
-mod words;
-
-use program::{FAILED, run};
-use sinks::Sink;
 use std::env;
 use std::io::{self, BufReader, BufWriter};
 use std::process::ExitCode;
 use zeb_marc::FromRead;
 use zeb_paths::{Disk, Tally};
+use zeb_program::{FAILED, Sink, run};
 
 fn main(rt: HostRuntime) -> ExitCode {
     ExitCode::from(run_outside(&rt).unwrap_or(FAILED))

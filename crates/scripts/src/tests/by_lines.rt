@@ -1,0 +1,173 @@
+//! A batch and a shell, over paths and a store in memory.
+
+ghost use Rattle.std.specs.Prelude.{◌≡◌, false};
+
+use super::fakes::{Brittle, Torn};
+use super::records::with_records;
+use super::words::{contents, expect, loaded, run_words, shelved};
+use std::alloc::Global;
+use std::io::Write;
+use std::str;
+use std::test::Fail;
+use zeb_marc::{FromRead, Source};
+use zeb_paths::Shelf;
+use zeb_program::{Sink, run};
+
+/// The words that run the lines of the input.
+const WORDS: [&str; 2] = ["batch", "shell"];
+
+#[test]
+fn runs_lines(rt: HostRuntime) -> Result<(), Fail> {
+    let lines = "\
+find Default moby
+
+# a remark
+init
+update Default\t in
+find Default dock
+update Default hex:<A>
+find Default dock
+update Default missing
+update Default torn
+delete Default lost.mrc
+update Default hex:0
+update Default
+update a/b in
+adelete Default a.mrc
+stat X
+check
+reindex
+upgrade
+check Default
+";
+    let output = "\
+hits 1
+1 a1
+ok
+inserted 2 updated 0 deleted 0
+hits 1
+1 a1
+inserted 0 updated 1 deleted 0
+hits 0
+zebraidx: cannot read missing
+zebraidx: file 2 record 2: Truncated
+zebraidx: file 1: read fault
+zebraidx: cannot read hex:0
+zebraidx: bad line 13
+zebraidx: bad line 14
+inserted 0 updated 0 deleted 1
+zebraidx: diagnostic 235 at 0: X
+ok
+ok
+ok
+zebraidx: bad line 20
+";
+    let lines = with_records(rt.alloc(), lines)?;
+    for word in WORDS {
+        let store = Some(loaded(rt.alloc())?);
+        let outcome = run_words(rt.alloc(), &[word], store, lines.as_bytes())?;
+        expect(&rt, &[word], &outcome, (3, output, ""))?;
+    }
+    Ok(())
+}
+
+#[test]
+fn answers_the_greatest_status(rt: HostRuntime) -> Result<(), Fail> {
+    for (lines, status, output) in [
+        ("", 0, ""),
+        ("stat X", 1, "zebraidx: diagnostic 235 at 0: X\n"),
+        (
+            "x\nstat X",
+            2,
+            "zebraidx: bad line 1\nzebraidx: diagnostic 235 at 0: X\n",
+        ),
+        // A CR right before an LF doesn't count, and another does.
+        ("create Y\r\ncreate Z\r", 2, "ok\nzebraidx: bad line 2\n"),
+    ] {
+        for word in WORDS {
+            let store = Some(loaded(rt.alloc())?);
+            let outcome = run_words(rt.alloc(), &[word], store, lines.as_bytes())?;
+            expect(&rt, &[word], &outcome, (status, output, ""))?;
+        }
+    }
+    Ok(())
+}
+
+#[test]
+fn a_shell_goes_on_behind_a_line_that_is_no_text(rt: HostRuntime) -> Result<(), Fail> {
+    let store = Some(loaded(rt.alloc())?);
+    let outcome = run_words(
+        rt.alloc(),
+        &["shell"],
+        store,
+        b"# \xff\nfind Default moby\n",
+    )?;
+    let output = "zebraidx: bad line 1\nhits 1\n1 a1\n";
+    expect(&rt, &["shell"], &outcome, (2, output, ""))
+}
+
+#[test]
+fn a_shell_opens_the_register_before_it_reads(rt: HostRuntime) -> Result<(), Fail> {
+    let outcome = run_words(rt.alloc(), &["shell"], None, b"\xff")?;
+    expect(
+        &rt,
+        &["shell"],
+        &outcome,
+        (3, "", "zebraidx: store fault\n"),
+    )
+}
+
+/// Runs a shell over a loaded store.
+fn shell<R: Source, W: Write, V: Write>(
+    alloc: Global,
+    input: &mut R,
+    output: &mut Sink<W>,
+    fault_output: &mut Sink<V>,
+) -> Result<u8, Fail>
+    requires { R.has_failed input.old ≡ false }
+{
+    let words = vec![in alloc; String::from_str(alloc, "shell")?]?;
+    let contents = contents(alloc)?;
+    let files = shelved(alloc, &contents)?;
+    let mut shelf = Shelf::new(&files, Some(loaded(alloc)?));
+    Ok(run(alloc, &words, &mut shelf, input, output, fault_output))
+}
+
+#[test]
+fn a_shell_ends_where_a_read_fails(rt: HostRuntime) -> Result<(), Fail> {
+    let mut output = Vec::new(rt.alloc());
+    let mut fault_output = Vec::new(rt.alloc());
+    let status = shell(
+        rt.alloc(),
+        &mut FromRead::new(Torn::new(b"find Default moby\nfind")),
+        &mut Sink::new(&mut output),
+        &mut Sink::new(&mut fault_output),
+    )?;
+    // What was answered before stays; the torn line is not run.
+    assert_eq!(rt; status, 3);
+    assert_eq!(rt; str::from_utf8(output.as_slice())?, "hits 1\n1 a1\n");
+    assert_eq!(rt;
+        str::from_utf8(fault_output.as_slice())?,
+        "zebraidx: cannot read input\n"
+    );
+    Ok(())
+}
+
+#[test]
+fn a_shell_reads_no_line_behind_a_failed_write(rt: HostRuntime) -> Result<(), Fail> {
+    // A line's answer is a write, and passing it on another call. The input fails at its end, if it is read so far.
+    for (calls, reads_all) in [(0, false), (1, false), (2, false), (3, false), (4, true)] {
+        let mut input = FromRead::new(Torn::new(b"find Default moby\nfind Default moby\n"));
+        let mut writer = Brittle::new(calls, Vec::new(rt.alloc()));
+        let mut faults = Vec::new(rt.alloc());
+        let status = shell(
+            rt.alloc(),
+            &mut input,
+            &mut Sink::new(&mut writer),
+            &mut Sink::new(&mut faults),
+        )?;
+        assert_eq!(rt; status, 3);
+        assert_eq!(rt; input.has_failed(), reads_all, "after {calls} calls");
+    }
+    Ok(())
+}

@@ -1,0 +1,145 @@
+-- A change or a scan that a line names, from what is said of the rest of the line.
+use Rattle.std.proofs.Common.{◌≡◌, ◌≢◌, List, [], ◌∷◌, ℕ, get_or, drop, length, arith, ap, sym, subst, ◌∙◌, refl}
+use Rattle.std.specs.Prelude.{Result, Ok, Err, Option, Some, None, IfOk, IsOk, MatchOption, codes, map}
+use Rattle.std.specs.declared.alloc.AllocError.{AllocError}
+use Rattle.hex.specs.Hex.{decode_of}
+use Rattle.hex.specs.declared.error.FromHexError.{FromHexError}
+use Rattle.zeb_engine.specs.declared.commands.Command.{Command}
+use Rattle.zeb_engine.specs.declared.commands.Command.TheVariants.{Init, Check, Reindex, Upgrade, Create, Drop, Stat, Dump, Change, Find, Scan, Analyse}
+use Rattle.zeb_change.specs.declared.settings.Kind.{Kind}
+use Rattle.zeb_change.specs.declared.settings.Kind.TheVariants.{Update, Delete, Adelete}
+use Rattle.zeb_program.specs.Batches.{Names, NamesChange, HasChange, IsChange, HasScan, IsScan, kind_word}
+use Rattle.zeb_program.specs.Words.{first_word, after_first_word}
+
+-- two texts that begin otherwise differ
+apart : (xs ys : List ℕ) → get_or xs 0 0 ≢ get_or ys 0 0 → xs ≡ ys → ⊥
+apart xs ys other e = other (ap (λ zs. get_or zs 0 0) e)
+
+no_init : (k : Kind) → kind_word k ≡ codes "init" → ⊥
+no_init Update e = apart (codes "update") (codes "init") (λ l. omega (arith, l)) e
+no_init Delete e = apart (codes "delete") (codes "init") (λ l. omega (arith, l)) e
+no_init Adelete e = apart (codes "adelete") (codes "init") (λ l. omega (arith, l)) e
+
+no_check : (k : Kind) → kind_word k ≡ codes "check" → ⊥
+no_check Update e = apart (codes "update") (codes "check") (λ l. omega (arith, l)) e
+no_check Delete e = apart (codes "delete") (codes "check") (λ l. omega (arith, l)) e
+no_check Adelete e = apart (codes "adelete") (codes "check") (λ l. omega (arith, l)) e
+
+no_reindex : (k : Kind) → kind_word k ≡ codes "reindex" → ⊥
+no_reindex Update e = apart (codes "update") (codes "reindex") (λ l. omega (arith, l)) e
+no_reindex Delete e = apart (codes "delete") (codes "reindex") (λ l. omega (arith, l)) e
+no_reindex Adelete e = apart (codes "adelete") (codes "reindex") (λ l. omega (arith, l)) e
+
+no_upgrade : (k : Kind) → kind_word k ≡ codes "upgrade" → ⊥
+no_upgrade Update e = let lengths : length (codes "update") ≡ length (codes "upgrade") = ap length e in omega (arith, lengths)
+no_upgrade Delete e = apart (codes "delete") (codes "upgrade") (λ l. omega (arith, l)) e
+no_upgrade Adelete e = apart (codes "adelete") (codes "upgrade") (λ l. omega (arith, l)) e
+
+no_create : (k : Kind) → kind_word k ≡ codes "create" → ⊥
+no_create Update e = apart (codes "update") (codes "create") (λ l. omega (arith, l)) e
+no_create Delete e = apart (codes "delete") (codes "create") (λ l. omega (arith, l)) e
+no_create Adelete e = apart (codes "adelete") (codes "create") (λ l. omega (arith, l)) e
+
+no_drop : (k : Kind) → kind_word k ≡ codes "drop" → ⊥
+no_drop Update e = apart (codes "update") (codes "drop") (λ l. omega (arith, l)) e
+no_drop Delete e = let lengths : length (codes "delete") ≡ length (codes "drop") = ap length e in omega (arith, lengths)
+no_drop Adelete e = apart (codes "adelete") (codes "drop") (λ l. omega (arith, l)) e
+
+no_stat : (k : Kind) → kind_word k ≡ codes "stat" → ⊥
+no_stat Update e = apart (codes "update") (codes "stat") (λ l. omega (arith, l)) e
+no_stat Delete e = apart (codes "delete") (codes "stat") (λ l. omega (arith, l)) e
+no_stat Adelete e = apart (codes "adelete") (codes "stat") (λ l. omega (arith, l)) e
+
+no_dump : (k : Kind) → kind_word k ≡ codes "dump" → ⊥
+no_dump Update e = apart (codes "update") (codes "dump") (λ l. omega (arith, l)) e
+no_dump Delete e = let lengths : length (codes "delete") ≡ length (codes "dump") = ap length e in omega (arith, lengths)
+no_dump Adelete e = apart (codes "adelete") (codes "dump") (λ l. omega (arith, l)) e
+
+no_find : (k : Kind) → kind_word k ≡ codes "find" → ⊥
+no_find Update e = apart (codes "update") (codes "find") (λ l. omega (arith, l)) e
+no_find Delete e = apart (codes "delete") (codes "find") (λ l. omega (arith, l)) e
+no_find Adelete e = apart (codes "adelete") (codes "find") (λ l. omega (arith, l)) e
+
+no_scan : (k : Kind) → kind_word k ≡ codes "scan" → ⊥
+no_scan Update e = apart (codes "update") (codes "scan") (λ l. omega (arith, l)) e
+no_scan Delete e = apart (codes "delete") (codes "scan") (λ l. omega (arith, l)) e
+no_scan Adelete e = apart (codes "adelete") (codes "scan") (λ l. omega (arith, l)) e
+
+has_bytes : (r : Result (List ℕ) FromHexError) (files : List (List ℕ)) → r ∷ [] ≡ map Ok files → IsOk r
+has_bytes r [] e = absurd cc
+has_bytes r (file ∷ files) e = let same : r ≡ Ok file = cc in rw same refl
+
+-- where no change is named, no command is, since the first word is a change's
+unnamed : (k : Kind) (t : List ℕ) → first_word t ≡ kind_word k → ¬ HasChange (after_first_word t) → (c : Command) → ¬ Names t c
+unnamed k t word lacks Init names = no_init k (sym word ∙ names.0)
+unnamed k t word lacks Check names = no_check k (sym word ∙ names.0)
+unnamed k t word lacks Reindex names = no_reindex k (sym word ∙ names.0)
+unnamed k t word lacks Upgrade names = no_upgrade k (sym word ∙ names.0)
+unnamed k t word lacks (Create name) names = no_create k (sym word ∙ names.0)
+unnamed k t word lacks (Drop name) names = no_drop k (sym word ∙ names.0)
+unnamed k t word lacks (Stat name) names = no_stat k (sym word ∙ names.0)
+unnamed k t word lacks (Dump name) names = no_dump k (sym word ∙ names.0)
+unnamed k t word lacks (Change kind database files) names = lacks record { name = names.1.name.0; mark = names.1.mark; bytes = has_bytes (decode_of (drop 4 (after_first_word (after_first_word t)))) (map (λ file. file.items) files.items) names.1.bytes }
+unnamed k t word lacks (Find database query first count) names = no_find k (sym word ∙ names.0)
+unnamed k t word lacks (Scan database query number position) names = no_scan k (sym word ∙ names.0)
+unnamed k t word lacks (Analyse files) names = names
+
+named : (k : Kind) (t : List ℕ) → first_word t ≡ kind_word k → (c : Command) → IsChange k (after_first_word t) c → Names t c
+named k t word Init h = absurd h
+named k t word Check h = absurd h
+named k t word Reindex h = absurd h
+named k t word Upgrade h = absurd h
+named k t word (Create name) h = absurd h
+named k t word (Drop name) h = absurd h
+named k t word (Stat name) h = absurd h
+named k t word (Dump name) h = absurd h
+named k t word (Change kind database files) (same, h) = (word ∙ ap kind_word (sym same), h)
+named k t word (Find database query first count) h = absurd h
+named k t word (Scan database query number position) h = absurd h
+named k t word (Analyse files) h = absurd h
+
+pub names_change : (k : Kind) (t rest : List ℕ) (r : Result (Option Command) AllocError) → first_word t ≡ kind_word k → rest ≡ after_first_word t
+    → IfOk r (λ found. MatchOption found (¬ HasChange rest) (IsChange k rest))
+    → IfOk r (λ found. MatchOption found ((c : Command) → ¬ Names t c) (Names t))
+names_change k t rest (Err e) word same h = h
+names_change k t rest (Ok None) word same h = unnamed k t word (subst (λ x. ¬ HasChange x) same h)
+names_change k t rest (Ok (Some c)) word same h = named k t word c (subst (λ x. IsChange k x c) same h)
+
+-- ---- a scan
+
+-- where no scan is named, no command is, since the first word is a scan's
+unnamed_scan : (t : List ℕ) → first_word t ≡ codes "scan" → ¬ HasScan (after_first_word t) → (c : Command) → ¬ Names t c
+unnamed_scan t word lacks Init names = apart (codes "scan") (codes "init") (λ l. omega (arith, l)) (sym word ∙ names.0)
+unnamed_scan t word lacks Check names = apart (codes "scan") (codes "check") (λ l. omega (arith, l)) (sym word ∙ names.0)
+unnamed_scan t word lacks Reindex names = apart (codes "scan") (codes "reindex") (λ l. omega (arith, l)) (sym word ∙ names.0)
+unnamed_scan t word lacks Upgrade names = apart (codes "scan") (codes "upgrade") (λ l. omega (arith, l)) (sym word ∙ names.0)
+unnamed_scan t word lacks (Create name) names = apart (codes "scan") (codes "create") (λ l. omega (arith, l)) (sym word ∙ names.0)
+unnamed_scan t word lacks (Drop name) names = apart (codes "scan") (codes "drop") (λ l. omega (arith, l)) (sym word ∙ names.0)
+unnamed_scan t word lacks (Stat name) names = apart (drop 1 (codes "scan")) (drop 1 (codes "stat")) (λ l. omega (arith, l)) (ap (drop 1) (sym word ∙ names.0))
+unnamed_scan t word lacks (Dump name) names = apart (codes "scan") (codes "dump") (λ l. omega (arith, l)) (sym word ∙ names.0)
+unnamed_scan t word lacks (Change kind database files) names = no_scan kind (sym names.0 ∙ word)
+unnamed_scan t word lacks (Find database query first count) names = apart (codes "scan") (codes "find") (λ l. omega (arith, l)) (sym word ∙ names.0)
+unnamed_scan t word lacks (Scan database query number position) names =
+    lacks record { name = names.1.name.0; number = number; position = position; many = names.1.many; place = names.1.place; within = names.1.within; some = λ none. names.1.some (names.1.rest ∙ none) }
+unnamed_scan t word lacks (Analyse files) names = names
+
+named_scan : (t : List ℕ) → first_word t ≡ codes "scan" → (c : Command) → IsScan (after_first_word t) c → Names t c
+named_scan t word Init h = absurd h
+named_scan t word Check h = absurd h
+named_scan t word Reindex h = absurd h
+named_scan t word Upgrade h = absurd h
+named_scan t word (Create name) h = absurd h
+named_scan t word (Drop name) h = absurd h
+named_scan t word (Stat name) h = absurd h
+named_scan t word (Dump name) h = absurd h
+named_scan t word (Change kind database files) h = absurd h
+named_scan t word (Find database query first count) h = absurd h
+named_scan t word (Scan database query number position) h = (word, h)
+named_scan t word (Analyse files) h = absurd h
+
+pub names_scan : (t rest : List ℕ) (r : Result (Option Command) AllocError) → first_word t ≡ codes "scan" → rest ≡ after_first_word t
+    → IfOk r (λ found. MatchOption found (¬ HasScan rest) (IsScan rest))
+    → IfOk r (λ found. MatchOption found ((c : Command) → ¬ Names t c) (Names t))
+names_scan t rest (Err e) word same h = h
+names_scan t rest (Ok None) word same h = unnamed_scan t word (subst (λ x. ¬ HasScan x) same h)
+names_scan t rest (Ok (Some c)) word same h = named_scan t word c (subst (λ x. IsScan x c) same h)

@@ -1,0 +1,115 @@
+-- Changes by a path of which the file's bytes are told.
+use Rattle.std.proofs.Common.{◌≡◌, ◌∙◌, ◌⊎◌, ◌+◌, ◌<◌, ◌≤◌, inl, inr, ℕ, zero, suc, Bool, false, List, [], ◌∷◌, ◌++◌, length, map, ap, arith, refl, subst, sym}
+use Rattle.std.specs.Prelude.{Option, Some, Result, Ok, Err, IfOk, IsErr, IsErrAnd, OnErr, string_bytes}
+use Rattle.std.specs.declared.alloc.AllocError.{AllocError}
+use Rattle.std.specs.Io.KnownBytes.{Appends}
+use Rattle.std.proofs.lemmas.List.{length-map}
+use Rattle.sqlite.specs.Tree.{Trees}
+use Rattle.sqlite.specs.State.{State}
+use Rattle.zeb_register.specs.Calls.{ChangesNothing}
+use Rattle.zeb_change.specs.Conditions.{Conditions}
+use Rattle.zeb_change.specs.Reading.{HasFailedAt, NamesFailed, NoneFailed}
+use Rattle.zeb_change.specs.declared.refusals.Refusal.{Refusal}
+use Rattle.zeb_change.specs.declared.settings.Kind.{Kind}
+use Rattle.zeb_image.specs.Holdings.{Holdings}
+use Rattle.zeb_image.specs.Image.{Keeps}
+use Rattle.zeb_image.specs.NameOf.{name_bytes}
+use Rattle.zeb_engine.specs.Refusals.{refusal_text, status_of}
+use Rattle.zeb_engine.specs.Replies.{reply_text}
+use Rattle.zeb_engine.specs.Steps.{TakesFiles}
+use Rattle.zeb_engine.specs.Works.{ServesBy}
+use Rattle.zeb_engine.specs.declared.replies.Reply.{Reply}
+use Rattle.zeb_engine.proofs.Serving.{keeps_still}
+use Rattle.zeb_program.specs.declared.faults.Fault.{Fault}
+use Rattle.zeb_program.specs.declared.faults.Fault.TheVariants as fault
+use Rattle.zeb_program.specs.declared.lines.Line.TheVariants.{Path}
+use Rattle.zeb_program.specs.declared.path_changes.PathChange.{PathChange}
+use Rattle.zeb_program.specs.Answers.{AnswersLine, ChangesBy, IsFileAnswer, Writes}
+use Rattle.zeb_program.specs.Lines.{first_line, after_first_line}
+use Rattle.zeb_program.specs.PathChanges.{AreFilesTold, IsLineTold, HasPath, NamesPath, file_of}
+use Rattle.zeb_program.specs.Says.{Says}
+use Rattle.zeb_program.specs.Scripts.{after_lines, line_at}
+use Rattle.zeb_program.specs.Serving.{AnswersFrom, Leads}
+use Rattle.zeb_program.specs.Words.{without_blanks}
+
+-- ---- the lines of a text
+
+after_first : (n : ℕ) (text : List ℕ) → after_lines (suc n) text ≡ after_lines n (after_first_line text)
+after_first zero text = refl
+after_first (suc n) text = ap after_first_line (after_first n text)
+
+pub told_first : (told : List ℕ → Option (List ℕ)) (text : List ℕ) → AreFilesTold told text → IsLineTold told (first_line text)
+told_first told text all = all 0
+
+pub told_rest : (told : List ℕ → Option (List ℕ)) (text : List ℕ) → AreFilesTold told text → AreFilesTold told (after_first_line text)
+told_rest told text all n = subst (λ rest. IsLineTold told (first_line rest)) (after_first n text) (all (suc n))
+
+-- ---- the change
+
+-- the reader that failed is one of these
+failed_among : {R : Type 0} (has_failed : R → Bool) (readers : List R) (file count : ℕ) → length readers ≡ count → HasFailedAt has_failed readers file → (1 ≤ file) × (file ≤ count)
+failed_among has_failed readers file count many at = (omega (arith, at.numbered), omega (arith, many, at.within, at.numbered))
+
+-- what is answered where the readers told the files' bytes
+pub served_files : {R : Type 0} (remaining : R → Option (List ℕ)) (has_failed : R → Bool) (c : Conditions) (kind : Kind) (name : List ℕ) (files : List (List ℕ)) (old new : State) (before after : List R) (r : Result Reply Refusal)
+    → map remaining before ≡ map Some files → length after ≡ length before
+    → ((texts : List (List ℕ)) → map remaining before ≡ map Some texts → NoneFailed has_failed after → ServesBy (TakesFiles c kind name texts) old new r)
+    → NoneFailed has_failed after ⊎ IsErrAnd r (NamesFailed has_failed after) → OnErr r (ChangesNothing old new)
+    → (held : Holdings) → Keeps old held → (later : Holdings) × ChangesBy c kind name files held r later × Keeps new later
+served_files remaining has_failed c kind name files old new before after r all same serves (inl fine) nothing held keeps =
+    let served = serves files all fine held keeps in
+    (served.0, inl served.1, served.2)
+served_files remaining has_failed c kind name files old new before after (Ok reply) all same serves (inr failed) nothing held keeps = absurd failed
+served_files remaining has_failed c kind name files old new before after (Err refusal) all same serves (inr failed) nothing held keeps =
+    let many : length after ≡ length files = same ∙ sym (length-map before remaining) ∙ ap length all ∙ length-map files Some in
+    let among = failed_among has_failed after failed.0 (length files) many failed.1 in
+    (held, inr (failed.0, among.0, among.1, ap Err failed.3, refl), keeps_still held old new nothing keeps)
+
+-- ---- what is written
+
+-- what is said of a file at a path that is told
+abbrev pub OfFile : (List ℕ → Option (List ℕ)) → PathChange → (List ℕ → Type 0) → Type 0
+OfFile told change P = (file : List ℕ) → told (string_bytes change.path) ≡ Some file → P file
+
+-- a reply that is written is the change's answer
+pub replied_file : (told : List ℕ → Option (List ℕ)) (c : Conditions) (change : PathChange) (old new : State) (wrote writes : Option (List ℕ)) (reply : Reply) (bytes : List ℕ) (failed : Bool) (Clean : Type 0)
+    → (Clean → OfFile told change (λ file. AnswersFrom old new (Ok reply) (ChangesBy c change.kind (name_bytes change.database) (file ∷ []))))
+    → bytes ≡ reply_text reply
+    → (failed ≡ false → Appends wrote writes bytes)
+    → failed ≡ false → Clean → OfFile told change (λ file. Leads old new wrote writes (λ before bytes later. IsFileAnswer c change file before bytes 0 later))
+replied_file told c change old new wrote writes reply bytes failed Clean serves is grew sound clean file known before keeps =
+    let served = serves clean file known before keeps in
+    (served.0, served.2, (bytes, (Ok reply, is, refl, served.1), grew sound))
+
+-- a fault that is written is the change's refusal
+pub refused_file : (told : List ℕ → Option (List ℕ)) (c : Conditions) (change : PathChange) (old new : State) (wrote writes : Option (List ℕ)) (why : Fault) (failed : Bool) (Clean : Type 0) (r : Result ℕ AllocError)
+    → (Clean → OfFile told change (λ file. AnswersFrom old new (Err why) (ChangesBy c change.kind (name_bytes change.database) (file ∷ []))))
+    → ((refusal : Refusal) → why ≡ fault.Refused refusal → IfOk r (λ status. failed ≡ false → Writes wrote writes (λ bytes. (bytes ≡ refusal_text refusal ++ 10 ∷ []) × (status ≡ status_of refusal))))
+    → (why ≡ fault.Memory → IsErr r)
+    → IfOk r (λ status. failed ≡ false → Clean → OfFile told change (λ file. Leads old new wrote writes (λ before bytes later. IsFileAnswer c change file before bytes status later)))
+refused_file told c change old new wrote writes why failed Clean (Err e) serves tells memory = tt
+refused_file told c change old new wrote writes (fault.Refused refusal) failed Clean (Ok status) serves tells memory = λ sound clean file known before keeps.
+    let w = tells refusal refl sound in
+    let served = serves clean file known before keeps in
+    (served.0, served.2, (w.0, (Err refusal, w.1.0, w.1.1, served.1), w.2))
+refused_file told c change old new wrote writes fault.Memory failed Clean (Ok status) serves tells memory = absurd (cc (memory refl))
+refused_file told c change old new wrote writes (fault.Profile named it) failed Clean (Ok status) serves tells memory = λ sound clean file known before keeps. absurd (serves clean file known before keeps)
+refused_file told c change old new wrote writes (fault.Unreadable path) failed Clean (Ok status) serves tells memory = λ sound clean file known before keeps. absurd (serves clean file known before keeps)
+
+-- ---- the line
+
+-- a line that names this change names one by a path
+has_path : (text : List ℕ) (change : PathChange) → NamesPath text change → HasPath text
+has_path text change named = record { kind = change.kind; word = named.word; name = named.name.0; some = named.some; other = named.other }
+
+-- what is said of a line that names a change by a path
+pub path_line : (told : List ℕ → Option (List ℕ)) (c : Conditions) (change : PathChange) (number : ℕ) (text : List ℕ) (old new : State) (wrote writes : Option (List ℕ)) (failed : Bool) (Clean : Type 0) (r : Result ℕ AllocError)
+    → Says text (Path change)
+    → IfOk r (λ status. failed ≡ false → Clean → OfFile told change (λ file. Leads old new wrote writes (λ before bytes later. IsFileAnswer c change file before bytes status later)))
+    → IfOk r (λ status. failed ≡ false → Clean → IsLineTold told text → Leads old new wrote writes (λ before bytes later. AnswersLine told c number text before bytes status later))
+path_line told c change number text old new wrote writes failed Clean (Err e) says h = h
+path_line told c change number text old new wrote writes failed Clean (Ok status) says h = λ sound clean known before keeps.
+    let at = known (has_path (without_blanks text) change says.1) in
+    let there : told (string_bytes change.path) ≡ Some at.0 = ap told says.1.rest ∙ at.1 in
+    let w = h sound clean at.0 there before keeps in
+    (w.0, w.1, (w.2.0, (Path change, says, (at.0, there, w.2.1)), w.2.2))

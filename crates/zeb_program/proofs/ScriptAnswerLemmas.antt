@@ -1,0 +1,150 @@
+-- The answers of a script, at each of its ends.
+use Rattle.std.proofs.Common.{◌≡◌, ◌≤◌, ℕ, Bool, false, List, [], ◌∷◌, ◌++◌, ◌⊎◌, inl, inr, refl, sym, ap, subst, ◌∙◌, arith}
+use Rattle.std.specs.Prelude.{Option, Some, None, Result, Ok, Err, IfOk, IfNone, IfSome, IsOk, OnErr, codes, string_bytes, string_len}
+use Rattle.std.specs.declared.string.String.{String}
+use Rattle.std.proofs.lemmas.Str.{IsUtf8-string_bytes}
+use Rattle.zeb_program.specs.declared.input.TheConstants.{GREATEST_INPUT}
+use Rattle.std.specs.declared.alloc.AllocError.{AllocError}
+use Rattle.std.specs.Io.KnownBytes.{Appends, Keeps}
+use Rattle.sqlite.specs.Tree.{Trees}
+use Rattle.sqlite.specs.State.{State}
+use Rattle.zeb_register.specs.Content.{Content}
+use Rattle.zeb_change.specs.Conditions.{Conditions, conditions}
+use Rattle.zeb_change.specs.declared.settings.Limits.{Limits}
+use Rattle.zeb_image.specs.Holdings.{nothing_yet}
+use Rattle.zeb_image.specs.Image.{Keeps as Holding}
+use Rattle.zeb_change.specs.declared.refusals.Refusal.{Refusal}
+use Rattle.zeb_change.specs.declared.refusals.Refusal.TheVariants.{Store, Memory}
+use Rattle.zeb_engine.specs.Refusals.{refusal_text, status_of}
+use Rattle.zeb_profile.specs.declared.directives.Directive.{Directive}
+use Rattle.zeb_profile.specs.declared.faults.ProfileFault.{ProfileFault}
+use Rattle.zeb_profile.specs.Outcomes.{FailsPlaced}
+use Rattle.zeb_profile.specs.Profiles.{profile_of}
+use Rattle.zeb_program.specs.declared.script.Batch.{Batch}
+use Rattle.zeb_program.specs.Inputs.{IsInput}
+use Rattle.zeb_program.specs.PathChanges.{AreFilesTold}
+use Rattle.zeb_program.specs.Scripts.{DividesAt, HasNoDivider}
+use Rattle.zeb_program.specs.Answers.{Writes, AnswersBatch, AnswersPart}
+use Rattle.zeb_program.specs.Serving.{Leads, Stops}
+use Rattle.zeb_program.specs.ScriptAnswers.{AnswersScript, unreadable, faulty, alone, ran, stopped, silent, AreScriptConditions, AnswersOpened, AnswersStopped, IsUnopened, IsProfileOf, unreadable_line, refusal_line, fault_line, fault_status}
+use Rattle.zeb_program.proofs.AnswerLemmas.{Appends-nil}
+
+unopened : (refusal : Refusal) (bytes : List ℕ) (status : ℕ) → (refusal ≡ Store) ⊎ (refusal ≡ Memory) → (bytes ≡ refusal_line refusal) × (status ≡ status_of refusal) → IsUnopened bytes status
+unopened refusal bytes status (inl is) said = (inl (said.0 ∙ ap refusal_line is), said.1 ∙ ap status_of is)
+unopened refusal bytes status (inr is) said = (inr (said.0 ∙ ap refusal_line is), said.1 ∙ ap status_of is)
+
+pub refused_opening : (tells : List ℕ → Option (List ℕ)) (failed : Bool) (old new : Option (List ℕ)) (directives : List Directive) (n : ℕ) (batch : List ℕ) (refusal : Refusal) (r : Result ℕ AllocError) → (refusal ≡ Store) ⊎ (refusal ≡ Memory)
+    → IfOk r (λ status. failed ≡ false → Writes old new (λ bytes. (bytes ≡ refusal_text refusal ++ 10 ∷ []) × (status ≡ status_of refusal)))
+    → IfOk r (λ status. failed ≡ false → AreFilesTold tells batch → AnswersOpened tells directives n batch old new status)
+refused_opening tells failed old new directives n batch refusal (Err e) is h = h
+refused_opening tells failed old new directives n batch refusal (Ok status) is h = λ sound _. let w = h sound in inr (w.0, unopened refusal w.0 status is w.1, w.2)
+
+pub script_conditions : (directives profile : List Directive) (limits : Limits) → profile ≡ directives → limits.records ≡ 1000000 → limits.numbers ≡ 999999999 → AreScriptConditions directives (conditions (codes "2") profile limits)
+script_conditions directives profile limits same records numbers = record { version = refl; profile = same; records = records; numbers = numbers }
+
+-- a register that holds nothing yet answers the lines
+pub opened_batch : (tells : List ℕ → Option (List ℕ)) (c : Conditions) (directives : List Directive) (old new : State) (wrote writes : Option (List ℕ)) (n : ℕ) (batch : List ℕ) (failed : Bool) (Clean : Type 0) (r : Result ℕ AllocError)
+    → AreScriptConditions directives c → Holding old nothing_yet → Clean
+    → IfOk r (λ status. failed ≡ false → Clean → AreFilesTold tells batch → Leads old new wrote writes (λ before bytes last. AnswersBatch tells c n batch before bytes status last))
+    → IfOk r (λ status. failed ≡ false → AreFilesTold tells batch → AnswersOpened tells directives n batch wrote writes status)
+opened_batch tells c directives old new wrote writes n batch failed Clean (Err e) under keeps clean h = h
+opened_batch tells c directives old new wrote writes n batch failed Clean (Ok status) under keeps clean h = λ sound known.
+    let w = h sound clean known nothing_yet keeps in
+    inl (w.2.0, (c, under, w.0, w.2.1), w.2.2)
+
+pub stopped_batch : (tells : List ℕ → Option (List ℕ)) (c : Conditions) (directives : List Directive) (old : State) (wrote writes : Option (List ℕ)) (n : ℕ) (batch : List ℕ) (failed : Bool) (Clean : Type 0) (r : Result ℕ AllocError)
+    → AreScriptConditions directives c → Holding old nothing_yet → Clean
+    → OnErr r (failed ≡ false → Clean → AreFilesTold tells batch → Stops old wrote writes (AnswersPart tells c n batch))
+    → OnErr r (failed ≡ false → AreFilesTold tells batch → AnswersStopped tells directives n batch wrote writes)
+stopped_batch tells c directives old wrote writes n batch failed Clean (Ok status) under keeps clean h = h
+stopped_batch tells c directives old wrote writes n batch failed Clean (Err e) under keeps clean h = λ sound known.
+    let w = h sound clean known nothing_yet keeps in
+    inl (w.0, (c, under, w.1), w.2)
+
+-- nothing was written
+pub silent_batch : (tells : List ℕ → Option (List ℕ)) (directives : List Directive) (n : ℕ) (batch : List ℕ) (old : Option (List ℕ)) → AnswersStopped tells directives n batch old old
+silent_batch tells directives n batch old = inr ([], refl, Appends-nil old)
+
+-- the same where what writes is as it was
+pub silent_refusal : {A : Type 0} (tells : List ℕ → Option (List ℕ)) (shows : A → Option (List ℕ)) (failed : Bool) (old new : A) (directives : List Directive) (n : ℕ) (batch : List ℕ) (r : Result ℕ AllocError) → OnErr r (new ≡ old)
+    → OnErr r (failed ≡ false → AreFilesTold tells batch → AnswersStopped tells directives n batch (shows old) (shows new))
+silent_refusal tells shows failed old new directives n batch (Ok status) same = tt
+silent_refusal tells shows failed old new directives n batch (Err e) same = λ _ _. subst (λ it. AnswersStopped tells directives n batch (shows old) (shows it)) (sym same) (silent_batch tells directives n batch (shows old))
+
+pub unreadable_script : (tells : List ℕ → Option (List ℕ)) (told old new : Option (List ℕ)) → IfSome told (λ text. ¬ IsInput text) → Appends old new unreadable_line → IfSome told (λ text. AnswersScript tells text old new 3)
+unreadable_script tells None old new h grew = h
+unreadable_script tells (Some text) old new h grew = unreadable h (unreadable_line, refl, grew)
+
+-- a string that isn't too long is an input
+pub text_input : {Z : Type 0} (text : String Z) → string_len text ≤ GREATEST_INPUT → IsInput (string_bytes text)
+text_input text short = (omega (arith, short, text.bytes.ok.0), IsUtf8-string_bytes text)
+
+pub faulty_script : (tells : List ℕ → Option (List ℕ)) (told old new : Option (List ℕ)) (read profile : List ℕ) (fault : ProfileFault) (status : ℕ) → IfSome told (λ text. read ≡ text) → IsInput read → IsProfileOf read profile
+    → FailsPlaced fault (profile_of profile) → status ≡ fault_status fault.kind → Appends old new (fault_line fault) → IfSome told (λ text. AnswersScript tells text old new status)
+faulty_script tells None old new read profile fault status h input is fails e grew = tt
+faulty_script tells (Some text) old new read profile fault status h input is fails e grew =
+    subst (AnswersScript tells text old new) (sym e) (faulty fault (subst IsInput h input) (subst (λ t. IsProfileOf t profile) h is) fails (fault_line fault, refl, grew))
+
+-- what is given is there
+pub is_given : {A E : Type 0} (said : Result A E) (x : A) → said ≡ Ok x → IsOk said
+is_given said x e = rw e refl
+
+-- a script that is cut shows its profile
+pub cut_profile : (cut : Option Batch) (text profile : List ℕ) → IfNone cut (HasNoDivider text × (profile ≡ text)) → IfSome cut (λ batch. DividesAt batch.lines_before text profile batch.text.now) → IsProfileOf text profile
+cut_profile None text profile uncut divides = inl uncut
+cut_profile (Some batch) text profile uncut divides = inr (batch.lines_before, batch.text.now, divides)
+
+pub alone_script : (tells : List ℕ → Option (List ℕ)) (told old : Option (List ℕ)) (read : List ℕ) → IfSome told (λ text. read ≡ text) → IsInput read → HasNoDivider read → IsOk (profile_of read) → IfSome told (λ text. AnswersScript tells text old old 0)
+alone_script tells None old read h input none sound = tt
+alone_script tells (Some text) old read h input none sound = alone (subst IsInput h input) (subst HasNoDivider h none) (subst (λ t. IsOk (profile_of t)) h sound) ([], refl, Appends-nil old)
+
+pub ran_script : (tells : List ℕ → Option (List ℕ)) (told old new : Option (List ℕ)) (read profile batch : List ℕ) (directives : List Directive) (n : ℕ) (unread failed : Bool) (r : Result ℕ AllocError)
+    → IfSome told (λ text. read ≡ text) → IsInput read → DividesAt n read profile batch → profile_of profile ≡ Ok directives
+    → IfOk r (λ status. failed ≡ false → AreFilesTold tells batch → AnswersOpened tells directives n batch old new status)
+    → IfOk r (λ status. unread ≡ false → failed ≡ false → IfSome told (λ text. AnswersScript tells text old new status))
+ran_script tells told old new read profile batch directives n unread failed (Err e) h input divides given answer = answer
+ran_script tells None old new read profile batch directives n unread failed (Ok status) h input divides given answer = λ _ _. tt
+ran_script tells (Some text) old new read profile batch directives n unread failed (Ok status) h input divides given answer = λ _ sound. ran (subst IsInput h input) (subst (λ t. DividesAt n t profile batch) h divides) given (answer sound)
+
+pub stopped_script : (tells : List ℕ → Option (List ℕ)) (told old new : Option (List ℕ)) (read profile batch : List ℕ) (directives : List Directive) (n : ℕ) (unread failed : Bool) (r : Result ℕ AllocError)
+    → IfSome told (λ text. read ≡ text) → IsInput read → DividesAt n read profile batch → profile_of profile ≡ Ok directives
+    → OnErr r (failed ≡ false → AreFilesTold tells batch → AnswersStopped tells directives n batch old new)
+    → OnErr r (unread ≡ false → failed ≡ false → IfSome told (λ text. AnswersScript tells text old new 3))
+stopped_script tells told old new read profile batch directives n unread failed (Ok status) h input divides given answer = answer
+stopped_script tells None old new read profile batch directives n unread failed (Err e) h input divides given answer = λ _ _. tt
+stopped_script tells (Some text) old new read profile batch directives n unread failed (Err e) h input divides given answer = λ _ sound. stopped (subst IsInput h input) (subst (λ t. DividesAt n t profile batch) h divides) given (answer sound)
+
+-- memory ran out before anything was written
+pub silent_script : (tells : List ℕ → Option (List ℕ)) (told old : Option (List ℕ)) → IfSome told (λ text. AnswersScript tells text old old 3)
+silent_script tells None old = tt
+silent_script tells (Some text) old = silent ([], refl, Appends-nil old)
+
+Appends-kept : (old mid new : Option (List ℕ)) (bytes : List ℕ) → Appends old mid bytes → Keeps mid new → Appends old new bytes
+Appends-kept None mid new bytes h kept = tt
+Appends-kept (Some xs) None new bytes h kept = absurd h
+Appends-kept (Some xs) (Some ys) None bytes h kept = absurd kept
+Appends-kept (Some xs) (Some ys) (Some zs) bytes h kept = kept ∙ h
+
+Writes-kept : (old mid new : Option (List ℕ)) (P : List ℕ → Type 0) → Keeps mid new → Writes old mid P → Writes old new P
+Writes-kept old mid new P kept w = (w.0, w.1, Appends-kept old mid new w.0 w.2 kept)
+
+AnswersOpened-kept : (tells : List ℕ → Option (List ℕ)) (directives : List Directive) (n : ℕ) (batch : List ℕ) (old mid new : Option (List ℕ)) (status : ℕ) → Keeps mid new → AnswersOpened tells directives n batch old mid status → AnswersOpened tells directives n batch old new status
+AnswersOpened-kept tells directives n batch old mid new status kept (inl w) = inl (w.0, w.1, Appends-kept old mid new w.0 w.2 kept)
+AnswersOpened-kept tells directives n batch old mid new status kept (inr w) = inr (w.0, w.1, Appends-kept old mid new w.0 w.2 kept)
+
+AnswersStopped-kept : (tells : List ℕ → Option (List ℕ)) (directives : List Directive) (n : ℕ) (batch : List ℕ) (old mid new : Option (List ℕ)) → Keeps mid new → AnswersStopped tells directives n batch old mid → AnswersStopped tells directives n batch old new
+AnswersStopped-kept tells directives n batch old mid new kept (inl w) = inl (w.0, w.1, Appends-kept old mid new w.0 w.2 kept)
+AnswersStopped-kept tells directives n batch old mid new kept (inr w) = inr (w.0, w.1, Appends-kept old mid new w.0 w.2 kept)
+
+AnswersScript-kept : (tells : List ℕ → Option (List ℕ)) (text : List ℕ) (old mid new : Option (List ℕ)) (status : ℕ) → Keeps mid new → AnswersScript tells text old mid status → AnswersScript tells text old new status
+AnswersScript-kept tells text old mid new _ kept (unreadable long w) = unreadable long (Writes-kept old mid new (λ bytes. bytes ≡ unreadable_line) kept w)
+AnswersScript-kept tells text old mid new _ kept (faulty fault input is fails w) = faulty fault input is fails (Writes-kept old mid new (λ bytes. bytes ≡ fault_line fault) kept w)
+AnswersScript-kept tells text old mid new _ kept (alone input none sound w) = alone input none sound (Writes-kept old mid new (λ bytes. bytes ≡ []) kept w)
+AnswersScript-kept tells text old mid new status kept (ran {batch = batch} {directives = directives} {n = n} input divides given w) = ran input divides given (λ known. AnswersOpened-kept tells directives n batch old mid new status kept (w known))
+AnswersScript-kept tells text old mid new _ kept (stopped {batch = batch} {directives = directives} {n = n} input divides given w) = stopped input divides given (λ known. AnswersStopped-kept tells directives n batch old mid new kept (w known))
+AnswersScript-kept tells text old mid new _ kept (silent w) = silent (Writes-kept old mid new (λ bytes. bytes ≡ []) kept w)
+
+-- what is passed on stays what it was
+pub kept_script : (tells : List ℕ → Option (List ℕ)) (told old mid new : Option (List ℕ)) (status : ℕ) → Keeps mid new → IfSome told (λ text. AnswersScript tells text old mid status) → IfSome told (λ text. AnswersScript tells text old new status)
+kept_script tells None old mid new status kept h = tt
+kept_script tells (Some text) old mid new status kept h = AnswersScript-kept tells text old mid new status kept h

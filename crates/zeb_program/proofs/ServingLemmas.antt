@@ -1,0 +1,105 @@
+-- How far the lines of a batch have come over a connection.
+use Rattle.std.proofs.Common.{◌≡◌, ◌<◌, ◌+◌, inl, inr, ℕ, Bool, false, List, [], ◌∷◌, ◌++◌, length, refl, subst}
+use Rattle.std.specs.Prelude.{Option, Result, Ok, Err, IfOk, OnErr, max}
+use Rattle.std.specs.declared.alloc.AllocError.{AllocError}
+use Rattle.std.specs.Io.KnownBytes.{Appends}
+use Rattle.sqlite.specs.Tree.{Trees}
+use Rattle.sqlite.specs.State.{State}
+use Rattle.zeb_register.specs.Content.{Content}
+use Rattle.zeb_engine.specs.declared.commands.Command.{Command}
+use Rattle.zeb_change.specs.declared.refusals.Refusal.{Refusal}
+use Rattle.zeb_engine.specs.declared.replies.Reply.{Reply}
+use Rattle.zeb_change.specs.Conditions.{Conditions}
+use Rattle.zeb_image.specs.Holdings.{Holdings}
+use Rattle.zeb_image.specs.Image.{Keeps}
+use Rattle.zeb_engine.specs.Refusals.{refusal_text, status_of}
+use Rattle.zeb_engine.specs.Replies.{reply_text}
+use Rattle.zeb_engine.specs.Works.{ServesCommand}
+use Rattle.zeb_program.specs.declared.lines.Line.TheVariants.{Remark, Command as Order, Bad}
+use Rattle.zeb_program.specs.Says.{Says}
+use Rattle.zeb_program.specs.Lines.{first_line, after_first_line}
+use Rattle.zeb_program.specs.Answers.{Writes, bad_line, IsAnswer, AnswersLine, AnswersLines, AnswersBatch, AnswersPart}
+use Rattle.zeb_program.specs.Serving.{Leads, Stops}
+use Rattle.zeb_program.proofs.AnswerLemmas.{Appends-nil, IsAnswered, answered_start, answered_line, answered_lines}
+
+-- a refusal that is written is the command's answer
+pub refused_command : (c : Conditions) (command : Command) (old new : State) (wrote writes : Option (List ℕ)) (refusal : Refusal) (failed : Bool) (Clean : Type 0) (r : Result ℕ AllocError)
+    → (Clean → ServesCommand c command old new (Err refusal))
+    → IfOk r (λ status. failed ≡ false → Writes wrote writes (λ bytes. (bytes ≡ refusal_text refusal ++ 10 ∷ []) × (status ≡ status_of refusal)))
+    → IfOk r (λ status. failed ≡ false → Clean → Leads old new wrote writes (λ before bytes later. IsAnswer c command before bytes status later))
+refused_command c command old new wrote writes refusal failed Clean (Err e) serves h = h
+refused_command c command old new wrote writes refusal failed Clean (Ok status) serves h = λ sound clean before keeps.
+    let w = h sound in
+    let served = serves clean before keeps in
+    (served.0, served.2, (w.0, (Err refusal, w.1.0, w.1.1, (served.0, served.1, refl)), w.2))
+
+-- a reply that is written is the command's answer
+pub replied_command : (c : Conditions) (command : Command) (old new : State) (wrote writes : Option (List ℕ)) (reply : Reply) (bytes : List ℕ) (failed : Bool) (Clean : Type 0)
+    → (Clean → ServesCommand c command old new (Ok reply))
+    → bytes ≡ reply_text reply
+    → (failed ≡ false → Appends wrote writes bytes)
+    → failed ≡ false → Clean → Leads old new wrote writes (λ before bytes later. IsAnswer c command before bytes 0 later)
+replied_command c command old new wrote writes reply bytes failed Clean serves is grew sound clean before keeps =
+    let served = serves clean before keeps in
+    (served.0, served.2, (bytes, (Ok reply, is, refl, (served.0, served.1, refl)), grew sound))
+
+-- what is said of a line that names a command
+pub ordered_line : (told : List ℕ → Option (List ℕ)) (c : Conditions) (command : Command) (number : ℕ) (text : List ℕ) (old new : State) (wrote writes : Option (List ℕ)) (failed : Bool) (Clean Told : Type 0) (r : Result ℕ AllocError)
+    → Says text (Order command)
+    → IfOk r (λ status. failed ≡ false → Clean → Leads old new wrote writes (λ before bytes later. IsAnswer c command before bytes status later))
+    → IfOk r (λ status. failed ≡ false → Clean → Told → Leads old new wrote writes (λ before bytes later. AnswersLine told c number text before bytes status later))
+ordered_line told c command number text old new wrote writes failed Clean Told (Err e) says h = h
+ordered_line told c command number text old new wrote writes failed Clean Told (Ok status) says h = λ sound clean _ before keeps.
+    let w = h sound clean before keeps in
+    (w.0, w.1, (w.2.0, (Order command, says, w.2.1), w.2.2))
+
+-- a line that is no command
+pub bad_line_answer : (told : List ℕ → Option (List ℕ)) (c : Conditions) (number : ℕ) (text : List ℕ) (old : State) (wrote writes : Option (List ℕ)) (status : ℕ) → Says text Bad → status ≡ 2
+    → Appends wrote writes (bad_line number) → Leads old old wrote writes (λ before bytes later. AnswersLine told c number text before bytes status later)
+bad_line_answer told c number text old wrote writes status says misused grew before keeps = (before, keeps, (bad_line number, (Bad, says, (refl, misused, refl)), grew))
+
+-- a line that says nothing
+pub remark_line : (told : List ℕ → Option (List ℕ)) (c : Conditions) (number : ℕ) (text : List ℕ) (old : State) (wrote : Option (List ℕ)) → Says text Remark
+    → Leads old old wrote wrote (λ before bytes later. AnswersLine told c number text before bytes 0 later)
+remark_line told c number text old wrote says before keeps = (before, keeps, ([], (Remark, says, (refl, refl, refl)), Appends-nil wrote))
+
+-- from tables that keep what a register holds: the lines up to the rest are answered, and the tables keep what it holds then
+abbrev pub Reaches : (List ℕ → Option (List ℕ)) → Conditions → State → State → Option (List ℕ) → Option (List ℕ) → ℕ → List ℕ → ℕ → List ℕ → ℕ → Type 0
+Reaches told c old now wrote writes before text n rest greatest =
+    (first : Holdings) → Keeps old first → (held : Holdings) × Keeps now held × IsAnswered told c wrote writes before text first n rest greatest held
+
+pub reaches_start : (told : List ℕ → Option (List ℕ)) (c : Conditions) (old : State) (wrote : Option (List ℕ)) (n : ℕ) (text : List ℕ) → Reaches told c old old wrote wrote n text n text 0
+reaches_start told c old wrote n text first keeps = (first, keeps, answered_start told c wrote n text first)
+
+pub reaches_line : (told : List ℕ → Option (List ℕ)) (c : Conditions) (old now next : State) (wrote mid writes : Option (List ℕ)) (before : ℕ) (text : List ℕ) (n : ℕ) (rest line later : List ℕ) (greatest status top : ℕ) → 0 < length rest
+    → line ≡ first_line rest → later ≡ after_first_line rest → top ≡ max greatest status
+    → Reaches told c old now wrote mid before text n rest greatest
+    → Leads now next mid writes (λ held bytes then. AnswersLine told c (n + 1) line held bytes status then)
+    → Reaches told c old next wrote writes before text (n + 1) later top
+reaches_line told c old now next wrote mid writes before text n rest line later greatest status top some is_line is_rest is_max far step first keeps =
+    let here = far first keeps in
+    let there = step here.0 here.1 in
+    (there.0, there.1, answered_line told c wrote mid writes before text first n rest line later greatest status top here.0 there.0 some is_line is_rest is_max here.2 there.2)
+
+pub reaches_end : (told : List ℕ → Option (List ℕ)) (c : Conditions) (old now : State) (wrote writes : Option (List ℕ)) (before : ℕ) (text : List ℕ) (n : ℕ) (rest : List ℕ) (greatest : ℕ) → rest ≡ []
+    → Reaches told c old now wrote writes before text n rest greatest
+    → Leads old now wrote writes (λ first bytes last. AnswersBatch told c before text first bytes greatest last)
+reaches_end told c old now wrote writes before text n rest greatest none far first keeps =
+    let here = far first keeps in
+    let w = answered_lines told c wrote writes before text first n rest greatest here.0 here.2 in
+    (here.0, here.1, (w.0, subst (λ left. AnswersLines told c before text first w.0 greatest left here.0) none w.1, w.2))
+
+pub reaches_stop : (told : List ℕ → Option (List ℕ)) (c : Conditions) (old now : State) (wrote writes : Option (List ℕ)) (before : ℕ) (text : List ℕ) (n : ℕ) (rest : List ℕ) (greatest : ℕ) → 0 < length rest
+    → Reaches told c old now wrote writes before text n rest greatest
+    → Stops old wrote writes (AnswersPart told c before text)
+reaches_stop told c old now wrote writes before text n rest greatest some far first keeps =
+    let here = far first keeps in
+    let w = answered_lines told c wrote writes before text first n rest greatest here.0 here.2 in
+    (w.0, (greatest, rest, here.0, some, w.1), w.2)
+
+-- where memory runs out at a line, nothing is written for it
+pub reaches_failure : {T E : Type 0} (told : List ℕ → Option (List ℕ)) (c : Conditions) (old now : State) (wrote writes : Option (List ℕ)) (before : ℕ) (text : List ℕ) (n : ℕ) (rest : List ℕ) (greatest : ℕ) (r : Result T E) (failed : Bool) (Clean Told : Type 0) → 0 < length rest
+    → (failed ≡ false → Clean → Told → Reaches told c old now wrote writes before text n rest greatest)
+    → OnErr r (failed ≡ false → Clean → Told → Stops old wrote writes (AnswersPart told c before text))
+reaches_failure told c old now wrote writes before text n rest greatest (Ok x) failed Clean Told some far = tt
+reaches_failure told c old now wrote writes before text n rest greatest (Err e) failed Clean Told some far = λ sound clean known. reaches_stop told c old now wrote writes before text n rest greatest some (far sound clean known)

@@ -1,0 +1,71 @@
+use Rattle.std.proofs.Common.{◌∙◌, ◌+◌, arith, ap, length, refl, rules, subst, subst₂, sym}
+use Rattle.std.specs.Str.{IsUtf8}
+use Rattle.sqlite.specs.Held.{state}
+use Rattle.sqlite.specs.State.{HasCleanDisk}
+use Rattle.zeb_change.specs.Conditions.{conditions}
+use Rattle.zeb_program.specs.Answers.{AnswersLine}
+use Rattle.zeb_program.specs.Serving.{Leads}
+use Rattle.zeb_program.specs.PathChanges.{AreFilesTold, IsLineTold}
+use Rattle.zeb_program.proofs.PathLemmas.{told_first, told_rest}
+use Rattle.zeb_program.proofs.ServingLemmas.{reaches_start, reaches_line, reaches_end, reaches_failure}
+use Rattle.zeb_program.proofs.ScriptLemmas.{after_first_line-IsUtf8, not_empty, is_empty, length-after_first_line}
+use Rattle.zeb_program.proofs.batch.run_lines.Goals as goal
+use Rattle.zeb_register.specs.Formats.{version_of}
+
+pub loop-rest-init : goal.loop-rest-init
+loop-rest-init g c =
+    let k = conditions (version_of g.L.Layout.format) c.args.session.now.profile c.args.session.now.limits in
+    let old = state g.S.Store c.args.session.now.connection in
+    record {
+      text = search rules;
+      room = search rules;
+      range = omega arith;
+      sound = λ sound. sound;
+      under = (refl, refl);
+      told = λ known. known;
+      answers = λ sound clean known. reaches_start (g.P.Paths.tells c.args.paths.now) k old (g.W.Write.contents c.args.output.now.writer) c.args.batch.lines_before c.args.batch.text.now;
+    }
+
+pub loop-rest-preserved : goal.loop-rest-preserved
+loop-rest-preserved g c =
+    let rest = c.loop-rest.rest.now in
+    let some = not_empty rest c.loop-rest-test.ensures in
+    let same = c.loop-rest.invariant.under in
+    let now = state g.S.Store c.loop-rest.session.connection in
+    let next = state g.S.Store c.run_line.new.session.connection in
+    let line = c.cut_line.result.0.now in
+    let number = c.loop-rest.number in
+    let tells = g.P.Paths.tells c.args.paths.now in
+    let k = conditions (version_of g.L.Layout.format) c.args.session.now.profile c.args.session.now.limits in
+    let old = state g.S.Store c.args.session.now.connection in
+    record {
+      text = subst IsUtf8 (sym c.cut_line.ensures.rest) (after_first_line-IsUtf8 rest c.loop-rest.invariant.text);
+      room = omega (arith, ap length c.cut_line.ensures.rest, length-after_first_line rest some);
+      range = omega (arith, c.max-greatest.ensures, c.in_ok-run_line.ensures.range);
+      sound = λ sound. c.loop-rest.invariant.sound (c.run_line.ensures.sound sound);
+      under = (c.run_line.ensures.under.0 ∙ same.0, c.run_line.ensures.under.1 ∙ same.1);
+      told = λ known. subst (AreFilesTold tells) (sym c.cut_line.ensures.rest) (told_rest tells rest (c.loop-rest.invariant.told known));
+      answers = λ sound clean known.
+          let was = c.loop-rest.invariant.answers (c.run_line.ensures.sound sound) (c.run_line.ensures.clean clean) known in
+          let here = subst (IsLineTold tells) (sym c.cut_line.ensures.line) (told_first tells rest (c.loop-rest.invariant.told known)) in
+          let step = subst₂ (λ p l. Leads now next (g.W.Write.contents c.loop-rest.output.writer) (g.W.Write.contents c.run_line.new.output.writer)
+          (λ held bytes then. AnswersLine tells (conditions (version_of g.L.Layout.format) p l) (number + 1) line held bytes c.in_ok-run_line.field-0 then)) same.0 same.1 (c.in_ok-run_line.ensures.answer sound clean here) in
+          reaches_line tells k old now next _ _ _ _ _ number rest line c.cut_line.result.1.now c.loop-rest.greatest c.in_ok-run_line.field-0 c.max-greatest.result some
+          c.cut_line.ensures.line c.cut_line.ensures.rest c.max-greatest.ensures was step;
+    }
+
+pub returns-clause-answer : goal.returns-clause-answer
+returns-clause-answer g c = λ sound clean known.
+    let k = conditions (version_of g.L.Layout.format) c.args.session.now.profile c.args.session.now.limits in
+    reaches_end (g.P.Paths.tells c.args.paths.now) k (state g.S.Store c.args.session.now.connection) (state g.S.Store c.loop-rest.session.connection) _ _ _ _ c.loop-rest.number c.loop-rest.rest.now _ (is_empty c.loop-rest.rest.now c.loop-rest-test.ensures) (c.loop-rest.invariant.answers sound clean known)
+
+pub returns-in_err-run_line-clause-stopped : goal.returns-in_err-run_line-clause-stopped
+returns-in_err-run_line-clause-stopped g c =
+    let rest = c.loop-rest.rest.now in
+    let k = conditions (version_of g.L.Layout.format) c.args.session.now.profile c.args.session.now.limits in
+    let old = state g.S.Store c.args.session.now.connection in
+    let now = state g.S.Store c.loop-rest.session.connection in
+    let clean = HasCleanDisk (state g.S.Store c.run_line.new.session.connection) in
+    rw c.in_err-run_line.ensures.stopped
+    (reaches_failure (g.P.Paths.tells c.args.paths.now) k old now (g.W.Write.contents c.args.output.now.writer) (g.W.Write.contents c.loop-rest.output.writer) c.args.batch.lines_before c.args.batch.text.now c.loop-rest.number rest c.loop-rest.greatest
+    c.from_residual.result c.loop-rest.output.failed clean (AreFilesTold (g.P.Paths.tells c.args.paths.now) c.args.batch.text.now) (not_empty rest c.loop-rest-test.ensures) (λ sound clean known. c.loop-rest.invariant.answers sound (c.run_line.ensures.clean clean) known))

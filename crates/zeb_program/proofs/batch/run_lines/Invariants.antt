@@ -1,0 +1,29 @@
+use Rattle.std.proofs.Common.{◌≡◌, ◌+◌, ◌<◌, ◌≤◌, ◌^◌, false, length}
+use Rattle.sqlite.specs.Held.{state}
+use Rattle.sqlite.specs.State.{HasCleanDisk}
+use Rattle.zeb_change.specs.Conditions.{conditions}
+use Rattle.zeb_program.specs.PathChanges.{AreFilesTold}
+use Rattle.zeb_program.proofs.ServingLemmas.{Reaches}
+use denote.Text.{Utf8}
+use denote.Shadow.{shadow}
+use Rattle.zeb_program.proofs.batch.run_lines.Given as goal
+use Rattle.zeb_register.specs.Formats.{version_of}
+
+-- Each line takes a byte at least, so their numbers fit. What was written answers the lines so far, where the files that lines name are told.
+abbrev pub invariant-loop-rest : goal.invariant-loop-rest
+invariant-loop-rest g l =
+    let before = l.initial.session in
+    record {
+      text : shadow (Utf8 l.rest);
+      room : l.number + length l.rest < 2 ^ 64;
+      range : l.greatest ≤ 3;
+      sound : l.output.failed ≡ false → l.initial.output.failed ≡ false;
+      under : (l.session.profile ≡ before.profile) × (l.session.limits ≡ before.limits);
+      told : AreFilesTold (g.P.Paths.tells l.paths) l.batch.text.now → AreFilesTold (g.P.Paths.tells l.paths) l.rest;
+      answers : l.output.failed ≡ false → HasCleanDisk (state g.S.Store l.session.connection) → AreFilesTold (g.P.Paths.tells l.paths) l.batch.text.now
+          → Reaches (g.P.Paths.tells l.paths) (conditions (version_of g.L.Layout.format) before.profile before.limits) (state g.S.Store before.connection) (state g.S.Store l.session.connection)
+          (g.W.Write.contents l.initial.output.writer) (g.W.Write.contents l.output.writer) l.batch.lines_before l.batch.text.now l.number l.rest l.greatest;
+    }
+
+abbrev pub decreases-loop-rest : goal.decreases-loop-rest
+decreases-loop-rest g l = length l.rest

@@ -1,0 +1,49 @@
+use Rattle.std.proofs.Common.{[], map, string_bytes, inl, inr, arith}
+use Rattle.std.proofs.KnownBytes.{Consumes-nil}
+use Rattle.zeb_program.specs.WordAnswers.{misused}
+use Rattle.zeb_program.proofs.WordAnswerLemmas.{batch_words, shell_kept, shell_words, stopped_batch_words, stopped_shell_words, stopped_task_words, task_words}
+use Rattle.zeb_program.proofs.command_line.run_words.Goals as goal
+
+pub returns-in-Err-clause-answer : goal.returns-in-Err-clause-answer
+returns-in-Err-clause-answer g c = λ sound quiet. misused c.in-Err.usage c.in-Err.ensures.nameless c.in-Err.ensures.refused (c.refuse_words.ensures.told sound quiet)
+
+-- a task takes nothing of the input
+pub returns-in-Task-clause-bounded : goal.returns-in-Task-clause-bounded
+returns-in-Task-clause-bounded g c = λ other. ([], omega (arith), Consumes-nil (g.R.Source.remaining c.args.input.now))
+
+pub returns-in-Task-clause-answer : goal.returns-in-Task-clause-answer
+returns-in-Task-clause-answer g c =
+    task_words (map string_bytes c.args.words.now) _ _ _ _ _ c.in-Task.task _ _ c.run_task.result (c.in-Ok.words, c.in-Ok.ensures.named, c.in-Task.ensures) c.run_task.ensures.apart
+
+pub returns-in-Task-clause-stopped : goal.returns-in-Task-clause-stopped
+returns-in-Task-clause-stopped g c =
+    stopped_task_words (map string_bytes c.args.words.now) _ _ _ _ _ c.in-Task.task _ _ c.run_task.result (c.in-Ok.words, c.in-Ok.ensures.named, c.in-Task.ensures) c.run_task.ensures.stopped
+
+pub returns-in-Batch-clause-unread : goal.returns-in-Batch-clause-unread
+returns-in-Batch-clause-unread g c = λ other.
+    absurd (other (inl (c.in-Ok.words, c.in-Ok.ensures.named, c.in-Batch.ensures)))
+
+pub returns-in-Batch-clause-answer : goal.returns-in-Batch-clause-answer
+returns-in-Batch-clause-answer g c =
+    batch_words (map string_bytes c.args.words.now) _ _ _ _ _ _ _ c.run_batch.result (c.in-Ok.words, c.in-Ok.ensures.named, c.in-Batch.ensures)
+
+pub returns-in-Batch-clause-stopped : goal.returns-in-Batch-clause-stopped
+returns-in-Batch-clause-stopped g c =
+    stopped_batch_words (map string_bytes c.args.words.now) _ _ _ _ _ _ _ c.run_batch.result (c.in-Ok.words, c.in-Ok.ensures.named, c.in-Batch.ensures)
+
+pub returns-in-Shell-clause-bounded : goal.returns-in-Shell-clause-bounded
+returns-in-Shell-clause-bounded g c = λ other.
+    absurd (other (c.in-Ok.words, c.in-Ok.ensures.named, c.in-Shell.ensures))
+
+pub returns-in-Shell-clause-unread : goal.returns-in-Shell-clause-unread
+returns-in-Shell-clause-unread g c = λ other.
+    absurd (other (inr (c.in-Ok.words, c.in-Ok.ensures.named, c.in-Shell.ensures)))
+
+pub returns-in-Shell-clause-answer : goal.returns-in-Shell-clause-answer
+returns-in-Shell-clause-answer g c =
+    shell_words (map string_bytes c.args.words.now) _ _ _ _ _ _ _ c.run_shell.result (c.in-Ok.words, c.in-Ok.ensures.named, c.in-Shell.ensures)
+    (shell_kept (λ sink. g.W.Write.contents sink.writer) c.args.output.now c.run_shell.new.output c.run_shell.result _ c.run_shell.ensures.whole)
+
+pub returns-in-Shell-clause-stopped : goal.returns-in-Shell-clause-stopped
+returns-in-Shell-clause-stopped g c =
+    stopped_shell_words (map string_bytes c.args.words.now) _ _ _ _ _ _ _ c.run_shell.result (c.in-Ok.words, c.in-Ok.ensures.named, c.in-Shell.ensures)

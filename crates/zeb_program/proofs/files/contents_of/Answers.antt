@@ -1,0 +1,33 @@
+use Rattle.std.proofs.Common.{◌∙◌, ap, subst, Ok, Some, map, string_bytes}
+use Rattle.zeb_paths.specs.Walks.{paths_left}
+use Rattle.zeb_program.proofs.ReaderLemmas.{GivesNext, Ends, met_start, met_end, met_next, same_contents}
+use Rattle.zeb_program.proofs.files.contents_of.Goals as goal
+
+pub loop-init : goal.loop-init
+loop-init g c =
+    record {
+      paths = ap (λ p. p.now) c.in_ok-walk.ensures.paths;
+      met = λ files told. met_start (λ content. Some content.items) (g.P.Paths.tells c.args.paths.now) files c.new-contents.result.items _ (map string_bytes c.args.named.now) c.new-contents.ensures.items c.in_ok-walk.ensures.left told;
+    }
+
+pub returns-in_default-clause-told : goal.returns-in_default-clause-told
+returns-in_default-clause-told g c files told =
+    let left = paths_left c.loop.walk.steps.items in
+    let later = paths_left c.next_file.new.self.steps.items in
+    let next = subst (λ p. GivesNext (g.P.Paths.tells p) left later (Ok c.in_ok-path.field-0)) c.loop.invariant.paths c.in_ok-path.ensures.told in
+    same_contents c.loop.contents.items files (met_end (λ content. Some content.items) (g.P.Paths.tells c.args.paths.now) files c.loop.contents.items left later
+    (c.loop.invariant.met files told) (subst (λ found. GivesNext (g.P.Paths.tells c.args.paths.now) left later (Ok found)) c.in_default.is next))
+
+pub loop-preserved : goal.loop-preserved
+loop-preserved g c =
+    let left = paths_left c.loop.walk.steps.items in
+    let later = paths_left c.next_file.new.self.steps.items in
+    let tells = g.P.Paths.tells c.args.paths.now in
+    let next = subst (λ p. GivesNext (g.P.Paths.tells p) left later (Ok c.in_ok-path.field-0)) c.loop.invariant.paths c.in_ok-path.ensures.told in
+    record {
+      paths = ap (λ p. p.now) c.in_ok-path.ensures.paths ∙ c.loop.invariant.paths;
+      met = λ files told.
+          met_next (λ content. Some content.items) tells files c.loop.contents.items c.push.new.self.items left later c.in-Some.path c.in_ok-content_of.field-0
+          (c.loop.invariant.met files told) (subst (λ found. GivesNext tells left later (Ok found)) c.in-Some.is next)
+          (subst (λ found. Ends left (Ok found)) c.in-Some.is c.in_ok-path.ensures.ended) (λ file known. ap Some (c.in_ok-content_of.ensures.told file known)) c.in_ok-push.ensures.items;
+    }

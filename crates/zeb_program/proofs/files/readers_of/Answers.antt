@@ -1,0 +1,42 @@
+use Rattle.std.proofs.Common.{◌≡◌, ◌∙◌, ap, subst, Err, Ok, map, string_bytes}
+use Rattle.zeb_paths.specs.Walks.{paths_left}
+use Rattle.zeb_program.proofs.ReaderLemmas.{GivesNext, Ends, met_start, met_fault, met_end, met_next}
+use Rattle.zeb_program.proofs.files.readers_of.Goals as goal
+
+pub loop-init : goal.loop-init
+loop-init g c =
+    record {
+      paths = ap (λ p. p.now) c.in_ok-walk.ensures.paths;
+      met = λ files told. met_start g.P.Reader.Source.remaining (g.P.Paths.tells c.args.paths.now) files c.new-readers.result.items _ (map string_bytes c.args.named.now) c.new-readers.ensures.items c.in_ok-walk.ensures.left told;
+    }
+
+pub returns-in_err-path-clause-memory : goal.returns-in_err-path-clause-memory
+returns-in_err-path-clause-memory g c files told =
+    let left = paths_left c.loop.walk.steps.items in
+    let later = paths_left c.next_file.new.self.steps.items in
+    let why = c.in_err-path.field-0.0 in
+    absurd (met_fault g.P.Reader.Source.remaining (g.P.Paths.tells c.args.paths.now) files c.loop.readers.items left later why
+    (c.loop.invariant.met files told) (subst (λ p. GivesNext (g.P.Paths.tells p) left later (Err why)) c.loop.invariant.paths c.in_err-path.ensures.told) c.in_err-path.ensures.ended)
+
+pub returns-in_default-clause-told : goal.returns-in_default-clause-told
+returns-in_default-clause-told g c files told =
+    let left = paths_left c.loop.walk.steps.items in
+    let later = paths_left c.next_file.new.self.steps.items in
+    let next = subst (λ p. GivesNext (g.P.Paths.tells p) left later (Ok c.in_ok-path.field-0)) c.loop.invariant.paths c.in_ok-path.ensures.told in
+    met_end g.P.Reader.Source.remaining (g.P.Paths.tells c.args.paths.now) files c.loop.readers.items left later
+    (c.loop.invariant.met files told) (subst (λ found. GivesNext (g.P.Paths.tells c.args.paths.now) left later (Ok found)) c.in_default.is next)
+
+pub loop-preserved : goal.loop-preserved
+loop-preserved g c =
+    let left = paths_left c.loop.walk.steps.items in
+    let later = paths_left c.next_file.new.self.steps.items in
+    let tells = g.P.Paths.tells c.args.paths.now in
+    let next = subst (λ p. GivesNext (g.P.Paths.tells p) left later (Ok c.in_ok-path.field-0)) c.loop.invariant.paths c.in_ok-path.ensures.told in
+    let read : g.P.Reader.Source.remaining c.reader.result ≡ tells (string_bytes c.in-Some.path) = c.reader.ensures.bytes in
+    record {
+      paths = ap (λ p. p.now) c.in_ok-path.ensures.paths ∙ c.loop.invariant.paths;
+      met = λ files told.
+          met_next g.P.Reader.Source.remaining tells files c.loop.readers.items c.push.new.self.items left later c.in-Some.path c.reader.result
+          (c.loop.invariant.met files told) (subst (λ found. GivesNext tells left later (Ok found)) c.in-Some.is next)
+          (subst (λ found. Ends left (Ok found)) c.in-Some.is c.in_ok-path.ensures.ended) (λ file known. read ∙ known) c.in_ok-push.ensures.items;
+    }

@@ -1,0 +1,14 @@
+use Rattle.std.proofs.Common.{◌≡◌, List, ℕ, map, string_bytes}
+use Rattle.zeb_paths.specs.Walks.{paths_left}
+use Rattle.zeb_program.specs.TaskAnswers.{AreTold}
+use Rattle.zeb_program.proofs.ReaderLemmas.{IsMet}
+use Rattle.zeb_program.proofs.files.readers_of.Given as goal
+
+-- The readers of the first files are there, and the paths of the others are left.
+abbrev pub invariant-loop : goal.invariant-loop
+invariant-loop g l =
+    record {
+      paths : l.walk.paths.now ≡ l.paths;
+      met : (files : List (List ℕ)) → AreTold (g.P.Paths.tells l.paths) (map string_bytes l.named) files
+          → IsMet g.P.Reader.Source.remaining (g.P.Paths.tells l.paths) files l.readers.items (paths_left l.walk.steps.items);
+    }

@@ -1,0 +1,29 @@
+use Rattle.std.proofs.Common.{◌∙◌, [], ◌∷◌, ap, map, string_bytes}
+use Rattle.sqlite.specs.Held.{state}
+use Rattle.sqlite.specs.State.{HasCleanDisk}
+use Rattle.zeb_change.specs.Conditions.{conditions}
+use Rattle.zeb_register.specs.Formats.{version_of}
+use Rattle.zeb_program.proofs.PathLemmas.{refused_file, replied_file}
+use Rattle.zeb_program.proofs.path_changes.run_path_change.Goals as goal
+
+pub returns-in_ok-render-in-Ok-clause-answer : goal.returns-in_ok-render-in-Ok-clause-answer
+returns-in_ok-render-in-Ok-clause-answer g c =
+    let tells = g.P.Paths.tells c.args.paths.now in
+    let k = conditions (version_of g.L.Layout.format) c.args.session.now.profile c.args.session.now.limits in
+    let old = state g.S.Store c.args.session.now.connection in
+    let new = state g.S.Store c.change_by_paths.new.session.connection in
+    replied_file tells k c.args.change.now old new (g.W.Write.contents c.args.output.now.writer) (g.W.Write.contents c.write.new.self.writer)
+    c.in-Ok.reply c.as_slice.result.now c.write.new.self.failed (HasCleanDisk new)
+    (λ clean file known. c.in-Ok.ensures.told clean (file ∷ []) (ap (map tells) (ap (map string_bytes) c.from_ref-named.ensures.value) ∙ ap (λ told. told ∷ []) known))
+    (c.as_slice.ensures.value ∙ c.in_ok-render-in-Ok.ensures) c.write.ensures.bytes
+
+pub returns-in-Err-clause-answer : goal.returns-in-Err-clause-answer
+returns-in-Err-clause-answer g c =
+    let tells = g.P.Paths.tells c.args.paths.now in
+    let k = conditions (version_of g.L.Layout.format) c.args.session.now.profile c.args.session.now.limits in
+    let old = state g.S.Store c.args.session.now.connection in
+    let new = state g.S.Store c.change_by_paths.new.session.connection in
+    refused_file tells k c.args.change.now old new (g.W.Write.contents c.args.output.now.writer) (g.W.Write.contents c.tell.new.output.writer)
+    c.in-Err.fault c.tell.new.output.failed (HasCleanDisk new) c.tell.result
+    (λ clean file known. c.in-Err.ensures.told clean (file ∷ []) (ap (map tells) (ap (map string_bytes) c.from_ref-named.ensures.value) ∙ ap (λ told. told ∷ []) known))
+    c.tell.ensures.answer c.tell.ensures.memory

@@ -1,0 +1,8 @@
+use Rattle.zeb_program.proofs.TaskLemmas.{refused_command, replied_command}
+use Rattle.zeb_program.proofs.tasks.ask.Goals as goal
+
+pub returns-in-Ok-clause-answer : goal.returns-in-Ok-clause-answer
+returns-in-Ok-clause-answer g c = λ clean. replied_command _ _ _ _ c.in-Ok.reply (c.in-Ok.ensures.serves clean)
+
+pub returns-in-Err-clause-answer : goal.returns-in-Err-clause-answer
+returns-in-Err-clause-answer g c = λ clean. refused_command _ _ _ _ c.in-Err.refusal (c.in-Err.ensures.serves clean)

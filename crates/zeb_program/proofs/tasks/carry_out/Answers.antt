@@ -1,0 +1,32 @@
+use Rattle.std.proofs.Common.{subst, sym}
+use Rattle.sqlite.specs.Held.{state}
+use Rattle.zeb_change.specs.Conditions.{conditions}
+use Rattle.zeb_register.specs.Formats.{version_of}
+use Rattle.zeb_program.specs.Serving.{ServesTask, replied}
+use Rattle.zeb_program.proofs.TaskLemmas.{analysed_task, asked_task, changed_task}
+use Rattle.zeb_program.proofs.tasks.carry_out.Goals as goal
+
+pub returns-in-Ask-clause-answer : goal.returns-in-Ask-clause-answer
+returns-in-Ask-clause-answer g c = λ clean.
+    let told = g.P.Paths.tells c.args.paths.now in
+    let k = conditions (version_of g.L.Layout.format) c.args.session.now.profile c.args.session.now.limits in
+    let old = state g.S.Store c.args.session.now.connection in
+    let new = state g.S.Store c.ask.new.session.connection in
+    subst (ServesTask told k c.args.task.now old new) (sym c.to_serve.ensures.reply)
+    (asked_task told k c.args.task.now old new c.ask.result c.in-Ask.command c.in-Ask.is (c.ask.ensures.answer clean))
+
+pub returns-in-Change-clause-answer : goal.returns-in-Change-clause-answer
+returns-in-Change-clause-answer g c = λ clean.
+    let told = g.P.Paths.tells c.args.paths.now in
+    let k = conditions (version_of g.L.Layout.format) c.args.session.now.profile c.args.session.now.limits in
+    let old = state g.S.Store c.args.session.now.connection in
+    let new = state g.S.Store c.change_by_paths-reply.new.session.connection in
+    subst (ServesTask told k c.args.task.now old new) (sym c.to_serve-in-Change.ensures.reply)
+    (changed_task told k c.args.task.now old new c.change_by_paths-reply.result c.in-Change.kind c.in-Change.database c.in-Change.named c.deref.result.now
+    c.in-Change.is c.deref.ensures.value (c.change_by_paths-reply.ensures.told clean))
+
+pub returns-in-Analyse-clause-answer : goal.returns-in-Analyse-clause-answer
+returns-in-Analyse-clause-answer g c = λ clean.
+    let k = conditions (version_of g.L.Layout.format) c.args.session.now.profile c.args.session.now.limits in
+    analysed_task (g.P.Paths.tells c.args.paths.now) k c.args.task.now _ _ (replied c.analyse_paths.result) c.in-Analyse.named c.deref-in-Analyse.result.now
+    c.in-Analyse.is c.deref-in-Analyse.ensures.value (c.analyse_paths.ensures.told clean)

@@ -1,0 +1,27 @@
+use Rattle.std.proofs.Common.{◌≡◌, ◌∙◌, Err, Ok, ap, length, map, rules}
+use Rattle.sqlite.specs.Held.{state}
+use Rattle.zeb_change.specs.Conditions.{conditions}
+use Rattle.zeb_image.specs.NameOf.{name_bytes}
+use Rattle.zeb_register.specs.Formats.{version_of}
+use Rattle.zeb_program.proofs.PathLemmas.{served_files}
+use Rattle.zeb_program.proofs.tasks.change_by_paths.Goals as goal
+
+pub returns-in-Ok-clause-told : goal.returns-in-Ok-clause-told
+returns-in-Ok-clause-told g c = λ clean files known.
+    let k = conditions (version_of g.L.Layout.format) c.args.session.now.profile c.args.session.now.limits in
+    let old = state g.S.Store c.args.session.now.connection in
+    let new = state g.S.Store c.update_from.new.self.connection in
+    let same : length c.update_from.new.readers ≡ length c.deref_mut.result.now = search rules in
+    served_files g.P.Reader.Source.remaining g.P.Reader.Source.has_failed k c.args.kind (name_bytes c.args.database.now) files old new c.deref_mut.result.now c.update_from.new.readers (Ok c.in-Ok.reply)
+    (ap (map g.P.Reader.Source.remaining) c.deref_mut.ensures.value ∙ c.in_ok-readers.ensures.told files known) same
+    (c.in-Ok.ensures.serves clean) c.in-Ok.ensures.sound (c.in-Ok.ensures.call.refused clean)
+
+pub returns-clause-told : goal.returns-clause-told
+returns-clause-told g c = λ clean files known.
+    let k = conditions (version_of g.L.Layout.format) c.args.session.now.profile c.args.session.now.limits in
+    let old = state g.S.Store c.args.session.now.connection in
+    let new = state g.S.Store c.update_from.new.self.connection in
+    let same : length c.update_from.new.readers ≡ length c.deref_mut.result.now = search rules in
+    served_files g.P.Reader.Source.remaining g.P.Reader.Source.has_failed k c.args.kind (name_bytes c.args.database.now) files old new c.deref_mut.result.now c.update_from.new.readers (Err c.in-Err.refusal)
+    (ap (map g.P.Reader.Source.remaining) c.deref_mut.ensures.value ∙ c.in_ok-readers.ensures.told files known) same
+    (c.in-Err.ensures.serves clean) c.in-Err.ensures.sound (c.in-Err.ensures.call.refused clean)

@@ -1,0 +1,83 @@
+-- What a batch writes, and its status (this program's own): the answers of its lines, one after the other, and the greatest status among them.
+-- Line after line the commands are a run from what the register held before it. `told` gives the bytes of the file at a path, where they are known.
+use Rattle.std.specs.Prelude.{◌≡◌, ◌⊎◌, ◌<◌, ◌≤◌, ◌+◌, ℕ, max, Option, Some, Result, Ok, Err, List, [], ◌∷◌, ◌++◌, length, codes, string_bytes}
+use Rattle.std.specs.Fmt.{decimal}
+use Rattle.std.specs.Io.KnownBytes.{Appends}
+use Rattle.zeb_engine.specs.declared.commands.Command.{Command}
+use Rattle.zeb_engine.specs.declared.replies.Reply.{Reply}
+use Rattle.zeb_change.specs.declared.refusals.Refusal.{Refusal}
+use Rattle.zeb_change.specs.declared.refusals.Refusal.TheVariants.{ReadFault}
+use Rattle.zeb_change.specs.declared.settings.Kind.{Kind}
+use Rattle.zeb_engine.specs.Answers.{answer_of}
+use Rattle.zeb_change.specs.Conditions.{Conditions}
+use Rattle.zeb_image.specs.Holdings.{Holdings}
+use Rattle.zeb_image.specs.NameOf.{name_bytes}
+use Rattle.zeb_engine.specs.Replies.{reply_text}
+use Rattle.zeb_engine.specs.Refusals.{refusal_text, status_of}
+use Rattle.zeb_engine.specs.Steps.{Answered, Run, TakesFiles}
+use Rattle.zeb_program.specs.declared.lines.Line.{Line}
+use Rattle.zeb_program.specs.declared.lines.Line.TheVariants.{Remark, Command as Order, Path, Bad}
+use Rattle.zeb_program.specs.declared.path_changes.PathChange.{PathChange}
+use Rattle.zeb_program.specs.Lines.{first_line, after_first_line}
+use Rattle.zeb_program.specs.Says.{Says}
+
+-- a writer's known bytes grew by some bytes that are so
+abbrev pub Writes : Option (List ℕ) → Option (List ℕ) → (List ℕ → Type 0) → Type 0
+Writes old new P = (bytes : List ℕ) × P bytes × Appends old new bytes
+
+-- a reply, or a refusal on a line of its own
+abbrev pub answer_text : Result Reply Refusal → List ℕ
+answer_text (Ok reply) = reply_text reply
+answer_text (Err refusal) = refusal_text refusal ++ 10 ∷ []
+
+abbrev pub answer_status : Result Reply Refusal → ℕ
+answer_status (Ok reply) = 0
+answer_status (Err refusal) = status_of refusal
+
+-- what is written for a command, its status, and what the register holds then: the answer is that of a run of this command
+abbrev pub IsAnswer : Conditions → Command → Holdings → List ℕ → ℕ → Holdings → Type 0
+IsAnswer c command before bytes status later =
+    (answer : Result Reply Refusal) × (bytes ≡ answer_text answer) × (status ≡ answer_status answer) × Run c before (command ∷ []) (answer_of answer ∷ []) later
+
+-- an answer to a change by files of these bytes, and what the register holds then: it is that of the change, or one of the files, which are counted
+-- from 1, couldn't be read to its end and nothing changes
+abbrev pub ChangesBy : Conditions → Kind → List ℕ → List (List ℕ) → Holdings → Result Reply Refusal → Holdings → Type 0
+ChangesBy c kind name files before answer later =
+    Answered (TakesFiles c kind name files) before (answer_of answer) later
+    ⊎ ((file : ℕ) × (1 ≤ file) × (file ≤ length files) × (answer ≡ Err (ReadFault file)) × (later ≡ before))
+
+-- what is written for a change by the path of a file of these bytes, its status, and what the register holds then
+abbrev pub IsFileAnswer : Conditions → PathChange → List ℕ → Holdings → List ℕ → ℕ → Holdings → Type 0
+IsFileAnswer c change file before bytes status later =
+    (answer : Result Reply Refusal) × (bytes ≡ answer_text answer) × (status ≡ answer_status answer)
+    × ChangesBy c change.kind (name_bytes change.database) (file ∷ []) before answer later
+
+abbrev pub bad_line : ℕ → List ℕ
+bad_line number = codes "zebraidx: bad line " ++ decimal number ++ 10 ∷ []
+
+-- what is written for a line that says this, its status, and what the register holds then
+abbrev pub IsAnswerTo : (List ℕ → Option (List ℕ)) → Conditions → ℕ → Line → Holdings → List ℕ → ℕ → Holdings → Type 0
+IsAnswerTo told c number Remark before bytes status later = (bytes ≡ []) × (status ≡ 0) × (later ≡ before)
+IsAnswerTo told c number (Order command) before bytes status later = IsAnswer c command before bytes status later
+IsAnswerTo told c number (Path change) before bytes status later =
+    (file : List ℕ) × (told (string_bytes change.path) ≡ Some file) × IsFileAnswer c change file before bytes status later
+IsAnswerTo told c number Bad before bytes status later = (bytes ≡ bad_line number) × (status ≡ 2) × (later ≡ before)
+
+-- the same for a line, by its text and its number
+abbrev pub AnswersLine : (List ℕ → Option (List ℕ)) → Conditions → ℕ → List ℕ → Holdings → List ℕ → ℕ → Holdings → Type 0
+AnswersLine told c number text before bytes status later = (line : Line) × Says text line × IsAnswerTo told c number line before bytes status later
+
+-- the same for the first lines of a text, which n lines of the input stand before: as far as the rest, which is not answered
+pub data AnswersLines : (List ℕ → Option (List ℕ)) → Conditions → ℕ → List ℕ → Holdings → List ℕ → ℕ → List ℕ → Holdings → Type 0 where
+  none : {told : List ℕ → Option (List ℕ)} {c : Conditions} {n : ℕ} {text : List ℕ} {held : Holdings} → AnswersLines told c n text held [] 0 text held
+  more : {told : List ℕ → Option (List ℕ)} {c : Conditions} {n : ℕ} {text here there rest : List ℕ} {status greatest : ℕ} {before next last : Holdings} → 0 < length text
+      → AnswersLine told c (n + 1) (first_line text) before here status next → AnswersLines told c (n + 1) (after_first_line text) next there greatest rest last
+      → AnswersLines told c n text before (here ++ there) (max status greatest) rest last
+
+-- every line of the text is answered
+abbrev pub AnswersBatch : (List ℕ → Option (List ℕ)) → Conditions → ℕ → List ℕ → Holdings → List ℕ → ℕ → Holdings → Type 0
+AnswersBatch told c n text before bytes status last = AnswersLines told c n text before bytes status [] last
+
+-- the lines before one of the text are answered, and that line and those after it are not
+abbrev pub AnswersPart : (List ℕ → Option (List ℕ)) → Conditions → ℕ → List ℕ → Holdings → List ℕ → Type 0
+AnswersPart told c n text before bytes = (status : ℕ) × (rest : List ℕ) × (last : Holdings) × (0 < length rest) × AnswersLines told c n text before bytes status rest last

@@ -1,0 +1,67 @@
+-- A batch as one run: the commands that its lines name, in their order, with the answer to each (this program's own).
+use Rattle.std.specs.Prelude.{◌≡◌, ◌⊎◌, ◌↔◌, ◌<◌, ◌+◌, ◌^◌, ℕ, max, map, Option, Some, Result, Err, List, [], ◌∷◌, ◌++◌, length, string_bytes}
+use Rattle.zeb_change.specs.Conditions.{Conditions}
+use Rattle.zeb_change.specs.declared.refusals.Refusal.{Refusal}
+use Rattle.zeb_change.specs.declared.refusals.Refusal.TheVariants.{ReadFault}
+use Rattle.zeb_engine.specs.Answers.{answer_of}
+use Rattle.zeb_engine.specs.Steps.{Run}
+use Rattle.zeb_engine.specs.declared.commands.Command.{Command}
+use Rattle.zeb_engine.specs.declared.commands.Command.TheVariants.{Change}
+use Rattle.zeb_engine.specs.declared.replies.Reply.{Reply}
+use Rattle.zeb_image.specs.Holdings.{Holdings}
+use Rattle.zeb_image.specs.NameOf.{name_bytes}
+use Rattle.zeb_program.specs.Answers.{AnswersBatch, answer_status, answer_text, bad_line}
+use Rattle.zeb_program.specs.Lines.{first_line, after_first_line}
+use Rattle.zeb_program.specs.Says.{Says}
+use Rattle.zeb_program.specs.declared.lines.Line.TheVariants.{Remark, Command as Order, Path, Bad}
+use Rattle.zeb_program.specs.declared.path_changes.PathChange.{PathChange}
+
+-- the command makes that change by one file of these bytes
+abbrev pub MakesChange : PathChange → List ℕ → Command → Type 0
+MakesChange change file (Change kind database files) =
+    (kind ≡ change.kind) × (name_bytes database ≡ name_bytes change.database) × (map (λ given. given.items) files.items ≡ file ∷ [])
+MakesChange change file _ = ⊥
+
+-- the line names a change by a path, and these are the bytes of the file there
+abbrev pub NamesFile : (List ℕ → Option (List ℕ)) → List ℕ → PathChange → List ℕ → Type 0
+NamesFile told line change file = Says line (Path change) × (told (string_bytes change.path) ≡ Some file)
+
+-- the line names this command, or this change by the bytes of a file at a path
+abbrev pub NamesCommand : (List ℕ → Option (List ℕ)) → List ℕ → Command → Type 0
+NamesCommand told line command =
+    Says line (Order command) ⊎ ((change : PathChange) × (file : List ℕ) × NamesFile told line change file × MakesChange change file command)
+
+-- The lines of a text, which n lines of the input stand before: the commands that they name, an answer to each, what is written for the lines,
+-- and the greatest status.
+pub data TellsLines : (List ℕ → Option (List ℕ)) → ℕ → List ℕ → List Command → List (Result Reply Refusal) → List ℕ → ℕ → Type 0 where
+  none : {told : List ℕ → Option (List ℕ)} {n : ℕ} → TellsLines told n [] [] [] [] 0
+  remark : {told : List ℕ → Option (List ℕ)} {n : ℕ} {text : List ℕ} {commands : List Command} {answers : List (Result Reply Refusal)} {bytes : List ℕ} {status : ℕ}
+      → 0 < length text → Says (first_line text) Remark → TellsLines told (n + 1) (after_first_line text) commands answers bytes status
+      → TellsLines told n text commands answers bytes status
+  bad : {told : List ℕ → Option (List ℕ)} {n : ℕ} {text : List ℕ} {commands : List Command} {answers : List (Result Reply Refusal)} {bytes : List ℕ} {status : ℕ}
+      → 0 < length text → Says (first_line text) Bad → TellsLines told (n + 1) (after_first_line text) commands answers bytes status
+      → TellsLines told n text commands answers (bad_line (n + 1) ++ bytes) (max 2 status)
+  command : {told : List ℕ → Option (List ℕ)} {n : ℕ} {text : List ℕ} {commands : List Command} {answers : List (Result Reply Refusal)} {bytes : List ℕ} {status : ℕ}
+      → (command : Command) → (answer : Result Reply Refusal) → 0 < length text → NamesCommand told (first_line text) command
+      → TellsLines told (n + 1) (after_first_line text) commands answers bytes status
+      → TellsLines told n text (command ∷ commands) (answer ∷ answers) (answer_text answer ++ bytes) (max (answer_status answer) status)
+  -- the file at the path couldn't be read to its end, and the line adds nothing to the run
+  unread : {told : List ℕ → Option (List ℕ)} {n : ℕ} {text : List ℕ} {commands : List Command} {answers : List (Result Reply Refusal)} {bytes : List ℕ} {status : ℕ}
+      → (change : PathChange) → (file : List ℕ) → 0 < length text → NamesFile told (first_line text) change file
+      → TellsLines told (n + 1) (after_first_line text) commands answers bytes status
+      → TellsLines told n text commands answers (answer_text (Err (ReadFault 1)) ++ bytes) (max 3 status)
+
+-- what is written for a text's lines is the answers of one run of the commands that they name
+abbrev pub IsOneRun : (List ℕ → Option (List ℕ)) → Conditions → ℕ → List ℕ → Holdings → List ℕ → ℕ → Holdings → Type 0
+IsOneRun told c n text before bytes status last =
+    (commands : List Command) × (answers : List (Result Reply Refusal)) × TellsLines told n text commands answers bytes status
+    × Run c before commands (map answer_of answers) last
+
+-- each file has fewer than 2^63 bytes, as a file that is held has
+abbrev pub AreFilesShort : (List ℕ → Option (List ℕ)) → Type 0
+AreFilesShort told = (path file : List ℕ) → told path ≡ Some file → length file < 2 ^ 63
+
+-- a batch is answered just as one run of the commands that its lines name
+abbrev pub BatchIsOneRun : Type 0
+BatchIsOneRun = (told : List ℕ → Option (List ℕ)) (c : Conditions) (n : ℕ) (text : List ℕ) (before : Holdings) (bytes : List ℕ) (status : ℕ) (last : Holdings)
+    → AreFilesShort told → AnswersBatch told c n text before bytes status last ↔ IsOneRun told c n text before bytes status last

@@ -1,0 +1,107 @@
+-- The lines of a batch (Zebra manual, zebraidx, whose commands they are; the batch itself is this program's own).
+-- Words are separated by blanks.
+use Rattle.std.specs.Prelude.{◌≡◌, ◌≢◌, ◌≤◌, ℕ, Some, List, [], ◌∷◌, Ok, IsOk, map, take, drop, codes, string_bytes}
+use Rattle.hex.specs.Hex.{decode_of}
+use Rattle.zeb_image.specs.Names.{IsDatabaseName}
+use Rattle.zeb_image.specs.NameOf.{name_bytes}
+use Rattle.zeb_image.specs.declared.names.DbName.{DbName}
+use Rattle.zeb_engine.specs.declared.commands.Command.{Command}
+use Rattle.zeb_engine.specs.declared.commands.Command.TheVariants.{Init, Check, Reindex, Upgrade, Create, Drop, Stat, Dump, Change, Find, Scan}
+use Rattle.zeb_change.specs.declared.settings.Kind.{Kind}
+use Rattle.zeb_change.specs.declared.settings.Kind.TheVariants.{Update, Delete, Adelete}
+use Rattle.zeb_program.specs.Numbers.{number_of}
+use Rattle.zeb_program.specs.Words.{first_word, after_first_word}
+
+abbrev pub IsName : List ℕ → DbName → Type 0
+IsName text name = IsDatabaseName text × (name_bytes name ≡ text)
+
+abbrev pub kind_word : Kind → List ℕ
+kind_word Update = codes "update"
+kind_word Delete = codes "delete"
+kind_word Adelete = codes "adelete"
+
+-- a database's name, and `hex:` with the digits of one file's bytes
+pub record NamesChange (text : List ℕ) (database : DbName) (files : List (List ℕ)) : Type 0 where
+  pub name : IsName (first_word text) database
+  pub mark : take 4 (after_first_word text) ≡ codes "hex:"
+  pub bytes : decode_of (drop 4 (after_first_word text)) ∷ [] ≡ map Ok files
+
+-- a database's name, and a query that isn't empty
+pub record NamesFind (text : List ℕ) (database : DbName) (query : List ℕ) : Type 0 where
+  pub name : IsName (first_word text) database
+  pub rest : query ≡ after_first_word text
+  pub some : query ≢ []
+
+-- how many terms a scan shows, 1 to 1,000, and at which of their places its start stands
+abbrev pub IsRange : ℕ → ℕ → Type 0
+IsRange number position = (number ≤ 1000) × (1 ≤ position) × (position ≤ number)
+
+-- the words of a scan behind the database's name: a number, a position, and the rest
+abbrev pub number_word : List ℕ → List ℕ
+number_word text = first_word (after_first_word text)
+
+abbrev pub position_word : List ℕ → List ℕ
+position_word text = first_word (after_first_word (after_first_word text))
+
+abbrev pub scan_query : List ℕ → List ℕ
+scan_query text = after_first_word (after_first_word (after_first_word text))
+
+-- a database's name, how many terms, the start's place, and a query that isn't empty
+pub record NamesScan (text : List ℕ) (database : DbName) (query : List ℕ) (number position : ℕ) : Type 0 where
+  pub name : IsName (first_word text) database
+  pub many : number_of (number_word text) ≡ Some number
+  pub place : number_of (position_word text) ≡ Some position
+  pub within : IsRange number position
+  pub rest : query ≡ scan_query text
+  pub some : query ≢ []
+
+-- the text, which begins and ends with no blank, names the command
+abbrev pub Names : List ℕ → Command → Type 0
+Names text Init = (first_word text ≡ codes "init") × (after_first_word text ≡ [])
+Names text Check = (first_word text ≡ codes "check") × (after_first_word text ≡ [])
+Names text Reindex = (first_word text ≡ codes "reindex") × (after_first_word text ≡ [])
+Names text Upgrade = (first_word text ≡ codes "upgrade") × (after_first_word text ≡ [])
+Names text (Create name) = (first_word text ≡ codes "create") × IsName (after_first_word text) name
+Names text (Drop name) = (first_word text ≡ codes "drop") × IsName (after_first_word text) name
+Names text (Stat name) = (first_word text ≡ codes "stat") × IsName (after_first_word text) name
+Names text (Dump name) = (first_word text ≡ codes "dump") × IsName (after_first_word text) name
+Names text (Change kind database files) = (first_word text ≡ kind_word kind) × NamesChange (after_first_word text) database (map (λ file. file.items) files.items)
+Names text (Find database query first count) = (first_word text ≡ codes "find") × NamesFind (after_first_word text) database (string_bytes query) × (first ≡ 1) × (count ≡ 20)
+Names text (Scan database query number position) = (first_word text ≡ codes "scan") × NamesScan (after_first_word text) database (string_bytes query) number position
+Names text _ = ⊥
+
+-- a change is named, whatever its kind
+pub record HasChange (text : List ℕ) : Type 0 where
+  pub name : IsDatabaseName (first_word text)
+  pub mark : take 4 (after_first_word text) ≡ codes "hex:"
+  pub bytes : IsOk (decode_of (drop 4 (after_first_word text)))
+
+-- the command is a change of that kind, and the text names its database and its file
+abbrev pub IsChange : Kind → List ℕ → Command → Type 0
+IsChange kind text (Change its_kind database files) = (its_kind ≡ kind) × NamesChange text database (map (λ file. file.items) files.items)
+IsChange kind text _ = ⊥
+
+-- a find is named
+pub record HasFind (text : List ℕ) : Type 0 where
+  pub name : IsDatabaseName (first_word text)
+  pub some : after_first_word text ≢ []
+
+-- the command is a find of the first 20 records, and the text names its database and its query
+abbrev pub IsFind : List ℕ → Command → Type 0
+IsFind text (Find database query first count) = NamesFind text database (string_bytes query) × (first ≡ 1) × (count ≡ 20)
+IsFind text _ = ⊥
+
+-- a scan is named
+pub record HasScan (text : List ℕ) : Type 0 where
+  pub name : IsDatabaseName (first_word text)
+  pub number : ℕ
+  pub position : ℕ
+  pub many : number_of (number_word text) ≡ Some number
+  pub place : number_of (position_word text) ≡ Some position
+  pub within : IsRange number position
+  pub some : scan_query text ≢ []
+
+-- the command is a scan, and the text names its database, its range and its query
+abbrev pub IsScan : List ℕ → Command → Type 0
+IsScan text (Scan database query number position) = NamesScan text database (string_bytes query) number position
+IsScan text _ = ⊥

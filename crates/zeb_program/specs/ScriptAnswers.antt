@@ -1,0 +1,80 @@
+-- What a script writes, and its status (this program's own).
+use Rattle.std.specs.Prelude.{◌≡◌, ◌⊎◌, ℕ, Option, Ok, IsOk, List, [], ◌∷◌, ◌++◌, codes}
+use Rattle.zeb_change.specs.Conditions.{Conditions}
+use Rattle.zeb_image.specs.Holdings.{Holdings, nothing_yet}
+use Rattle.zeb_change.specs.declared.refusals.Refusal.{Refusal}
+use Rattle.zeb_change.specs.declared.refusals.Refusal.TheVariants as refusal
+use Rattle.zeb_engine.specs.Refusals.{refusal_text}
+use Rattle.zeb_profile.specs.declared.directives.Directive.{Directive}
+use Rattle.zeb_profile.specs.declared.faults.ProfileFault.{ProfileFault}
+use Rattle.zeb_profile.specs.declared.faults.ProfileFaultKind.{ProfileFaultKind}
+use Rattle.zeb_profile.specs.declared.faults.ProfileFaultKind.TheVariants.{Memory}
+use Rattle.zeb_profile.specs.Faults.{fault_text}
+use Rattle.zeb_profile.specs.Outcomes.{FailsPlaced}
+use Rattle.zeb_profile.specs.Profiles.{profile_of}
+use Rattle.zeb_program.specs.Inputs.{IsInput}
+use Rattle.zeb_program.specs.PathChanges.{AreFilesTold}
+use Rattle.zeb_program.specs.Scripts.{DividesAt, HasNoDivider}
+use Rattle.zeb_program.specs.Answers.{Writes, AnswersBatch, AnswersPart}
+
+abbrev pub refusal_line : Refusal → List ℕ
+refusal_line why = refusal_text why ++ 10 ∷ []
+
+-- a register can't be opened: the store or the memory failed
+abbrev pub IsUnopened : List ℕ → ℕ → Type 0
+IsUnopened bytes status = ((bytes ≡ refusal_line refusal.Store) ⊎ (bytes ≡ refusal_line refusal.Memory)) × (status ≡ 3)
+
+abbrev pub unreadable_line : List ℕ
+unreadable_line = codes "zebraidx: cannot read input" ++ 10 ∷ []
+
+abbrev pub usage_line : List ℕ
+usage_line = codes "zebraidx: bad usage" ++ 10 ∷ []
+
+-- what is written for a profile that is refused
+abbrev pub fault_line : ProfileFault → List ℕ
+fault_line fault = codes "zebraidx: input " ++ fault_text fault ++ 10 ∷ []
+
+-- the status for a profile that is refused
+abbrev pub fault_status : ProfileFaultKind → ℕ
+fault_status Memory = 3
+fault_status _ = 1
+
+-- what a register in memory works under, by the directives of a script's profile: the version is that of the layout with packed blocks, and the limits are the greatest that there are
+pub record AreScriptConditions (directives : List Directive) (c : Conditions) : Type 0 where
+  pub version : c.version ≡ codes "2"
+  pub profile : c.profile ≡ directives
+  pub records : c.limits.records ≡ 1000000
+  pub numbers : c.limits.numbers ≡ 999999999
+
+-- what the lines of a batch add to a writer's known bytes, from a register that holds nothing yet: their answers, or the failure of the store or the memory by which no register was opened
+abbrev pub AnswersOpened : (List ℕ → Option (List ℕ)) → List Directive → ℕ → List ℕ → Option (List ℕ) → Option (List ℕ) → ℕ → Type 0
+AnswersOpened told directives n batch old new status =
+    Writes old new (λ bytes. (c : Conditions) × AreScriptConditions directives c × (last : Holdings) × AnswersBatch told c n batch nothing_yet bytes status last)
+    ⊎ Writes old new (λ bytes. IsUnopened bytes status)
+
+-- what they add where memory runs out between two lines of output: the answers of the first lines, or nothing
+abbrev pub AnswersStopped : (List ℕ → Option (List ℕ)) → List Directive → ℕ → List ℕ → Option (List ℕ) → Option (List ℕ) → Type 0
+AnswersStopped told directives n batch old new =
+    Writes old new (λ bytes. (c : Conditions) × AreScriptConditions directives c × AnswersPart told c n batch nothing_yet bytes) ⊎ Writes old new (λ bytes. bytes ≡ [])
+
+-- the profile of a script: what stands before its divider, or the whole text
+abbrev pub IsProfileOf : List ℕ → List ℕ → Type 0
+IsProfileOf text profile = (HasNoDivider text × (profile ≡ text)) ⊎ ((n : ℕ) × (batch : List ℕ) × DividesAt n text profile batch)
+
+-- what a script of this text adds to a writer's known bytes, and its status, where `told` gives the bytes of files at paths: only an input that isn't too long and is text is looked at any further
+pub data AnswersScript : (List ℕ → Option (List ℕ)) → List ℕ → Option (List ℕ) → Option (List ℕ) → ℕ → Type 0 where
+  -- an input that is too long or no text
+  unreadable : {told : List ℕ → Option (List ℕ)} {text : List ℕ} {old new : Option (List ℕ)} → ¬ IsInput text → Writes old new (λ bytes. bytes ≡ unreadable_line) → AnswersScript told text old new 3
+  -- a profile that is refused: for its first fault, or for want of memory
+  faulty : {told : List ℕ → Option (List ℕ)} {text profile : List ℕ} {old new : Option (List ℕ)} → (fault : ProfileFault) → IsInput text → IsProfileOf text profile → FailsPlaced fault (profile_of profile) → Writes old new (λ bytes. bytes ≡ fault_line fault)
+      → AnswersScript told text old new (fault_status fault.kind)
+  -- a profile alone
+  alone : {told : List ℕ → Option (List ℕ)} {text : List ℕ} {old new : Option (List ℕ)} → IsInput text → HasNoDivider text → IsOk (profile_of text) → Writes old new (λ bytes. bytes ≡ []) → AnswersScript told text old new 0
+  -- a profile, and the lines of a batch; what is said of them is said where the bytes of each file that a line names by a path are told
+  ran : {told : List ℕ → Option (List ℕ)} {text profile batch : List ℕ} {directives : List Directive} {n status : ℕ} {old new : Option (List ℕ)} → IsInput text → DividesAt n text profile batch → profile_of profile ≡ Ok directives
+      → (AreFilesTold told batch → AnswersOpened told directives n batch old new status) → AnswersScript told text old new status
+  -- the same, where memory ran out for the program itself before the last line was answered
+  stopped : {told : List ℕ → Option (List ℕ)} {text profile batch : List ℕ} {directives : List Directive} {n : ℕ} {old new : Option (List ℕ)} → IsInput text → DividesAt n text profile batch → profile_of profile ≡ Ok directives
+      → (AreFilesTold told batch → AnswersStopped told directives n batch old new) → AnswersScript told text old new 3
+  -- memory ran out while the input was read
+  silent : {told : List ℕ → Option (List ℕ)} {text : List ℕ} {old new : Option (List ℕ)} → Writes old new (λ bytes. bytes ≡ []) → AnswersScript told text old new 3

@@ -1,0 +1,38 @@
+-- What the lines of a batch, and a task, do to a connection, and what is written or answered.
+use Rattle.std.specs.Prelude.{◌⊎◌, ℕ, List, Option, Result, Ok, Err}
+use Rattle.sqlite.specs.State.{State}
+use Rattle.zeb_change.specs.Conditions.{Conditions}
+use Rattle.zeb_change.specs.declared.refusals.Refusal.{Refusal}
+use Rattle.zeb_engine.specs.declared.replies.Reply.{Reply}
+use Rattle.zeb_image.specs.Holdings.{Holdings}
+use Rattle.zeb_image.specs.Image.{Keeps}
+use Rattle.zeb_program.specs.declared.faults.Fault.{Fault}
+use Rattle.zeb_program.specs.declared.tasks.Served.{Served}
+use Rattle.zeb_program.specs.declared.tasks.Task.{Task}
+use Rattle.zeb_program.specs.Answers.{Writes}
+use Rattle.zeb_program.specs.Faults.{GivesAnswer, IsUnreadable}
+use Rattle.zeb_program.specs.TaskAnswers.{AnswersTask, AreTold, ReadsWhole, paths_of}
+
+-- From tables that keep what a register holds, they lead to tables that keep what it holds then; P says what is written.
+abbrev pub Leads : State → State → Option (List ℕ) → Option (List ℕ) → (Holdings → List ℕ → Holdings → Type 0) → Type 0
+Leads old new wrote writes P =
+    (before : Holdings) → Keeps old before → (later : Holdings) × Keeps new later × Writes wrote writes (λ bytes. P before bytes later)
+
+-- The same, where nothing is said of the tables then.
+abbrev pub Stops : State → Option (List ℕ) → Option (List ℕ) → (Holdings → List ℕ → Type 0) → Type 0
+Stops old wrote writes P = (before : Holdings) → Keeps old before → Writes wrote writes (P before)
+
+-- The same of an answer, which isn't written yet.
+abbrev pub AnswersFrom : State → State → Result Reply Fault → (Holdings → Result Reply Refusal → Holdings → Type 0) → Type 0
+AnswersFrom old new result P =
+    (before : Holdings) → Keeps old before → GivesAnswer (λ answer. (later : Holdings) × P before answer later × Keeps new later) result
+
+-- The answer to a task; of one that names paths it is said where the bytes of the files there are told. A file that is read whole may have too many bytes.
+abbrev pub ServesTask : (List ℕ → Option (List ℕ)) → Conditions → Task → State → State → Result Reply Fault → Type 0
+ServesTask told c task old new result =
+    (files : List (List ℕ)) → AreTold told (paths_of task) files → AnswersFrom old new result (AnswersTask c task files) ⊎ (ReadsWhole task × IsUnreadable result)
+
+-- What a task is answered, as the reply alone.
+abbrev pub replied : Result Served Fault → Result Reply Fault
+replied (Ok served) = Ok served.reply
+replied (Err fault) = Err fault

@@ -1,0 +1,175 @@
+//! A batch: commands in one session, one on a line.
+
+ghost use Rattle.std.specs.Prelude.{◌≡◌, ◌≤◌, ◌++◌, ◌∷◌, [], false, IfOk, OnErr};
+ghost use Rattle.zeb_register.specs.Formats.{version_of};
+ghost use Rattle.sqlite.specs.Held.{state};
+ghost use Rattle.sqlite.specs.State.{HasCleanDisk};
+ghost use Rattle.zeb_change.specs.Conditions.{conditions};
+ghost use Rattle.zeb_engine.specs.Refusals.{refusal_text, status_of};
+ghost use Rattle.zeb_program.specs.ScriptAnswers.{AnswersOpened, AnswersStopped};
+ghost use Rattle.std.specs.Io.KnownBytes.{Appends};
+ghost use Rattle.zeb_program.specs.Answers.{Writes, bad_line, IsAnswer, AnswersLine, AnswersBatch, AnswersPart};
+ghost use Rattle.zeb_program.specs.PathChanges.{AreFilesTold, IsLineTold};
+ghost use Rattle.zeb_program.specs.Serving.{Leads, Stops};
+ghost use Rattle.zeb_program.specs.WordAnswers.{IsFaultStatus};
+
+use crate::lines::Line;
+use crate::memory::open_in_memory;
+use crate::path_changes::run_path_change;
+use crate::program::{ANSWERED, FAILED, MISUSED};
+use crate::script::Batch;
+use crate::sinks::Sink;
+use crate::words::cut_line;
+use sqlite::Alter;
+use std::alloc::{AllocError, Global};
+use std::io::Write;
+use zeb_engine::{Command, Limits, Refusal, Session, refusal_line, render, status};
+use zeb_paths::Paths;
+use zeb_profile::Profile;
+use zeb_register::{Blocks, Layout};
+
+/// Runs the lines of a batch over a register in memory, and answers the greatest status met.
+pub fn run_batch<P: Paths, W: Write>(
+    alloc: Global,
+    profile: Profile,
+    paths: &P,
+    batch: Batch<'_>,
+    output: &mut Sink<W>,
+) -> Result<u8, AllocError>
+    ensures sound { output.new.failed ≡ false → output.old.failed ≡ false }
+    ensures answer { IfOk result (λ status. output.new.failed ≡ false → AreFilesTold (P.tells paths.now) batch.entry.text.now →
+        AnswersOpened (P.tells paths.now) profile batch.entry.lines_before batch.entry.text.now (W.contents output.old.writer)
+        (W.contents output.new.writer) status) }
+    ensures stopped { OnErr result (output.new.failed ≡ false → AreFilesTold (P.tells paths.now) batch.entry.text.now →
+        AnswersStopped (P.tells paths.now) profile batch.entry.lines_before batch.entry.text.now (W.contents output.old.writer)
+        (W.contents output.new.writer)) }
+    ensures range { IfOk result (λ status. status ≤ FAILED) }
+{
+    let Ok(connection) = open_in_memory(alloc) else {
+        return refuse(alloc, &Refusal::Store, output);
+    };
+    match Session::<_, Blocks>::adopt(alloc, connection, profile, Limits::GREATEST) {
+        Ok(mut session) => run_lines(alloc, &mut session, paths, batch, output),
+        Err((_, refusal)) => refuse(alloc, &refusal, output),
+    }
+}
+
+/// Runs the lines of a batch in a session, and answers the greatest status met. What is said of the answers is said where the
+/// paths tell the bytes of each file that a line names by its path.
+pub fn run_lines<S: Alter, L: Layout, P: Paths, W: Write>(
+    alloc: Global,
+    session: &mut Session<S, L>,
+    paths: &P,
+    batch: Batch<'_>,
+    output: &mut Sink<W>,
+) -> Result<u8, AllocError>
+    ensures sound { output.new.failed ≡ false → output.old.failed ≡ false }
+    ensures answer { IfOk result (λ status. output.new.failed ≡ false → HasCleanDisk (state S.Store session.new.connection)
+        → AreFilesTold (P.tells paths.now) batch.entry.text.now
+        → Leads (state S.Store session.old.connection) (state S.Store session.new.connection) (W.contents output.old.writer)
+        (W.contents output.new.writer)
+        (λ before bytes last. AnswersBatch (P.tells paths.now) (conditions
+        (version_of L.format) session.old.profile session.old.limits) batch.entry.lines_before batch.entry.text.now before bytes status
+        last)) }
+    ensures stopped { OnErr result (output.new.failed ≡ false → HasCleanDisk (state S.Store session.new.connection)
+        → AreFilesTold (P.tells paths.now) batch.entry.text.now
+        → Stops (state S.Store session.old.connection) (W.contents output.old.writer) (W.contents output.new.writer)
+        (AnswersPart (P.tells paths.now) (conditions
+        (version_of L.format) session.old.profile session.old.limits) batch.entry.lines_before batch.entry.text.now)) }
+    ensures range { IfOk result (λ status. status ≤ FAILED) }
+{
+    let mut rest = batch.text;
+    let mut number = batch.lines_before;
+    let mut greatest = ANSWERED;
+    while !rest.is_empty() {
+        let (line, after) = cut_line(rest);
+        number += 1;
+        greatest = greatest.max(run_line(alloc, session, paths, line, number, output)?);
+        rest = after;
+    }
+    Ok(greatest)
+}
+
+/// Runs one line of a batch, whose number this is, and answers its status.
+pub fn run_line<S: Alter, L: Layout, P: Paths, W: Write>(
+    alloc: Global,
+    session: &mut Session<S, L>,
+    paths: &P,
+    line: &str,
+    number: u64,
+    output: &mut Sink<W>,
+) -> Result<u8, AllocError>
+    ensures sound { output.new.failed ≡ false → output.old.failed ≡ false }
+    ensures answer { IfOk result (λ status. output.new.failed ≡ false → HasCleanDisk (state S.Store session.new.connection)
+        → IsLineTold (P.tells paths.now) line.now
+        → Leads (state S.Store session.old.connection) (state S.Store session.new.connection) (W.contents output.old.writer)
+        (W.contents output.new.writer)
+        (λ before bytes later. AnswersLine (P.tells paths.now) (conditions
+        (version_of L.format) session.old.profile session.old.limits) number line.now before bytes status later)) }
+    ensures stopped { OnErr result (output.new ≡ output.old) }
+    ensures clean { HasCleanDisk (state S.Store session.new.connection) → HasCleanDisk (state S.Store session.old.connection) }
+    ensures under { (session.new.profile ≡ session.old.profile) × (session.new.limits ≡ session.old.limits) }
+    ensures range { IfOk result (λ status. status ≤ FAILED) }
+{
+    match Line::read(alloc, line)? {
+        Line::Remark => Ok(ANSWERED),
+        Line::Command(command) => run_command(alloc, session, &command, output),
+        Line::Path(change) => run_path_change(alloc, session, paths, &change, output),
+        Line::Bad => Ok(refuse_line(number, output)),
+    }
+}
+
+fn run_command<S: Alter, L: Layout, W: Write>(
+    alloc: Global,
+    session: &mut Session<S, L>,
+    command: &Command,
+    output: &mut Sink<W>,
+) -> Result<u8, AllocError>
+    ensures sound { output.new.failed ≡ false → output.old.failed ≡ false }
+    ensures answer { IfOk result (λ status. output.new.failed ≡ false → HasCleanDisk (state S.Store session.new.connection)
+        → Leads (state S.Store session.old.connection) (state S.Store session.new.connection) (W.contents output.old.writer)
+        (W.contents output.new.writer)
+        (λ before bytes later. IsAnswer (conditions
+        (version_of L.format) session.old.profile session.old.limits) command.now before bytes status later)) }
+    ensures stopped { OnErr result (output.new ≡ output.old) }
+    ensures clean { HasCleanDisk (state S.Store session.new.connection) → HasCleanDisk (state S.Store session.old.connection) }
+    ensures under { (session.new.profile ≡ session.old.profile) × (session.new.limits ≡ session.old.limits) }
+    ensures range { IfOk result (λ status. status ≤ FAILED) }
+{
+    match session.command(command) {
+        Ok(reply) => {
+            output.write(render(alloc, &reply)?.as_slice());
+            Ok(ANSWERED)
+        }
+        Err(refusal) => refuse(alloc, &refusal, output),
+    }
+}
+
+/// Writes that the line of this number is no command, and answers the status of such a line.
+pub fn refuse_line<W: Write>(number: u64, output: &mut Sink<W>) -> u8
+    ensures sound { output.new.failed ≡ false → output.old.failed ≡ false }
+    ensures status { result ≡ MISUSED }
+    ensures line { output.new.failed ≡ false →
+        Appends (W.contents output.old.writer) (W.contents output.new.writer) (bad_line number) }
+{
+    output.write_line(format_args!("zebraidx: bad line {number}"));
+    MISUSED
+}
+
+/// Writes a refusal's line, and answers its status.
+pub fn refuse<W: Write>(
+    alloc: Global,
+    refusal: &Refusal,
+    output: &mut Sink<W>,
+) -> Result<u8, AllocError>
+    ensures sound { output.new.failed ≡ false → output.old.failed ≡ false }
+    ensures answer { IfOk result (λ status. output.new.failed ≡ false →
+        Writes (W.contents output.old.writer) (W.contents output.new.writer) (λ bytes. (bytes ≡ refusal_text refusal.now ++ 10 ∷ [])
+        × (status ≡ status_of refusal.now))) }
+    ensures stopped { OnErr result (output.new ≡ output.old) }
+    ensures range { IfOk result (λ status. status ≤ FAILED) }
+    ensures fault { IfOk result IsFaultStatus }
+{
+    output.write_line(refusal_line(alloc, refusal)?);
+    Ok(status(refusal))
+}

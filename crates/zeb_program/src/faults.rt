@@ -1,0 +1,91 @@
+//! Why a command that words or a line name isn't answered, and what is written of it.
+
+ghost use Rattle.std.specs.Prelude.{◌≡◌, ◌∷◌, ◌++◌, [], false, IfOk, IsErr, OnErr};
+ghost use Rattle.zeb_change.specs.declared.refusals.Refusal.{Refusal};
+ghost use Rattle.zeb_engine.specs.Refusals.{refusal_text, status_of};
+ghost use Rattle.zeb_program.specs.Answers.{Writes};
+ghost use Rattle.zeb_program.specs.Faults.{IsUnread};
+ghost use Rattle.zeb_program.specs.declared.faults.Fault.TheVariants.{Memory, Refused};
+ghost use Rattle.zeb_program.specs.WordAnswers.{IsFaultStatus};
+
+use crate::batch::refuse;
+use crate::program::{FAILED, profile_status};
+use crate::sinks::Sink;
+use std::alloc::{AllocError, AllocFailed, Global};
+use std::io::Write;
+use zeb_engine::Refusal;
+use zeb_paths::WalkFault;
+use zeb_profile::ProfileFault;
+
+/// Why a command isn't answered.
+#[derive(Debug, Drop)]
+pub enum Fault {
+    /// The profile in this file has this fault.
+    Profile { file: String, fault: ProfileFault },
+    /// What is at this path can't be read.
+    Unreadable(String),
+    /// The register refused the command, or wasn't opened.
+    Refused(Refusal),
+    /// Memory ran out in the program itself.
+    Memory,
+}
+
+impl From<AllocError> for Fault {
+    ghost from_gives = { λ _ fault. fault ≡ Memory };
+
+    fn from(_error: AllocError) -> Fault {
+        Fault::Memory
+    }
+}
+
+impl<T: Drop> From<AllocFailed<T>> for Fault {
+    ghost from_gives = { λ _ fault. fault ≡ Memory };
+
+    fn from(_error: AllocFailed<T>) -> Fault {
+        Fault::Memory
+    }
+}
+
+impl From<Refusal> for Fault {
+    ghost from_gives = { λ refusal fault. fault ≡ Refused refusal };
+
+    fn from(refusal: Refusal) -> Fault {
+        Fault::Refused(refusal)
+    }
+}
+
+impl From<WalkFault> for Fault {
+    ghost from_gives = { λ _ fault. IsUnread fault };
+
+    fn from(fault: WalkFault) -> Fault {
+        match fault {
+            WalkFault::Unreadable(path) => Fault::Unreadable(path),
+            WalkFault::Memory => Fault::Memory,
+        }
+    }
+}
+
+/// Writes a fault's line, and answers its status. For want of memory nothing is written.
+pub fn tell<W: Write>(alloc: Global, fault: &Fault, output: &mut Sink<W>) -> Result<u8, AllocError>
+    ensures answer { (refusal : Refusal) → fault.now ≡ Refused refusal → IfOk result (λ status. output.new.failed ≡ false →
+        Writes (W.contents output.old.writer) (W.contents output.new.writer) (λ bytes. (bytes ≡ refusal_text refusal ++ 10 ∷ [])
+        × (status ≡ status_of refusal))) }
+    ensures sound { output.new.failed ≡ false → output.old.failed ≡ false }
+    ensures memory { fault.now ≡ Memory → IsErr result }
+    ensures status { IfOk result IsFaultStatus }
+    ensures unread { IsUnread fault.now → IfOk result (λ status. status ≡ FAILED) }
+    ensures silent { OnErr result (output.new ≡ output.old) }
+{
+    match fault {
+        Fault::Profile { file, fault } => {
+            output.write_line(format_args!("zebraidx: {file} {fault}"));
+            Ok(profile_status(fault.kind))
+        }
+        Fault::Unreadable(path) => {
+            output.write_line(format_args!("zebraidx: cannot read {path}"));
+            Ok(FAILED)
+        }
+        Fault::Refused(refusal) => refuse(alloc, refusal, output),
+        Fault::Memory => Err(AllocError),
+    }
+}

@@ -1,0 +1,99 @@
+//! The files at the paths that words or a line name.
+
+ghost use Rattle.std.specs.Prelude.{◌≡◌, ℕ, List, Some, map, string_bytes, IfErr, IfOk};
+ghost use Rattle.zeb_program.specs.Faults.{IsUnread};
+ghost use Rattle.zeb_program.specs.TaskAnswers.{AreTold};
+ghost use Rattle.zeb_program.specs.declared.faults.Fault.TheVariants.{Memory};
+
+use crate::faults::Fault;
+use crate::input::{GREATEST_INPUT, InputFault, read_text, read_whole};
+use std::alloc::Global;
+use zeb_paths::{Paths, Walk};
+use zeb_profile::Profile;
+
+/// How many bytes a profile's file may have.
+const GREATEST_PROFILE: usize = 1_048_576;
+
+/// Reads a profile's file.
+pub fn read_profile<P: Paths>(alloc: Global, paths: &P, file: String) -> Result<Profile, Fault> {
+    let mut source = paths.reader(file.clone()?);
+    let text = match read_text(alloc, &mut source, GREATEST_PROFILE) {
+        Ok(text) => text,
+        Err(fault) => return Err(unread(fault, file)),
+    };
+    match Profile::read(alloc, text.as_str()) {
+        Ok(profile) => Ok(profile),
+        Err(fault) => Err(Fault::Profile { file, fault }),
+    }
+}
+
+/// Why what is at this path isn't read whole.
+pub fn unread(fault: InputFault, path: String) -> Fault
+    ensures { IsUnread result }
+{
+    match fault {
+        InputFault::Unreadable => Fault::Unreadable(path),
+        InputFault::Memory => Fault::Memory,
+    }
+}
+
+/// The readers of the files at and below the paths; no file is opened yet.
+pub fn readers_of<P: Paths>(
+    alloc: Global,
+    paths: &P,
+    named: &[String],
+) -> Result<Vec<P::Reader>, Fault>
+    // Where the bytes of a file at each path are told, just the readers of these files are given, or memory runs out.
+    ensures told { (files : List (List ℕ)) → AreTold (P.tells paths.now) (map string_bytes named.now) files
+        → IfOk result (λ readers. map P.Reader.remaining readers.items ≡ map Some files) }
+    ensures memory { (files : List (List ℕ)) → AreTold (P.tells paths.now) (map string_bytes named.now) files
+        → IfErr result (λ fault. fault ≡ Memory) }
+    ensures unread { IfErr result IsUnread }
+{
+    let mut readers = Vec::new(alloc);
+    let mut walk = Walk::new(alloc, paths, named)?;
+    for _ in 0..u64::MAX {
+        let Some(path) = walk.next_file()? else {
+            return Ok(readers);
+        };
+        readers.push(paths.reader(path))?;
+    }
+    // So many readers are none that could be held.
+    Err(Fault::Memory)
+}
+
+/// The bytes of the files at and below the paths. A file that can't be read, or has too many bytes, is a path
+/// that can't be read.
+pub fn contents_of<P: Paths>(
+    alloc: Global,
+    paths: &P,
+    named: &[String],
+) -> Result<Vec<Vec<u8>>, Fault>
+    // Where the bytes of a file at each path are told, they are just these.
+    ensures told { (files : List (List ℕ)) → AreTold (P.tells paths.now) (map string_bytes named.now) files
+        → IfOk result (λ contents. map (λ content. content.items) contents.items ≡ files) }
+    ensures unread { IfErr result IsUnread }
+{
+    let mut contents = Vec::new(alloc);
+    let mut walk = Walk::new(alloc, paths, named)?;
+    for _ in 0..u64::MAX {
+        let Some(path) = walk.next_file()? else {
+            return Ok(contents);
+        };
+        contents.push(content_of(alloc, paths, path)?)?;
+    }
+    // So many files are none that could be held.
+    Err(Fault::Memory)
+}
+
+fn content_of<P: Paths>(alloc: Global, paths: &P, path: String) -> Result<Vec<u8>, Fault>
+    ensures told { (file : List ℕ) → P.tells paths.now (string_bytes path) ≡ Some file
+        → IfOk result (λ content. content.items ≡ file) }
+    ensures unread { IfErr result IsUnread }
+{
+    let mut source = paths.reader(path.clone()?);
+    match read_whole(alloc, &mut source, GREATEST_INPUT) {
+        Ok(content) => Ok(content),
+        Err(fault) => Err(unread(fault, path)),
+    }
+}

@@ -1,0 +1,110 @@
+//! Reading a source whole.
+
+ghost use Rattle.std.specs.Prelude.{◌≡◌, ◌≤◌, ◌+◌, true, false, length, vec_len, string_bytes, string_len, IfOk, IfErr, IfSome};
+ghost use Rattle.std.specs.Io.KnownBytes.{Consumes, IsAtEnd};
+ghost use Rattle.zeb_program.specs.Inputs.{IsTextWithin, TakesAtMost};
+ghost use Rattle.zeb_program.specs.declared.input.InputFault.TheVariants.{Unreadable, Memory};
+
+use std::alloc::{AllocError, Global};
+use zeb_marc::{ReadFailed, Source};
+
+/// How many bytes an input may have, and a file that is read whole.
+pub const GREATEST_INPUT: usize = 16_777_216;
+
+/// How many bytes are asked of the source at a time.
+const PORTION: usize = 8192;
+
+/// Why a source isn't read.
+#[derive(Clone, Copy, Debug, PartialEq, Eq)]
+pub enum InputFault {
+    /// A read failed, there are too many bytes, or a text was wanted and the bytes aren't UTF-8.
+    Unreadable,
+    Memory,
+}
+
+impl From<AllocError> for InputFault {
+    ghost from_gives = { λ _ fault. fault ≡ Memory };
+
+    fn from(_error: AllocError) -> InputFault {
+        InputFault::Memory
+    }
+}
+
+impl From<ReadFailed> for InputFault {
+    ghost from_gives = { λ _ fault. fault ≡ Unreadable };
+
+    fn from(_error: ReadFailed) -> InputFault {
+        InputFault::Unreadable
+    }
+}
+
+/// Reads the source to its end, as UTF-8 of at most so many bytes. At most one byte above that is taken
+/// from the source.
+pub fn read_text<R: Source>(
+    alloc: Global,
+    source: &mut R,
+    most: usize,
+) -> Result<String, InputFault>
+    requires sound { R.has_failed source.old ≡ false }
+    requires bounded { most ≤ GREATEST_INPUT }
+    ensures text { IfOk result (λ text. IfSome (R.remaining source.old) (λ bytes. string_bytes text ≡ bytes)) }
+    ensures short { IfOk result (λ text. string_len text ≤ most) }
+    ensures sound { IfOk result (λ _. R.has_failed source.new ≡ false) }
+    // A source that tells its bytes and doesn't fail is refused only for what they are, or for memory.
+    ensures unreadable { result ≡ Err Unreadable → R.has_failed source.new ≡ false →
+        IfSome (R.remaining source.old) (λ bytes. ¬ IsTextWithin most bytes) }
+    ensures failed { R.has_failed source.new ≡ true → result ≡ Err Unreadable }
+    // Whatever the answer.
+    ensures taken { TakesAtMost (most + 1) (R.remaining source.old) (R.remaining source.new) }
+{
+    let bytes = read_whole(alloc, source, most)?;
+    String::from_utf8(bytes).map_err(|_| InputFault::Unreadable)
+}
+
+/// Reads the source to its end, where there are at most so many bytes. At most one byte above that is taken
+/// from the source.
+pub fn read_whole<R: Source>(
+    alloc: Global,
+    source: &mut R,
+    most: usize,
+) -> Result<Vec<u8>, InputFault>
+    requires sound { R.has_failed source.old ≡ false }
+    requires bounded { most ≤ GREATEST_INPUT }
+    ensures whole { IfOk result (λ bytes. IfSome (R.remaining source.old) (λ left. bytes.items ≡ left)) }
+    ensures short { IfOk result (λ bytes. vec_len bytes ≤ most) }
+    ensures sound { IfOk result (λ _. R.has_failed source.new ≡ false) }
+    ensures unreadable { result ≡ Err Unreadable → R.has_failed source.new ≡ false →
+        IfSome (R.remaining source.old) (λ left. ¬ (length left ≤ most)) }
+    ensures failed { R.has_failed source.new ≡ true → result ≡ Err Unreadable }
+    ensures taken { TakesAtMost (most + 1) (R.remaining source.old) (R.remaining source.new) }
+{
+    let bytes = read_bytes(alloc, source, most)?;
+    if bytes.len() > most {
+        return Err(InputFault::Unreadable);
+    }
+    Ok(bytes)
+}
+
+/// The bytes up to the source's end, but no more than one above so many.
+fn read_bytes<R: Source>(alloc: Global, source: &mut R, most: usize) -> Result<Vec<u8>, InputFault>
+    requires sound { R.has_failed source.old ≡ false }
+    requires bounded { most ≤ GREATEST_INPUT }
+    ensures taken { IfOk result (λ bytes. Consumes (R.remaining source.old) (R.remaining source.new) bytes.items) }
+    ensures end { IfOk result (λ bytes. vec_len bytes ≤ most → IsAtEnd (R.remaining source.new)) }
+    ensures sound { IfOk result (λ _. R.has_failed source.new ≡ false) }
+    ensures unreadable { result ≡ Err Unreadable → R.has_failed source.new ≡ true }
+    ensures failed { R.has_failed source.new ≡ true → result ≡ Err Unreadable }
+    ensures bounded { TakesAtMost (most + 1) (R.remaining source.old) (R.remaining source.new) }
+{
+    let mut bytes = Vec::new(alloc);
+    let mut portion = [0u8; PORTION];
+    while bytes.len() <= most {
+        let room = PORTION.min(most + 1 - bytes.len());
+        let count = source.read(&mut portion[..room])?;
+        if count == 0 {
+            break;
+        }
+        bytes.extend_from_slice(&portion[..count])?;
+    }
+    Ok(bytes)
+}

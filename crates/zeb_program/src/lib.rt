@@ -1,0 +1,25 @@
+//! The program without its outside: words, an input and paths come in, what is written and a status go out.
+#![tactic(auto)]
+
+mod batch;
+mod command_line;
+mod digits;
+mod faults;
+mod files;
+mod input;
+mod laws;
+mod line_input;
+mod lines;
+mod memory;
+mod numbers;
+mod path_changes;
+mod program;
+mod script;
+mod shell;
+mod sinks;
+mod tasks;
+mod warnings;
+mod words;
+
+pub use program::{FAILED, run};
+pub use sinks::Sink;

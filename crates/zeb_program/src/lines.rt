@@ -1,0 +1,154 @@
+//! The lines of a batch, each of which names a command.
+
+ghost use Rattle.std.specs.Prelude.{◌≡◌, IfOk, MatchOption};
+ghost use Rattle.zeb_engine.specs.declared.commands.Command.{Command};
+ghost use Rattle.zeb_program.specs.Batches.{Names, HasChange, IsChange, HasFind, IsFind, HasScan, IsScan};
+
+use crate::digits::bytes_of_digits;
+use crate::numbers::number_of;
+use crate::path_changes::{PathChange, read_path_change};
+use crate::words::{cut_word, without_blanks};
+use std::alloc::{AllocError, Global};
+use zeb_engine::{Command, DbName, Kind};
+
+/// How many records a `find` line shows at most.
+const SHOWN: u32 = 20;
+
+/// How many terms a scan shows at most.
+const TERMS: u32 = 1_000;
+
+/// What a line of a batch says.
+#[derive(Debug, Drop)]
+pub enum Line {
+    /// Nothing: it is empty or begins with `#`.
+    Remark,
+    Command(Command),
+    /// A change by the path of its file.
+    Path(PathChange),
+    /// Something that is no command.
+    Bad,
+}
+
+impl Line {
+    ghost use Rattle.zeb_program.specs.Says.{Says};
+
+    /// Reads a line, in which words are separated by spaces and tabs:
+    ///
+    /// ```text
+    /// init
+    /// check
+    /// reindex
+    /// upgrade
+    /// create NAME
+    /// drop NAME
+    /// stat NAME
+    /// dump NAME
+    /// update NAME FILE
+    /// delete NAME FILE
+    /// adelete NAME FILE
+    /// find NAME QUERY
+    /// scan NAME N P QUERY
+    /// ```
+    ///
+    /// FILE and QUERY are the rest of the line, and are not empty. FILE is `hex:` with the hexadecimal digits of one
+    /// file's bytes, or else a path. Of the records that a query finds the first 20 are shown. A scan shows N terms
+    /// (1 to 1,000), the start at place P (1 to N); both have 1 to 9 digits.
+    pub fn read(alloc: Global, text: &str) -> Result<Line, AllocError>
+        ensures { IfOk result (Says text.now) }
+    {
+        let text = without_blanks(text);
+        if text.is_empty() || text.starts_with('#') {
+            return Ok(Line::Remark);
+        }
+        if let Some(command) = read_command(alloc, text)? {
+            return Ok(Line::Command(command));
+        }
+        let change = read_path_change(alloc, text)?;
+        Ok(change.map_or(Line::Bad, Line::Path))
+    }
+}
+
+/// The command that a line names which begins and ends with no blank, and is not empty. A change by a path is none.
+fn read_command(alloc: Global, text: &str) -> Result<Option<Command>, AllocError>
+    ensures { IfOk result (λ found. MatchOption found ((command : Command) → ¬ Names text.now command) (Names text.now)) }
+{
+    let (word, rest) = cut_word(text);
+    match word {
+        "init" => Ok(rest.is_empty().then_some(Command::Init)),
+        "check" => Ok(rest.is_empty().then_some(Command::Check)),
+        "reindex" => Ok(rest.is_empty().then_some(Command::Reindex)),
+        "upgrade" => Ok(rest.is_empty().then_some(Command::Upgrade)),
+        "create" => Ok(DbName::read(rest).map(Command::Create)),
+        "drop" => Ok(DbName::read(rest).map(Command::Drop)),
+        "stat" => Ok(DbName::read(rest).map(Command::Stat)),
+        "dump" => Ok(DbName::read(rest).map(Command::Dump)),
+        "update" => read_change(alloc, Kind::Update, rest),
+        "delete" => read_change(alloc, Kind::Delete, rest),
+        "adelete" => read_change(alloc, Kind::Adelete, rest),
+        "find" => read_find(alloc, rest),
+        "scan" => read_scan(alloc, rest),
+        _ => Ok(None),
+    }
+}
+
+/// `NAME hex:DIGITS`.
+fn read_change(alloc: Global, kind: Kind, text: &str) -> Result<Option<Command>, AllocError>
+    ensures { IfOk result (λ found. MatchOption found (¬ HasChange text.now) (IsChange kind text.now)) }
+{
+    let (name, file) = cut_word(text);
+    let (Some(database), Some(digits)) = (DbName::read(name), file.strip_prefix("hex:")) else {
+        return Ok(None);
+    };
+    let Some(bytes) = bytes_of_digits(alloc, digits)? else {
+        return Ok(None);
+    };
+    let files = vec![in alloc; bytes]?;
+    Ok(Some(Command::Change {
+        kind,
+        database,
+        files,
+    }))
+}
+
+/// `NAME QUERY`.
+fn read_find(alloc: Global, text: &str) -> Result<Option<Command>, AllocError>
+    ensures { IfOk result (λ found. MatchOption found (¬ HasFind text.now) (IsFind text.now)) }
+{
+    let (name, query) = cut_word(text);
+    let Some(database) = DbName::read(name) else {
+        return Ok(None);
+    };
+    if query.is_empty() {
+        return Ok(None);
+    }
+    Ok(Some(Command::Find {
+        database,
+        query: String::from_str(alloc, query)?,
+        first: 1,
+        count: SHOWN,
+    }))
+}
+
+/// `NAME N P QUERY`.
+fn read_scan(alloc: Global, text: &str) -> Result<Option<Command>, AllocError>
+    ensures { IfOk result (λ found. MatchOption found (¬ HasScan text.now) (IsScan text.now)) }
+{
+    let (name, rest) = cut_word(text);
+    let (number, rest) = cut_word(rest);
+    let (position, query) = cut_word(rest);
+    let Some(database) = DbName::read(name) else {
+        return Ok(None);
+    };
+    let (Some(number), Some(position)) = (number_of(number), number_of(position)) else {
+        return Ok(None);
+    };
+    if number > TERMS || position == 0 || position > number || query.is_empty() {
+        return Ok(None);
+    }
+    Ok(Some(Command::Scan {
+        database,
+        query: String::from_str(alloc, query)?,
+        number,
+        position,
+    }))
+}

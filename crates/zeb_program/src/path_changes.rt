@@ -1,0 +1,110 @@
+//! The lines of a batch that name a change by the path of its file.
+
+ghost use Rattle.std.specs.Prelude.{◌≡◌, ◌↔◌, ◌≢◌, ◌≤◌, ℕ, List, Some, false, string_bytes};
+ghost use Rattle.std.specs.Prelude.{IfOk, IfNone, IfSome, IsTrue, MatchOption, OnErr};
+ghost use Rattle.sqlite.specs.Held.{state};
+ghost use Rattle.sqlite.specs.State.{HasCleanDisk};
+ghost use Rattle.zeb_change.specs.Conditions.{conditions};
+ghost use Rattle.zeb_change.specs.declared.settings.Kind.{Kind};
+ghost use Rattle.zeb_register.specs.Formats.{version_of};
+ghost use Rattle.zeb_program.specs.Answers.{IsFileAnswer};
+ghost use Rattle.zeb_program.specs.Batches.{kind_word};
+ghost use Rattle.zeb_program.specs.PathChanges.{HasPath, IsDigits, NamesPath};
+ghost use Rattle.zeb_program.specs.Serving.{Leads};
+
+use crate::digits::bytes_of_digits;
+use crate::faults::tell;
+use crate::program::{ANSWERED, FAILED};
+use crate::sinks::Sink;
+use crate::tasks::change_by_paths;
+use crate::words::cut_word;
+use sqlite::Alter;
+use std::alloc::{AllocError, Global};
+use std::io::Write;
+use std::slice;
+use zeb_engine::{DbName, Kind, Session, render};
+use zeb_paths::Paths;
+use zeb_register::Layout;
+
+/// A change of a database by the file at a path, or by those below a folder's.
+#[derive(Debug, Drop)]
+pub struct PathChange {
+    pub kind: Kind,
+    pub database: DbName,
+    pub path: String,
+}
+
+/// The change that a line names by a path, `update NAME FILE`, `delete NAME FILE` or `adelete NAME FILE`. The line begins and
+/// ends with no blank. FILE is the rest of the line, isn't empty, and isn't `hex:` with the digits of bytes.
+pub fn read_path_change(alloc: Global, text: &str) -> Result<Option<PathChange>, AllocError>
+    ensures { IfOk result (λ found. MatchOption found (¬ HasPath text.now) (NamesPath text.now)) }
+{
+    let (word, rest) = cut_word(text);
+    let (name, file) = cut_word(rest);
+    let (Some(kind), Some(database)) = (kind_of(word), DbName::read(name)) else {
+        return Ok(None);
+    };
+    if file.is_empty() || is_digits(alloc, file)? {
+        return Ok(None);
+    }
+    let path = String::from_str(alloc, file)?;
+    Ok(Some(PathChange {
+        kind,
+        database,
+        path,
+    }))
+}
+
+/// The kind of change that a word names.
+fn kind_of(word: &str) -> Option<Kind>
+    ensures found { IfSome result (λ kind. word.now ≡ kind_word kind) }
+    ensures none { IfNone result ((kind : Kind) → word.now ≢ kind_word kind) }
+{
+    match word {
+        "update" => Some(Kind::Update),
+        "delete" => Some(Kind::Delete),
+        "adelete" => Some(Kind::Adelete),
+        _ => None,
+    }
+}
+
+/// Whether a file is given as `hex:` and the digits of its bytes.
+fn is_digits(alloc: Global, file: &str) -> Result<bool, AllocError>
+    ensures { IfOk result (λ is. IsTrue is ↔ IsDigits file.now) }
+{
+    match file.strip_prefix("hex:") {
+        Some(digits) => Ok(bytes_of_digits(alloc, digits)?.is_some()),
+        None => Ok(false),
+    }
+}
+
+/// Carries out a change by a path, writes its reply or what kept it from one, and answers the status.
+pub fn run_path_change<S: Alter, L: Layout, P: Paths, W: Write>(
+    alloc: Global,
+    session: &mut Session<S, L>,
+    paths: &P,
+    change: &PathChange,
+    output: &mut Sink<W>,
+) -> Result<u8, AllocError>
+    ensures sound { output.new.failed ≡ false → output.old.failed ≡ false }
+    // Where the paths tell the file's bytes.
+    ensures answer { IfOk result (λ status. output.new.failed ≡ false → HasCleanDisk (state S.Store session.new.connection)
+        → (file : List ℕ) → P.tells paths.now (string_bytes change.now.path) ≡ Some file
+        → Leads (state S.Store session.old.connection) (state S.Store session.new.connection) (W.contents output.old.writer)
+        (W.contents output.new.writer)
+        (λ before bytes later. IsFileAnswer (conditions
+        (version_of L.format) session.old.profile session.old.limits) change.now file before bytes status later)) }
+    ensures stopped { OnErr result (output.new ≡ output.old) }
+    ensures clean { HasCleanDisk (state S.Store session.new.connection) → HasCleanDisk (state S.Store session.old.connection) }
+    ensures under { (session.new.profile ≡ session.old.profile) × (session.new.limits ≡ session.old.limits) }
+    ensures range { IfOk result (λ status. status ≤ FAILED) }
+{
+    let named = slice::from_ref(&change.path);
+    match change_by_paths(alloc, session, paths, change.kind, &change.database, named) {
+        Ok(reply) => {
+            output.write(render(alloc, &reply)?.as_slice());
+            Ok(ANSWERED)
+        }
+        Err(fault) => tell(alloc, &fault, output),
+    }
+}

@@ -1,0 +1,180 @@
+//! The program without its outside: words and input come in, output and a status go out.
+
+ghost use Rattle.std.specs.Prelude.{◌≡◌, ◌≢◌, ◌≤◌, ◌+◌, [], true, false, map, string_bytes, IfOk, IfSome, OnErr};
+ghost use Rattle.std.specs.Io.KnownBytes.{Appends, Keeps};
+ghost use Rattle.zeb_program.specs.Inputs.{TakesAtMost};
+ghost use Rattle.zeb_program.specs.ScriptAnswers.{AnswersScript, fault_line, fault_status};
+ghost use Rattle.zeb_program.specs.WordAnswers.{AnswersWords, IsFaultStatus, NamesLines, NamesShell};
+
+use crate::batch::run_batch;
+use crate::command_line::run_words;
+use crate::input::{GREATEST_INPUT, InputFault, read_text};
+use crate::script::Script;
+use crate::sinks::Sink;
+use std::alloc::{AllocError, Global};
+use std::io::Write;
+use zeb_marc::Source;
+use zeb_paths::Paths;
+use zeb_profile::{Profile, ProfileFault, ProfileFaultKind};
+
+/// The status where all was answered.
+pub const ANSWERED: u8 = 0;
+
+/// The status where something was refused.
+pub const REFUSED: u8 = 1;
+
+/// The status where the words or a line say nothing that the program knows.
+pub const MISUSED: u8 = 2;
+
+/// The status where reading, writing, the store or memory failed.
+pub const FAILED: u8 = 3;
+
+/// Runs the program on these words, its name not among them, and answers its status, 0 to 3.
+///
+/// Without a word the input is a script: the lines of a profile, a line `.`, and the lines of a batch,
+/// which run over a register in memory; a file may be named by its path. What they answer goes to the
+/// output, each refusal in its place; a fault of the input or of the profile goes there too, and then
+/// nothing else. A script without a line `.` is a profile alone, and only its fault is written.
+///
+/// Words name a profile's file, a database and a command, which is carried out on the register at the
+/// profile's path. Its answer goes to the output, and to the fault output why there is none: words that
+/// aren't understood, a profile or a path that can't be read, a refusal. An analysis that is answered may
+/// warn of records there. The command `batch` runs the lines of the input in one session; what they answer
+/// goes to the output, as that of a script does. The command `shell` does the same with each line as it
+/// comes: its answer is passed on before the next line is read. It ends where a write has failed, too.
+///
+/// The status is the greatest met: 0 answered, 1 refused, 2 a line that is none or words that aren't
+/// understood, 3 where the input or a path couldn't be read, a write or the store failed or memory ran
+/// out. Where memory runs out between two lines of output, what was written stays, and nothing more comes.
+pub fn run<R: Source, W: Write, V: Write, P: Paths>(
+    alloc: Global,
+    words: &[String],
+    paths: &mut P,
+    input: &mut R,
+    output: &mut Sink<W>,
+    fault_output: &mut Sink<V>,
+) -> u8
+    requires { R.has_failed input.old ≡ false }
+    ensures range { result ≤ FAILED }
+
+    // However long the input is, and whatever the answer, but for a shell. Words leave it alone, but where they name a batch or a shell.
+    ensures bounded { ¬ NamesShell (map string_bytes words.now) →
+        TakesAtMost (GREATEST_INPUT + 1) (R.remaining input.old) (R.remaining input.new) }
+    ensures unread { words.now ≢ [] → ¬ NamesLines (map string_bytes words.now) → input.new ≡ input.old }
+
+    // A failed read of the input, and a failed write, show in the status.
+    ensures failed_read { words.now ≡ [] → R.has_failed input.new ≡ true → result ≡ FAILED }
+    ensures failed_write { output.new.failed ≡ true → result ≡ FAILED }
+    ensures failed_fault { fault_output.new.failed ≡ true → result ≡ FAILED }
+
+    // Without a word: what is written, where the input tells its bytes and neither a read nor a write failed. The answers of lines are
+    // told where the paths tell the bytes of each file that a line names by its path.
+    ensures script { words.now ≡ [] → R.has_failed input.new ≡ false → output.new.failed ≡ false → fault_output.new.failed ≡ false →
+        IfSome (R.remaining input.old) (λ text.
+        AnswersScript (P.tells paths.old) text (W.contents output.old.writer) (W.contents output.new.writer) result) }
+    ensures quiet { words.now ≡ [] → fault_output.new.failed ≡ false →
+        Keeps (V.contents fault_output.old.writer) (V.contents fault_output.new.writer) }
+
+    // With words.
+    ensures words { words.now ≢ [] → output.new.failed ≡ false → fault_output.new.failed ≡ false →
+        AnswersWords (map string_bytes words.now) (R.remaining input.new) (W.contents output.old.writer) (W.contents output.new.writer)
+        (V.contents fault_output.old.writer) (V.contents fault_output.new.writer) result }
+    ensures failed_batch { words.now ≢ [] → R.has_failed input.new ≡ true → result ≡ FAILED }
+{
+    let status = respond(alloc, words, paths, input, output, fault_output);
+    output.flush();
+    fault_output.flush();
+    if output.has_failed() || fault_output.has_failed() {
+        return FAILED;
+    }
+    status
+}
+
+/// What `run` does before the last bytes are passed on.
+fn respond<R: Source, W: Write, V: Write, P: Paths>(
+    alloc: Global,
+    words: &[String],
+    paths: &mut P,
+    input: &mut R,
+    output: &mut Sink<W>,
+    fault_output: &mut Sink<V>,
+) -> u8
+    requires { R.has_failed input.old ≡ false }
+    ensures range { result ≤ FAILED }
+    ensures bounded { ¬ NamesShell (map string_bytes words.now) →
+        TakesAtMost (GREATEST_INPUT + 1) (R.remaining input.old) (R.remaining input.new) }
+    ensures unread { words.now ≢ [] → ¬ NamesLines (map string_bytes words.now) → input.new ≡ input.old }
+    ensures failed_read { words.now ≡ [] → R.has_failed input.new ≡ true → result ≡ FAILED }
+    ensures script { words.now ≡ [] → R.has_failed input.new ≡ false → output.new.failed ≡ false → IfSome (R.remaining input.old) (λ text.
+        AnswersScript (P.tells paths.old) text (W.contents output.old.writer) (W.contents output.new.writer) result) }
+    ensures quiet { words.now ≡ [] → fault_output.new ≡ fault_output.old }
+    ensures words { words.now ≢ [] → output.new.failed ≡ false → fault_output.new.failed ≡ false →
+        AnswersWords (map string_bytes words.now) (R.remaining input.new) (W.contents output.old.writer) (W.contents output.new.writer)
+        (V.contents fault_output.old.writer) (V.contents fault_output.new.writer) result }
+    ensures failed_batch { words.now ≢ [] → R.has_failed input.new ≡ true → result ≡ FAILED }
+{
+    let status = if words.is_empty() {
+        run_script(alloc, paths, input, output)
+    } else {
+        run_words(alloc, words, paths, input, output, fault_output)
+    };
+    status.unwrap_or(FAILED)
+}
+
+fn run_script<R: Source, W: Write, P: Paths>(
+    alloc: Global,
+    paths: &P,
+    input: &mut R,
+    output: &mut Sink<W>,
+) -> Result<u8, AllocError>
+    requires { R.has_failed input.old ≡ false }
+    ensures range { IfOk result (λ status. status ≤ FAILED) }
+    ensures bounded { TakesAtMost (GREATEST_INPUT + 1) (R.remaining input.old) (R.remaining input.new) }
+    ensures failed_read { R.has_failed input.new ≡ true → IfOk result (λ status. status ≡ FAILED) }
+    ensures sound { output.new.failed ≡ false → output.old.failed ≡ false }
+    ensures answer { IfOk result (λ status. R.has_failed input.new ≡ false → output.new.failed ≡ false →
+        IfSome (R.remaining input.old) (λ text.
+        AnswersScript (P.tells paths.now) text (W.contents output.old.writer) (W.contents output.new.writer) status)) }
+    ensures stopped { OnErr result (R.has_failed input.new ≡ false → output.new.failed ≡ false →
+        IfSome (R.remaining input.old) (λ text.
+        AnswersScript (P.tells paths.now) text (W.contents output.old.writer) (W.contents output.new.writer) FAILED)) }
+{
+    let text = match read_text(alloc, input, GREATEST_INPUT) {
+        Ok(text) => text,
+        Err(InputFault::Unreadable) => {
+            output.write_line("zebraidx: cannot read input");
+            return Ok(FAILED);
+        }
+        Err(InputFault::Memory) => return Err(AllocError),
+    };
+    let script = Script::cut(text.as_str());
+    match Profile::read(alloc, script.profile) {
+        Ok(profile) => match script.batch {
+            Some(batch) => run_batch(alloc, profile, paths, batch, output),
+            None => Ok(ANSWERED),
+        },
+        Err(fault) => Ok(refuse_profile(fault, output)),
+    }
+}
+
+/// Writes a profile's fault, and answers its status.
+fn refuse_profile<W: Write>(fault: ProfileFault, output: &mut Sink<W>) -> u8
+    ensures range { result ≤ FAILED }
+    ensures status { result ≡ fault_status fault.kind }
+    ensures line { output.new.failed ≡ false → Appends (W.contents output.old.writer) (W.contents output.new.writer) (fault_line fault) }
+    ensures sound { output.new.failed ≡ false → output.old.failed ≡ false }
+{
+    output.write_line(format_args!("zebraidx: input {fault}"));
+    profile_status(fault.kind)
+}
+
+/// The status that a profile's fault ends the program with.
+pub fn profile_status(kind: ProfileFaultKind) -> u8
+    ensures fault { IsFaultStatus result }
+    ensures status { result ≡ fault_status kind }
+{
+    match kind {
+        ProfileFaultKind::Memory => FAILED,
+        _ => REFUSED,
+    }
+}

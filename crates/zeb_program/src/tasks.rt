@@ -1,0 +1,268 @@
+//! The tasks that words name, each carried out on the register that the profile names.
+
+ghost use Rattle.std.specs.Prelude.{◌≡◌, ◌⊎◌, ℕ, [], List, map, string_bytes, IfErr, IfOk};
+ghost use Rattle.std.specs.Option.{option_map};
+ghost use Rattle.sqlite.specs.Held.{state};
+ghost use Rattle.sqlite.specs.State.{HasCleanDisk};
+ghost use Rattle.zeb_change.specs.Conditions.{conditions};
+ghost use Rattle.zeb_image.specs.NameOf.{name_bytes};
+ghost use Rattle.zeb_register.specs.Formats.{version_of};
+ghost use Rattle.zeb_program.specs.Answers.{ChangesBy};
+ghost use Rattle.zeb_program.specs.Faults.{IsUnread, IsUnreadable};
+ghost use Rattle.zeb_program.specs.Serving.{AnswersFrom, ServesTask, replied};
+ghost use Rattle.zeb_program.specs.TaskAnswers.{AnalysesFiles, AnswersCommand, AreTold, ReadsWhole, paths_of};
+ghost use Rattle.zeb_program.specs.Warnings as spec;
+
+use crate::faults::Fault;
+use crate::files::{contents_of, read_profile, readers_of};
+use crate::warnings::{Place, unmarked_of, warning};
+use sqlite::Alter;
+use std::alloc::Global;
+use zeb_engine::{Command, DbName, Kind, Limits, Refusal, Reply, Session, render};
+use zeb_paths::Paths;
+use zeb_profile::Profile;
+use zeb_register::{Blocks, Layout};
+use zeb_words::Act;
+
+/// What words ask of a register.
+#[derive(Debug, Drop)]
+pub enum Task {
+    /// One command.
+    Ask(Command),
+    /// To change a database by the records in the files at and below these paths.
+    Change {
+        kind: Kind,
+        database: DbName,
+        paths: Vec<String>,
+    },
+    /// To show the occurrences of the records in the files at and below these paths.
+    Analyse(Vec<String>),
+}
+
+/// What words ask for.
+#[derive(Debug, Drop)]
+pub enum Errand {
+    /// One task.
+    Task(Task),
+    /// To run the lines of the input, which is read whole first.
+    Batch,
+    /// To run the lines of the input, each as it comes.
+    Shell,
+}
+
+impl Errand {
+    ghost use Rattle.zeb_program.specs.Errands.{IsErrandOf};
+
+    /// What an act on this database asks for.
+    pub fn of(database: DbName, act: Act) -> Errand
+        ensures { IsErrandOf database act result }
+    {
+        match act {
+            Act::Init => to_ask(Command::Init),
+            Act::Create(name) => to_ask(Command::Create(name)),
+            Act::Drop(name) => to_ask(Command::Drop(name)),
+            Act::Stat => to_ask(Command::Stat(database)),
+            Act::Dump => to_ask(Command::Dump(database)),
+            Act::Check => to_ask(Command::Check),
+            Act::Reindex => to_ask(Command::Reindex),
+            Act::Upgrade => to_ask(Command::Upgrade),
+            Act::Find {
+                query,
+                first,
+                count,
+            } => to_ask(Command::Find {
+                database,
+                query,
+                first,
+                count,
+            }),
+            Act::Scan {
+                query,
+                number,
+                position,
+            } => to_ask(Command::Scan {
+                database,
+                query,
+                number,
+                position,
+            }),
+            Act::Update { paths, shows: true } => Errand::Task(Task::Analyse(paths)),
+            Act::Update {
+                paths,
+                shows: false,
+            } => to_change(Kind::Update, database, paths),
+            Act::Delete(paths) => to_change(Kind::Delete, database, paths),
+            Act::Adelete(paths) => to_change(Kind::Adelete, database, paths),
+            Act::Batch => Errand::Batch,
+            Act::Shell => Errand::Shell,
+        }
+    }
+}
+
+fn to_ask(command: Command) -> Errand
+    ensures { result ≡ Errand.Task (Task.Ask command) }
+{
+    Errand::Task(Task::Ask(command))
+}
+
+fn to_change(kind: Kind, database: DbName, paths: Vec<String>) -> Errand
+    ensures { result ≡ Errand.Task (Task.Change kind database paths) }
+{
+    Errand::Task(Task::Change {
+        kind,
+        database,
+        paths,
+    })
+}
+
+/// What a task is answered.
+#[derive(Debug, Drop)]
+pub struct Served {
+    /// What the register replies.
+    pub reply: Reply,
+    /// Which of the records that are analysed don't say that they are in Unicode.
+    pub unmarked: Vec<Place>,
+}
+
+/// What is written for a task that is answered.
+#[derive(Debug, Drop)]
+pub struct Told {
+    /// Its answer.
+    pub text: Vec<u8>,
+    /// A line that warns of records, where there is need.
+    pub warning: Option<String>,
+}
+
+/// Carries a task out under the profile in this file, and gives what is written.
+pub fn perform<P: Paths>(
+    alloc: Global,
+    config: String,
+    task: &Task,
+    paths: &mut P,
+) -> Result<Told, Fault>
+    ensures { IfOk result (λ told. spec.MayWarn task.now (option_map string_bytes told.warning)) }
+{
+    let profile = read_profile(alloc, paths, config)?;
+    let mut session = open_register(alloc, paths, profile)?;
+    let Served { reply, unmarked } = carry_out(alloc, &mut session, paths, task)?;
+    Ok(Told {
+        text: render(alloc, &reply)?,
+        warning: warning(alloc, &unmarked, &reply)?,
+    })
+}
+
+/// Opens the register at the profile's path.
+pub fn open_register<P: Paths>(
+    alloc: Global,
+    paths: &mut P,
+    profile: Profile,
+) -> Result<Session<P::Store, Blocks>, Fault> {
+    let Ok(connection) = paths.store(profile.store_path()) else {
+        return Err(Fault::Refused(Refusal::Store));
+    };
+    match Session::adopt(alloc, connection, profile, Limits::GREATEST) {
+        Ok(session) => Ok(session),
+        Err((_, refusal)) => Err(Fault::Refused(refusal)),
+    }
+}
+
+/// Carries a task out in a session.
+pub fn carry_out<S: Alter, L: Layout, P: Paths>(
+    alloc: Global,
+    session: &mut Session<S, L>,
+    paths: &P,
+    task: &Task,
+) -> Result<Served, Fault>
+    ensures answer { HasCleanDisk (state S.Store session.new.connection)
+        → ServesTask (P.tells paths.now) (conditions (version_of L.format) session.old.profile session.old.limits) task.now
+        (state S.Store session.old.connection) (state S.Store session.new.connection) (replied result) }
+    // Where something couldn't be read, the register was asked for nothing.
+    ensures unread { IfErr result (λ fault. IsUnread fault → session.new ≡ session.old) }
+    // Where the bytes of a file at each path are told; and of another task than an analysis nothing is to be warned of.
+    ensures unmarked { (files : List (List ℕ)) → AreTold (P.tells paths.now) (paths_of task.now) files
+        → IfOk result (λ served. served.unmarked.items ≡ spec.unmarked_by task.now files) }
+    ensures quiet { ¬ ReadsWhole task.now → IfOk result (λ served. served.unmarked.items ≡ []) }
+{
+    match task {
+        Task::Ask(command) => to_serve(ask(session, command), Vec::new(alloc)),
+        Task::Change {
+            kind,
+            database,
+            paths: named,
+        } => {
+            let reply = change_by_paths(alloc, session, paths, *kind, database, named);
+            to_serve(reply, Vec::new(alloc))
+        }
+        Task::Analyse(named) => analyse_paths(alloc, session, paths, named),
+    }
+}
+
+/// A reply, with the records that are to be warned of.
+fn to_serve(reply: Result<Reply, Fault>, unmarked: Vec<Place>) -> Result<Served, Fault>
+    ensures reply { replied result ≡ reply }
+    ensures unmarked { IfOk result (λ served. served.unmarked ≡ unmarked) }
+{
+    match reply {
+        Ok(reply) => Ok(Served { reply, unmarked }),
+        Err(fault) => Err(fault),
+    }
+}
+
+/// Asks a register for one command.
+fn ask<S: Alter, L: Layout>(session: &mut Session<S, L>, command: &Command) -> Result<Reply, Fault>
+    ensures answer { HasCleanDisk (state S.Store session.new.connection)
+        → AnswersFrom (state S.Store session.old.connection) (state S.Store session.new.connection) result
+        (AnswersCommand (conditions (version_of L.format) session.old.profile session.old.limits) command.now) }
+    ensures read { IfErr result (λ fault. ¬ IsUnread fault) }
+{
+    match session.command(command) {
+        Ok(reply) => Ok(reply),
+        Err(refusal) => Err(Fault::Refused(refusal)),
+    }
+}
+
+/// Changes a database by the records in the files at and below the paths, one record held at a time.
+pub fn change_by_paths<S: Alter, L: Layout, P: Paths>(
+    alloc: Global,
+    session: &mut Session<S, L>,
+    paths: &P,
+    kind: Kind,
+    database: &DbName,
+    named: &[String],
+) -> Result<Reply, Fault>
+    ensures clean { HasCleanDisk (state S.Store session.new.connection) → HasCleanDisk (state S.Store session.old.connection) }
+    ensures under { (session.new.profile ≡ session.old.profile) × (session.new.limits ≡ session.old.limits) }
+    // Where the bytes of a file at each path are told.
+    ensures told { HasCleanDisk (state S.Store session.new.connection)
+        → (files : List (List ℕ)) → AreTold (P.tells paths.now) (map string_bytes named.now) files
+        → AnswersFrom (state S.Store session.old.connection) (state S.Store session.new.connection) result
+        (ChangesBy (conditions (version_of L.format) session.old.profile session.old.limits) kind (name_bytes database.now) files) }
+    ensures unread { IfErr result (λ fault. IsUnread fault → session.new ≡ session.old) }
+{
+    let mut readers = readers_of(alloc, paths, named)?;
+    match session.update_from(database, kind, &mut readers) {
+        Ok(reply) => Ok(reply),
+        Err(refusal) => Err(Fault::Refused(refusal)),
+    }
+}
+
+/// Analyses the records in the files at and below the paths.
+fn analyse_paths<S: Alter, L: Layout, P: Paths>(
+    alloc: Global,
+    session: &mut Session<S, L>,
+    paths: &P,
+    named: &[String],
+) -> Result<Served, Fault>
+    // Where the bytes of a file at each path are told.
+    ensures told { HasCleanDisk (state S.Store session.new.connection)
+        → (files : List (List ℕ)) → AreTold (P.tells paths.now) (map string_bytes named.now) files
+        → AnswersFrom (state S.Store session.old.connection) (state S.Store session.new.connection) (replied result)
+        (AnalysesFiles (conditions (version_of L.format) session.old.profile session.old.limits) files) ⊎ IsUnreadable (replied result) }
+    ensures unread { IfErr result (λ fault. IsUnread fault → session.new ≡ session.old) }
+    ensures unmarked { (files : List (List ℕ)) → AreTold (P.tells paths.now) (map string_bytes named.now) files
+        → IfOk result (λ served. served.unmarked.items ≡ spec.unmarked_of 1 files) }
+{
+    let files = contents_of(alloc, paths, named)?;
+    let unmarked = unmarked_of(alloc, &files)?;
+    to_serve(ask(session, &Command::Analyse { files }), unmarked)
+}

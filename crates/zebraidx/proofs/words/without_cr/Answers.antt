@@ -1,9 +1,0 @@
-use Rattle.std.proofs.Common.{refl, ◌∙◌, ap, arith}
-use Rattle.std.proofs.lemmas.Str.Pattern.{strip_suffix_char}
-use Rattle.zebraidx.proofs.LineLemmas.{stripped}
-use Rattle.zebraidx.proofs.words.without_cr.Goals as goal
-
-pub returns : goal.returns
-returns c =
-    ap (λ x. x.now) c.unwrap_or.ensures
-    ∙ stripped c.args.line.now c.strip_suffix.result c.args.line refl (strip_suffix_char 13 c.args.line.now c.strip_suffix.result c.strip_suffix.ensures.cases (omega arith))
