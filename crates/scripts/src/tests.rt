@@ -12,6 +12,7 @@ use zeb_program::{FAILED, Sink, run};
 mod by_lines;
 mod fakes;
 mod folder;
+mod memory;
 mod paths;
 mod queries;
 mod records;

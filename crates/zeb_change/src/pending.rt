@@ -13,8 +13,8 @@ use zeb_register::Place;
 const MOST_WEIGHT: usize = 4_194_304;
 
 /// What a change takes beside its places: its number and its two lists, its part of the map, and the blocks of memory that these
-/// stand in, some 256 bytes, as much as 16 places.
-const CHANGE_WEIGHT: usize = 16;
+/// stand in, some 160 bytes, as much as 10 places.
+const CHANGE_WEIGHT: usize = 10;
 
 /// What becomes of one key's places in one record: those that stood there, and those that stand there then. Both lists rise.
 #[derive(Drop)]

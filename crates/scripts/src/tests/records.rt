@@ -1,8 +1,27 @@
 //! Records as hexadecimal digits, under names that the scripts of the tests write in brackets.
 
 use hex::FromHexError;
-use std::alloc::{AllocError, Global};
-use std::test::Fail;
+use std::alloc::{AllocError, AllocFailed, Global};
+
+/// Why what a run is given isn't there.
+#[derive(Debug, Drop)]
+pub enum Unmade {
+    Memory,
+    /// The test is at fault.
+    Faulty,
+}
+
+impl From<AllocError> for Unmade {
+    fn from(_error: AllocError) -> Unmade {
+        Unmade::Memory
+    }
+}
+
+impl<T: Drop> From<AllocFailed<T>> for Unmade {
+    fn from(_error: AllocFailed<T>) -> Unmade {
+        Unmade::Memory
+    }
+}
 
 /// Names, and the digits of their bytes.
 const RECORDS: [(&str, &str); 8] = [
@@ -64,11 +83,11 @@ pub fn with_records(alloc: Global, text: &str) -> Result<String, AllocError> {
 }
 
 /// The bytes of the records that the text names.
-pub fn bytes_of_records(alloc: Global, text: &str) -> Result<Vec<u8>, Fail> {
+pub fn bytes_of_records(alloc: Global, text: &str) -> Result<Vec<u8>, Unmade> {
     match hex::decode(alloc, with_records(alloc, text)?.as_str()) {
         Ok(bytes) => Ok(bytes),
-        Err(FromHexError::OutOfMemory) => Err(AllocError.into()),
-        Err(_) => Err(Fail::new("no digits")),
+        Err(FromHexError::OutOfMemory) => Err(Unmade::Memory),
+        Err(_) => Err(Unmade::Faulty),
     }
 }
 

@@ -1,6 +1,6 @@
 //! The program by words, over paths and a store in memory.
 
-use super::records::bytes_of_records;
+use super::records::{Unmade, bytes_of_records};
 use super::{Outcome, run_on};
 use sqlite::{Connection, MemStore};
 use std::alloc::{AllocGlobal, Global};
@@ -60,7 +60,7 @@ const LOST: Shelved<'static> = Shelved {
 };
 
 /// The occurrences of Moby Dick under the profile.
-const ANALYSIS: &str = "\
+pub const ANALYSIS: &str = "\
 record 1 1 a1
 Title:w 2 2 dick
 Title:w 2 1 moby
@@ -78,7 +78,7 @@ Any:w 3 3 whale
 ";
 
 /// The bytes of each of [`FILES`].
-pub fn contents(alloc: Global) -> Result<Vec<Vec<u8>>, Fail> {
+pub fn contents(alloc: Global) -> Result<Vec<Vec<u8>>, Unmade> {
     let mut contents = Vec::new(alloc);
     for (_, records) in FILES {
         contents.push(bytes_of_records(alloc, records)?)?;
@@ -87,7 +87,7 @@ pub fn contents(alloc: Global) -> Result<Vec<Vec<u8>>, Fail> {
 }
 
 /// The files of the shelf, those of records with these bytes.
-pub fn shelved<'a>(alloc: Global, contents: &'a [Vec<u8>]) -> Result<Vec<Shelved<'a>>, Fail> {
+pub fn shelved<'a>(alloc: Global, contents: &'a [Vec<u8>]) -> Result<Vec<Shelved<'a>>, Unmade> {
     let mut files = Vec::new(alloc);
     files.push(BYTES)?;
     files.push(LOST)?;
@@ -108,7 +108,7 @@ pub fn run_words(
     words: &[&str],
     store: Option<Connection<MemStore>>,
     lines: &[u8],
-) -> Result<Outcome, Fail> {
+) -> Result<Outcome, Unmade> {
     let mut given = Vec::new(alloc);
     for word in words {
         given.push(String::from_str(alloc, word)?)?;
@@ -120,15 +120,17 @@ pub fn run_words(
 }
 
 /// A store in memory whose register holds Moby Dick in the database `Default`.
-pub fn loaded(alloc: Global) -> Result<Connection<MemStore>, Fail> {
-    let connection = Connection::open_in_memory(alloc)?;
-    let (Ok(profile), Some(database)) = (Profile::read(alloc, BOOKS), DbName::read("Default"))
-    else {
-        return Err(Fail::new("no profile"));
+pub fn loaded(alloc: Global) -> Result<Connection<MemStore>, Unmade> {
+    let (Ok(connection), Ok(profile), Some(database)) = (
+        Connection::open_in_memory(alloc),
+        Profile::read(alloc, BOOKS),
+        DbName::read("Default"),
+    ) else {
+        return Err(Unmade::Memory);
     };
     let Ok(mut session) = Session::<_, Blocks>::adopt(alloc, connection, profile, Limits::GREATEST)
     else {
-        return Err(Fail::new("not adopted"));
+        return Err(Unmade::Memory);
     };
     let change = Command::Change {
         kind: Kind::Update,
@@ -136,7 +138,7 @@ pub fn loaded(alloc: Global) -> Result<Connection<MemStore>, Fail> {
         files: vec![in alloc; bytes_of_records(alloc, "<A>")?]?,
     };
     if session.command(&Command::Init).is_err() || session.command(&change).is_err() {
-        return Err(Fail::new("not loaded"));
+        return Err(Unmade::Memory);
     }
     Ok(session.release())
 }
