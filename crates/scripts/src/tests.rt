@@ -2,6 +2,7 @@
 
 use sqlite::MemStore;
 use std::alloc::Global;
+use std::io::BufWriter;
 use std::process::Abort;
 use std::test::Fail;
 use std::{io, str};
@@ -405,5 +406,18 @@ fn tells_of_failed_writes(rt: HostRuntime) -> Result<(), Fail> {
     );
     assert_eq!(rt; status, 3);
     assert!(rt; fault_output.has_failed());
+    // A writer that holds all back is full at the end alone.
+    let brittle = Brittle::new(0, Vec::new(rt.alloc()));
+    let mut output = Sink::new(BufWriter::new(rt.alloc(), brittle)?);
+    let status = run(
+        rt.alloc(),
+        &[],
+        &mut no_paths(),
+        &mut Slice::new(script.as_bytes()),
+        &mut output,
+        &mut Sink::new(io::sink()),
+    );
+    assert_eq!(rt; status, 3);
+    assert!(rt; output.has_failed());
     Ok(())
 }

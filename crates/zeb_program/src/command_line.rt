@@ -11,6 +11,7 @@ use crate::batch::run_lines;
 use crate::faults::{Fault, tell};
 use crate::files::{read_profile, unread};
 use crate::input::{GREATEST_INPUT, read_text};
+use crate::outputs::Output;
 use crate::program::{ANSWERED, FAILED, MISUSED};
 use crate::script::Batch;
 use crate::shell::run_shell_lines;
@@ -25,7 +26,7 @@ use zeb_register::Blocks;
 use zeb_words::{Usage, Words, read_words};
 
 /// Does what the words ask for, and answers the status. Memory that runs out in the program itself is no status.
-pub fn run_words<R: Source, W: Write, V: Write, P: Paths>(
+pub fn run_words<R: Source, W: Output, V: Write, P: Paths>(
     alloc: Global,
     words: &[String],
     paths: &mut P,
@@ -168,7 +169,7 @@ fn begin_batch<R: Source, P: Paths>(
 }
 
 /// Runs the lines of the input as they come, and answers the greatest status met.
-fn run_shell<R: Source, W: Write, V: Write, P: Paths>(
+fn run_shell<R: Source, W: Output, V: Write, P: Paths>(
     alloc: Global,
     config: String,
     paths: &mut P,
@@ -188,7 +189,7 @@ fn run_shell<R: Source, W: Write, V: Write, P: Paths>(
 }
 
 /// Opens the register, and then runs the lines of the input as they come.
-fn serve<R: Source, W: Write, P: Paths>(
+fn serve<R: Source, W: Output, P: Paths>(
     alloc: Global,
     config: String,
     paths: &mut P,

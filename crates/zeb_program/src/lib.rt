@@ -12,6 +12,7 @@ mod line_input;
 mod lines;
 mod memory;
 mod numbers;
+mod outputs;
 mod path_changes;
 mod program;
 mod script;
@@ -21,5 +22,6 @@ mod tasks;
 mod warnings;
 mod words;
 
+pub use outputs::Output;
 pub use program::{FAILED, run};
 pub use sinks::Sink;

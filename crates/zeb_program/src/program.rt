@@ -9,6 +9,7 @@ ghost use Rattle.zeb_program.specs.WordAnswers.{AnswersWords, IsFaultStatus, Nam
 use crate::batch::run_batch;
 use crate::command_line::run_words;
 use crate::input::{GREATEST_INPUT, InputFault, read_text};
+use crate::outputs::Output;
 use crate::script::Script;
 use crate::sinks::Sink;
 use std::alloc::{AllocError, Global};
@@ -46,7 +47,7 @@ pub const FAILED: u8 = 3;
 /// The status is the greatest met: 0 answered, 1 refused, 2 a line that is none or words that aren't
 /// understood, 3 where the input or a path couldn't be read, a write or the store failed or memory ran
 /// out. Where memory runs out between two lines of output, what was written stays, and nothing more comes.
-pub fn run<R: Source, W: Write, V: Write, P: Paths>(
+pub fn run<R: Source, W: Output, V: Output, P: Paths>(
     alloc: Global,
     words: &[String],
     paths: &mut P,
@@ -66,6 +67,10 @@ pub fn run<R: Source, W: Write, V: Write, P: Paths>(
     ensures failed_read { words.now ≡ [] → R.has_failed input.new ≡ true → result ≡ FAILED }
     ensures failed_write { output.new.failed ≡ true → result ≡ FAILED }
     ensures failed_fault { fault_output.new.failed ≡ true → result ≡ FAILED }
+
+    // Where no write has failed, nothing of what was written is held back.
+    ensures passed { output.new.failed ≡ false → W.held_back output.new.writer ≡ [] }
+    ensures passed_fault { fault_output.new.failed ≡ false → V.held_back fault_output.new.writer ≡ [] }
 
     // Without a word: what is written, where the input tells its bytes and neither a read nor a write failed. The answers of lines are
     // told where the paths tell the bytes of each file that a line names by its path.
@@ -91,7 +96,7 @@ pub fn run<R: Source, W: Write, V: Write, P: Paths>(
 }
 
 /// What `run` does before the last bytes are passed on.
-fn respond<R: Source, W: Write, V: Write, P: Paths>(
+fn respond<R: Source, W: Output, V: Output, P: Paths>(
     alloc: Global,
     words: &[String],
     paths: &mut P,

@@ -1,6 +1,6 @@
 //! A shell: the lines of the input in one session, each answered before the next is read.
 
-ghost use Rattle.std.specs.Prelude.{◌≡◌, ◌≤◌, ◌<◌, true, false, Some, IfOk, IfNone, IfSome};
+ghost use Rattle.std.specs.Prelude.{◌≡◌, ◌≤◌, ◌<◌, [], true, false, Some, IfOk, IfNone, IfSome};
 ghost use Rattle.std.specs.Io.KnownBytes.{Consumes, IsAtEnd};
 ghost use Rattle.zeb_program.specs.Lines.{whole_first_line};
 ghost use Rattle.zeb_program.specs.declared.input.InputFault.TheVariants.{Unreadable};
@@ -8,6 +8,7 @@ ghost use Rattle.zeb_program.specs.declared.input.InputFault.TheVariants.{Unread
 use crate::batch::{refuse_line, run_line};
 use crate::input::{GREATEST_INPUT, InputFault};
 use crate::line_input::read_line;
+use crate::outputs::Output;
 use crate::program::{ANSWERED, FAILED};
 use crate::sinks::Sink;
 use crate::words::cut_line;
@@ -25,7 +26,7 @@ use zeb_register::Layout;
 /// wait for each answer. A line that isn't UTF-8 is a bad one. It ends at the input's end, or with status 3 where a write fails:
 /// no line is read whose answer could not be seen. A failed read, and a line that is longer than an input may be, are
 /// `Unreadable`; the answers of the lines before stay.
-pub fn run_shell_lines<R: Source, S: Alter, L: Layout, P: Paths, W: Write>(
+pub fn run_shell_lines<R: Source, S: Alter, L: Layout, P: Paths, W: Output>(
     alloc: Global,
     session: &mut Session<S, L>,
     paths: &P,
@@ -55,7 +56,7 @@ pub fn run_shell_lines<R: Source, S: Alter, L: Layout, P: Paths, W: Write>(
 
 /// Reads the next line of the input, whose number this is, runs it, passes its answer on, and gives its status: `None` where
 /// the input is at its end. The input then begins behind that line.
-fn run_next_line<R: Source, S: Alter, L: Layout, P: Paths, W: Write>(
+fn run_next_line<R: Source, S: Alter, L: Layout, P: Paths, W: Output>(
     alloc: Global,
     session: &mut Session<S, L>,
     paths: &P,
@@ -70,6 +71,7 @@ fn run_next_line<R: Source, S: Alter, L: Layout, P: Paths, W: Write>(
         Consumes (Some left) (R.remaining input.new) (whole_first_line left))) }
     ensures end { IfOk result (λ found. IfNone found (IsAtEnd (R.remaining input.new))) }
     ensures going { IfOk result (λ _. R.has_failed input.new ≡ false) }
+    ensures passed { IfOk result (λ found. IfSome found (λ _. output.new.failed ≡ false → W.held_back output.new.writer ≡ [])) }
     ensures failed { R.has_failed input.new ≡ true → result ≡ Err Unreadable }
 {
     let bytes = read_line(alloc, input, GREATEST_INPUT)?;

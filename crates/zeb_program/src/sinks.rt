@@ -1,9 +1,10 @@
 //! Where the program writes.
 
-ghost use Rattle.std.specs.Prelude.{◌≡◌, false, true, IfSome};
+ghost use Rattle.std.specs.Prelude.{◌≡◌, [], false, true, IfSome};
 ghost use Rattle.std.specs.Io.KnownBytes.{Appends, Keeps};
 ghost use Rattle.std.specs.Fmt.{with_newline};
 
+use crate::outputs::Output;
 use std::fmt::Display;
 use std::io::Write;
 
@@ -50,23 +51,26 @@ impl<W: Write> Sink<W> {
         }
     }
 
-    /// Has the writer pass on what it holds back, unless a write has failed before. A failure counts
-    /// as a failed write.
-    pub fn flush(&mut self)
-        ensures sound { self.new.failed ≡ false → self.old.failed ≡ false }
-        ensures silent { self.old.failed ≡ true → self.new ≡ self.old }
-        ensures bytes { self.new.failed ≡ false →
-            Keeps (W.contents self.old.writer) (W.contents self.new.writer) }
-    {
-        if !self.failed {
-            self.failed = self.writer.flush().is_err();
-        }
-    }
-
     /// Whether a write has failed.
     pub fn has_failed(&self) -> bool
         ensures { result ≡ self.now.failed }
     {
         self.failed
+    }
+}
+
+impl<W: Output> Sink<W> {
+    /// Has the writer pass on what it holds back, unless a write has failed before. A failure counts
+    /// as a failed write.
+    pub fn flush(&mut self)
+        ensures sound { self.new.failed ≡ false → self.old.failed ≡ false }
+        ensures silent { self.old.failed ≡ true → self.new ≡ self.old }
+        ensures passed { self.new.failed ≡ false → W.held_back self.new.writer ≡ [] }
+        ensures bytes { self.new.failed ≡ false →
+            Keeps (W.contents self.old.writer) (W.contents self.new.writer) }
+    {
+        if !self.failed {
+            self.failed = self.writer.pass_on().is_err();
+        }
     }
 }

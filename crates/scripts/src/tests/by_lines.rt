@@ -6,12 +6,11 @@ use super::fakes::{Brittle, Torn};
 use super::records::with_records;
 use super::words::{contents, expect, loaded, run_words, shelved};
 use std::alloc::Global;
-use std::io::Write;
 use std::str;
 use std::test::Fail;
 use zeb_marc::{FromRead, Source};
 use zeb_paths::Shelf;
-use zeb_program::{Sink, run};
+use zeb_program::{Output, Sink, run};
 
 /// The words that run the lines of the input.
 const WORDS: [&str; 2] = ["batch", "shell"];
@@ -118,7 +117,7 @@ fn a_shell_opens_the_register_before_it_reads(rt: HostRuntime) -> Result<(), Fai
 }
 
 /// Runs a shell over a loaded store.
-fn shell<R: Source, W: Write, V: Write>(
+fn shell<R: Source, W: Output, V: Output>(
     alloc: Global,
     input: &mut R,
     output: &mut Sink<W>,

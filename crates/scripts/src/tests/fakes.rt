@@ -1,7 +1,10 @@
 //! Readers and writers that fail.
 
+ghost use Rattle.std.specs.Prelude.{[]};
+
 use std::io;
 use std::io::{ErrorKind, Read, Write};
+use zeb_program::Output;
 
 /// A reader of some bytes, after which each read fails.
 #[derive(Drop)]
@@ -75,5 +78,13 @@ impl Write for Brittle {
 
     fn flush(&mut self) -> io::Result<()> {
         self.call()
+    }
+}
+
+impl Output for Brittle {
+    ghost held_back = { λ _. [] };
+
+    fn pass_on(&mut self) -> io::Result<()> {
+        self.flush()
     }
 }
