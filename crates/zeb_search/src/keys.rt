@@ -21,8 +21,12 @@ use zeb_extract::Key;
 use zeb_profile::Register;
 use zeb_register::{DatabaseId, Layout, RegFault, TermCount, Work};
 
-/// How many terms of a register are read at a time.
-const PAGE_TERMS: u64 = 256;
+/// How many terms of a register are read at first. Most patterns match few terms, and each term that is read costs as much as a short
+/// list of postings.
+const FIRST_PAGE: u64 = 16;
+
+/// How many terms of a register are read at a time at most.
+const GREATEST_PAGE: u64 = 256;
 
 /// The keys of those of the terms that are asked for.
 fn keys_of(
@@ -65,8 +69,8 @@ fn next_start(
     Ok(Some(text_above(alloc, term)?))
 }
 
-/// Terms of a register, among which are those that are asked for: page by page, from the first that may be asked for until one behind
-/// which none is.
+/// Terms of a register, among which are those that are asked for: page by page, each twice as long as the one before, from the first term
+/// that may be asked for until one behind which none is.
 fn terms_by_pages<S: Alter, L: Layout>(
     alloc: Global,
     connection: &mut Connection<S>,
@@ -88,6 +92,7 @@ fn terms_by_pages<S: Alter, L: Layout>(
 {
     let mut terms = Vec::new(alloc);
     let mut start = wanted.start(alloc)?;
+    let mut page_terms = FIRST_PAGE;
     'pages: loop {
         let mut page = L::terms_from(
             alloc,
@@ -97,13 +102,16 @@ fn terms_by_pages<S: Alter, L: Layout>(
             index,
             register,
             start.as_str(),
-            PAGE_TERMS,
+            page_terms,
         )?;
         let next = next_start(alloc, wanted, &page)?;
         terms.append(&mut page)?;
         match next {
             Some(next) => start = next,
             None => return Ok(terms),
+        }
+        if page_terms < GREATEST_PAGE {
+            page_terms *= 2;
         }
     }
 }

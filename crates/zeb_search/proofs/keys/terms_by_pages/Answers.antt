@@ -23,6 +23,7 @@ pages-init g c = record {
   counted = counted_still g.L.Layout.format (λ content n. n ≡ g.L.Layout.row_work * length c.new-terms.result.items) NoRows (state g.S.Store c.args.connection.now) c.args.work.now
       (λ content. omega (arith, ap (λ (l : List TermCount). g.L.Layout.row_work * length l) c.new-terms.ensures.items)) (λ content. refl);
   no_work = λ _. refl;
+  some = omega (arith);
 }
 
 pub pages-preserved : goal.pages-preserved
@@ -41,14 +42,15 @@ pages-preserved g c =
           let O = posted content c.args.database.0 in
           let first = clean_before now new c.terms_from.ensures.call.crash clean in
           let there = subst (λ t. holds_in g.L.Layout.format t content) (sym (still_trees old now c.pages.invariant.read first)) has in
-          let are : AreTermsFrom O c.args.index c.args.register start 256 page =
-          subst (λ s. AreTermsFrom O c.args.index c.args.register s 256 page) c.as_str.ensures.value (c.in_ok-page.ensures.value clean (still_store old now c.pages.invariant.read first store) content there) in
+          let are : AreTermsFrom O c.args.index c.args.register start c.pages.page_terms page =
+          subst (λ s. AreTermsFrom O c.args.index c.args.register s c.pages.page_terms page) c.as_str.ensures.value (c.in_ok-page.ensures.value clean (still_store old now c.pages.invariant.read first store) content there) in
           let before = c.pages.invariant.found first store content has in
           subst (λ (l : List TermCount). HasUpTo O c.args.index c.args.register c.args.wanted l (string_bytes c.in-Some.next)) (sym c.in_ok-append.ensures.items)
-          (next_page O c.args.index c.args.register c.args.wanted terms start 256 page (omega arith) are before c.in-Some.next leads);
+          (next_page O c.args.index c.args.register c.args.wanted terms start c.pages.page_terms page c.pages.invariant.some are before c.in-Some.next leads);
       counted = pages_counted g.L.Layout.format g.L.Layout.row_work terms page c.append.new.self.items c.in_ok-append.ensures.items old now new c.args.work.now c.pages.work c.terms_from.new.work
           c.pages.invariant.read c.terms_from.ensures.call.crash c.pages.invariant.counted c.in_ok-page.ensures.work;
       no_work = λ none. c.terms_from.ensures.no_work none ∙ c.pages.invariant.no_work none;
+      some = omega (arith, c.pages.invariant.some);
     }
 
 pub pages-smaller : goal.pages-smaller
@@ -71,13 +73,13 @@ returns-in-None-clause-value g c clean store content has =
     let O = posted content c.args.database.0 in
     let first = clean_before now new c.terms_from.ensures.call.crash clean in
     let there = subst (λ t. holds_in g.L.Layout.format t content) (sym (still_trees old now c.pages.invariant.read first)) has in
-    let are : AreTermsFrom O c.args.index c.args.register start 256 page =
-    subst (λ s. AreTermsFrom O c.args.index c.args.register s 256 page) c.as_str.ensures.value (c.in_ok-page.ensures.value clean (still_store old now c.pages.invariant.read first store) content there) in
+    let are : AreTermsFrom O c.args.index c.args.register start c.pages.page_terms page =
+    subst (λ s. AreTermsFrom O c.args.index c.args.register s c.pages.page_terms page) c.as_str.ensures.value (c.in_ok-page.ensures.value clean (still_store old now c.pages.invariant.read first store) content there) in
     let before = c.pages.invariant.found first store content has in
     let ends : LeadsTo c.args.wanted page None =
     subst (LeadsTo c.args.wanted page) c.in-None.is (subst (λ (l : List TermCount). LeadsTo c.args.wanted l c.in_ok-next.next) c.deref.ensures.value c.in_ok-next.ensures) in
     subst (HasWanted O c.args.index c.args.register c.args.wanted) (sym c.in_ok-append.ensures.items)
-    (last_page O c.args.index c.args.register c.args.wanted c.pages.terms.items start 256 page (omega arith) are before ends)
+    (last_page O c.args.index c.args.register c.args.wanted c.pages.terms.items start c.pages.page_terms page c.pages.invariant.some are before ends)
 
 pub returns-in-None-clause-work : goal.returns-in-None-clause-work
 returns-in-None-clause-work g c =
@@ -97,12 +99,12 @@ returns-in-None-clause-work g c =
     let O = posted content db in
     let first = clean_before now new c.terms_from.ensures.call.crash clean in
     let there = subst (λ t. holds_in g.L.Layout.format t content) (sym (still_trees old now c.pages.invariant.read first)) has in
-    let are : AreTermsFrom O index register start 256 page =
-    subst (λ s. AreTermsFrom O index register s 256 page) c.as_str.ensures.value (c.in_ok-page.ensures.value clean (still_store old now c.pages.invariant.read first store) content there) in
+    let are : AreTermsFrom O index register start c.pages.page_terms page =
+    subst (λ s. AreTermsFrom O index register s c.pages.page_terms page) c.as_str.ensures.value (c.in_ok-page.ensures.value clean (still_store old now c.pages.invariant.read first store) content there) in
     let before = c.pages.invariant.found first store content has in
     within_register row_work content db index register all are.all n
-    (subst TermsRise (sym c.in_ok-append.ensures.items) (more_rises O index register c.args.wanted terms start 256 page (omega arith) are before))
-    (subst (λ (l : List TermCount). (t : TermCount) → Has l t → (m : ℕ) × TermIn O index register t.term m) (sym c.in_ok-append.ensures.items) (more_of O index register c.args.wanted terms start 256 page (omega arith) are before))
+    (subst TermsRise (sym c.in_ok-append.ensures.items) (more_rises O index register c.args.wanted terms start c.pages.page_terms page c.pages.invariant.some are before))
+    (subst (λ (l : List TermCount). (t : TermCount) → Has l t → (m : ℕ) × TermIn O index register t.term m) (sym c.in_ok-append.ensures.items) (more_of O index register c.args.wanted terms start c.pages.page_terms page c.pages.invariant.some are before))
     are.are is)
     (pages_counted g.L.Layout.format row_work terms page all c.in_ok-append.ensures.items old now new c.args.work.now c.pages.work c.terms_from.new.work
     c.pages.invariant.read c.terms_from.ensures.call.crash c.pages.invariant.counted c.in_ok-page.ensures.work)

@@ -1,4 +1,4 @@
-use Rattle.std.proofs.Common.{◌≡◌, ◌*◌, ◌-◌, ◌^◌, length, string_bytes}
+use Rattle.std.proofs.Common.{◌≡◌, ◌≤◌, ◌*◌, ◌-◌, ◌^◌, length, string_bytes}
 use Rattle.sqlite.specs.Held.{state}
 use Rattle.sqlite.specs.State.{HasCleanDisk}
 use Rattle.zeb_register.specs.Content.{Content, posted}
@@ -19,6 +19,7 @@ invariant-pages g l =
           → HasUpTo (posted content l.fn.database.0) l.index l.register l.wanted l.terms.items (string_bytes l.start);
       counted : Counted g.L.Layout.format (λ content n. n ≡ g.L.Layout.row_work * length l.terms.items) NoRows old now l.fn.work l.work;
       no_work : g.L.Layout.row_work ≡ 0 → l.work ≡ l.fn.work;
+      some : 1 ≤ l.page_terms;
     }
 
 -- a page that leads to another one has some term
