@@ -1,7 +1,9 @@
 -- The identifier of a record, by the Zebra manual ("recordId"): the text of the unit that the profile's identifier rule
 -- names. Of the units that the rule fits the first counts. Its bytes are read as UTF-8, with U+FFFD where they are not
 -- (The Unicode Standard, section 3.9), and U+0020 is taken off both ends; what is left has to be 1 to 255 bytes, without
--- a control character (General_Category Cc, section 4.5). What is taken off, and what is left out as bad, are this project's own rules.
+-- a control character (General_Category Cc, section 4.5).
+-- This project's own rules: that the first unit counts, also where nothing is left of its text; that the bytes are read as
+-- UTF-8, whatever the leader says of them; what is taken off the ends, what is refused as bad, and the two faults.
 use Rattle.std.specs.Prelude.{ℕ, Bool, ◌||◌, List, [], ◌∷◌, length, reverse, Option, None, Some, Result, Ok, Err, ◌==◌, nat_lt, if◌then◌else◌, chars, find}
 use Rattle.std.specs.List.{list_any}
 use Rattle.std.specs.Char.{is_control}

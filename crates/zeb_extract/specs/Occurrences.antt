@@ -2,6 +2,9 @@
 -- to the registers that are its targets, and each term has a number there. A word register has the words of the unit, a
 -- phrase register the words joined by one space, where there is a word, and a number register the keys of the numbers.
 -- A unit's bytes are read as UTF-8, with U+FFFD where they are not (The Unicode Standard, section 3.9).
+-- This project's own rules: what words, joined words, numbers and keys are (see zeb_text), and that a unit is the text that is cut;
+-- that terms are numbered from 1 in each unit, and a phrase stands at 1; that bytes are read as UTF-8, whatever the leader says of
+-- them; and that what two targets or two lines add alike is there once.
 use Rattle.std.specs.Prelude.{◌≡◌, ℕ, List, [], ◌∷◌, map, chars, encode_utf8_all, Option}
 use Rattle.std.specs.List.{Contains, enumerate_from}
 use Rattle.std.specs.Str.Lossy.{utf8_lossy}

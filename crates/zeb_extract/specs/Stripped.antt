@@ -1,4 +1,5 @@
--- What it means that the spaces (U+0020) at the ends of a text, and no others, are taken off it.
+-- What it means that the spaces (U+0020) at the ends of a text, and no others, are taken off it (this project's own rule for an
+-- identifier).
 use Rattle.std.specs.Prelude.{◌≡◌, ◌≢◌, ℕ, List, [], ◌∷◌, ◌++◌, replicate}
 
 abbrev pub spaces : ℕ → List ℕ

@@ -14,7 +14,8 @@ pub struct Key {
 }
 
 /// One place of a record at which a key occurs: `seq` is the unit's number in the record and `pos` the number of the
-/// word or number in that unit, both from 1. A phrase stands at `pos` 1.
+/// word or number in that unit, both from 1. A phrase stands at `pos` 1. So it is in what [`occurrences`](crate::occurrences)
+/// gives; the type itself holds any numbers.
 ///
 /// Occurrences are ordered by key, then `seq`, then `pos`.
 #[derive(Clone, Debug, PartialEq, Eq, PartialOrd, Ord, Drop)]

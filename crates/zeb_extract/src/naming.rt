@@ -53,8 +53,8 @@ impl From<AllocError> for IdentFault {
 /// its ends. Bytes that are no UTF-8 are read as U+FFFD (Unicode, section 3.9, best practice).
 ///
 /// `NoIdentifier` comes where no unit fits or nothing is left of the first one's text, also where a later unit would
-/// have text; `BadIdentifier` where more than 255 bytes of UTF-8 are left or a control character is among them;
-/// `Memory` where memory was refused.
+/// have text; `BadIdentifier` where more than 255 bytes of UTF-8 are left or a control character is among them. `Memory` says
+/// that memory was refused; that it comes there alone is tested and not proved.
 pub fn identifier(alloc: Global, marc: &Marc<'_>, profile: &Profile) -> Result<String, IdentFault>
     ensures ok { IfOk result (λ name. identifier_of profile.now (units_of marc.now) ≡ Ok (string_bytes name)) }
     ensures err { IfErr result (λ fault. (fault ≢ IdentFault.Memory) →

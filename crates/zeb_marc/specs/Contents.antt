@@ -2,6 +2,8 @@
 -- fields"): a control field, whose tag begins with `00`, is one unit without a code. A data field is cut at every
 -- delimiter (0x1F): what stands before the first are the indicators and no unit; each later piece that isn't empty is a
 -- unit, a subfield, its first byte the code and the rest its text. The units of all fields are numbered from 1.
+-- This project's own rules: that a record is read as units, and their numbers; that indicators may be any bytes, of any number;
+-- that any byte may be a code; that an empty piece is passed over; and that only a tag makes a control field, whatever its bytes.
 use Rattle.std.specs.Prelude.{ℕ, suc, Bool, ◌&&◌, List, [], ◌∷◌, drop, Option, Some, None, ◌==◌, if◌then◌else◌, slice_index}
 use Rattle.std.specs.List.{slice_split, flat_map}
 use Rattle.zeb_marc.specs.Directory.{FieldText}

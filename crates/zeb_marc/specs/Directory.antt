@@ -1,7 +1,8 @@
 -- The directory, by ISO 2709 ("Directory") and the MARC 21 Specifications for Record Structure ("Directory", "Variable
 -- fields"): entries of twelve bytes, a tag of three characters, the field's length of four digits, which counts its
--- field terminator, and where it starts, of five digits, from the base address of data on. Entries may come in any
--- order, overlap and leave gaps.
+-- field terminator, and where it starts, of five digits, from the base address of data on.
+-- This project's own rules: that entries may come in any order, overlap and leave gaps; that a tag may mix capitals and small
+-- letters; which fault a check has, and the order of the checks.
 use Rattle.std.specs.Prelude.{ℕ, ◌+◌, ◌-◌, Bool, ◌&&◌, List, [], ◌∷◌, length, take, map, nat_lt, nat_le, ◌==◌, slice_range, slice_index}
 use Rattle.std.specs.List.{list_all, flat_map}
 use Rattle.std.specs.Char.{is_ascii_alphanumeric}
@@ -43,7 +44,7 @@ has_tag_bytes tag = list_all is_ascii_alphanumeric tag
 unfoldable pub has_digits : Entry → Bool
 has_digits entry = are_digits entry.size && are_digits entry.start
 
--- the field has its terminator at least, and ends within the data area
+-- the field has its terminator at least, and ends within the data area: the record terminator is no part of that
 unfoldable pub is_in_area : List ℕ → Entry → Bool
 is_in_area area entry = nat_lt (number_of entry.start) (end_of entry) && nat_le (end_of entry) (length area)
 

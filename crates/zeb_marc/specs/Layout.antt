@@ -1,7 +1,8 @@
 -- How a record lies in its bytes, by ISO 2709 ("Structure of a record") and the MARC 21 Specifications for Record
 -- Structure: a leader of twenty-four bytes, the directory's entries in a row, a field terminator (0x1E), the data area
 -- and a record terminator (0x1D). The leader says how long the whole is and where the data area begins; each entry names
--- a field, which ends with a field terminator. This says of a whole text what the checks say one after the other.
+-- a field, which ends with a field terminator. This says of a whole text what the checks say one after the other. Leader and
+-- Directory say which of its parts are read by this project's own rules.
 use Rattle.std.specs.Prelude.{◌≡◌, ℕ, ◌+◌, ◌*◌, true, List, [], ◌∷◌, ◌++◌, length, take, map, slice_range}
 use Rattle.std.specs.List.{AllByRecursion, flat_map}
 use Rattle.zeb_marc.specs.Leader.{are_digits, number_of, record_length, base_digits, base_address, has_counts}

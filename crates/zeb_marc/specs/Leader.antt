@@ -3,7 +3,8 @@
 -- digits. 10 and 11 count the bytes of indicators and of a subfield's code, and 20 to 22 the digits of a directory
 -- entry's parts: they are `2`, `2`, `4`, `5` and `0`, and a byte there that is no digit is read as that value.
 -- A check is a fact that a record has to meet, with the fault of bytes that don't; the first that fails counts.
--- Own rules of this project: that other bytes than digits are taken there, which fault a check has, and the order of the checks.
+-- This project's own rules: that other bytes than digits are taken there, that the other positions are not looked at, which
+-- fault a check has, and the order of the checks.
 use Rattle.std.specs.Prelude.{◌≡◌, ℕ, ◌-◌, ◌%◌, Bool, not, ◌&&◌, ◌||◌, List, [], ◌∷◌, ◌++◌, length, take, Option, Some, None, Result, Ok, Err, nat_lt, nat_le, ◌==◌, if◌then◌else◌, slice_index, slice_range}
 use Rattle.std.specs.List.{list_all}
 use Rattle.std.specs.Char.{is_ascii_digit}

@@ -1,5 +1,6 @@
 -- Reading one record from a source (ISO 2709: a record begins with its length), part by part: separators, then bytes up
 -- to a length. `text` is what the source tells that it has left; where it tells nothing, nothing is said of the bytes.
+-- This project's own rules: the separators (see Splits), and which fault is answered.
 use Rattle.std.specs.Prelude.{◌≡◌, ℕ, suc, ◌<◌, ◌≤◌, Bool, true, List, [], ◌∷◌, length, take, drop, Option, Some, None, Result, Ok, Err, ⊤}
 use Rattle.std.specs.List.{prefix_len}
 use Rattle.zeb_marc.specs.declared.faults.MarcFault.{MarcFault}

@@ -2,6 +2,8 @@
 -- directory ended by a field terminator, the data area, and a record terminator. A text is a record where each check
 -- passes, those of the leader first and then those of each directory entry in order; its fields are then those that the
 -- entries name. Of every other text the first check that fails gives the fault.
+-- This project's own rules: which check comes first, which fault it has (see Leader and Directory), and that the text has to be
+-- the record alone, with nothing behind it.
 use Rattle.std.specs.Prelude.{◌≡◌, ℕ, ◌-◌, List, ◌++◌, length, Option, None, slice_range, ⊤}
 use Rattle.zeb_marc.specs.declared.faults.MarcFault.{MarcFault}
 use Rattle.zeb_marc.specs.declared.faults.MarcFault.TheVariants.{TooManySeparators, ReadFault}

@@ -1,6 +1,6 @@
 -- What reading the next record takes off a stream, and what it leaves unread (ISO 2709: a record begins with its length
 -- in five digits). It reads no further than it has to: so what stands in the bytes before a read that fails, a record or
--- a fault, wins over the failure.
+-- a fault, wins over the failure. This project's own rule: what is taken off where a fault is answered, and that it wins.
 use Rattle.std.specs.Prelude.{◌≡◌, ℕ, true, List, [], ◌++◌, length, Option, Some, None, Result, Ok, Err, ◌⊎◌}
 use Rattle.zeb_marc.specs.declared.faults.MarcFault.{MarcFault}
 use Rattle.zeb_marc.specs.declared.faults.MarcFault.TheVariants.{Truncated, TooManySeparators, ReadFault}

@@ -1,5 +1,6 @@
 -- A worked record of ISO 2709: a leader, three directory entries, a control field with an identifier, a title of two
--- subfields and a date; its fields and units, read off by hand.
+-- subfields and a date; its fields and units, read off by hand. And a small record, with texts that differ from it in one
+-- place.
 use Rattle.std.specs.Prelude.{ℕ, List, [], ◌∷◌, ◌++◌, Some, None, codes}
 use Rattle.zeb_marc.specs.Directory.{FieldText}
 use Rattle.zeb_marc.specs.Contents.{UnitText}
@@ -28,3 +29,15 @@ worked_units = record { seq = 1; tag = codes "001"; code = None; text = codes "a
     ∷ record { seq = 3; tag = codes "245"; code = Some 98; text = codes "or, the whale /" }
     ∷ record { seq = 4; tag = codes "260"; code = Some 99; text = codes "c1851." }
     ∷ []
+
+-- a text of a leader, one directory and the data area, with both terminators
+abbrev pub small_text : List ℕ → List ℕ → List ℕ → List ℕ
+small_text leader directory area = leader ++ (directory ++ (30 ∷ (area ++ (29 ∷ []))))
+
+-- a record of one field with this leader
+abbrev pub with_leader : List ℕ → List ℕ
+with_leader leader = small_text leader (codes "001000300000") (codes "a1" ++ (30 ∷ []))
+
+-- the same with its own leader and another entry
+abbrev pub with_entry : List ℕ → List ℕ
+with_entry entry = small_text (codes "00041nam a2200037 a 4500") entry (codes "a1" ++ (30 ∷ []))

@@ -13,7 +13,7 @@ use std::marker::Model;
 /// A field of a record.
 #[derive(Clone, Copy, Debug, PartialEq, Eq)]
 pub struct Field<'a> {
-    /// Three ASCII letters or digits.
+    /// Three bytes: ASCII letters or digits in a field of a record that was read.
     pub tag: [u8; 3],
     /// The field's bytes, with its indicators and delimiters and without its field terminator.
     pub bytes: &'a [u8],

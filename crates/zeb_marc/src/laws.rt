@@ -9,7 +9,7 @@ ghost use Rattle.zeb_marc.specs.Layout.{IsLaidOut};
 ghost use Rattle.zeb_marc.specs.Splits.{at_end, a_fault, a_slice, next_of, split_next, split_of, EndsAs, IsRun, IsSlice, IsSplit};
 ghost use Rattle.zeb_marc.specs.Unread.{Takes};
 ghost use Rattle.zeb_marc.specs.Parts.{IsPart};
-ghost use Rattle.zeb_marc.specs.Worked.{record_with, worked_fields, worked_record, worked_stream, worked_units};
+ghost use Rattle.zeb_marc.specs.Worked.{record_with, small_text, with_entry, with_leader, worked_fields, worked_record, worked_stream, worked_units};
 
 /// A text is a record in at most one way, and in one exactly where no check fails; and it is one exactly where it is
 /// laid out as ISO 2709 says: a leader, the directory's entries, 0x1E, the data area and 0x1D. The texts of its fields
@@ -59,4 +59,23 @@ pub fn worked_examples()
     ensures empty { first_fault [] ≡ Some MarcFault.Truncated }
     ensures stream { split_of worked_stream
         ≡ record { slices = worked_record ∷ worked_record ∷ []; fault = Some MarcFault.Truncated } }
+{}
+
+/// A text for each further fault of a record. The small record `sound` has no fault, and each other text differs from it in the
+/// place that its fault is about, its lengths following: the digits of its length; a length below 26, or a byte less than is
+/// there; a count in the leader; the base address; a byte too many in the directory; and of its entry the digits, the tag, the
+/// end, and the last byte of its field. For `Truncated` and `NoTerminator` see [`worked_examples`].
+pub fn fault_examples()
+    ensures sound { first_fault (with_leader (codes "00041nam a2200037 a 4500")) ≡ None }
+    ensures length_digits { first_fault (with_leader (codes "0004 nam a2200037 a 4500")) ≡ Some MarcFault.LengthDigits }
+    ensures length_range { first_fault (with_leader (codes "00025nam a2200037 a 4500")) ≡ Some MarcFault.LengthRange }
+    ensures longer { first_fault (with_leader (codes "00040nam a2200037 a 4500")) ≡ Some MarcFault.LengthRange }
+    ensures leader_counts { first_fault (with_leader (codes "00041nam a3200037 a 4500")) ≡ Some MarcFault.LeaderCounts }
+    ensures base_address { first_fault (with_leader (codes "00041nam a2200036 a 4500")) ≡ Some MarcFault.BaseAddress }
+    ensures directory_length { first_fault (small_text (codes "00042nam a2200038 a 4500") (codes "0010003000000") (codes "a1" ++ (30 ∷ [])))
+        ≡ Some MarcFault.DirectoryLength }
+    ensures entry_digits { first_fault (with_entry (codes "001000 00000")) ≡ Some MarcFault.EntryDigits }
+    ensures entry_tag { first_fault (with_entry (codes "0-1000300000")) ≡ Some MarcFault.EntryTag }
+    ensures entry_range { first_fault (with_entry (codes "001000400000")) ≡ Some MarcFault.EntryRange }
+    ensures field_end { first_fault (with_entry (codes "001000200000")) ≡ Some MarcFault.FieldEnd }
 {}

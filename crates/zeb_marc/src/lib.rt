@@ -13,7 +13,7 @@ mod units;
 
 pub use directory::{Field, Fields};
 pub use faults::MarcFault;
-pub use laws::{reading_laws, record_laws, split_laws, worked_examples};
+pub use laws::{fault_examples, reading_laws, record_laws, split_laws, worked_examples};
 pub use records::Marc;
 pub use sources::{FromRead, ReadFailed, Slice, Source};
 pub use stream::{RecordBuf, next_record};

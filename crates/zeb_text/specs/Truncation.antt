@@ -1,5 +1,6 @@
 -- The patterns of a search term (Z39.50, Bib-1 attribute type 5, truncation): its words, with stars where it is cut. That a term is
--- cut into words before, and that under Hash a `#` belongs to a word, are this project's own rules.
+-- cut into words before, that under Hash a `#` belongs to a word, and that patterns are joined by one space, are this project's
+-- own rules.
 use Rattle.std.specs.Prelude.{ℕ, Bool, ◌||◌, ◌==◌, List, [], ◌∷◌, ◌++◌, map, if◌then◌else◌}
 use Rattle.zeb_text.specs.declared.truncation.Cut.{Cut}
 use Rattle.zeb_text.specs.declared.truncation.Cut.TheVariants.{None, Right, Left, Both, Hash}

@@ -1,5 +1,6 @@
 -- Words: the maximal runs of letters, marks and numbers (The Unicode Standard, section 4.5, General_Category L, M, N)
--- in the folded text, in order. That these make up words is this project's own rule. Texts are lists of code points.
+-- in the folded text, in order. That these make up words, and that words are joined by one space, are this project's own
+-- rules. Texts are lists of code points.
 use Rattle.std.specs.Prelude.{◌≡◌, ◌≢◌, ℕ, Bool, true, false, ◌||◌, not, List, [], ◌∷◌, ◌++◌, filter, ⊤}
 use Rattle.std.specs.List.{AllPass, join_with_byte, slice_split}
 use Rattle.std.specs.Str.{NonePass}
