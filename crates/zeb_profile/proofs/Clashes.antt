@@ -9,7 +9,7 @@ use Rattle.zeb_profile.specs.declared.repeats.Repeats.{Repeats}
 use Rattle.zeb_profile.specs.Directives.{directive_of}
 use Rattle.zeb_profile.specs.Outcomes.{◌>>=◌}
 use Rattle.zeb_profile.specs.Profiles.{clash, directive_after, directives_in, first_clash, first_of, unless}
-use Rattle.zeb_profile.specs.Repeats.{NotesAlso, NotesClashes, directive_beside, noted_clash}
+use Rattle.zeb_profile.specs.PrivateRepeats.{NotesAlso, NotesClashes, directive_beside, noted_clash}
 
 first_of-assoc : (a b c : Option ProfileFaultKind) → first_of (first_of a b) c ≡ first_of a (first_of b c)
 first_of-assoc None b c = refl

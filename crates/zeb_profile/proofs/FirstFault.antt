@@ -37,7 +37,7 @@ behind_from earlier (n ∷ new) h =
     (h earlier n new refl, behind_from (earlier ++ n ∷ []) new (subst (λ (all : List Directive). Splits all) (sym (append_assoc earlier (n ∷ []) new)) h))
 
 -- ---- one line
-step_err : {A B E : Type 0} (r : Result A E) (f : A → Result B E) (e : E) → (r >>= f) ≡ Err e → (r ≡ Err e) ⊎ ((x : A) × (r ≡ Ok x) × (f x ≡ Err e))
+pub step_err : {A B E : Type 0} (r : Result A E) (f : A → Result B E) (e : E) → (r >>= f) ≡ Err e → (r ≡ Err e) ⊎ ((x : A) × (r ≡ Ok x) × (f x ≡ Err e))
 step_err (Ok x) f e h = inr (x, refl, h)
 step_err (Err k) f e h = let same : k ≡ e = cc in inl (ap Err same)
 
@@ -83,7 +83,7 @@ said_more line directive lines placed one h =
     ap (λ (answer : Result Directive ProfileFaultKind). (line.0, answer) ∷ map said_alone lines) one
     ∙ ap (λ (rest : List (ℕ × Result Directive ProfileFaultKind)). (line.0, Ok directive) ∷ rest) h
 
-cons_parts : {X : Type 0} (x y : X) (xs ys : List X) → x ∷ xs ≡ y ∷ ys → (x ≡ y) × (xs ≡ ys)
+pub cons_parts : {X : Type 0} (x y : X) (xs ys : List X) → x ∷ xs ≡ y ∷ ys → (x ≡ y) × (xs ≡ ys)
 cons_parts x y xs ys h = (cc, cc)
 
 -- sound lines in front are read as they are said

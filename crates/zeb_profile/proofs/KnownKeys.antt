@@ -15,7 +15,7 @@ use Rattle.zeb_profile.specs.declared.directives.Target.{Target}
 use Rattle.zeb_profile.specs.declared.registers.Register.{Register}
 use Rattle.zeb_profile.specs.declared.registers.Register.TheVariants.{Word, Phrase, Number}
 use Rattle.zeb_profile.specs.Canonical.{register_text}
-use Rattle.zeb_profile.specs.Keys.{HoldsKeys, name_key, target_key}
+use Rattle.zeb_profile.specs.PrivateKeys.{HoldsKeys, name_key, target_key}
 use Rattle.zeb_profile.specs.Words.{same_name, same_register, same_target}
 
 pub bytes_eq-sym : (a b : List ℕ) → bytes_eq a b ≡ bytes_eq b a

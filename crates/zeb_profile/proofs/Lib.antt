@@ -19,6 +19,7 @@ pub mod ProfilesBack
 pub mod SaysProps
 pub mod Comments
 pub mod FirstFault
+pub mod TargetsRead
 pub mod KnownKeys
 pub mod NumberedKeys
 pub mod Spellings

@@ -5,7 +5,7 @@ use Rattle.std.specs.List.{list_any}
 use Rattle.std.specs.Str.{bytes_eq}
 use Rattle.std.specs.String.{string_bytes, string_cmp}
 use Rattle.std.proofs.lemmas.List.{map-append}
-use Rattle.zeb_profile.specs.Keys.{HoldsKeys, name_key}
+use Rattle.zeb_profile.specs.PrivateKeys.{HoldsKeys, name_key}
 use Rattle.zeb_profile.specs.Words.{same_name}
 use Rattle.zeb_profile.proofs.KnownKeys.{holds_keys-push}
 use Rattle.zeb_profile.proofs.Numbering.{same_lower}

@@ -9,7 +9,7 @@ use Rattle.std.proofs.lemmas.Bool.{cases_Bool}
 use Rattle.std.proofs.lemmas.List.Folds.{find-append}
 use Rattle.std.proofs.lemmas.Map.Text.{btree_map_updates_text}
 use Rattle.std.proofs.lemmas.Slice.Eq.{bytes_eq-Decides}
-use Rattle.zeb_profile.specs.Keys.{NotesSpellings, name_key, spelled_at, spelled_with}
+use Rattle.zeb_profile.specs.PrivateKeys.{NotesSpellings, name_key, spelled_at, spelled_with}
 use Rattle.zeb_profile.proofs.KnownKeys.{bytes_eq-sym}
 
 option_or-assoc : {X : Type 0} (a b c : Option X) → option_or (option_or a b) c ≡ option_or a (option_or b c)

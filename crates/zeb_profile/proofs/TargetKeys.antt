@@ -9,7 +9,7 @@ use Rattle.std.proofs.lemmas.Map.Text.{btree_set_updates_text}
 use Rattle.zeb_profile.specs.declared.directives.Directive.{Directive}
 use Rattle.zeb_profile.specs.declared.directives.Directive.TheVariants.{Store, Identifier, Att, Melm, All}
 use Rattle.zeb_profile.specs.declared.directives.Target.{Target}
-use Rattle.zeb_profile.specs.Keys.{AddsKeys, held_with, name_key, ties_beside}
+use Rattle.zeb_profile.specs.PrivateKeys.{AddsKeys, held_with, name_key, ties_beside}
 use Rattle.zeb_profile.specs.Profiles.{all_targets, ties_unknown}
 use Rattle.zeb_profile.specs.Words.{same_name}
 use Rattle.zeb_profile.proofs.KnownKeys.{bytes_eq-sym, or_as_cond, or_false}

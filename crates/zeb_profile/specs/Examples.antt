@@ -1,19 +1,22 @@
--- Two profiles read by the definitions alone.
-use Rattle.std.specs.Prelude.{◌≡◌, [], ◌∷◌, codes, None, Ok, Err}
-use Rattle.zeb_profile.specs.declared.directives.Directive.TheVariants.{Store, Identifier, Att, Melm}
-use Rattle.zeb_profile.specs.declared.faults.ProfileFaultKind.TheVariants.{UnknownIndex}
-use Rattle.zeb_profile.specs.declared.registers.Register.TheVariants.{Word}
+-- Profiles read by the definitions alone.
+use Rattle.std.specs.Prelude.{◌≡◌, ℕ, List, [], ◌∷◌, codes, Some, None, Ok, Err}
+use Rattle.zeb_profile.specs.declared.directives.Directive.TheVariants.{Store, Identifier, Att, Melm, All}
+use Rattle.zeb_profile.specs.declared.faults.ProfileFaultKind.{ProfileFaultKind}
+use Rattle.zeb_profile.specs.declared.registers.Register.TheVariants.{Word, Phrase, Number}
 use Rattle.zeb_profile.specs.Profiles.{profile_of}
 
--- a profile of four lines has four directives
-abbrev pub FourLinesAreRead : Type 0
-FourLinesAreRead = profile_of (codes "store x\nidentifier 001\natt 4 Title\nmelm 245 Title")
-    ≡ Ok (Store (codes "x")
+-- a line of each kind, a comment and an empty line, patterns with a code (97 is `a`) and without, and each register
+abbrev pub EachLineIsRead : Type 0
+EachLineIsRead = profile_of (codes "# a comment\n\nstore my file\n identifier 001\natt 04 Title\nmelm 245$a Title,title:p,Date:n\nmelm 24X T:w\nall Any ")
+    ≡ Ok (Store (codes "my file")
     ∷ Identifier (record { tag = codes "001"; code = None })
     ∷ Att 4 (codes "Title")
-    ∷ Melm (record { tag = codes "245"; code = None }) (record { name = codes "Title"; register = Word } ∷ [])
+    ∷ Melm (record { tag = codes "245"; code = Some 97 })
+    (record { name = codes "Title"; register = Word } ∷ record { name = codes "title"; register = Phrase } ∷ record { name = codes "Date"; register = Number } ∷ [])
+    ∷ Melm (record { tag = codes "24X"; code = None }) (record { name = codes "T"; register = Word } ∷ [])
+    ∷ All (record { name = codes "Any"; register = Word } ∷ [])
     ∷ [])
 
--- a use attribute tied to a name that no line has as a target is the fault of its line
-abbrev pub UnknownIndexIsFound : Type 0
-UnknownIndexIsFound = profile_of (codes "identifier 001\nstore x\natt 9 T\nmelm 245 U") ≡ Err (record { line = 3; kind = UnknownIndex })
+-- the text has this fault on this line
+abbrev pub IsRefused : List ℕ → ℕ → ProfileFaultKind → Type 0
+IsRefused text line kind = profile_of text ≡ Err (record { line = line; kind = kind })

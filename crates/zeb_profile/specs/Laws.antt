@@ -1,15 +1,18 @@
 -- Laws of profiles and their canonical texts.
-use Rattle.std.specs.Prelude.{◌≡◌, ◌↔◌, ◌⊎◌, ℕ, List, [], ◌∷◌, ◌++◌, codes, map, not, filter, Option, Some, None, Result, Ok, Err}
-use Rattle.std.specs.List.{IsDistinct}
+use Rattle.std.specs.Prelude.{◌≡◌, ◌↔◌, ◌⊎◌, ℕ, false, true, List, [], ◌∷◌, ◌++◌, codes, map, not, filter, Option, Some, None, Result, Ok, Err}
+use Rattle.std.specs.List.{IsDistinct, list_any, slice_split}
 use Rattle.zeb_profile.specs.declared.directives.Directive.{Directive}
 use Rattle.zeb_profile.specs.declared.directives.Directive.TheVariants.{Store}
 use Rattle.zeb_profile.specs.declared.directives.Placed.{Placed}
+use Rattle.zeb_profile.specs.declared.directives.Target.{Target}
 use Rattle.zeb_profile.specs.declared.faults.ProfileFault.{ProfileFault}
 use Rattle.zeb_profile.specs.declared.faults.ProfileFaultKind.{ProfileFaultKind}
+use Rattle.zeb_profile.specs.declared.faults.ProfileFaultKind.TheVariants.{DuplicateTarget}
 use Rattle.zeb_profile.specs.Canonical.{canonical_text}
 use Rattle.zeb_profile.specs.Directives.{directive_of}
 use Rattle.zeb_profile.specs.Indexes.{identifier_pattern, index_by_use, index_names, all_pairs, same_pair, store_path, unit_targets}
 use Rattle.zeb_profile.specs.Profiles.{directive_after, directives_in, first_clash, is_store, lack_of, profile_of, telling_lines}
+use Rattle.zeb_profile.specs.Words.{is_comma, same_target, target_of, targets_of}
 
 abbrev pub without_store : List Directive → List Directive
 without_store directives = filter (λ directive. not (is_store directive)) directives
@@ -61,6 +64,36 @@ CommentsSayNothing = (text other : List ℕ) (directives : List Directive)
 abbrev pub EachTargetOnce : Type 0
 EachTargetOnce = (directives : List Directive) (tag : List ℕ) (code : Option ℕ)
     → IsProfile directives → IsDistinct same_pair (unit_targets directives tag code)
+
+-- a part that is read as its target
+abbrev pub read_soundly : Target → Result Target ProfileFaultKind
+read_soundly target = Ok target
+
+-- each part, read alone, is the target that has its place, and none of these is among those before it
+pub record AreTargets (parts : List (List ℕ)) (targets : List Target) : Type 0 where
+  pub read : map target_of parts ≡ map read_soundly targets
+  pub apart : (before : List Target) (target : Target) (after : List Target)
+      → targets ≡ before ++ target ∷ after → list_any (same_target target) before ≡ false
+
+-- the fault of a part behind these targets: its own, or that its target is among them
+pub record IsFaultyPart (earlier : List Target) (part : List ℕ) (kind : ProfileFaultKind) : Type 0 where
+  pub fault : (target_of part ≡ Err kind)
+      ⊎ ((target : Target) × (target_of part ≡ Ok target) × (list_any (same_target target) earlier ≡ true) × (DuplicateTarget ≡ kind))
+
+-- one part has this fault, and those before it have none
+pub record IsFirstFaultyPart (parts : List (List ℕ)) (kind : ProfileFaultKind) : Type 0 where
+  pub before : List (List ℕ)
+  pub part : List ℕ
+  pub after : List (List ℕ)
+  pub whole : parts ≡ before ++ part ∷ after
+  pub earlier : List Target
+  pub sound : AreTargets before earlier
+  pub faulty : IsFaultyPart earlier part kind
+
+-- a word of targets is read as those of its parts, none of which is there twice, or has the fault of its first faulty part
+pub record TargetsAreRead (word : List ℕ) : Type 0 where
+  pub read : (targets : List Target) → (targets_of word ≡ Ok targets) ↔ AreTargets (slice_split is_comma word) targets
+  pub refused : (kind : ProfileFaultKind) → (targets_of word ≡ Err kind) ↔ IsFirstFaultyPart (slice_split is_comma word) kind
 
 -- what a numbered line says, read alone
 abbrev pub said_alone : ℕ × List ℕ → ℕ × Result Directive ProfileFaultKind

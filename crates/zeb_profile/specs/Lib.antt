@@ -3,11 +3,11 @@ pub mod Directives
 pub mod Examples
 pub mod Faults
 pub mod Indexes
-pub mod Keys
+pub mod PrivateKeys
 pub mod Laws
 pub mod Lines
 pub mod Outcomes
 pub mod Profiles
-pub mod Repeats
+pub mod PrivateRepeats
 pub mod TargetsLeft
 pub mod Words

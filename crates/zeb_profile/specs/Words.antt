@@ -81,7 +81,8 @@ target_of part = do
 abbrev pub same_target : Target → Target → Bool
 same_target one other = same_name one.name other.name && same_register one.register other.register
 
--- TARGETS: targets with commas (44) between; each is read, and then compared with those to its left
+-- TARGETS: targets with commas (44) between; each is read, and then compared with those to its left. What that comes to, without the
+-- walk, is the law `targets_are_read`.
 abbrev pub is_comma : ℕ → Bool
 is_comma byte = byte == 44
 

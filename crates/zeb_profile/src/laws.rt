@@ -1,6 +1,8 @@
 //! Laws of profiles, each the contract of a function that does nothing.
-ghost use Rattle.zeb_profile.specs.Examples.{FourLinesAreRead, UnknownIndexIsFound};
-ghost use Rattle.zeb_profile.specs.Laws.{CanonicalTextReadsBack, CommentsSayNothing, EachTargetOnce, FirstFaultIsAnswered, OneTextSaysTheSame, StoreSaysNothingElse};
+ghost use Rattle.std.specs.Prelude.{ℕ, List, codes};
+ghost use Rattle.zeb_profile.specs.declared.faults.ProfileFaultKind.TheVariants.{Directive, Name, Register, Pattern, DuplicateTarget, DuplicateUse, UnknownIndex, NoIdentifier, TwoIdentifiers, TwoAlls, TwoStores, NoStore};
+ghost use Rattle.zeb_profile.specs.Examples.{EachLineIsRead, IsRefused};
+ghost use Rattle.zeb_profile.specs.Laws.{CanonicalTextReadsBack, CommentsSayNothing, EachTargetOnce, FirstFaultIsAnswered, OneTextSaysTheSame, StoreSaysNothingElse, TargetsAreRead};
 
 /// The canonical text and all that is asked of indexes, units and identifiers don't depend on the `store` line.
 pub fn store_says_nothing_else()
@@ -35,8 +37,27 @@ pub fn each_target_once()
     ensures { EachTargetOnce }
 {}
 
-/// Two profiles that the definitions alone read: one of four directives, one with a fault.
+/// A word of targets is read as those of its parts, none of which may be there twice, and else has the fault of its first
+/// faulty part.
+pub fn targets_are_read()
+    ensures { (word : List ℕ) → TargetsAreRead word }
+{}
+
+/// Profiles that the definitions alone read: one with a line of each kind, and one with each fault.
 pub fn examples()
-    ensures read { FourLinesAreRead }
-    ensures refused { UnknownIndexIsFound }
+    ensures read { EachLineIsRead }
+    ensures directive { IsRefused (codes "store x\nmell 245 T") 2 Directive }
+    ensures few_words { IsRefused (codes "melm 245") 1 Directive }
+    ensures use_zero { IsRefused (codes "att 0 T") 1 Directive }
+    ensures name { IsRefused (codes "att 4 4T") 1 Name }
+    ensures register { IsRefused (codes "melm 245 T:x") 1 Register }
+    ensures pattern { IsRefused (codes "melm 24 T") 1 Pattern }
+    ensures duplicate_target { IsRefused (codes "store x\nall Title,title:w") 2 DuplicateTarget }
+    ensures duplicate_use { IsRefused (codes "att 4 T\nmelm 245 T,U\natt 4 U") 3 DuplicateUse }
+    ensures unknown_index { IsRefused (codes "identifier 001\nstore x\natt 9 T\nmelm 245 U") 3 UnknownIndex }
+    ensures two_identifiers { IsRefused (codes "identifier 001\nidentifier 035$a") 2 TwoIdentifiers }
+    ensures two_alls { IsRefused (codes "all T\n\nall U") 3 TwoAlls }
+    ensures two_stores { IsRefused (codes "store x\nstore x") 2 TwoStores }
+    ensures no_identifier { IsRefused (codes "store x") 0 NoIdentifier }
+    ensures no_store { IsRefused (codes "identifier 001") 0 NoStore }
 {}

@@ -142,19 +142,20 @@ impl Profile {
         Targets::new(&self.names, first, all)
     }
 
-    /// A law: every profile is the directives of some text.
+    /// A law: every profile is the directives of some text. Contracts see a profile as its directives; what is true of its
+    /// fields is learnt where one of them is named.
     pub fn is_of_some_text(&self)
         ensures { ∥ IsProfile self.now ∥₁ }
     {
-        let _directives = &self.directives;
+        let _ = &self.directives;
     }
 
     /// A law: two profiles that show one text say the same of indexes, units and identifiers.
     pub fn text_tells_all(&self, other: &Profile)
         ensures { canonical_text self.now ≡ canonical_text other.now → SaysTheSame self.now other.now }
     {
-        let _own = &self.directives;
-        let _others = &other.directives;
+        self.is_of_some_text();
+        other.is_of_some_text();
     }
 }
 

@@ -4,11 +4,11 @@ ghost use Rattle.std.specs.Prelude.{◌≡◌, ◌∷◌, [], map, IfOk, OnOk, o
 ghost use Rattle.std.specs.List.{list_any, find};
 ghost use Rattle.std.specs.Str.Lines.{lines as lines_of};
 ghost use Rattle.zeb_profile.specs.declared.directives.Directive.{Directive as Told};
-ghost use Rattle.zeb_profile.specs.Keys.{AddsKeys, ties_beside};
+ghost use Rattle.zeb_profile.specs.PrivateKeys.{AddsKeys, ties_beside};
 ghost use Rattle.zeb_profile.specs.Lines.{says_something as tells};
 ghost use Rattle.zeb_profile.specs.Outcomes.{Gives, GivesPlaced};
 ghost use Rattle.zeb_profile.specs.Profiles.{directives_in, placed_lines, ties_unknown as ties_unknown_index, is_identifier, is_store, lack_of as lack};
-ghost use Rattle.zeb_profile.specs.Repeats.{NotesAlso, directive_beside};
+ghost use Rattle.zeb_profile.specs.PrivateRepeats.{NotesAlso, directive_beside};
 
 use crate::directives::{Directive, Placed, Target};
 use crate::lines::trim;

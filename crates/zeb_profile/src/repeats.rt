@@ -1,7 +1,7 @@
 //! What no later line of a profile may repeat.
 
 ghost use Rattle.std.specs.Prelude.{◌≡◌, [], OnOk};
-ghost use Rattle.zeb_profile.specs.Repeats.{NotesAlso, NotesClashes, noted_clash};
+ghost use Rattle.zeb_profile.specs.PrivateRepeats.{NotesAlso, NotesClashes, noted_clash};
 
 use crate::ProfileFaultKind;
 use crate::directives::Directive;

@@ -4,13 +4,9 @@ use Rattle.std.specs.Prelude.{Result, Ok, Err, IfOk, not, map, ◌||◌, option_
 use Rattle.std.specs.Option.{is_none, unwrap_or}
 use Rattle.std.proofs.lemmas.Bool.{eqb-true}
 use Rattle.zeb_query.specs.Attributes.{kept, is_among}
-use Rattle.zeb_query.specs.Checks.{Check, check, first_that_applies, written, Refusal, ◌>>=◌, Gives, answered}
-use Rattle.zeb_query.specs.PrivatePlanning.{kept_or}
+use Rattle.zeb_query.specs.Checks.{Check, check, checked_by, first_that_applies, written, Refusal, Gives, answered}
+use Rattle.zeb_query.specs.PrivatePlanning.{kept_or, ◌>>=◌}
 use Rattle.zeb_query.specs.declared.faults.QueryFault.{QueryFault}
-
--- the value, where none of the checks applies
-abbrev pub checked_by : {X : Type 0} → List Check → X → Result X Refusal
-checked_by checks x = answered (first_that_applies checks) x
 
 -- one part after the other: the second one is asked where no check of the first one applies
 pub then_checks : {X Y : Type 0} (r : Result X Refusal) (next : X → Result Y Refusal) (cs ds : List Check) (x : X) (y : Y)

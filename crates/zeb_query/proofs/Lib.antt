@@ -18,7 +18,7 @@ pub mod PlanSteps
 pub mod PlanCheckLemmas
 pub mod NearSteps
 pub mod NearLemmas
-pub mod QueryCheckLemmas
+pub mod TreeSteps
 pub mod LookLemmas
 pub mod PlanNumbers
 pub mod ExampleLemmas

@@ -1,6 +1,6 @@
 -- In which register a term's plan looks.
 use Rattle.std.proofs.Common.{◌≡◌, ℕ, Bool, true, false, cond, eqb, List, [], ◌∷◌, ◌++◌, Option, Some, None, refl, ap, sym, subst, ◌∙◌}
-use Rattle.std.specs.Prelude.{Result, Ok, Err, not, ◌&&◌, codes}
+use Rattle.std.specs.Prelude.{Ok, not, ◌&&◌, codes}
 use Rattle.std.specs.Option.{is_none, unwrap_or}
 use Rattle.std.proofs.lemmas.Bool.{eqb-true}
 use Rattle.std.specs.Str.Parse.{digits_value}
@@ -11,15 +11,12 @@ use Rattle.zeb_profile.specs.Indexes.{has_pair}
 use Rattle.zeb_text.specs.Symbols.{Symbol}
 use Rattle.zeb_query.specs.declared.plans.Relation.{Relation}
 use Rattle.zeb_query.specs.declared.plans.Order.{Order}
-use Rattle.zeb_query.specs.declared.plans.Operator.{Operator}
-use Rattle.zeb_query.specs.declared.plans.Operator.TheVariants as operator
 use Rattle.zeb_query.specs.declared.queries.Connective.TheVariants.{And, Or, Not, Proximity}
 use Rattle.zeb_query.specs.Grammar.{HeadValue, TreeValue, TermValue, NamedValue, PairValue, QueryValue, heads, no_head}
 use Rattle.zeb_query.specs.Attributes.{HoldingValue, holding_of, number_or, is_among, relation_is, structure_is, position_is, completeness_is, index_used, index_held, register_searched, patterns_held, relation_held, order_held, joined_words_if_any, joined_if_any}
-use Rattle.zeb_query.specs.Checks.{Check, check, first_that_applies, one_of, has_target, head_checks, value_checks, words_checks, clash_checks, near_clash_checks, register_checks, number_checks, term_checks, find_checks, Operand, operand_of, parameter_checks, operand_checks, operands_checks, proximity_checks, Refusal, ◌>>=◌}
-use Rattle.zeb_query.specs.Plans.{TermPlanValue, PlanValue, TermOf, PairOf, RecordNumberOf, AlwaysOf, NumberOf, OrderedOf, CompleteOf, PhraseOf, AllWordsOf, AnyWordOf, plan_asked, leaf_plan, tree_plan, near_plan, plan_of, plan_register, held_in, looked_into, AllLookInto, LooksInto}
+use Rattle.zeb_query.specs.Checks.{Check, check, first_that_applies, one_of, has_target, head_checks, value_checks, words_checks, clash_checks, near_clash_checks, register_checks, number_checks, term_checks, find_checks, Operand, operand_of, parameter_checks, operand_checks, operands_checks, proximity_checks, checks_in, query_checks, Refusal}
+use Rattle.zeb_query.specs.Plans.{TermPlanValue, PlanValue, RecordNumberOf, AlwaysOf, NumberOf, OrderedOf, CompleteOf, PhraseOf, AllWordsOf, AnyWordOf, plan_asked, near_asked, tree_asked, plan_of, plan_register, held_in, looked_into, AllLookInto, LooksInto}
 use Rattle.zeb_query.proofs.CheckLemmas.{answered_ok, none-cons, none-append, by_value}
-use Rattle.zeb_query.proofs.NearLemmas.{near_value, near_checked}
 
 abbrev register_by : Bool → Bool → Register
 register_by numeric complete = cond numeric register.Number (cond complete register.Phrase register.Word)
@@ -80,37 +77,21 @@ none_apply further profile place h text e =
     let ends = none-append (register_checks profile place h) numbers last.1 in
     record { further = last.0; registers = ends.0; numbers = ends.1 }
 
-looks_into : (profile : Profile) (set : Option (List ℕ)) (head : HeadValue) (place : ℕ) (text : List ℕ) (plan : TermPlanValue)
-    → leaf_plan profile set head place text ≡ Ok plan → LooksInto profile (holding_of set head) (plan_register plan)
-unfolding leaf_plan plan_asked
-looks_into profile set head place text plan e =
-    let h : HoldingValue = holding_of set head in
-    let answer = answered_ok (first_that_applies (find_checks profile place h text)) (plan_asked profile h text) plan e in
+looks_into : (profile : Profile) (h : HoldingValue) (place : ℕ) (text : List ℕ) → first_that_applies (find_checks profile place h text) ≡ None
+    → LooksInto profile h (plan_register (plan_asked profile h text))
+unfolding plan_asked
+looks_into profile h place text none =
     let both = looked (structure_is h (107 ∷ [])) (digits_value 10 text) _ (index_held profile h, register_searched h)
     (looks (index_held profile h) (relation_held h) (order_held h) (digits_value 10 text) (joined_words_if_any text) (joined_if_any (patterns_held h text)) (patterns_held h text) (position_is h (1 ∷ 2 ∷ []))
     (relation_is h (103 ∷ [])) (structure_is h (109 ∷ [])) (relation_is h (3 ∷ [])) (completeness_is h (2 ∷ 3 ∷ [])) (structure_is h (6 ∷ [])) (structure_is h (105 ∷ []))) in
-    let applied = none-cons (check place 123 [] (not (structure_is h (107 ∷ [])) && not (has_target profile (index_used profile h.use_attribute) (register_searched h)))) [] (none_apply [] profile place h text answer.0).registers in
+    let applied = none-cons (check place 123 [] (not (structure_is h (107 ∷ [])) && not (has_target profile (index_used profile h.use_attribute) (register_searched h)))) [] (none_apply [] profile place h text none).registers in
     record {
-      none = λ l. ap plan_register (sym answer.1) ∙ both.0 l;
-      one = λ l. ap plan_register (sym answer.1) ∙ both.1 l;
+      none = both.0;
+      one = both.1;
       found = λ l. target_found profile (structure_is h (107 ∷ [])) (index_used profile h.use_attribute) (register_searched h) applied.0 l;
     }
 
 -- ---- whole plans
-
--- what holds of the plan of a term
-pub term_holds : (P : PlanValue → Type 0) (term : Result TermPlanValue Refusal) (plan : PlanValue) → (term >>= λ found. Ok (TermOf found)) ≡ Ok plan
-    → ((found : TermPlanValue) → term ≡ Ok found → P (TermOf found)) → P plan
-term_holds P (Ok found) plan e holds = let is : TermOf found ≡ plan = cc in subst P is (holds found refl)
-term_holds P (Err refusal) plan e holds = absurd cc
-
--- what holds of the plan of two operands
-pub pair_holds : (P : PlanValue → Type 0) (left right : Result PlanValue Refusal) (op : Operator) (plan : PlanValue)
-    → (left >>= λ one. (right >>= λ other. Ok (PairOf op one other))) ≡ Ok plan
-    → ((one other : PlanValue) → left ≡ Ok one → right ≡ Ok other → P (PairOf op one other)) → P plan
-pair_holds P (Ok one) (Ok other) op plan e holds = let is : PairOf op one other ≡ plan = cc in subst P is (holds one other refl refl)
-pair_holds P (Ok one) (Err refusal) op plan e holds = absurd cc
-pair_holds P (Err refusal) right op plan e holds = absurd cc
 
 AllLookInto-append : (profile : Profile) (xs : List HoldingValue) (ps : List (Option (ℕ × Register))) (ys : List HoldingValue) (qs : List (Option (ℕ × Register)))
     → AllLookInto profile xs ps → AllLookInto profile ys qs → AllLookInto profile (xs ++ ys) (ps ++ qs)
@@ -151,63 +132,59 @@ operand_looks profile o e =
       found = λ l. target_found profile (structure_is h (107 ∷ [])) (index_used profile h.use_attribute) (register_searched h) applied.0 l;
     }
 
-near_look : (profile : Profile) (place : ℕ) (parameters : List (List ℕ)) (left right : Operand) (plan : PlanValue)
-    → near_plan profile place parameters (Some left) (Some right) ≡ Ok plan → AllLookInto profile (left.held ∷ right.held ∷ []) (looked_into plan)
-near_look profile place parameters left right plan e =
+near_look : (profile : Profile) (place : ℕ) (parameters : List (List ℕ)) (left right : Operand)
+    → first_that_applies (proximity_checks profile place parameters (Some left) (Some right)) ≡ None
+    → AllLookInto profile (left.held ∷ right.held ∷ []) (looked_into (near_asked profile parameters (Some left) (Some right)))
+near_look profile place parameters left right none =
     let one = index_held profile left.held in
     let other = index_held profile right.held in
-    let checks = proximity_checks profile place parameters (Some left) (Some right) in
-    let answer = answered_ok (first_that_applies checks) (near_value profile parameters (Some left) (Some right)) plan (sym (near_checked profile place parameters (Some left) (Some right)) ∙ e) in
     let index_check = check place 123 [] (not (eqb one other)) in
-    let operands = none-append (parameter_checks place parameters) (operands_checks profile place (Some left) (Some right)) answer.0 in
+    let operands = none-append (parameter_checks place parameters) (operands_checks profile place (Some left) (Some right)) none in
     let lefts = none-append (operand_checks profile left) (operand_checks profile right ++ index_check ∷ []) operands.1 in
     let rights = none-append (operand_checks profile right) (index_check ∷ []) lefts.1 in
     let same : one ≡ other = eqb-true one other (true_of_not (eqb one other) (none-cons index_check [] rights.1).0) in
-    subst (λ p. AllLookInto profile (left.held ∷ right.held ∷ []) (looked_into p)) answer.1
     (operand_looks profile left lefts.0, (subst (λ i. LooksInto profile right.held (Some (i, register.Word))) (sym same) (operand_looks profile right rights.0), tt))
 
--- `@prox` has a plan only where both operands are terms
-no_near : (profile : Profile) (place : ℕ) (parameters : List (List ℕ)) (left right : Option Operand) (plan : PlanValue)
+-- some check of `@prox` applies unless both operands are terms
+no_near : (profile : Profile) (place : ℕ) (parameters : List (List ℕ)) (left right : Option Operand)
     → first_that_applies (operands_checks profile place left right) ≡ Some (check place 110 (codes "@prox") true).refusal
-    → near_plan profile place parameters left right ≡ Ok plan → ⊥
-no_near profile place parameters left right plan applies e =
-    let checks = proximity_checks profile place parameters left right in
-    let answer = answered_ok (first_that_applies checks) (near_value profile parameters left right) plan (sym (near_checked profile place parameters left right) ∙ e) in
-    let none : ◌≡◌ {A = Option Refusal} (Some (check place 110 (codes "@prox") true).refusal) None = sym applies ∙ (none-append (parameter_checks place parameters) (operands_checks profile place left right) answer.0).1 in
+    → first_that_applies (proximity_checks profile place parameters left right) ≡ None → ⊥
+no_near profile place parameters left right applies none =
+    let never : ◌≡◌ {A = Option Refusal} (Some (check place 110 (codes "@prox") true).refusal) None = sym applies ∙ (none-append (parameter_checks place parameters) (operands_checks profile place left right) none).1 in
     absurd cc
 
-all_look : (profile : Profile) (set : Option (List ℕ)) (outer : HeadValue) (tree : TreeValue) (plan : PlanValue)
-    → tree_plan profile set outer tree ≡ Ok plan → AllLookInto profile (held_in set outer tree) (looked_into plan)
-all_look profile set outer (TermValue place head text) plan e =
-    term_holds (λ p. AllLookInto profile (holding_of set (heads outer head) ∷ []) (looked_into p)) (leaf_plan profile set (heads outer head) place text) plan e
-    (λ found is. (looks_into profile set (heads outer head) place text found is, tt))
-all_look profile set outer (NamedValue place head name) plan e = absurd cc
-all_look profile set outer (PairValue place head Proximity parameters (TermValue p h t) (TermValue q i u)) plan e =
-    near_look profile place parameters (record { place = p; held = holding_of set (heads (heads outer head) h); text = t }) (record { place = q; held = holding_of set (heads (heads outer head) i); text = u }) plan e
-all_look profile set outer (PairValue place head Proximity parameters (TermValue p h t) (NamedValue q i u)) plan e =
-    absurd (no_near profile place parameters (operand_of set (heads outer head) (TermValue p h t)) None plan refl e)
-all_look profile set outer (PairValue place head Proximity parameters (TermValue p h t) (PairValue q i c ps l r)) plan e =
-    absurd (no_near profile place parameters (operand_of set (heads outer head) (TermValue p h t)) None plan refl e)
-all_look profile set outer (PairValue place head Proximity parameters (NamedValue p h t) right) plan e =
-    absurd (no_near profile place parameters None (operand_of set (heads outer head) right) plan refl e)
-all_look profile set outer (PairValue place head Proximity parameters (PairValue p h c ps l r) right) plan e =
-    absurd (no_near profile place parameters None (operand_of set (heads outer head) right) plan refl e)
-all_look profile set outer (PairValue place head And parameters left right) plan e =
-    pair_holds (λ p. AllLookInto profile (held_in set (heads outer head) left ++ held_in set (heads outer head) right) (looked_into p))
-    (tree_plan profile set (heads outer head) left) (tree_plan profile set (heads outer head) right) operator.And plan e
-    (λ one other one_is other_is. AllLookInto-append profile (held_in set (heads outer head) left) (looked_into one) (held_in set (heads outer head) right) (looked_into other)
-    (all_look profile set (heads outer head) left one one_is) (all_look profile set (heads outer head) right other other_is))
-all_look profile set outer (PairValue place head Or parameters left right) plan e =
-    pair_holds (λ p. AllLookInto profile (held_in set (heads outer head) left ++ held_in set (heads outer head) right) (looked_into p))
-    (tree_plan profile set (heads outer head) left) (tree_plan profile set (heads outer head) right) operator.Or plan e
-    (λ one other one_is other_is. AllLookInto-append profile (held_in set (heads outer head) left) (looked_into one) (held_in set (heads outer head) right) (looked_into other)
-    (all_look profile set (heads outer head) left one one_is) (all_look profile set (heads outer head) right other other_is))
-all_look profile set outer (PairValue place head Not parameters left right) plan e =
-    pair_holds (λ p. AllLookInto profile (held_in set (heads outer head) left ++ held_in set (heads outer head) right) (looked_into p))
-    (tree_plan profile set (heads outer head) left) (tree_plan profile set (heads outer head) right) operator.Not plan e
-    (λ one other one_is other_is. AllLookInto-append profile (held_in set (heads outer head) left) (looked_into one) (held_in set (heads outer head) right) (looked_into other)
-    (all_look profile set (heads outer head) left one one_is) (all_look profile set (heads outer head) right other other_is))
+all_look : (profile : Profile) (set : Option (List ℕ)) (outer : HeadValue) (tree : TreeValue) → first_that_applies (checks_in profile set outer tree) ≡ None
+    → AllLookInto profile (held_in set outer tree) (looked_into (tree_asked profile set outer tree))
+all_look profile set outer (TermValue place head text) none = (looks_into profile (holding_of set (heads outer head)) place text none, tt)
+all_look profile set outer (NamedValue place head name) none = absurd cc
+all_look profile set outer (PairValue place head Proximity parameters (TermValue p h t) (TermValue q i u)) none =
+    near_look profile place parameters (record { place = p; held = holding_of set (heads (heads outer head) h); text = t }) (record { place = q; held = holding_of set (heads (heads outer head) i); text = u }) none
+all_look profile set outer (PairValue place head Proximity parameters (TermValue p h t) (NamedValue q i u)) none =
+    absurd (no_near profile place parameters (operand_of set (heads outer head) (TermValue p h t)) None refl none)
+all_look profile set outer (PairValue place head Proximity parameters (TermValue p h t) (PairValue q i c ps l r)) none =
+    absurd (no_near profile place parameters (operand_of set (heads outer head) (TermValue p h t)) None refl none)
+all_look profile set outer (PairValue place head Proximity parameters (NamedValue p h t) right) none =
+    absurd (no_near profile place parameters None (operand_of set (heads outer head) right) refl none)
+all_look profile set outer (PairValue place head Proximity parameters (PairValue p h c ps l r) right) none =
+    absurd (no_near profile place parameters None (operand_of set (heads outer head) right) refl none)
+all_look profile set outer (PairValue place head And parameters left right) none =
+    let inner : HeadValue = heads outer head in
+    let both = none-append (checks_in profile set inner left) (checks_in profile set inner right) none in
+    AllLookInto-append profile (held_in set inner left) (looked_into (tree_asked profile set inner left)) (held_in set inner right) (looked_into (tree_asked profile set inner right))
+    (all_look profile set inner left both.0) (all_look profile set inner right both.1)
+all_look profile set outer (PairValue place head Or parameters left right) none =
+    let inner : HeadValue = heads outer head in
+    let both = none-append (checks_in profile set inner left) (checks_in profile set inner right) none in
+    AllLookInto-append profile (held_in set inner left) (looked_into (tree_asked profile set inner left)) (held_in set inner right) (looked_into (tree_asked profile set inner right))
+    (all_look profile set inner left both.0) (all_look profile set inner right both.1)
+all_look profile set outer (PairValue place head Not parameters left right) none =
+    let inner : HeadValue = heads outer head in
+    let both = none-append (checks_in profile set inner left) (checks_in profile set inner right) none in
+    AllLookInto-append profile (held_in set inner left) (looked_into (tree_asked profile set inner left)) (held_in set inner right) (looked_into (tree_asked profile set inner right))
+    (all_look profile set inner left both.0) (all_look profile set inner right both.1)
 
 pub plan_looks : (profile : Profile) (query : QueryValue) (plan : PlanValue) → plan_of profile query ≡ Ok plan
     → AllLookInto profile (held_in query.attribute_set no_head query.tree) (looked_into plan)
-plan_looks profile query plan e = all_look profile query.attribute_set no_head query.tree plan e
+plan_looks profile query plan e =
+    let answer = answered_ok (first_that_applies (query_checks profile query)) (tree_asked profile query.attribute_set no_head query.tree) plan e in
+    subst (λ p. AllLookInto profile (held_in query.attribute_set no_head query.tree) (looked_into p)) answer.1 (all_look profile query.attribute_set no_head query.tree answer.0)

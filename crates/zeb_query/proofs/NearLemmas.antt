@@ -1,5 +1,5 @@
 -- What is read of `@prox` and of its operands is what their checks say.
-use Rattle.std.proofs.Common.{◌≡◌, ℕ, Bool, true, false, cond, eqb, List, [], ◌∷◌, ◌++◌, Option, Some, None, refl, ap, sym, ◌∙◌}
+use Rattle.std.proofs.Common.{◌≡◌, ℕ, Bool, true, false, cond, eqb, List, [], ◌∷◌, ◌++◌, Option, Some, None, refl, ap, sym, ◌∙◌, ◌≢◌}
 use Rattle.std.specs.Prelude.{Result, Ok, not, ◌||◌, ◌&&◌, codes}
 use Rattle.std.specs.Option.{is_none, unwrap_or}
 use Rattle.std.specs.Str.{bytes_eq}
@@ -8,6 +8,10 @@ use Rattle.zeb_profile.specs.declared.Profile.{Profile}
 use Rattle.zeb_profile.specs.Indexes.{has_pair}
 use Rattle.zeb_text.specs.Symbols.{Symbol}
 use Rattle.std.proofs.Math.Dec.{T, eqb_refl}
+use Rattle.std.proofs.lemmas.Bool.{eqb-true}
+use Rattle.zeb_query.specs.declared.faults.QueryFault.{QueryFault}
+use Rattle.zeb_query.specs.declared.faults.QueryFault.TheVariants.{Diagnostic, Memory}
+use Rattle.zeb_query.specs.PrivateReading.{IsDiagnostic}
 use Rattle.zeb_query.specs.declared.plans.Separation.{Separation}
 use Rattle.zeb_query.specs.declared.plans.DistanceRelation.TheVariants as in_distance
 use Rattle.zeb_query.specs.declared.plans.Relation.TheVariants.{Less, LessOrEqual, Equal, GreaterOrEqual, Greater}
@@ -18,11 +22,11 @@ use Rattle.zeb_query.specs.declared.attributes.Structure.TheVariants.{Phrase, Wo
 use Rattle.zeb_query.specs.declared.terms.Values.{Values}
 use Rattle.zeb_query.specs.Grammar.{HeadValue, is_number, number_of}
 use Rattle.zeb_query.specs.Attributes.{HoldingValue, holding_of, index_held, patterns_held}
-use Rattle.zeb_query.specs.Checks.{Check, check, first_that_applies, one_of, clash_checks, near_clash_checks, register_checks, number_checks, near_checks, Operand, kept_text, orderings, distance_relations, parameter_checks, separation_of, operand_checks, operands_checks, proximity_checks, Refusal, ◌>>=◌, refused, answered}
-use Rattle.zeb_query.specs.Plans.{operand_pattern, separation_asked, word_near, PlanValue, NearOf, near_plan, operands_plan}
-use Rattle.zeb_query.specs.PrivatePlanning.{is_equal, is_phrase, is_local, register_of, kept_or, term_of}
-use Rattle.zeb_query.proofs.NearSteps.{parameter_kept, separation_read, found_near, term_near}
-use Rattle.zeb_query.proofs.CheckLemmas.{checked_by, then_checks, kept_by}
+use Rattle.zeb_query.specs.Checks.{Check, check, first_that_applies, one_of, clash_checks, near_clash_checks, register_checks, number_checks, near_checks, Operand, kept_text, orderings, distance_relations, parameter_checks, separation_of, operand_checks, operands_checks, Refusal, Fails, refused, answered, checked_by}
+use Rattle.zeb_query.specs.Plans.{operand_pattern, NearOf, near_asked}
+use Rattle.zeb_query.specs.PrivatePlanning.{is_equal, is_phrase, is_local, register_of, kept_or, term_of, word_near, near_plan, ◌>>=◌}
+use Rattle.zeb_query.proofs.NearSteps.{parameter_kept, separation_read, found_near, term_near, operands_plan}
+use Rattle.zeb_query.proofs.CheckLemmas.{then_checks, kept_by}
 use Rattle.zeb_query.proofs.TermCheckLemmas.{values_held, patterns_if, AreHeld, reading_checks, term_stage, term_held}
 use Rattle.zeb_query.proofs.PlanCheckLemmas.{Says, values_say, both_say, clashes_by, last_checks, values_with, number_checks_by, found_stage, is_found, found_is, index_is}
 
@@ -53,7 +57,7 @@ ordered_check place text = check place 110 text (is_none (kept_text orderings te
 abbrev distance_check : ℕ → List ℕ → Check
 distance_check place text = check place 110 text (not (is_number 9 text))
 
-pub separation_steps : (place : ℕ) (parameters : List (List ℕ)) → separation_asked place parameters ≡ separation_read place parameters
+pub separation_steps : (place : ℕ) (parameters : List (List ℕ)) → checked_by (parameter_checks place parameters) (separation_of parameters) ≡ separation_read place parameters
 unfolding separation_read
 separation_steps place [] = refl
 separation_steps place (a ∷ []) = refl
@@ -160,29 +164,25 @@ index_stage : {X : Type 0} (place : ℕ) (b : Bool) (x : X) → cond b (Ok x) (r
 index_stage place true x = refl
 index_stage place false x = refl
 
--- the plan, where no check applies
-abbrev pub near_value : Profile → List (List ℕ) → Option Operand → Option Operand → PlanValue
-near_value profile parameters (Some left) (Some right) = NearOf (index_held profile left.held) (operand_pattern left) (operand_pattern right) (separation_of parameters)
-near_value profile parameters (Some left) None = NearOf 0 [] [] (separation_of parameters)
-near_value profile parameters None right = NearOf 0 [] [] (separation_of parameters)
-
 operands_checked : (profile : Profile) (place : ℕ) (parameters : List (List ℕ)) (left right : Option Operand)
-    → operands_plan profile place (separation_of parameters) left right ≡ checked_by (operands_checks profile place left right) (near_value profile parameters left right)
+    → operands_plan profile place (separation_of parameters) left right ≡ checked_by (operands_checks profile place left right) (near_asked profile parameters left right)
 unfolding word_near
 operands_checked profile place parameters None right = refl
 operands_checked profile place parameters (Some left) None = refl
 operands_checked profile place parameters (Some left) (Some right) =
     let index_check = check place 123 [] (not (eqb (index_held profile left.held) (index_held profile right.held))) in
-    let y = near_value profile parameters (Some left) (Some right) in
+    let y = near_asked profile parameters (Some left) (Some right) in
     then_checks (word_near profile left) _ (operand_checks profile left) (operand_checks profile right ++ index_check ∷ []) (index_held profile left.held, operand_pattern left) y refl
     (λ _. then_checks (word_near profile right) _ (operand_checks profile right) (index_check ∷ []) (index_held profile right.held, operand_pattern right) y refl
     (λ _. index_stage place (eqb (index_held profile left.held) (index_held profile right.held)) y))
 
-pub near_checked : (profile : Profile) (place : ℕ) (parameters : List (List ℕ)) (left right : Option Operand)
-    → near_plan profile place parameters left right ≡ checked_by (proximity_checks profile place parameters left right) (near_value profile parameters left right)
-near_checked profile place parameters left right =
-    then_checks (separation_asked place parameters) _ (parameter_checks place parameters) (operands_checks profile place left right) (separation_of parameters) (near_value profile parameters left right) refl
-    (λ _. operands_checked profile place parameters left right)
+pub near_plan_steps : (profile : Profile) (place : ℕ) (parameters : List (List ℕ)) (left right : Option Operand)
+    → near_plan profile place parameters left right
+    ≡ (checked_by (parameter_checks place parameters) (separation_of parameters) >>= λ separation. operands_plan profile place separation left right)
+unfolding near_plan
+near_plan_steps profile place parameters left right =
+    sym (then_checks (checked_by (parameter_checks place parameters) (separation_of parameters)) _ (parameter_checks place parameters) (operands_checks profile place left right)
+    (separation_of parameters) (near_asked profile parameters left right) refl (λ _. operands_checked profile place parameters left right))
 
 eqb-self : (n : ℕ) → eqb n n ≡ true
 eqb-self n = at (eqb n n) (eqb_refl n)
@@ -192,11 +192,34 @@ eqb-self n = at (eqb n n) (eqb_refl n)
     at false holds = absurd holds
 
 -- the plan, where all parts are read
-pub near_read : (profile : Profile) (place : ℕ) (parameters : List (List ℕ)) (left right : Operand) (separation : Separation) (index other : ℕ) (one second : List Symbol)
-    → separation_asked place parameters ≡ Ok separation → word_near profile left ≡ Ok (index, one) → word_near profile right ≡ Ok (other, second) → index ≡ other
-    → near_plan profile place parameters (Some left) (Some right) ≡ Ok (NearOf index one second separation)
-near_read profile place parameters left right separation index other one second e f g same =
-    ap (λ q. q >>= λ read. operands_plan profile place read (Some left) (Some right)) e
+near_parts : (profile : Profile) (place : ℕ) (parameters : List (List ℕ)) (left right : Operand) (separation : Separation) (index other : ℕ) (one second : List Symbol)
+    → checked_by (parameter_checks place parameters) (separation_of parameters) ≡ Ok separation → word_near profile left ≡ Ok (index, one) → word_near profile right ≡ Ok (other, second)
+    → near_plan profile place parameters (Some left) (Some right) ≡ cond (eqb index other) (Ok (NearOf index one second separation)) (refused 123 place [])
+near_parts profile place parameters left right separation index other one second e f g =
+    near_plan_steps profile place parameters (Some left) (Some right)
+    ∙ ap (λ q. q >>= λ read. operands_plan profile place read (Some left) (Some right)) e
     ∙ ap (λ q. q >>= λ x. (word_near profile right >>= λ y. cond (eqb x.0 y.0) (Ok (NearOf x.0 x.1 y.1 separation)) (refused 123 place []))) f
     ∙ ap (λ q. q >>= λ y. cond (eqb index y.0) (Ok (NearOf index one y.1 separation)) (refused 123 place [])) g
+
+pub near_read : (profile : Profile) (place : ℕ) (parameters : List (List ℕ)) (left right : Operand) (separation : Separation) (index other : ℕ) (one second : List Symbol)
+    → checked_by (parameter_checks place parameters) (separation_of parameters) ≡ Ok separation → word_near profile left ≡ Ok (index, one) → word_near profile right ≡ Ok (other, second) → index ≡ other
+    → near_plan profile place parameters (Some left) (Some right) ≡ Ok (NearOf index one second separation)
+near_read profile place parameters left right separation index other one second e f g same =
+    near_parts profile place parameters left right separation index other one second e f g
     ∙ ap (λ b. cond b (Ok (NearOf index one second separation)) (refused 123 place [])) (ap (λ i. eqb index i) (sym same) ∙ eqb-self index)
+
+pub near_apart : (profile : Profile) (place : ℕ) (parameters : List (List ℕ)) (left right : Operand) (separation : Separation) (index other : ℕ) (one second : List Symbol)
+    → checked_by (parameter_checks place parameters) (separation_of parameters) ≡ Ok separation → word_near profile left ≡ Ok (index, one) → word_near profile right ≡ Ok (other, second) → index ≢ other
+    → (fault : QueryFault) → IsDiagnostic fault 123 place [] → Fails fault (near_plan profile place parameters (Some left) (Some right))
+near_apart profile place parameters left right separation index other one second e f g differ fault is =
+    fails fault 123 place [] _ is (near_parts profile place parameters left right separation index other one second e f g
+    ∙ ap (λ b. cond b (Ok (NearOf index one second separation)) (refused 123 place [])) (apart (eqb index other) refl))
+  where
+    apart : (b : Bool) → eqb index other ≡ b → b ≡ false
+    apart true same = absurd (differ (eqb-true index other same))
+    apart false same = refl
+
+    fails : {Y : Type 0} (fault : QueryFault) (n p : ℕ) (a : List ℕ) (expected : Result Y Refusal) → IsDiagnostic fault n p a → expected ≡ refused n p a → Fails fault expected
+    fails Memory n p a expected is same = tt
+    fails (Diagnostic m q b) n p a expected is same =
+        same ∙ ap (λ x. refused x p a) (sym is.0) ∙ ap (λ x. refused m x a) (sym is.1) ∙ ap (λ x. refused m q x) (sym is.2)

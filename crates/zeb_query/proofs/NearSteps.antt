@@ -1,5 +1,5 @@
 -- How `@prox` and its operands are read, step by step.
-use Rattle.std.specs.Prelude.{ℕ, List, [], ◌∷◌, Option, Some, None, if◌then◌else◌, ◌||◌, Bool, Result, Ok, codes}
+use Rattle.std.specs.Prelude.{ℕ, List, [], ◌∷◌, Option, Some, None, if◌then◌else◌, ◌||◌, ◌==◌, Bool, Result, Ok, codes}
 use Rattle.std.specs.Str.{bytes_eq}
 use Rattle.zeb_profile.specs.Indexes.{has_pair}
 use Rattle.zeb_profile.specs.declared.Profile.{Profile}
@@ -7,8 +7,9 @@ use Rattle.zeb_text.specs.Symbols.{Symbol}
 use Rattle.zeb_query.specs.declared.terms.Values.{Values}
 use Rattle.zeb_query.specs.declared.plans.Separation.{Separation}
 use Rattle.zeb_query.specs.Grammar.{number_of}
-use Rattle.zeb_query.specs.Checks.{one_of, kept_text, orderings, distance_relations, Refusal, ◌>>=◌, refused}
-use Rattle.zeb_query.specs.PrivatePlanning.{clashes_near, register_of, kept_or}
+use Rattle.zeb_query.specs.Checks.{one_of, kept_text, orderings, distance_relations, Operand, Refusal, refused}
+use Rattle.zeb_query.specs.Plans.{PlanValue, NearOf}
+use Rattle.zeb_query.specs.PrivatePlanning.{clashes_near, register_of, kept_or, word_near, ◌>>=◌}
 
 -- the parameters of `@prox`, one after the other
 abbrev pub parameter_kept : ℕ → List ℕ → Bool → Result (Unit {0}) Refusal
@@ -35,3 +36,12 @@ found_near profile place v None pattern = refused 123 place []
 unfoldable pub term_near : Profile → ℕ → Values × List (List Symbol) → Result (ℕ × List Symbol) Refusal
 term_near profile place read =
     if clashes_near read.0 then refused 123 place [] else found_near profile place read.0 read.0.index (one_of read.1)
+
+-- the plan of `@prox` behind its parameters: its operands from the left, and then their indexes, which have to be one
+abbrev pub operands_plan : Profile → ℕ → Separation → Option Operand → Option Operand → Result PlanValue Refusal
+operands_plan profile place separation (Some one) (Some other) = do
+  left ← word_near profile one
+  right ← word_near profile other
+  if left.0 == right.0 then Ok (NearOf left.0 left.1 right.1 separation) else refused 123 place []
+operands_plan profile place separation (Some one) None = refused 110 place (codes "@prox")
+operands_plan profile place separation None other = refused 110 place (codes "@prox")

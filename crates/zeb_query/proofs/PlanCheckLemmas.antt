@@ -20,11 +20,11 @@ use Rattle.zeb_query.specs.declared.attributes.Structure.TheVariants.{Phrase, Wo
 use Rattle.zeb_query.specs.declared.terms.Values.{Values}
 use Rattle.zeb_query.specs.Grammar.{HeadValue, is_number}
 use Rattle.zeb_query.specs.Attributes.{HoldingValue, holding_of, relation_is, structure_is, position_is, truncation_is, completeness_is, index_used, register_searched, patterns_held, index_held, relation_held, order_held, joined_words, joined_words_if_any, joined_if_any}
-use Rattle.zeb_query.specs.Checks.{Check, check, first_that_applies, has_target, clash_checks, scan_clash_checks, register_checks, number_checks, find_checks, scan_checks, Refusal, ◌>>=◌, refused, answered}
-use Rattle.zeb_query.specs.PrivatePlanning.{is_always, is_equal, is_ordered, is_first, is_truncated, is_complete, is_local, is_numeric, is_list, is_phrase, register_of, spread_of, kept_or, term_of, number_in, compared_plan, scan_start}
+use Rattle.zeb_query.specs.Checks.{Check, check, first_that_applies, has_target, clash_checks, scan_clash_checks, register_checks, number_checks, find_checks, scan_checks, Refusal, refused, answered, checked_by}
+use Rattle.zeb_query.specs.PrivatePlanning.{is_always, is_equal, is_ordered, is_first, is_truncated, is_complete, is_local, is_numeric, is_list, is_phrase, register_of, spread_of, kept_or, term_of, number_in, compared_plan, scan_start, leaf_plan, leaf_scan, ◌>>=◌}
 use Rattle.zeb_query.proofs.PlanSteps.{related_plan, indexed_plan, term_plan, indexed_scan, term_scan}
-use Rattle.zeb_query.specs.Plans.{TermPlanValue, RecordNumberOf, AlwaysOf, NumberOf, OrderedOf, CompleteOf, PhraseOf, AllWordsOf, AnyWordOf, plan_asked, leaf_plan, ScanValue, scan_asked, leaf_scan}
-use Rattle.zeb_query.proofs.CheckLemmas.{checked_by, then_checks}
+use Rattle.zeb_query.specs.Plans.{TermPlanValue, RecordNumberOf, AlwaysOf, NumberOf, OrderedOf, CompleteOf, PhraseOf, AllWordsOf, AnyWordOf, plan_asked, ScanValue, scan_asked}
+use Rattle.zeb_query.proofs.CheckLemmas.{then_checks}
 use Rattle.zeb_query.proofs.ValueLemmas.{compared_by, ordered_by, is_word_list, is_free_form}
 use Rattle.zeb_query.proofs.TermCheckLemmas.{values_held, patterns_if, AreHeld, reading_checks, term_stage, term_held}
 

@@ -1,5 +1,5 @@
 -- How great the numbers of a plan are, and where a scan of numbers begins.
-use Rattle.std.proofs.Common.{◌≡◌, ℕ, ◌<◌, ◌^◌, Bool, true, false, cond, List, [], ◌∷◌, Option, Some, None, refl, sym, subst, ◌∙◌}
+use Rattle.std.proofs.Common.{◌≡◌, ℕ, ◌<◌, ◌^◌, Bool, true, false, cond, List, [], ◌∷◌, Option, Some, None, refl, subst}
 use Rattle.std.specs.Prelude.{Ok, not, ◌&&◌, ◌||◌, codes}
 use Rattle.std.specs.Option.{is_none}
 use Rattle.std.specs.Str.{bytes_eq}
@@ -11,16 +11,15 @@ use Rattle.zeb_text.specs.Symbols.{Symbol}
 use Rattle.zeb_text.specs.Numbers.{number_key}
 use Rattle.zeb_query.specs.declared.plans.Relation.{Relation}
 use Rattle.zeb_query.specs.declared.plans.Order.{Order}
-use Rattle.zeb_query.specs.declared.plans.Operator.TheVariants as operator
 use Rattle.zeb_query.specs.declared.queries.Connective.TheVariants.{And, Or, Not, Proximity}
 use Rattle.zeb_query.specs.Grammar.{is_number, heads, no_head, HeadValue, TreeValue, TermValue, NamedValue, PairValue, QueryValue}
 use Rattle.zeb_query.specs.Attributes.{number_or, HoldingValue, holding_of, is_among, relation_is, structure_is, position_is, truncation_is, completeness_is, register_searched, patterns_held, index_held, relation_held, order_held, joined_words, joined_words_if_any, joined_if_any}
-use Rattle.zeb_query.specs.Checks.{Check, check, first_that_applies, scan_clash_checks, number_checks, find_checks, scan_checks, Operand, kept_text, orderings, distance_relations, operand_of, parameter_checks, separation_of, operands_checks, proximity_checks}
-use Rattle.zeb_query.specs.Plans.{TermPlanValue, PlanValue, RecordNumberOf, AlwaysOf, NumberOf, OrderedOf, CompleteOf, PhraseOf, AllWordsOf, AnyWordOf, plan_asked, leaf_plan, tree_plan, near_plan, plan_of, HasSmallNumber, HasSmallNumbers, ScanValue, scan_asked, leaf_scan, BeginsAtKey}
+use Rattle.zeb_query.specs.Checks.{Check, check, first_that_applies, scan_clash_checks, number_checks, find_checks, scan_checks, Operand, kept_text, orderings, distance_relations, operand_of, parameter_checks, separation_of, operands_checks, proximity_checks, checks_in, query_checks}
+use Rattle.zeb_query.specs.Plans.{TermPlanValue, PlanValue, RecordNumberOf, AlwaysOf, NumberOf, OrderedOf, CompleteOf, PhraseOf, AllWordsOf, AnyWordOf, plan_asked, near_asked, tree_asked, plan_of, HasSmallNumber, HasSmallNumbers, ScanValue, scan_asked, BeginsAtKey}
+use Rattle.zeb_query.specs.PrivatePlanning.{leaf_scan}
 use Rattle.zeb_query.proofs.DigitLemmas.{number_below}
 use Rattle.zeb_query.proofs.CheckLemmas.{answered_ok, none-cons, none-append, by_value}
-use Rattle.zeb_query.proofs.LookLemmas.{NoneApply, none_apply, true_of_not, term_holds, pair_holds}
-use Rattle.zeb_query.proofs.NearLemmas.{near_value, near_checked}
+use Rattle.zeb_query.proofs.LookLemmas.{NoneApply, none_apply, true_of_not}
 
 -- ---- a term that has to be a number is one
 
@@ -66,17 +65,13 @@ small false true numeric index r relation number others l n o = tt
 small false false true index r relation number others l n o = n refl refl
 small false false false index r relation number others l n o = o
 
-leaf_small : (profile : Profile) (set : Option (List ℕ)) (head : HeadValue) (place : ℕ) (text : List ℕ) (plan : TermPlanValue)
-    → leaf_plan profile set head place text ≡ Ok plan → HasSmallNumber plan
-unfolding leaf_plan plan_asked
-leaf_small profile set head place text plan e =
-    let h : HoldingValue = holding_of set head in
-    let answer = answered_ok (first_that_applies (find_checks profile place h text)) (plan_asked profile h text) plan e in
-    let numbers = are_numbers place h text (none_apply [] profile place h text answer.0).numbers in
-    subst HasSmallNumber answer.1
-    (small (structure_is h (107 ∷ [])) (relation_is h (103 ∷ [])) (structure_is h (109 ∷ [])) (index_held profile h) (register_searched h) (relation_held h) (digits_value 10 text) _ numbers.local numbers.numeric
+leaf_small : (profile : Profile) (h : HoldingValue) (place : ℕ) (text : List ℕ) → first_that_applies (find_checks profile place h text) ≡ None → HasSmallNumber (plan_asked profile h text)
+unfolding plan_asked
+leaf_small profile h place text none =
+    let numbers = are_numbers place h text (none_apply [] profile place h text none).numbers in
+    small (structure_is h (107 ∷ [])) (relation_is h (103 ∷ [])) (structure_is h (109 ∷ [])) (index_held profile h) (register_searched h) (relation_held h) (digits_value 10 text) _ numbers.local numbers.numeric
     (words_small (relation_is h (3 ∷ [])) (completeness_is h (2 ∷ 3 ∷ [])) (structure_is h (6 ∷ [])) (structure_is h (105 ∷ [])) (index_held profile h) (register_searched h) (order_held h)
-    (joined_words_if_any text) (joined_if_any (patterns_held h text)) (patterns_held h text) (position_is h (1 ∷ 2 ∷ []))))
+    (joined_words_if_any text) (joined_if_any (patterns_held h text)) (patterns_held h text) (position_is h (1 ∷ 2 ∷ [])))
 
 -- ---- two words near each other
 
@@ -95,38 +90,39 @@ distance_small place (exclusion ∷ distance ∷ c ∷ d ∷ f ∷ g ∷ []) e =
     at more true false e' = absurd cc
     at more false b e' = absurd cc
 
-near_small : (profile : Profile) (place : ℕ) (parameters : List (List ℕ)) (left right : Option Operand) (plan : PlanValue) → near_plan profile place parameters left right ≡ Ok plan → HasSmallNumbers plan
-near_small profile place parameters left right plan e =
-    let checks = proximity_checks profile place parameters left right in
-    let answer = answered_ok (first_that_applies checks) (near_value profile parameters left right) plan (sym (near_checked profile place parameters left right) ∙ e) in
-    let small = distance_small place parameters (none-append (parameter_checks place parameters) (operands_checks profile place left right) answer.0).0 in
-    subst HasSmallNumbers answer.1 (at left right small)
+near_small : (profile : Profile) (place : ℕ) (parameters : List (List ℕ)) (left right : Option Operand) → first_that_applies (proximity_checks profile place parameters left right) ≡ None
+    → HasSmallNumbers (near_asked profile parameters left right)
+near_small profile place parameters left right none = at left right (distance_small place parameters (none-append (parameter_checks place parameters) (operands_checks profile place left right) none).0)
   where
-    at : (one other : Option Operand) → (separation_of parameters).distance < 10 ^ 9 → HasSmallNumbers (near_value profile parameters one other)
+    at : (one other : Option Operand) → (separation_of parameters).distance < 10 ^ 9 → HasSmallNumbers (near_asked profile parameters one other)
     at (Some one) (Some other) small = small
-    at (Some one) None small = small
-    at None other small = small
+    at (Some one) None small = tt
+    at None other small = tt
 
 -- ---- whole plans
 
-all_small : (profile : Profile) (set : Option (List ℕ)) (outer : HeadValue) (tree : TreeValue) (plan : PlanValue) → tree_plan profile set outer tree ≡ Ok plan → HasSmallNumbers plan
-all_small profile set outer (TermValue place head text) plan e =
-    term_holds HasSmallNumbers (leaf_plan profile set (heads outer head) place text) plan e (λ found is. leaf_small profile set (heads outer head) place text found is)
-all_small profile set outer (NamedValue place head name) plan e = absurd cc
-all_small profile set outer (PairValue place head Proximity parameters left right) plan e =
-    near_small profile place parameters (operand_of set (heads outer head) left) (operand_of set (heads outer head) right) plan e
-all_small profile set outer (PairValue place head And parameters left right) plan e =
-    pair_holds HasSmallNumbers (tree_plan profile set (heads outer head) left) (tree_plan profile set (heads outer head) right) operator.And plan e
-    (λ one other one_is other_is. (all_small profile set (heads outer head) left one one_is, all_small profile set (heads outer head) right other other_is))
-all_small profile set outer (PairValue place head Or parameters left right) plan e =
-    pair_holds HasSmallNumbers (tree_plan profile set (heads outer head) left) (tree_plan profile set (heads outer head) right) operator.Or plan e
-    (λ one other one_is other_is. (all_small profile set (heads outer head) left one one_is, all_small profile set (heads outer head) right other other_is))
-all_small profile set outer (PairValue place head Not parameters left right) plan e =
-    pair_holds HasSmallNumbers (tree_plan profile set (heads outer head) left) (tree_plan profile set (heads outer head) right) operator.Not plan e
-    (λ one other one_is other_is. (all_small profile set (heads outer head) left one one_is, all_small profile set (heads outer head) right other other_is))
+all_small : (profile : Profile) (set : Option (List ℕ)) (outer : HeadValue) (tree : TreeValue) → first_that_applies (checks_in profile set outer tree) ≡ None → HasSmallNumbers (tree_asked profile set outer tree)
+all_small profile set outer (TermValue place head text) none = leaf_small profile (holding_of set (heads outer head)) place text none
+all_small profile set outer (NamedValue place head name) none = tt
+all_small profile set outer (PairValue place head Proximity parameters left right) none =
+    near_small profile place parameters (operand_of set (heads outer head) left) (operand_of set (heads outer head) right) none
+all_small profile set outer (PairValue place head And parameters left right) none =
+    let inner : HeadValue = heads outer head in
+    let both = none-append (checks_in profile set inner left) (checks_in profile set inner right) none in
+    (all_small profile set inner left both.0, all_small profile set inner right both.1)
+all_small profile set outer (PairValue place head Or parameters left right) none =
+    let inner : HeadValue = heads outer head in
+    let both = none-append (checks_in profile set inner left) (checks_in profile set inner right) none in
+    (all_small profile set inner left both.0, all_small profile set inner right both.1)
+all_small profile set outer (PairValue place head Not parameters left right) none =
+    let inner : HeadValue = heads outer head in
+    let both = none-append (checks_in profile set inner left) (checks_in profile set inner right) none in
+    (all_small profile set inner left both.0, all_small profile set inner right both.1)
 
 pub plan_numbers : (profile : Profile) (query : QueryValue) (plan : PlanValue) → plan_of profile query ≡ Ok plan → HasSmallNumbers plan
-plan_numbers profile query plan e = all_small profile query.attribute_set no_head query.tree plan e
+plan_numbers profile query plan e =
+    let answer = answered_ok (first_that_applies (query_checks profile query)) (tree_asked profile query.attribute_set no_head query.tree) plan e in
+    subst HasSmallNumbers answer.1 (all_small profile query.attribute_set no_head query.tree answer.0)
 
 -- ---- where a scan begins
 

@@ -6,9 +6,10 @@ use Rattle.zeb_text.specs.Symbols.{Symbol}
 use Rattle.zeb_query.specs.declared.attributes.Asked.{Asked}
 use Rattle.zeb_query.specs.declared.attributes.Asked.TheVariants.{Compared, Always}
 use Rattle.zeb_query.specs.declared.terms.Values.{Values}
-use Rattle.zeb_query.specs.Checks.{Refusal, ◌>>=◌, refused}
-use Rattle.zeb_query.specs.Plans.{TermPlanValue, RecordNumberOf, AlwaysOf, ScanValue}
-use Rattle.zeb_query.specs.PrivatePlanning.{clashes, clashes_in_scan, register_of, number_in, compared_plan, scan_start}
+use Rattle.zeb_query.specs.declared.plans.Operator.{Operator}
+use Rattle.zeb_query.specs.Checks.{Refusal, refused}
+use Rattle.zeb_query.specs.Plans.{TermPlanValue, RecordNumberOf, AlwaysOf, ScanValue, PlanValue, PairOf}
+use Rattle.zeb_query.specs.PrivatePlanning.{clashes, clashes_in_scan, register_of, number_in, compared_plan, scan_start, ◌>>=◌}
 
 abbrev pub related_plan : ℕ → List ℕ → Values → ℕ → List (List Symbol) → Asked → Result TermPlanValue Refusal
 related_plan place text v index patterns Always = Ok (AlwaysOf index (register_of v))
@@ -34,3 +35,8 @@ indexed_scan profile place text v (Some index) =
 unfoldable pub term_scan : Profile → ℕ → List ℕ → Values → Result ScanValue Refusal
 term_scan profile place text v =
     if clashes_in_scan v then refused 123 place [] else indexed_scan profile place text v v.index
+
+-- the plan of an operator by those of its operands, or of what stands for it where it is none on sets of records
+abbrev pub pair_plan : Option Operator → Result PlanValue Refusal → Result PlanValue Refusal → Result PlanValue Refusal → Result PlanValue Refusal
+pair_plan (Some op) left right other = left >>= λ one. (right >>= λ second. Ok (PairOf op one second))
+pair_plan None left right other = other

@@ -16,10 +16,10 @@ use Rattle.zeb_query.specs.declared.attributes.Structure.TheVariants.{Phrase, Wo
 use Rattle.zeb_query.specs.declared.attributes.Completeness.TheVariants.{Incomplete}
 use Rattle.zeb_query.specs.declared.terms.Values.{Values}
 use Rattle.zeb_query.specs.Grammar.{number_of}
-use Rattle.zeb_query.specs.PrivatePlanning.{relations, positions, structures, completenesses, kept_or, index_of, index_if, values_of, checked, type_checked, set_checked, kind_checked, patterns_in, patterns_for, has_words, is_always, is_first, is_truncated, is_complete, is_local, is_numeric, spread_of, term_of}
+use Rattle.zeb_query.specs.PrivatePlanning.{relations, positions, structures, completenesses, kept_or, index_of, index_if, values_of, checked, type_checked, set_checked, kind_checked, patterns_in, patterns_for, has_words, is_always, is_first, is_truncated, is_complete, is_local, is_numeric, spread_of, term_of, ◌>>=◌}
 use Rattle.zeb_query.specs.Attributes.{truncations, number_or, value_of, HoldingValue, relation_is, structure_is, position_is, truncation_is, completeness_is, index_used, index_named, index_held}
-use Rattle.zeb_query.specs.Checks.{Check, check, first_that_applies, written, numeral, is_known_type, is_other_type, has_target, head_checks, value_checks, words_checks, ◌>>=◌, refused}
-use Rattle.zeb_query.proofs.CheckLemmas.{checked_by, then_checks, none-cons, none-append, unkept, kept_by}
+use Rattle.zeb_query.specs.Checks.{Check, check, first_that_applies, written, numeral, is_known_type, is_other_type, has_target, head_checks, value_checks, words_checks, refused, checked_by}
+use Rattle.zeb_query.proofs.CheckLemmas.{then_checks, none-cons, none-append, unkept, kept_by}
 use Rattle.zeb_query.proofs.ValueLemmas.{kept_in, RelationIs, relation_value, position_value, StructureIs, structure_value, truncation_value, completeness_value, is_local_if, local_value}
 
 -- ---- the term's type, and the sets and types of the attributes over it

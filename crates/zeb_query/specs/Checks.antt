@@ -23,7 +23,7 @@ use Rattle.zeb_query.specs.declared.plans.DistanceRelation.TheVariants.{Equal, G
 use Rattle.zeb_query.specs.declared.plans.Separation.{Separation}
 use Rattle.zeb_query.specs.declared.queries.Connective.{Connective}
 use Rattle.zeb_query.specs.declared.queries.Connective.TheVariants.{And, Not, Or, Proximity}
-use Rattle.zeb_query.specs.Grammar.{HeadValue, NamedValue, PairValue, QueryValue, TermValue, TreeValue, heads, is_number, no_head}
+use Rattle.zeb_query.specs.Grammar.{HeadValue, NamedValue, PairValue, QueryValue, TermValue, TreeValue, heads, is_number, no_head, operator_word}
 use Rattle.zeb_query.specs.Attributes.{HoldingValue, always_matches, completeness_is, equality, first_positions, holding_of, index_held, index_used, kept_completenesses, kept_positions, kept_relations, kept_structures, kept_truncations, lists, local_numbers, no_truncation, numeric_strings, one_number, ordered_relations, patterns_held, phrases, position_is, register_searched, relation_is, structure_is, truncation_is, whole_texts}
 
 -- ---- diagnostics as values
@@ -46,11 +46,6 @@ Fails (Diagnostic n p a) expected = expected ≡ Err (record { number = n; place
 abbrev pub Gives : {X Y : Type 0} → (X → Y) → Result X QueryFault → Result Y Refusal → Type 0
 Gives view (Ok x) expected = expected ≡ Ok (view x)
 Gives view (Err e) expected = Fails e expected
-
-infixl 10 ◌>>=◌
-abbrev pub ◌>>=◌ : {A B : Type 0} → Result A Refusal → (A → Result B Refusal) → Result B Refusal
-(Ok x) >>= f = f x
-(Err e) >>= f = Err e
 
 -- the diagnostic, if one applies
 abbrev pub answered : {A : Type 0} → Option Refusal → A → Result A Refusal
@@ -75,6 +70,10 @@ check place number addinfo applies =
 abbrev pub first_that_applies : List Check → Option Refusal
 first_that_applies [] = None
 first_that_applies (c ∷ checks) = if c.applies then Some c.refusal else first_that_applies checks
+
+-- the diagnostic of the first check that applies, or the value where none does
+abbrev pub checked_by : {A : Type 0} → List Check → A → Result A Refusal
+checked_by checks x = answered (first_that_applies checks) x
 
 -- ---- what the conditions say
 
@@ -291,3 +290,14 @@ checks_in profile set outer (PairValue place head connective parameters left rig
 
 abbrev pub query_checks : Profile → QueryValue → List Check
 query_checks profile query = checks_in profile query.attribute_set no_head query.tree
+
+-- ---- a scan, which takes a term alone
+
+abbrev pub scan_checks_in : Profile → Option (List ℕ) → TreeValue → List Check
+scan_checks_in profile set (TermValue place head text) = scan_checks profile place (holding_of set (heads no_head head)) text
+scan_checks_in profile set (NamedValue place head name) = check place 18 name true ∷ []
+scan_checks_in profile set (PairValue place head connective parameters left right) =
+    check place 110 (operator_word connective) true ∷ []
+
+abbrev pub scan_query_checks : Profile → QueryValue → List Check
+scan_query_checks profile query = scan_checks_in profile query.attribute_set query.tree

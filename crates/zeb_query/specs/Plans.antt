@@ -1,10 +1,9 @@
--- What a query asks for over a profile (ANSI/NISO Z39.50-2003, attribute set Bib-1): its plan, or its first diagnostic. The
--- query is walked from left to right, an operator before its operands. A term is refused by the first of its checks that
--- applies; where none does, its plan follows from the attributes that hold over it.
--- Bib-1 says what a relation, a position, a structure and a completeness ask for. The order of the walk is this project's own rule, and
--- so is what a plan has where Bib-1 leaves it open: the words of a term, the register, and system numbers for structure 107.
+-- What a query asks for over a profile (ANSI/NISO Z39.50-2003, attribute set Bib-1): the first of the checks of the whole query
+-- that applies refuses it; where none does, its plan follows from the attributes that hold over its terms.
+-- Bib-1 says what a relation, a position, a structure and a completeness ask for. Own rules of this project: what a plan has where Bib-1
+-- leaves it open, which are the words of a term, the register, and system numbers for structure 107.
 use Rattle.std.specs.Option.{option_map, unwrap_or}
-use Rattle.std.specs.Prelude.{Bool, List, None, Ok, Option, Result, Some, [], codes, false, if◌then◌else◌, not, string_bytes, true, ℕ, ◌++◌, ◌<◌, ◌==◌, ◌^◌, ◌∷◌, ◌≡◌}
+use Rattle.std.specs.Prelude.{Bool, List, None, Option, Result, Some, [], false, if◌then◌else◌, not, string_bytes, true, ℕ, ◌++◌, ◌<◌, ◌^◌, ◌∷◌, ◌≡◌}
 use Rattle.std.specs.Str.Parse.{digits_value}
 use Rattle.zeb_profile.specs.Indexes.{has_pair}
 use Rattle.zeb_profile.specs.declared.Profile.{Profile}
@@ -23,8 +22,8 @@ use Rattle.zeb_query.specs.declared.queries.Connective.TheVariants.{And, Not, Or
 use Rattle.zeb_profile.specs.declared.Register.TheVariants as register
 use Rattle.zeb_query.specs.declared.plans.Operator.TheVariants as operator
 use Rattle.zeb_query.specs.declared.plans.TermPlan.TheVariants as term
-use Rattle.zeb_query.specs.Grammar.{HeadValue, NamedValue, PairValue, QueryValue, TermValue, TreeValue, heads, no_head, operator_word}
-use Rattle.zeb_query.specs.Checks.{Check, Operand, Refusal, answered, check, find_checks, first_that_applies, one_of, operand_checks, operand_of, parameter_checks, refused, scan_checks, separation_of, ◌>>=◌}
+use Rattle.zeb_query.specs.Grammar.{HeadValue, NamedValue, PairValue, QueryValue, TermValue, TreeValue, heads, no_head}
+use Rattle.zeb_query.specs.Checks.{Operand, Refusal, checked_by, one_of, operand_of, query_checks, scan_query_checks, separation_of}
 use Rattle.zeb_query.specs.Attributes.{HoldingValue, always_matches, completeness_is, equality, first_positions, free_forms, holding_of, index_held, joined_if_any, joined_words, joined_words_if_any, local_numbers, numeric_strings, order_held, patterns_held, position_is, register_searched, relation_held, relation_is, structure_is, whole_texts, word_lists}
 
 -- ---- plans as values
@@ -76,63 +75,43 @@ plan_asked profile h text =
     if structure_is h free_forms then AnyWordOf index patterns else
     PhraseOf index patterns (position_is h first_positions)))))))
 
--- a term over which the set is named and the head stands
-unfoldable pub leaf_plan : Profile → Option (List ℕ) → HeadValue → ℕ → List ℕ → Result TermPlanValue Refusal
-leaf_plan profile set head place text =
-    let h = holding_of set head in
-    answered (first_that_applies (find_checks profile place h text)) (plan_asked profile h text)
-
 -- ---- proximity
-
-abbrev pub separation_asked : ℕ → List (List ℕ) → Result Separation Refusal
-separation_asked place parameters = answered (first_that_applies (parameter_checks place parameters)) (separation_of parameters)
 
 -- the pattern of the one word
 abbrev pub operand_pattern : Operand → List Symbol
 operand_pattern o = unwrap_or (one_of (patterns_held o.held o.text)) []
 
--- an operand's index, and the pattern of its word
-unfoldable pub word_near : Profile → Operand → Result (ℕ × List Symbol) Refusal
-word_near profile o = answered (first_that_applies (operand_checks profile o)) (index_held profile o.held, operand_pattern o)
+-- for a structure that has a check which always applies, so that nothing is asked for
+abbrev pub no_plan : PlanValue
+no_plan = TermOf (AnyWordOf 0 [])
 
--- the plan of `@prox`: its parameters, its operands from the left, and then their indexes, which have to be one
-abbrev pub operands_plan : Profile → ℕ → Separation → Option Operand → Option Operand → Result PlanValue Refusal
-operands_plan profile place separation (Some one) (Some other) = do
-  left ← word_near profile one
-  right ← word_near profile other
-  if left.0 == right.0 then Ok (NearOf left.0 left.1 right.1 separation) else refused 123 place []
-operands_plan profile place separation (Some one) None = refused 110 place (codes "@prox")
-operands_plan profile place separation None other = refused 110 place (codes "@prox")
-
-abbrev pub near_plan : Profile → ℕ → List (List ℕ) → Option Operand → Option Operand → Result PlanValue Refusal
-near_plan profile place parameters left right =
-    separation_asked place parameters >>= λ separation. operands_plan profile place separation left right
+-- what `@prox` with these parameters asks for, where none of its checks applies
+abbrev pub near_asked : Profile → List (List ℕ) → Option Operand → Option Operand → PlanValue
+near_asked profile parameters (Some left) (Some right) =
+    NearOf (index_held profile left.held) (operand_pattern left) (operand_pattern right) (separation_of parameters)
+near_asked profile parameters (Some left) None = no_plan
+near_asked profile parameters None right = no_plan
 
 -- ---- queries
 
--- the operators on sets of records; proximity is none
-abbrev pub operator_of : Connective → Option Operator
-operator_of And = Some operator.And
-operator_of Or = Some operator.Or
-operator_of Not = Some operator.Not
-operator_of Proximity = None
+-- an operator on the sets of records of its sides; proximity, which is none, asks for what its parameters and operands say
+abbrev pub pair_asked : Connective → PlanValue → PlanValue → PlanValue → PlanValue
+pair_asked And left right near = PairOf operator.And left right
+pair_asked Or left right near = PairOf operator.Or left right
+pair_asked Not left right near = PairOf operator.Not left right
+pair_asked Proximity left right near = near
 
--- the plan of an operator by those of its operands, or of what stands for it where it is none on sets of records
-abbrev pub pair_plan : Option Operator → Result PlanValue Refusal → Result PlanValue Refusal → Result PlanValue Refusal → Result PlanValue Refusal
-pair_plan (Some op) left right other = left >>= λ one. (right >>= λ second. Ok (PairOf op one second))
-pair_plan None left right other = other
+-- what a structure asks for, over which the set is named and the head stands, where none of its checks applies
+abbrev pub tree_asked : Profile → Option (List ℕ) → HeadValue → TreeValue → PlanValue
+tree_asked profile set outer (TermValue place head text) = TermOf (plan_asked profile (holding_of set (heads outer head)) text)
+tree_asked profile set outer (NamedValue place head name) = no_plan
+tree_asked profile set outer (PairValue place head connective parameters left right) =
+    pair_asked connective (tree_asked profile set (heads outer head) left) (tree_asked profile set (heads outer head) right)
+    (near_asked profile parameters (operand_of set (heads outer head) left) (operand_of set (heads outer head) right))
 
--- the plan of a structure, over which the set is named and the head stands
-abbrev pub tree_plan : Profile → Option (List ℕ) → HeadValue → TreeValue → Result PlanValue Refusal
-tree_plan profile set outer (TermValue place head text) =
-    leaf_plan profile set (heads outer head) place text >>= λ plan. Ok (TermOf plan)
-tree_plan profile set outer (NamedValue place head name) = refused 18 place name
-tree_plan profile set outer (PairValue place head connective parameters left right) =
-    pair_plan (operator_of connective) (tree_plan profile set (heads outer head) left) (tree_plan profile set (heads outer head) right)
-    (near_plan profile place parameters (operand_of set (heads outer head) left) (operand_of set (heads outer head) right))
-
+-- the first diagnostic of the query's checks, or what the query asks for
 abbrev pub plan_of : Profile → QueryValue → Result PlanValue Refusal
-plan_of profile query = tree_plan profile query.attribute_set no_head query.tree
+plan_of profile query = checked_by (query_checks profile query) (tree_asked profile query.attribute_set no_head query.tree)
 
 -- ---- what every plan says of its numbers
 
@@ -189,8 +168,7 @@ AllLookInto profile (h ∷ held) [] = ⊥
 
 -- ---- scans
 
--- Where a scan begins over a profile (ANSI/NISO Z39.50-2003, the Scan service, and attribute set Bib-1): at a term, or its first
--- diagnostic. That a scan takes a term alone, which attributes it takes, and that it begins at a number's key or at the term's words,
+-- Where a scan begins over a profile (ANSI/NISO Z39.50-2003, the Scan service, and attribute set Bib-1): at a term. That a scan takes a term alone, which attributes it takes, and that it begins at a number's key or at the term's words,
 -- are this project's own rules.
 
 pub record ScanValue : Type 0 where
@@ -209,31 +187,19 @@ scan_asked profile h text = record {
   start = if structure_is h numeric_strings then number_key (digits_value 10 text) else joined_words text;
 }
 
-unfoldable pub leaf_scan : Profile → Option (List ℕ) → HeadValue → ℕ → List ℕ → Result ScanValue Refusal
-leaf_scan profile set head place text =
-    let h = holding_of set head in
-    answered (first_that_applies (scan_checks profile place h text)) (scan_asked profile h text)
+-- for a structure that has a check which always applies, so that no scan begins
+abbrev pub no_scan : ScanValue
+no_scan = record { index = 0; register = register.Word; start = [] }
 
-abbrev pub tree_scan : Profile → Option (List ℕ) → TreeValue → Result ScanValue Refusal
-tree_scan profile set (TermValue place head text) = leaf_scan profile set (heads no_head head) place text
-tree_scan profile set (NamedValue place head name) = refused 18 place name
-tree_scan profile set (PairValue place head connective parameters left right) = refused 110 place (operator_word connective)
+abbrev pub tree_scanned : Profile → Option (List ℕ) → TreeValue → ScanValue
+tree_scanned profile set (TermValue place head text) = scan_asked profile (holding_of set (heads no_head head)) text
+tree_scanned profile set (NamedValue place head name) = no_scan
+tree_scanned profile set (PairValue place head connective parameters left right) = no_scan
 
+-- the first diagnostic of the scan's checks, or where it begins
 abbrev pub scan_of : Profile → QueryValue → Result ScanValue Refusal
-scan_of profile query = tree_scan profile query.attribute_set query.tree
+scan_of profile query = checked_by (scan_query_checks profile query) (tree_scanned profile query.attribute_set query.tree)
 
 -- in the register of numbers a scan begins at the key of a number below 10^18
 abbrev pub BeginsAtKey : ScanValue → Type 0
 BeginsAtKey scan = scan.register ≡ register.Number → (number : ℕ) × (number < 10 ^ 18) × (scan.start ≡ number_key number)
-
--- ---- the checks of a scan
-
--- the checks of a scan, which takes a term alone
-abbrev pub scan_checks_in : Profile → Option (List ℕ) → TreeValue → List Check
-scan_checks_in profile set (TermValue place head text) = scan_checks profile place (holding_of set (heads no_head head)) text
-scan_checks_in profile set (NamedValue place head name) = check place 18 name true ∷ []
-scan_checks_in profile set (PairValue place head connective parameters left right) =
-    check place 110 (operator_word connective) true ∷ []
-
-abbrev pub scan_query_checks : Profile → QueryValue → List Check
-scan_query_checks profile query = scan_checks_in profile query.attribute_set query.tree

@@ -1,7 +1,7 @@
 -- What the private functions below `plan` and `plan_scan` give, step by step: how a term is read, by values that are kept as enums,
 -- and its plan. No public clause reaches this file: it stands in specs/ since the contracts of private functions can cite nothing
 -- else. Which diagnostic a term has is said by the table of its checks, and proved to be the same.
-use Rattle.std.specs.Prelude.{ℕ, List, [], ◌∷◌, Option, Some, None, if◌then◌else◌, ◌||◌, ◌&&◌, Bool, true, false, not, Result, Ok, length, nat_lt, chars, map, ◌++◌}
+use Rattle.std.specs.Prelude.{ℕ, List, [], Option, Some, None, if◌then◌else◌, ◌||◌, ◌&&◌, Bool, true, false, not, Result, Ok, Err, length, nat_lt, chars, map, ◌++◌}
 use Rattle.std.specs.Fmt.{decimal}
 use Rattle.zeb_profile.specs.declared.Register.{Register}
 use Rattle.zeb_profile.specs.declared.Register.TheVariants as register
@@ -14,7 +14,11 @@ use Rattle.zeb_text.specs.declared.Spread.TheVariants.{Ends, Each}
 use Rattle.zeb_text.specs.Symbols.{Symbol}
 use Rattle.zeb_text.specs.Truncation.{patterns_of}
 use Rattle.zeb_text.specs.Numbers.{number_key}
-use Rattle.zeb_query.specs.declared.plans.Relation.TheVariants.{Less, LessOrEqual, Equal, GreaterOrEqual, Greater}
+use Rattle.zeb_query.specs.declared.plans.Relation.TheVariants.{Equal}
+use Rattle.zeb_query.specs.declared.plans.Operator.{Operator}
+use Rattle.zeb_query.specs.declared.plans.Operator.TheVariants as operator
+use Rattle.zeb_query.specs.declared.queries.Connective.{Connective}
+use Rattle.zeb_query.specs.declared.queries.Connective.TheVariants.{And, Not, Or, Proximity}
 use Rattle.zeb_query.specs.declared.attributes.Asked.{Asked}
 use Rattle.zeb_query.specs.declared.attributes.Asked.TheVariants.{Compared, Always}
 use Rattle.zeb_query.specs.declared.attributes.Position.{Position}
@@ -26,10 +30,15 @@ use Rattle.zeb_query.specs.declared.attributes.Completeness.TheVariants.{Incompl
 use Rattle.zeb_query.specs.declared.terms.Values.{Values}
 use Rattle.zeb_query.specs.declared.plans.Relation.{Relation}
 use Rattle.zeb_query.specs.declared.plans.Order.{Order}
-use Rattle.zeb_query.specs.Grammar.{number_of}
-use Rattle.zeb_query.specs.Attributes.{always_matches, any_positions, comparisons, first_positions, free_forms, incomplete_texts, local_numbers, numeric_strings, phrases, truncations, value_of, whole_texts, word_lists, HoldingValue, index_named, order_of, joined_words, joined_words_if_any, joined_if_any}
-use Rattle.zeb_query.specs.Checks.{written, is_known_type, Refusal, ◌>>=◌, refused}
-use Rattle.zeb_query.specs.Plans.{TermPlanValue, NumberOf, OrderedOf, CompleteOf, PhraseOf, AllWordsOf, AnyWordOf}
+use Rattle.zeb_query.specs.Grammar.{HeadValue, TreeValue, number_of}
+use Rattle.zeb_query.specs.Attributes.{always_matches, any_positions, comparisons, first_positions, free_forms, incomplete_texts, local_numbers, numeric_strings, phrases, truncations, value_of, whole_texts, word_lists, HoldingValue, holding_of, index_held, index_named, order_of, joined_words, joined_words_if_any, joined_if_any}
+use Rattle.zeb_query.specs.Checks.{written, is_known_type, Refusal, refused, checked_by, find_checks, scan_checks, Operand, operand_checks, proximity_checks, checks_in}
+use Rattle.zeb_query.specs.Plans.{TermPlanValue, NumberOf, OrderedOf, CompleteOf, PhraseOf, AllWordsOf, AnyWordOf, PlanValue, ScanValue, plan_asked, scan_asked, operand_pattern, near_asked, tree_asked}
+
+infixl 10 ◌>>=◌
+abbrev pub ◌>>=◌ : {A B : Type 0} → Result A Refusal → (A → Result B Refusal) → Result B Refusal
+(Ok x) >>= f = f x
+(Err e) >>= f = Err e
 
 -- ---- the values of attribute types 2, 3, 4 and 6
 
@@ -70,27 +79,17 @@ is_complete Complete = true
 
 abbrev pub is_truncated : Cut → Bool
 is_truncated cut.None = false
-is_truncated cut.Right = true
-is_truncated cut.Left = true
-is_truncated cut.Both = true
-is_truncated cut.Hash = true
+is_truncated _ = true
 
 -- relation 1, 2, 4 or 5
 abbrev pub is_ordered : Asked → Bool
-is_ordered (Compared Less) = true
-is_ordered (Compared LessOrEqual) = true
 is_ordered (Compared Equal) = false
-is_ordered (Compared GreaterOrEqual) = true
-is_ordered (Compared Greater) = true
+is_ordered (Compared _) = true
 is_ordered Always = false
 
 abbrev pub is_equal : Asked → Bool
-is_equal (Compared Less) = false
-is_equal (Compared LessOrEqual) = false
 is_equal (Compared Equal) = true
-is_equal (Compared GreaterOrEqual) = false
-is_equal (Compared Greater) = false
-is_equal Always = false
+is_equal _ = false
 
 abbrev pub is_always : Asked → Bool
 is_always (Compared relation) = false
@@ -99,26 +98,18 @@ is_always Always = true
 -- structure 107
 abbrev pub is_local : Structure → Bool
 is_local LocalNumber = true
-is_local Phrase = false
-is_local WordList = false
-is_local FreeForm = false
-is_local Numeric = false
+is_local _ = false
 
 -- structure 109
 abbrev pub is_numeric : Structure → Bool
 is_numeric Numeric = true
-is_numeric Phrase = false
-is_numeric WordList = false
-is_numeric FreeForm = false
-is_numeric LocalNumber = false
+is_numeric _ = false
 
 -- structure 6 or 105
 abbrev pub is_list : Structure → Bool
 is_list WordList = true
 is_list FreeForm = true
-is_list Phrase = false
-is_list LocalNumber = false
-is_list Numeric = false
+is_list _ = false
 
 abbrev pub is_limited : Values → Bool
 is_limited v = is_first v.position || (is_truncated v.truncation || is_complete v.completeness)
@@ -140,10 +131,7 @@ clashes_in_scan v =
 -- structure 1 or 2
 abbrev pub is_phrase : Structure → Bool
 is_phrase Phrase = true
-is_phrase WordList = false
-is_phrase FreeForm = false
-is_phrase LocalNumber = false
-is_phrase Numeric = false
+is_phrase _ = false
 
 -- values that a word near another doesn't take
 abbrev pub clashes_near : Values → Bool
@@ -158,9 +146,7 @@ register_of v =
 abbrev pub spread_of : Structure → Spread
 spread_of WordList = Each
 spread_of FreeForm = Each
-spread_of Phrase = Ends
-spread_of LocalNumber = Ends
-spread_of Numeric = Ends
+spread_of _ = Ends
 
 -- the fault of a term's type, and of the sets and types of the attributes over it
 abbrev pub type_checked : ℕ → Option (List ℕ) → Result (Unit {0}) Refusal
@@ -236,9 +222,7 @@ number_in most place text = kept_or 126 place (Some text) (number_of most text)
 abbrev pub list_plan : Values → ℕ → List (List Symbol) → Structure → TermPlanValue
 list_plan v index patterns WordList = AllWordsOf index patterns
 list_plan v index patterns FreeForm = AnyWordOf index patterns
-list_plan v index patterns Phrase = PhraseOf index patterns (is_first v.position)
-list_plan v index patterns LocalNumber = PhraseOf index patterns (is_first v.position)
-list_plan v index patterns Numeric = PhraseOf index patterns (is_first v.position)
+list_plan v index patterns _ = PhraseOf index patterns (is_first v.position)
 
 abbrev pub ordered_plan : List ℕ → Values → ℕ → List (List Symbol) → Option Order → TermPlanValue
 ordered_plan text v index patterns (Some order) = OrderedOf index (register_of v) order (joined_words_if_any text)
@@ -254,3 +238,32 @@ compared_plan place text v index patterns relation =
 unfoldable pub scan_start : ℕ → List ℕ → Values → Result (List ℕ) Refusal
 scan_start place text v =
     if is_numeric v.structure then (number_in 18 place text >>= λ number. Ok (number_key number)) else Ok (joined_words text)
+
+-- ---- terms, operands and whole queries, by their checks
+
+-- a term in a find and in a scan, over which the set is named and the head stands
+unfoldable pub leaf_plan : Profile → Option (List ℕ) → HeadValue → ℕ → List ℕ → Result TermPlanValue Refusal
+leaf_plan profile set head place text =
+    let h = holding_of set head in checked_by (find_checks profile place h text) (plan_asked profile h text)
+
+unfoldable pub leaf_scan : Profile → Option (List ℕ) → HeadValue → ℕ → List ℕ → Result ScanValue Refusal
+leaf_scan profile set head place text =
+    let h = holding_of set head in checked_by (scan_checks profile place h text) (scan_asked profile h text)
+
+-- an operand's index, and the pattern of its word
+unfoldable pub word_near : Profile → Operand → Result (ℕ × List Symbol) Refusal
+word_near profile o = checked_by (operand_checks profile o) (index_held profile o.held, operand_pattern o)
+
+unfoldable pub near_plan : Profile → ℕ → List (List ℕ) → Option Operand → Option Operand → Result PlanValue Refusal
+near_plan profile place parameters left right =
+    checked_by (proximity_checks profile place parameters left right) (near_asked profile parameters left right)
+
+unfoldable pub tree_plan : Profile → Option (List ℕ) → HeadValue → TreeValue → Result PlanValue Refusal
+tree_plan profile set outer tree = checked_by (checks_in profile set outer tree) (tree_asked profile set outer tree)
+
+-- the operators on sets of records; proximity is none
+abbrev pub operator_of : Connective → Option Operator
+operator_of And = Some operator.And
+operator_of Or = Some operator.Or
+operator_of Not = Some operator.Not
+operator_of Proximity = None

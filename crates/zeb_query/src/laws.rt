@@ -1,13 +1,11 @@
 //! Laws of words, of the grammar and of plans, each the contract of a function that does nothing.
 ghost use Rattle.std.specs.Prelude.{◌≡◌, ◌⊎◌, ℕ, List, [], ◌∷◌, Ok, codes};
-ghost use Rattle.std.specs.Result.{result_err};
 ghost use Rattle.zeb_profile.specs.declared.Profile.{Profile};
 ghost use Rattle.zeb_query.specs.declared.words.Spelling.TheVariants.{Bad, Plain, Quoted};
 ghost use Rattle.zeb_query.specs.Words.{Word, AreWords};
 ghost use Rattle.zeb_query.specs.Grammar.{QueryValue, no_head, SpellsQuery};
 ghost use Rattle.zeb_query.specs.Places.{IsReadable, IsFaulty};
-ghost use Rattle.zeb_query.specs.Checks.{first_that_applies, query_checks};
-ghost use Rattle.zeb_query.specs.Plans.{PlanValue, held_in, looked_into, AllLookInto, plan_of, scan_of, scan_query_checks};
+ghost use Rattle.zeb_query.specs.Plans.{PlanValue, held_in, looked_into, AllLookInto, plan_of};
 
 /// Each text has one list of words that stand in it one after the other, with the blanks before, between and after them.
 pub fn a_text_has_one_list_of_words()
@@ -44,20 +42,6 @@ pub fn a_text_is_read_or_has_one_fault()
     ensures some { (text : List ℕ) → IsReadable text ⊎ ((number : ℕ) × (place : ℕ) × IsFaulty text number place) }
     ensures apart { (text : List ℕ) (number place : ℕ) → IsReadable text → ¬ IsFaulty text number place }
     ensures once { (text : List ℕ) (m p n q : ℕ) → IsFaulty text m p → IsFaulty text n q → (m ≡ n) × (p ≡ q) }
-{}
-
-/// A plan is refused by the first check that applies of all checks of the query's operators, named sets and terms, in the
-/// order of the text, an operator's before those of its sides; there is a plan where none applies.
-pub fn the_first_diagnostic_is_told()
-    ensures { (profile : Profile) (query : QueryValue)
-        → result_err (plan_of profile query) ≡ first_that_applies (query_checks profile query) }
-{}
-
-/// A scan is refused by the first check that applies of its operator, named set or term; there is a plan where none
-/// applies.
-pub fn the_first_diagnostic_of_a_scan_is_told()
-    ensures { (profile : Profile) (query : QueryValue)
-        → result_err (scan_of profile query) ≡ first_that_applies (scan_query_checks profile query) }
 {}
 
 /// Each term of a query's plan looks into the register that its attributes ask for, and its index has a target with that

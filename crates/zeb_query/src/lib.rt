@@ -31,8 +31,7 @@ pub use examples::{
 pub use faults::QueryFault;
 pub use laws::{
     a_plan_looks_into_its_register, a_text_has_one_list_of_words, a_text_is_read_or_has_one_fault,
-    no_text_spells_two_queries, the_first_diagnostic_is_told,
-    the_first_diagnostic_of_a_scan_is_told, words_at_examples,
+    no_text_spells_two_queries, words_at_examples,
 };
 pub use planning::plan;
 pub use plans::{

@@ -49,6 +49,8 @@ pub fn plan(alloc: Global, query: &Query, profile: &Profile) -> Result<Plan, Que
     plan_tree(alloc, &query.tree, Holding::over(query), profile)
 }
 
+/// The plan of a structure over which these attributes hold.
+#[tactic(auto, using(crate::proofs::TreeSteps::tree_term, crate::proofs::TreeSteps::tree_named, crate::proofs::TreeSteps::tree_pair))]
 fn plan_tree(
     alloc: Global,
     tree: &Tree,
@@ -56,7 +58,7 @@ fn plan_tree(
     profile: &Profile,
 ) -> Result<Plan, QueryFault>
     ensures { (set : Option (List ℕ)) (outer : HeadValue) → holding_value over.entry ≡ holding_of set outer
-        → Gives plans.plan_value result (plans.tree_plan profile.now set outer (tree_value tree.now)) }
+        → Gives plans.plan_value result (steps.tree_plan profile.now set outer (tree_value tree.now)) }
 {
     match tree {
         Tree::Term(leaf) => Ok(Plan::Term(plan_leaf(alloc, leaf, over, profile)?)),
@@ -94,7 +96,7 @@ fn pair_of(alloc: Global, operator: Operator, left: Plan, right: Plan) -> Result
 
 /// The operator on sets of records; `@prox` is none.
 fn operator_of(connective: Connective) -> Option<Operator>
-    ensures { result ≡ plans.operator_of connective }
+    ensures { result ≡ steps.operator_of connective }
 {
     match connective {
         Connective::And => Some(Operator::And),
@@ -112,7 +114,7 @@ fn plan_leaf(
     profile: &Profile,
 ) -> Result<TermPlan, QueryFault>
     ensures { (set : Option (List ℕ)) (outer : HeadValue) → holding_value over.entry ≡ holding_of set outer
-        → Gives plans.term_plan_value result (plans.leaf_plan profile.now set (heads outer (head_value leaf.now.head))
+        → Gives plans.term_plan_value result (steps.leaf_plan profile.now set (heads outer (head_value leaf.now.head))
         leaf.now.place (string_bytes leaf.now.text)) }
 {
     let holding = over.within(&leaf.head);

@@ -2,10 +2,11 @@
 ghost use Rattle.std.specs.Prelude.{◌≡◌, List, ℕ, Option, map, string_bytes, if◌then◌else◌};
 ghost use Rattle.zeb_text.specs.Symbols.{Symbol};
 ghost use Rattle.zeb_query.specs.Grammar.{HeadValue, tree_value, head_value, heads};
-ghost use Rattle.zeb_query.specs.Checks.{Gives, refused, one_of, operand_of, kept_text, orderings, distance_relations};
+ghost use Rattle.zeb_query.specs.Checks.{Gives, refused, one_of, operand_of, kept_text, orderings, distance_relations, checked_by, parameter_checks, separation_of};
 ghost use Rattle.zeb_query.specs.Attributes.{holding_of};
 ghost use Rattle.zeb_query.specs.PrivateReading.{holding_value};
-ghost use Rattle.zeb_query.specs.Plans.{separation_asked, word_near, plan_value, near_plan};
+ghost use Rattle.zeb_query.specs.Plans.{plan_value};
+ghost use Rattle.zeb_query.specs.PrivatePlanning.{word_near, near_plan};
 
 use crate::digits::number_of;
 use crate::holding::Holding;
@@ -17,6 +18,7 @@ use zeb_text::Pattern;
 
 /// The plan of `@prox` and its operands: its parameters are looked at first, then the left operand, then the right one,
 /// and then whether both look into one index.
+#[tactic(auto, using(crate::proofs::NearLemmas::near_plan_steps))]
 pub(crate) fn plan_near(
     alloc: Global,
     place: usize,
@@ -54,7 +56,8 @@ fn separation_of(
     place: usize,
     parameters: &[String],
 ) -> Result<Separation, QueryFault>
-    ensures { Gives (λ x. x) result (separation_asked place (map string_bytes parameters.now)) }
+    ensures { Gives (λ x. x) result (checked_by (parameter_checks place (map string_bytes parameters.now))
+        (separation_of (map string_bytes parameters.now))) }
 {
     let [
         exclusion,

@@ -41,7 +41,7 @@ fn scan_leaf(
     query: &Query,
     profile: &Profile,
 ) -> Result<ScanPlan, QueryFault>
-    ensures { Gives scans.scan_value result (scans.leaf_scan profile.now (query_value query.now).attribute_set
+    ensures { Gives scans.scan_value result (steps.leaf_scan profile.now (query_value query.now).attribute_set
         (heads no_head (head_value leaf.now.head)) leaf.now.place (string_bytes leaf.now.text)) }
 {
     let holding = Holding::over(query).within(&leaf.head);

@@ -2,7 +2,7 @@ use Rattle.std.proofs.Common.{◌≡◌, ◌∙◌, [], List, ℕ, ap, sym, arit
 use Rattle.std.proofs.Math.Path.{fun_ext}
 use Rattle.std.specs.List.{fold}
 use Rattle.zeb_profile.specs.Indexes.{first_spelling, numbered}
-use Rattle.zeb_profile.specs.Keys.{spelled}
+use Rattle.zeb_profile.specs.PrivateKeys.{spelled}
 use Rattle.zeb_profile.specs.Profiles.{directives_in}
 use Rattle.zeb_profile.proofs.Numbering.{index_names-numbered, names_after, names_after-end, spelling-same}
 use Rattle.zeb_profile.proofs.indexes.index_names.Goals as goal

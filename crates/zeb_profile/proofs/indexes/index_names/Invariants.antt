@@ -1,7 +1,7 @@
 use Rattle.std.proofs.Common.{◌≡◌, ◌+◌, ◌<◌, ◌^◌, ◌++◌, [], drop, map, length}
 use Rattle.std.specs.List.{fold}
 use Rattle.zeb_profile.specs.Indexes.{numbered}
-use Rattle.zeb_profile.specs.Keys.{HoldsKeys, name_key, spelled}
+use Rattle.zeb_profile.specs.PrivateKeys.{HoldsKeys, name_key, spelled}
 use Rattle.zeb_profile.proofs.Numbering.{names_after}
 use Rattle.zeb_profile.proofs.indexes.index_names.Given as goal
 

@@ -1,5 +1,5 @@
 use Rattle.std.proofs.Common.{◌≡◌, List, ℕ, drop, map}
-use Rattle.zeb_profile.specs.Keys.{spelled_with}
+use Rattle.zeb_profile.specs.PrivateKeys.{spelled_with}
 use Rattle.zeb_profile.proofs.indexes.note_target_spellings.Given as goal
 
 abbrev pub invariant-loop-target : goal.invariant-loop-target

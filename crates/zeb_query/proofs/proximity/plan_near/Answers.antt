@@ -1,11 +1,11 @@
-use Rattle.std.proofs.Common.{ap, ◌∙◌, map}
+use Rattle.std.proofs.Common.{ap, ◌∙◌, map, sym, subst}
 use Rattle.std.specs.Prelude.{string_bytes}
-use Rattle.zeb_query.specs.declared.queries.Tree.{Term}
+use Rattle.zeb_query.specs.declared.queries.Tree.{Term, Tree}
 use Rattle.zeb_query.specs.Grammar.{tree_value, head_value, heads}
 use Rattle.zeb_query.specs.Attributes.{holding_of}
-use Rattle.zeb_query.specs.Checks.{operand_of}
-use Rattle.zeb_query.specs.Plans.{near_plan}
-use Rattle.zeb_query.proofs.NearLemmas.{near_read}
+use Rattle.zeb_query.specs.Checks.{Fails, operand_of}
+use Rattle.zeb_query.specs.PrivatePlanning.{near_plan}
+use Rattle.zeb_query.proofs.NearLemmas.{near_apart, near_read}
 use Rattle.zeb_query.proofs.proximity.plan_near.Goals as goal
 
 pub returns : goal.returns
@@ -21,3 +21,18 @@ returns c = λ set outer held.
     (record { place = right.place; held = holding_of set (heads outer (head_value right.head)); text = string_bytes right.text })
     c.in_ok-separation.separation c.in_ok-index.index c.in_ok-other.other c.in_ok-index.left c.in_ok-other.right
     c.in_ok-separation.ensures (c.in_ok-index.ensures set outer held) (c.in_ok-other.ensures set outer held) c.if-index-other.false
+
+pub returns-then-index-other : goal.returns-then-index-other
+returns-then-index-other c = λ set outer held.
+    let profile = c.args.profile.now in
+    let parameters = map (λ s. string_bytes s) c.args.parameters.now in
+    let left = c.in-Term-Term.left in
+    let right = c.in-Term-Term.right in
+    let seen : Tree → Tree → Type 0 = λ one other. Fails c.diagnostic.result (near_plan profile c.args.place parameters (operand_of set outer (tree_value one)) (operand_of set outer (tree_value other))) in
+    subst (λ t. seen t c.args.right.now) (sym c.in-Term-Term.is-0) (subst (λ t. seen (Term left) t) (sym c.in-Term-Term.is-1)
+    (near_apart profile c.args.place parameters
+    (record { place = left.place; held = holding_of set (heads outer (head_value left.head)); text = string_bytes left.text })
+    (record { place = right.place; held = holding_of set (heads outer (head_value right.head)); text = string_bytes right.text })
+    c.in_ok-separation.separation c.in_ok-index.index c.in_ok-other.other c.in_ok-index.left c.in_ok-other.right
+    c.in_ok-separation.ensures (c.in_ok-index.ensures set outer held) (c.in_ok-other.ensures set outer held) c.if-index-other.true
+    c.diagnostic.result c.diagnostic.ensures))

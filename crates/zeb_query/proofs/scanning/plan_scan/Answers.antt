@@ -1,9 +1,20 @@
 use Rattle.std.specs.Prelude.{string_bytes}
-use Rattle.zeb_query.specs.Grammar.{query_value, head_value, heads, no_head}
-use Rattle.zeb_query.specs.Plans.{scan_value, leaf_scan, BeginsAtKey}
+use Rattle.zeb_query.specs.Grammar.{query_value, tree_value, head_value, heads, no_head}
+use Rattle.std.proofs.Common.{subst, sym}
+use Rattle.zeb_query.specs.Checks.{Gives, checked_by, scan_checks_in}
+use Rattle.zeb_query.specs.Plans.{scan_value, tree_scanned, BeginsAtKey}
+use Rattle.zeb_query.specs.PrivatePlanning.{leaf_scan}
 use Rattle.zeb_query.proofs.CheckLemmas.{given_ok}
 use Rattle.zeb_query.proofs.PlanNumbers.{leaf_begins}
 use Rattle.zeb_query.proofs.scanning.plan_scan.Goals as goal
+
+pub returns-in-Term-clause-planned : goal.returns-in-Term-clause-planned
+unfolding leaf_scan
+returns-in-Term-clause-planned c =
+    let profile = c.args.profile.now in
+    let set = (query_value c.args.query.now).attribute_set in
+    subst (λ tree. Gives scan_value c.scan_leaf.result (checked_by (scan_checks_in profile set (tree_value tree)) (tree_scanned profile set (tree_value tree))))
+    (sym c.in-Term.is) c.scan_leaf.ensures
 
 pub returns-in-Term-clause-number : goal.returns-in-Term-clause-number
 returns-in-Term-clause-number c =

@@ -1,5 +1,5 @@
 use Rattle.std.proofs.Common.{◌≡◌, [], map, drop}
-use Rattle.zeb_profile.specs.Keys.{HoldsKeys, target_key}
+use Rattle.zeb_profile.specs.PrivateKeys.{HoldsKeys, target_key}
 use Rattle.zeb_profile.specs.Words.{targets_after}
 use Rattle.zeb_profile.proofs.directives.TargetList.read.Given as goal
 

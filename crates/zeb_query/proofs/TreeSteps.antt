@@ -1,0 +1,55 @@
+-- The checks of a structure and what it asks for are those of its parts.
+use Rattle.std.proofs.Common.{◌≡◌, ℕ, List, ◌++◌, Option, Some, None, refl, sym}
+use Rattle.std.specs.Prelude.{Ok}
+use Rattle.zeb_profile.specs.declared.Profile.{Profile}
+use Rattle.zeb_query.specs.declared.plans.Operator.TheVariants as operator
+use Rattle.zeb_query.specs.declared.plans.Operator.{Operator}
+use Rattle.zeb_query.specs.declared.queries.Connective.{Connective}
+use Rattle.zeb_query.specs.declared.queries.Connective.TheVariants.{And, Or, Not, Proximity}
+use Rattle.zeb_query.specs.Grammar.{HeadValue, TreeValue, TermValue, NamedValue, PairValue, heads}
+use Rattle.zeb_query.specs.Attributes.{holding_of}
+use Rattle.zeb_query.specs.Checks.{first_that_applies, find_checks, checks_in, operand_of, Check, Refusal, answered, checked_by, refused}
+use Rattle.zeb_query.specs.Plans.{PlanValue, TermOf, PairOf, plan_asked, tree_asked}
+use Rattle.zeb_query.specs.PrivatePlanning.{leaf_plan, near_plan, tree_plan, operator_of, ◌>>=◌}
+use Rattle.zeb_query.proofs.PlanSteps.{pair_plan}
+use Rattle.zeb_query.proofs.CheckLemmas.{then_checks}
+
+-- what is made of an answer
+answered_then : {A B : Type 0} (o : Option Refusal) (x : A) (f : A → B) → (answered o x >>= λ y. Ok (f y)) ≡ answered o (f x)
+answered_then None x f = refl
+answered_then (Some refusal) x f = refl
+
+-- an operator on sets: the checks of its left side, then those of its right side
+sides : (op : Operator) (left right : List Check) (one other : PlanValue)
+    → (checked_by left one >>= λ x. (checked_by right other >>= λ y. Ok (PairOf op x y))) ≡ checked_by (left ++ right) (PairOf op one other)
+sides op left right one other =
+    then_checks (checked_by left one) (λ x. (checked_by right other >>= λ y. Ok (PairOf op x y))) left right one (PairOf op one other) refl
+    (λ _. answered_then (first_that_applies right) other (λ y. PairOf op one y))
+
+pub tree_term : (profile : Profile) (set : Option (List ℕ)) (outer : HeadValue) (place : ℕ) (head : HeadValue) (text : List ℕ)
+    → tree_plan profile set outer (TermValue place head text) ≡ (leaf_plan profile set (heads outer head) place text >>= λ plan. Ok (TermOf plan))
+unfolding tree_plan leaf_plan
+tree_term profile set outer place head text =
+    let h = holding_of set (heads outer head) in
+    sym (answered_then (first_that_applies (find_checks profile place h text)) (plan_asked profile h text) (λ plan. TermOf plan))
+
+pub tree_named : (profile : Profile) (set : Option (List ℕ)) (outer : HeadValue) (place : ℕ) (head : HeadValue) (name : List ℕ)
+    → tree_plan profile set outer (NamedValue place head name) ≡ refused 18 place name
+unfolding tree_plan
+tree_named profile set outer place head name = refl
+
+pub tree_pair : (profile : Profile) (set : Option (List ℕ)) (outer : HeadValue) (place : ℕ) (head : HeadValue) (connective : Connective) (parameters : List (List ℕ)) (left right : TreeValue)
+    → tree_plan profile set outer (PairValue place head connective parameters left right)
+    ≡ pair_plan (operator_of connective) (tree_plan profile set (heads outer head) left) (tree_plan profile set (heads outer head) right)
+    (near_plan profile place parameters (operand_of set (heads outer head) left) (operand_of set (heads outer head) right))
+unfolding tree_plan near_plan
+tree_pair profile set outer place head Proximity parameters left right = refl
+tree_pair profile set outer place head And parameters left right =
+    let h = heads outer head in
+    sym (sides operator.And (checks_in profile set h left) (checks_in profile set h right) (tree_asked profile set h left) (tree_asked profile set h right))
+tree_pair profile set outer place head Or parameters left right =
+    let h = heads outer head in
+    sym (sides operator.Or (checks_in profile set h left) (checks_in profile set h right) (tree_asked profile set h left) (tree_asked profile set h right))
+tree_pair profile set outer place head Not parameters left right =
+    let h = heads outer head in
+    sym (sides operator.Not (checks_in profile set h left) (checks_in profile set h right) (tree_asked profile set h left) (tree_asked profile set h right))
