@@ -10,7 +10,9 @@ use Rattle.sqlite.specs.Table.{Table}
 use Rattle.sqlite.proofs.Callers.{IsPlain, command_of, reads_as}
 use Rattle.sqlite_rules.specs.Lists.{Has}
 use Rattle.sqlite_tied.specs.Compute.{everything}
+use Rattle.zeb_register.specs.declared.agreeing.Table.TheVariants.{Records, Postings, Blocks, Dict}
 use Rattle.zeb_register.specs.RowExpected.{ShowsOwners}
+use Rattle.zeb_register.specs.RowReads.{owners_text, rests_text}
 use Rattle.zeb_register.specs.Sql.{HasRow, IsListOf}
 use Rattle.zeb_register.specs.Store.{IsStore, IsRest, blocks_tree, dict_tree, meta_tree, postings_tree, records_tree}
 use Rattle.zeb_register.specs.Tables.{store_schema, meta_table}
@@ -60,15 +62,15 @@ lists_texts old new rows store shown =
 -- ---- all postings of a database
 
 abbrev pub postings_text : List ℕ
-postings_text = codes "SELECT idx, reg, term, sysno, seq, pos FROM postings WHERE db = ?1 ORDER BY idx, reg, term, sysno, seq, pos"
+postings_text = rests_text Postings
 
-abbrev posting_columns : List ℕ
+abbrev pub posting_columns : List ℕ
 posting_columns = 2 ∷ 3 ∷ 4 ∷ 5 ∷ 6 ∷ 7 ∷ []
 
-abbrev posting_names : List (List ℕ)
+abbrev pub posting_names : List (List ℕ)
 posting_names = codes "idx" ∷ codes "reg" ∷ codes "term" ∷ codes "sysno" ∷ codes "seq" ∷ codes "pos" ∷ []
 
-postings_is : command_of (understood store_schema postings_text) ≡ Select (alone (reading 7 (keyed_from 1 0 1) (shows posting_columns) posting_columns no_limit)) posting_names
+pub postings_is : command_of (understood store_schema postings_text) ≡ Select (alone (reading 7 (keyed_from 1 0 1) (shows posting_columns) posting_columns no_limit)) posting_names
 unfolding understood everything
 postings_is = refl
 
@@ -90,15 +92,15 @@ lists_postings db old new rows store shown =
 -- ---- all blocks of a database, and all its keys
 
 abbrev pub blocks_text : List ℕ
-blocks_text = codes "SELECT idx, reg, term, block, data FROM blocks WHERE db = ?1 ORDER BY idx, reg, term, block"
+blocks_text = rests_text Blocks
 
-abbrev block_columns : List ℕ
+abbrev pub block_columns : List ℕ
 block_columns = 2 ∷ 3 ∷ 4 ∷ 5 ∷ 6 ∷ []
 
-abbrev block_names : List (List ℕ)
+abbrev pub block_names : List (List ℕ)
 block_names = codes "idx" ∷ codes "reg" ∷ codes "term" ∷ codes "block" ∷ codes "data" ∷ []
 
-blocks_is : command_of (understood store_schema blocks_text) ≡ Select (alone (reading 9 (keyed_from 1 0 1) (shows block_columns) (2 ∷ 3 ∷ 4 ∷ 5 ∷ []) no_limit)) block_names
+pub blocks_is : command_of (understood store_schema blocks_text) ≡ Select (alone (reading 9 (keyed_from 1 0 1) (shows block_columns) (2 ∷ 3 ∷ 4 ∷ 5 ∷ []) no_limit)) block_names
 unfolding understood everything
 blocks_is = refl
 
@@ -125,15 +127,15 @@ lists_blocks db old new rows store shown =
     list_so P (IsRest 9 key old.now.trees) rows (λ x. (λ h. (h.0, h.1), λ h. (h.0, h.1, tt))) (subst (IsListOf P) (sym got.2) got.1)
 
 abbrev pub keys_text : List ℕ
-keys_text = codes "SELECT idx, reg, term, records FROM dict WHERE db = ?1 ORDER BY idx, reg, term"
+keys_text = rests_text Dict
 
-abbrev key_columns : List ℕ
+abbrev pub key_columns : List ℕ
 key_columns = 2 ∷ 3 ∷ 4 ∷ 5 ∷ []
 
-abbrev key_names : List (List ℕ)
+abbrev pub key_names : List (List ℕ)
 key_names = codes "idx" ∷ codes "reg" ∷ codes "term" ∷ codes "records" ∷ []
 
-keys_is : command_of (understood store_schema keys_text) ≡ Select (alone (reading 11 (keyed_from 1 0 1) (shows key_columns) (2 ∷ 3 ∷ 4 ∷ []) no_limit)) key_names
+pub keys_is : command_of (understood store_schema keys_text) ≡ Select (alone (reading 11 (keyed_from 1 0 1) (shows key_columns) (2 ∷ 3 ∷ 4 ∷ []) no_limit)) key_names
 unfolding understood everything
 keys_is = refl
 
@@ -185,9 +187,9 @@ module _ (at : ℕ) (table : Table) (static : IsPlainTable store_schema at table
       ))
 
 abbrev pub records_owners_text : List ℕ
-records_owners_text = codes "SELECT db FROM records"
+records_owners_text = owners_text Records
 
-records_owners_is : command_of (understood store_schema records_owners_text) ≡ Select (alone (reading 4 [] (shows (1 ∷ [])) [] no_limit)) (codes "db" ∷ [])
+pub records_owners_is : command_of (understood store_schema records_owners_text) ≡ Select (alone (reading 4 [] (shows (1 ∷ [])) [] no_limit)) (codes "db" ∷ [])
 unfolding understood everything
 records_owners_is = refl
 
@@ -203,9 +205,9 @@ pub records_owned : (old new : State) (rows : List Row) → IsStore old → Show
 records_owned = shows_owners 2 records records_static _ refl records_owners_text (codes "db" ∷ []) records_owners_is records_owners_plain.0 records_owners_plain.1
 
 abbrev pub postings_owners_text : List ℕ
-postings_owners_text = codes "SELECT db FROM postings"
+postings_owners_text = owners_text Postings
 
-postings_owners_is : command_of (understood store_schema postings_owners_text) ≡ Select (alone (reading 7 [] (shows (1 ∷ [])) [] no_limit)) (codes "db" ∷ [])
+pub postings_owners_is : command_of (understood store_schema postings_owners_text) ≡ Select (alone (reading 7 [] (shows (1 ∷ [])) [] no_limit)) (codes "db" ∷ [])
 unfolding understood everything
 postings_owners_is = refl
 
@@ -221,9 +223,9 @@ pub postings_owned : (old new : State) (rows : List Row) → IsStore old → Sho
 postings_owned = shows_owners 3 postings postings_static _ refl postings_owners_text (codes "db" ∷ []) postings_owners_is postings_owners_plain.0 postings_owners_plain.1
 
 abbrev pub blocks_owners_text : List ℕ
-blocks_owners_text = codes "SELECT db FROM blocks"
+blocks_owners_text = owners_text Blocks
 
-blocks_owners_is : command_of (understood store_schema blocks_owners_text) ≡ Select (alone (reading 9 [] (shows (1 ∷ [])) [] no_limit)) (codes "db" ∷ [])
+pub blocks_owners_is : command_of (understood store_schema blocks_owners_text) ≡ Select (alone (reading 9 [] (shows (1 ∷ [])) [] no_limit)) (codes "db" ∷ [])
 unfolding understood everything
 blocks_owners_is = refl
 
@@ -239,9 +241,9 @@ pub blocks_owned : (old new : State) (rows : List Row) → IsStore old → Shown
 blocks_owned = shows_owners 4 blocks blocks_static _ refl blocks_owners_text (codes "db" ∷ []) blocks_owners_is blocks_owners_plain.0 blocks_owners_plain.1
 
 abbrev pub dict_owners_text : List ℕ
-dict_owners_text = codes "SELECT db FROM dict"
+dict_owners_text = owners_text Dict
 
-dict_owners_is : command_of (understood store_schema dict_owners_text) ≡ Select (alone (reading 11 [] (shows (1 ∷ [])) [] no_limit)) (codes "db" ∷ [])
+pub dict_owners_is : command_of (understood store_schema dict_owners_text) ≡ Select (alone (reading 11 [] (shows (1 ∷ [])) [] no_limit)) (codes "db" ∷ [])
 unfolding understood everything
 dict_owners_is = refl
 

@@ -58,3 +58,4 @@ pub mod ExpectingRows
 pub mod PackedBeside
 pub mod ExpectingBlocks
 pub mod KeyCounts
+pub mod RowReads

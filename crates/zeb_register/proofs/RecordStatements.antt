@@ -197,7 +197,7 @@ lists_ident db sysno old new rows store shown =
 abbrev pub all_text : List ℕ
 all_text = codes "SELECT sysno, ident, bytes FROM records WHERE db = ?1 ORDER BY sysno"
 
-all_is : command_of (understood store_schema all_text) ≡ Select (alone (reading 4 (keyed_from 1 0 1) (shows (2 ∷ 3 ∷ 4 ∷ [])) (2 ∷ []) no_limit)) (codes "sysno" ∷ codes "ident" ∷ codes "bytes" ∷ [])
+pub all_is : command_of (understood store_schema all_text) ≡ Select (alone (reading 4 (keyed_from 1 0 1) (shows (2 ∷ 3 ∷ 4 ∷ [])) (2 ∷ []) no_limit)) (codes "sysno" ∷ codes "ident" ∷ codes "bytes" ∷ [])
 unfolding understood everything
 all_is = refl
 

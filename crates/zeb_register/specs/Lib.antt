@@ -20,5 +20,6 @@ pub mod Formats
 pub mod Expected
 pub mod RowExpected
 pub mod RowKeys
+pub mod RowReads
 pub mod KeyColumns
 pub mod TableForms

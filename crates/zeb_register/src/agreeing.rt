@@ -3,29 +3,24 @@
 ghost use Rattle.std.specs.Prelude.{◌≡◌, ◌≢◌, ◌↔◌, true, false, length, MatchOption, IfSome, IsTrue, IfOk};
 ghost use Rattle.sqlite.specs.Held.{state};
 ghost use Rattle.sqlite.specs.State.{IsUnchanged};
-ghost use Rattle.sqlite.specs.declared.types.Value.TheVariants.{Int};
-ghost use Rattle.sqlite.specs.Order.{column};
-ghost use Rattle.sqlite_rules.specs.Lists.{Has};
 ghost use Rattle.std.specs.List.Sorted.{IsStrictlySortedBy};
 ghost use Rattle.zeb_register.specs.Calls.{Reading};
 ghost use Rattle.zeb_register.specs.Clauses.{OnStore, Tells, TellsWhether};
-ghost use Rattle.zeb_register.specs.Expected.{IsOrdered, name_order};
+ghost use Rattle.zeb_register.specs.Expected.{IsOrdered, key_posting_order, name_order};
 ghost use Rattle.zeb_register.specs.RowExpected.{AreBeside, AreInOrder, AsExpected, BelongsTo, EachAsExpected, HasNames, HasTexts};
-ghost use Rattle.zeb_register.specs.RowExpected.{HoldsExpected, HoldsThere, IsInOrder, IsOwnedBy, LacksPacked, ListsAgree, ShowsOwners};
+ghost use Rattle.zeb_register.specs.RowExpected.{HoldsExpected, HoldsThere, IsInOrder, LacksPacked, ListsAgree};
 ghost use Rattle.zeb_register.specs.RowExpected.{tree_of};
-ghost use Rattle.zeb_register.specs.RowTerms.{Reads};
+ghost use Rattle.zeb_register.specs.RowKeys.{AreKeyCounts, IsKeyed};
 
 use crate::catalog::databases_in;
-use crate::expected::{are_named, are_postings, are_records, are_texts};
-use crate::packed_agreeing::{blocks_agree, keys_agree};
+use crate::expected::{are_named, are_texts};
+use crate::key_counts::{KeyCount, key_counts};
+use crate::read_beside::{belongs, rests_agree};
 use crate::statements::databases::listed_rows;
-use crate::statements::owners::{blocks_owners, dict_owners, postings_owners, records_owners};
-use crate::statements::postings::{database_postings, nothing_of};
-use crate::statements::records::record_rows;
+use crate::statements::postings::nothing_of;
 use crate::statements::texts::all_texts;
 use crate::{DatabaseId, Expected, ExpectedDatabase, ListedDatabase, RegFault};
-use sqlite::types::ValueRef;
-use sqlite::{Alter, Connection, Row};
+use sqlite::{Alter, Connection};
 use std::alloc::Global;
 
 /// A table whose rows begin with the id of a database.
@@ -199,106 +194,19 @@ fn database_agrees<S: Alter>(
         (state S.Store conn.old) (state S.Store conn.new) result }
     ensures honest { result ≢ Err RegFault.Damaged }
 {
+    let counts = counts_for(table, database)?;
+    rests_agree(conn, table, db.column(), database, &counts)
+}
+
+/// The keys of the expected postings, each with how many records have it, where the table is `dict`.
+fn counts_for(table: Table, database: &ExpectedDatabase) -> Result<Vec<KeyCount>, RegFault>
+    ensures ok { IfOk result (λ list. table ≡ Table.Dict → IsStrictlySortedBy key_posting_order database.now.postings.items
+        → AreKeyCounts (IsKeyed database.now.postings.items) list.items) }
+    ensures honest { result ≢ Err RegFault.Damaged }
+{
+    let alloc = *database.postings.allocator();
     match table {
-        Table::Records => records_agree(conn, db, database),
-        Table::Postings => postings_agree(conn, db, database),
-        Table::Blocks => blocks_agree(conn, db, database),
-        Table::Dict => keys_agree(conn, db, database),
-    }
-}
-
-/// Whether the records of a database are just the expected ones.
-fn records_agree<S: Alter>(
-    conn: &mut Connection<S>,
-    db: DatabaseId,
-    database: &ExpectedDatabase,
-) -> Result<bool, RegFault>
-    ensures call { Reading (state S.Store conn.old) (state S.Store conn.new) result (λ _. IsUnchanged) }
-    ensures value { TellsWhether (AsExpected Table.Records db.0 database.now) (IsInOrder database.now)
-        (state S.Store conn.old) (state S.Store conn.new) result }
-    ensures honest { result ≢ Err RegFault.Damaged }
-{
-    let rows = record_rows(conn, db.column())?;
-    Ok(are_records(&rows, &database.records))
-}
-
-/// Whether the rows of postings of a database are just the expected ones.
-fn postings_agree<S: Alter>(
-    conn: &mut Connection<S>,
-    db: DatabaseId,
-    database: &ExpectedDatabase,
-) -> Result<bool, RegFault>
-    ensures call { Reading (state S.Store conn.old) (state S.Store conn.new) result (λ _. IsUnchanged) }
-    ensures value { TellsWhether (AsExpected Table.Postings db.0 database.now) (IsInOrder database.now)
-        (state S.Store conn.old) (state S.Store conn.new) result }
-    ensures honest { result ≢ Err RegFault.Damaged }
-{
-    let rows = database_postings(conn, db.column())?;
-    Ok(are_postings(&rows, &database.postings))
-}
-
-/// Whether each row of a table belongs to one of these databases.
-pub(crate) fn belongs<S: Alter>(
-    conn: &mut Connection<S>,
-    table: Table,
-    listed: &[ListedDatabase],
-) -> Result<bool, RegFault>
-    ensures call { Reading (state S.Store conn.old) (state S.Store conn.new) result (λ _. IsUnchanged) }
-    ensures value { Tells (state S.Store conn.old) (state S.Store conn.new) result
-        (λ trees agree. IsTrue agree ↔ BelongsTo (tree_of table) listed.now trees) }
-    ensures honest { result ≢ Err RegFault.Damaged }
-{
-    let rows = owners(conn, table)?;
-    Ok(are_owned(&rows, listed))
-}
-
-/// The id of its database, for each row of a table.
-fn owners<S: Alter>(conn: &mut Connection<S>, table: Table) -> Result<Vec<Row>, RegFault>
-    ensures call { Reading (state S.Store conn.old) (state S.Store conn.new) result
-        (λ rows a b. Reads (ShowsOwners (tree_of table)) a b rows.items) }
-    ensures honest { result ≢ Err RegFault.Damaged }
-{
-    match table {
-        Table::Records => Ok(records_owners(conn)?),
-        Table::Postings => Ok(postings_owners(conn)?),
-        Table::Blocks => Ok(blocks_owners(conn)?),
-        Table::Dict => Ok(dict_owners(conn)?),
-    }
-}
-
-/// Whether each row shows the id of one of these databases.
-fn are_owned(rows: &[Row], listed: &[ListedDatabase]) -> bool
-    ensures same { result ≡ true → (row : _) → Has rows.now row → IsOwnedBy listed.now row }
-    ensures other { result ≡ false → ¬ ((row : _) → Has rows.now row → IsOwnedBy listed.now row) }
-{
-    for row in rows {
-        if !is_owned(row, listed) {
-            return false;
-        }
-    }
-    true
-}
-
-/// Whether the row shows the id of one of these databases.
-fn is_owned(row: &Row, listed: &[ListedDatabase]) -> bool
-    ensures same { result ≡ true → IsOwnedBy listed.now row.now }
-    ensures other { result ≡ false → ¬ IsOwnedBy listed.now row.now }
-{
-    for database in listed {
-        if is_id(row, database.id) {
-            return true;
-        }
-    }
-    false
-}
-
-/// Whether the row shows this id.
-fn is_id(row: &Row, id: DatabaseId) -> bool
-    ensures same { result ≡ true → column row.now 0 ≡ Int id.0 }
-    ensures other { result ≡ false → column row.now 0 ≢ Int id.0 }
-{
-    match row.get_ref(0) {
-        Ok(ValueRef::Int(value)) => value == id.column(),
-        _ => false,
+        Table::Dict => key_counts(alloc, &database.postings),
+        _ => Ok(Vec::new(alloc)),
     }
 }

@@ -82,24 +82,8 @@ fn is_named(listed: &ListedDatabase, database: &ExpectedDatabase) -> bool
     listed.name.as_str() == database.name.as_str() && listed.last == database.last
 }
 
-/// Whether the rows show just these records, in order.
-pub(crate) fn are_records(rows: &[Row], records: &[Record]) -> bool
-    ensures same { result ≡ true → rows.now ≡ map record_shown records.now }
-    ensures other { result ≡ false → rows.now ≢ map record_shown records.now }
-{
-    if rows.len() != records.len() {
-        return false;
-    }
-    for (at, row) in rows.iter().enumerate() {
-        if !is_record(row, &records[at]) {
-            return false;
-        }
-    }
-    true
-}
-
 /// Whether a row shows this record.
-fn is_record(row: &Row, kept: &Record) -> bool
+pub(crate) fn is_record(row: &Row, kept: &Record) -> bool
     ensures same { result ≡ true → row.now ≡ record_shown kept.now }
     ensures other { result ≡ false → row.now ≢ record_shown kept.now }
 {
@@ -109,24 +93,8 @@ fn is_record(row: &Row, kept: &Record) -> bool
         && is_blob(row, 2, &kept.bytes)
 }
 
-/// Whether the rows show just these postings under their keys, in order.
-pub(crate) fn are_postings(rows: &[Row], postings: &[KeyPosting]) -> bool
-    ensures same { result ≡ true → rows.now ≡ map posting_shown postings.now }
-    ensures other { result ≡ false → rows.now ≢ map posting_shown postings.now }
-{
-    if rows.len() != postings.len() {
-        return false;
-    }
-    for (at, row) in rows.iter().enumerate() {
-        if !is_posting(row, &postings[at]) {
-            return false;
-        }
-    }
-    true
-}
-
 /// Whether a row shows this posting under its key.
-fn is_posting(row: &Row, expected: &KeyPosting) -> bool
+pub(crate) fn is_posting(row: &Row, expected: &KeyPosting) -> bool
     ensures same { result ≡ true → row.now ≡ posting_shown expected.now }
     ensures other { result ≡ false → row.now ≢ posting_shown expected.now }
 {

@@ -1,6 +1,6 @@
 //! The keys of expected postings, each with how many records have it, beside the rows of `dict`.
 
-ghost use Rattle.std.specs.Prelude.{◌≡◌, ◌≢◌, ◌<◌, ◌+◌, ◌^◌, true, false, map, IfOk, OnOk};
+ghost use Rattle.std.specs.Prelude.{◌≡◌, ◌≢◌, ◌<◌, ◌+◌, ◌^◌, true, false, IfOk, OnOk};
 ghost use Rattle.std.specs.List.Sorted.{IsStrictlySortedBy};
 ghost use Rattle.sqlite_rules.specs.Lists.{Has};
 ghost use Rattle.zeb_register.specs.Expected.{key_posting_order};
@@ -69,24 +69,8 @@ fn is_same(one: &Key, other: &Key) -> bool
     *one == *other
 }
 
-/// Whether the rows show just these counts, in order.
-pub(crate) fn are_counts(rows: &[Row], counts: &[KeyCount]) -> bool
-    ensures same { result ≡ true → rows.now ≡ map count_shown counts.now }
-    ensures other { result ≡ false → rows.now ≢ map count_shown counts.now }
-{
-    if rows.len() != counts.len() {
-        return false;
-    }
-    for (at, row) in rows.iter().enumerate() {
-        if !is_count(row, &counts[at]) {
-            return false;
-        }
-    }
-    true
-}
-
 /// Whether a row shows this count behind its key.
-fn is_count(row: &Row, count: &KeyCount) -> bool
+pub(crate) fn is_count(row: &Row, count: &KeyCount) -> bool
     ensures same { result ≡ true → row.now ≡ count_shown count.now }
     ensures other { result ≡ false → row.now ≢ count_shown count.now }
 {

@@ -25,6 +25,7 @@ mod packed_runs;
 mod packed_totals;
 mod plain;
 mod plain_changes;
+mod read_beside;
 mod registers;
 mod schema;
 mod statements;

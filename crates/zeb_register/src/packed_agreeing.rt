@@ -1,5 +1,5 @@
-//! The packed tables of a database beside what is expected of it. Rows are read in order, and each takes its postings from the front of
-//! those that are left.
+//! The packed tables of a database beside what is expected of it. Each row of blocks takes its postings from the
+//! front of those that are left.
 
 ghost use Rattle.std.specs.Prelude.{◌≡◌, ◌≢◌, ◌≤◌, ◌++◌, ℕ, pos, List, true, false, length, drop, map, MatchOption};
 ghost use Rattle.sqlite.specs.Held.{state};
@@ -9,13 +9,12 @@ ghost use Rattle.sqlite.specs.Order.{column};
 ghost use Rattle.zeb_blocks.specs.Blocks.{BlockSpells};
 ghost use Rattle.zeb_register.specs.Calls.{Reading};
 ghost use Rattle.zeb_register.specs.Clauses.{TellsWhether};
-ghost use Rattle.zeb_register.specs.RowExpected.{AreBlocks, AreInOrder, AsExpected, HoldsExpected, HoldsKeysAlone, IsBlockBefore, IsInOrder, with_key};
+ghost use Rattle.zeb_register.specs.RowExpected.{AreInOrder, HoldsExpected, HoldsKeysAlone, IsBlockBefore, with_key};
 
-use crate::agreeing::{Table, belongs, table_agrees};
+use crate::agreeing::{Table, table_agrees};
 use crate::expected::is_key;
-use crate::key_counts::{are_counts, key_counts};
-use crate::statements::packed::{database_blocks, database_keys};
-use crate::{DatabaseId, ExpectedDatabase, KeyPosting, ListedDatabase, RegFault};
+use crate::read_beside::belongs;
+use crate::{ExpectedDatabase, KeyPosting, ListedDatabase, RegFault};
 use sqlite::types::ValueRef;
 use sqlite::{Alter, Connection, Row};
 use zeb_blocks::{Posting, Postings};
@@ -57,54 +56,8 @@ fn keys_alone<S: Alter>(
     belongs(conn, Table::Postings, &[])
 }
 
-/// Whether the blocks of a database are just the expected ones.
-pub(crate) fn blocks_agree<S: Alter>(
-    conn: &mut Connection<S>,
-    db: DatabaseId,
-    database: &ExpectedDatabase,
-) -> Result<bool, RegFault>
-    ensures call { Reading (state S.Store conn.old) (state S.Store conn.new) result (λ _. IsUnchanged) }
-    ensures value { TellsWhether (AsExpected Table.Blocks db.0 database.now) (IsInOrder database.now)
-        (state S.Store conn.old) (state S.Store conn.new) result }
-    ensures honest { result ≢ Err RegFault.Damaged }
-{
-    let rows = database_blocks(conn, db.column())?;
-    Ok(are_blocks(&rows, &database.postings))
-}
-
-/// Whether the rows of `dict` of a database are just the expected ones.
-pub(crate) fn keys_agree<S: Alter>(
-    conn: &mut Connection<S>,
-    db: DatabaseId,
-    database: &ExpectedDatabase,
-) -> Result<bool, RegFault>
-    ensures call { Reading (state S.Store conn.old) (state S.Store conn.new) result (λ _. IsUnchanged) }
-    ensures value { TellsWhether (AsExpected Table.Dict db.0 database.now) (IsInOrder database.now)
-        (state S.Store conn.old) (state S.Store conn.new) result }
-    ensures honest { result ≢ Err RegFault.Damaged }
-{
-    let rows = database_keys(conn, db.column())?;
-    let counts = key_counts(*database.postings.allocator(), &database.postings)?;
-    Ok(are_counts(&rows, &counts))
-}
-
-/// Whether the rows spell just these postings, one block behind the other.
-fn are_blocks(rows: &[Row], postings: &[KeyPosting]) -> bool
-    ensures same { result ≡ true → AreBlocks rows.now postings.now }
-    ensures other { result ≡ false → ¬ AreBlocks rows.now postings.now }
-{
-    let mut at = 0;
-    for row in rows {
-        let Some(end) = block_end(row, postings, at) else {
-            return false;
-        };
-        at = end;
-    }
-    at == postings.len()
-}
-
 /// Where the postings end that the row spells from a place on, if it spells those that stand there.
-fn block_end(row: &Row, postings: &[KeyPosting], at: usize) -> Option<usize>
+pub(crate) fn block_end(row: &Row, postings: &[KeyPosting], at: usize) -> Option<usize>
     requires { at ≤ length postings.now }
     ensures { MatchOption result ((rest : List KeyPosting) → ¬ IsBlockBefore row.now (drop at postings.now) rest)
         (λ end. (end ≤ length postings.now) × IsBlockBefore row.now (drop at postings.now) (drop end postings.now)) }

@@ -3,7 +3,7 @@
 ghost use Rattle.std.specs.Prelude.{◌≡◌, [], ◌∷◌, ◌++◌};
 ghost use Rattle.sqlite.specs.Held.{state};
 ghost use Rattle.zeb_register.specs.Sql.{Loses};
-ghost use Rattle.sqlite.specs.declared.types.Value.TheVariants.{Int, Text};
+ghost use Rattle.sqlite.specs.declared.types.Value.TheVariants.{Text};
 ghost use Rattle.zeb_register.specs.Store.{blocks_tree, dict_tree, IsPostingIn, IsRest};
 ghost use Rattle.zeb_register.specs.Calls.{Reading};
 ghost use Rattle.zeb_register.specs.Clauses.{Writes};
@@ -30,35 +30,6 @@ pub(crate) fn block_rows<S: Alter>(
     conn.query_all(
         "SELECT block, data FROM blocks WHERE db = ?1 AND idx = ?2 AND reg = ?3 AND term = ?4 ORDER BY block",
         params![db, at.index, reg, term],
-    )
-}
-
-/// All blocks of a database, by key and number: the key, the number, and the bytes.
-pub(crate) fn database_blocks<S: Alter>(
-    conn: &mut Connection<S>,
-    db: i64,
-) -> Result<Vec<Row>, Error>
-    ensures call { Reading (state S.Store conn.old) (state S.Store conn.new) result
-        (λ rows a b. Lists (IsRest blocks_tree (Int db ∷ [])) a b rows.items) }
-{
-    // What is seen outside a transaction is what was committed.
-    let _idle = conn.is_autocommit();
-    conn.query_all(
-        "SELECT idx, reg, term, block, data FROM blocks WHERE db = ?1 ORDER BY idx, reg, term, block",
-        params![db],
-    )
-}
-
-/// All keys of a database, rising, each with the number of its records.
-pub(crate) fn database_keys<S: Alter>(conn: &mut Connection<S>, db: i64) -> Result<Vec<Row>, Error>
-    ensures call { Reading (state S.Store conn.old) (state S.Store conn.new) result
-        (λ rows a b. Lists (IsRest dict_tree (Int db ∷ [])) a b rows.items) }
-{
-    // What is seen outside a transaction is what was committed.
-    let _idle = conn.is_autocommit();
-    conn.query_all(
-        "SELECT idx, reg, term, records FROM dict WHERE db = ?1 ORDER BY idx, reg, term",
-        params![db],
     )
 }
 

@@ -30,22 +30,6 @@ pub(crate) fn nothing_of<S: Alter>(conn: &mut Connection<S>) -> Result<(), Error
     Ok(())
 }
 
-/// All postings of a database, with their keys, by key, system number, unit and place.
-pub(crate) fn database_postings<S: Alter>(
-    conn: &mut Connection<S>,
-    db: i64,
-) -> Result<Vec<Row>, Error>
-    ensures call { Reading (state S.Store conn.old) (state S.Store conn.new) result
-        (λ rows a b. Lists (IsRest postings_tree (Int db ∷ [])) a b rows.items) }
-{
-    // What is seen outside a transaction is what was committed.
-    let _idle = conn.is_autocommit();
-    conn.query_all(
-        "SELECT idx, reg, term, sysno, seq, pos FROM postings WHERE db = ?1 ORDER BY idx, reg, term, sysno, seq, pos",
-        params![db],
-    )
-}
-
 pub(crate) fn posting_rows<S: Alter>(
     conn: &mut Connection<S>,
     at: RegisterOf,

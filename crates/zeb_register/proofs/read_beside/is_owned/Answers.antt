@@ -4,7 +4,7 @@ use Rattle.sqlite.specs.Order.{column}
 use Rattle.zeb_register.specs.declared.catalog.ListedDatabase.{ListedDatabase}
 use Rattle.zeb_register.proofs.Alike.{each_more, each_whole}
 use Rattle.zeb_register.proofs.ContentLemmas.{has_at}
-use Rattle.zeb_register.proofs.agreeing.is_owned.Goals as goal
+use Rattle.zeb_register.proofs.read_beside.is_owned.Goals as goal
 
 pub returns-then-is_id-clause-same : goal.returns-then-is_id-clause-same
 returns-then-is_id-clause-same c is = (c.database-item.result, has_at _ _ _ c.database-item.is c.loop-database-test.true, c.is_id.ensures.same c.if-is_id.true)
