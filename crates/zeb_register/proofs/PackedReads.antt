@@ -15,7 +15,7 @@ use Rattle.zeb_register.specs.PackedBlocks.{HoldsBlocks, part_in}
 use Rattle.zeb_register.specs.declared.statements.keys.KeyOf.{KeyOf}
 use Rattle.zeb_register.specs.KeyColumns.{IsOfNumbered, numbered_columns}
 use Rattle.zeb_register.specs.PackedChanges.{HoldsBlockRows, IsTold, SpellsIn, block_key}
-use Rattle.zeb_register.specs.PackedRows.{IsRecordNumber}
+use Rattle.zeb_register.specs.PackedBlocks.{IsRecordNumber}
 use Rattle.zeb_register.specs.PlainRows.{key_row}
 use Rattle.zeb_register.specs.Sql.{IsListOf}
 use Rattle.zeb_register.specs.Store.{IsRest, blocks_tree, dict_tree}

@@ -10,7 +10,8 @@ use Rattle.sqlite.specs.Term.{col}
 use Rattle.sqlite.specs.Listing.{understood, reads_listing}
 use Rattle.sqlite.proofs.Callers.{IsPlain, command_of}
 use Rattle.sqlite_tied.specs.Compute.{everything}
-use Rattle.zeb_register.specs.PackedRows.{IsFallingListOf, IsRestBefore, IsRestFrom}
+use Rattle.zeb_register.specs.PackedBlocks.{IsRestBefore, IsRestFrom}
+use Rattle.zeb_register.specs.PackedRows.{IsFallingListOf}
 use Rattle.zeb_register.specs.Sql.{IsListOf}
 use Rattle.zeb_register.specs.Store.{IsStore, IsRest, blocks_tree, dict_tree, key_of}
 use Rattle.zeb_register.specs.Tables.{store_schema}

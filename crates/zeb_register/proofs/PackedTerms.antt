@@ -1,6 +1,6 @@
 -- Rows of `dict` as the terms of a register.
-use Rattle.std.proofs.Common.{◌≡◌, ◌≢◌, ◌↔◌, ◌∙◌, ◌≤◌, ℕ, ℤ, pos, zero, suc, Bool, true, false, not, List, [], ◌∷◌, ◌++◌, ◌⊎◌, length, map, filter, take, drop, reverse, refl, sym, ap, ap₂, subst, inl, inr, Option, None, Some, Less, nat_cmp, arith}
-use Rattle.std.proofs.lemmas.List.{length-reverse, map-append, reverse-append, reverse-reverse, take-append-drop, take-map}
+use Rattle.std.proofs.Common.{◌≡◌, ◌≢◌, ◌↔◌, ◌∙◌, ◌+◌, ◌<◌, ◌≤◌, ℕ, ℤ, pos, zero, suc, Bool, true, false, not, List, [], ◌∷◌, ◌++◌, ◌⊎◌, length, get_or, map, filter, take, drop, reverse, refl, sym, ap, ap₂, subst, inl, inr, Option, None, Some, Less, nat_cmp, arith}
+use Rattle.std.proofs.lemmas.List.{length-reverse, map-append, reverse-append, reverse-reverse, take-append-drop, take-map, take_more}
 use Rattle.std.specs.Ordering.{is_lt, ordering_then}
 use Rattle.std.specs.Cmp.Lexicographic.{slice_cmp}
 use Rattle.std.specs.List.Sorted.{IsStrictlySortedBy}
@@ -19,8 +19,9 @@ use Rattle.zeb_profile.specs.Indexes.{register_code}
 use Rattle.zeb_register.specs.declared.registers.TermCount.{TermCount}
 use Rattle.zeb_register.specs.Content.{Content, IsStorable, posted}
 use Rattle.zeb_register.specs.Occurring.{AreTermsBefore, AreTermsFrom, AreTermsOf, HasKey, IsCount, TermIn, is_before, is_from, key_in, last, term_cmp}
-use Rattle.zeb_register.specs.PackedBlocks.{HoldsBlocks}
-use Rattle.zeb_register.specs.PackedRows.{IsCountRow, IsFallingListOf, IsRestBefore, IsRestFrom, count_row}
+use Rattle.zeb_register.specs.PackedBlocks.{HoldsBlocks, IsRestBefore, IsRestFrom, CountsTerm}
+use Rattle.zeb_register.specs.PackedRows.{IsFallingListOf, count_row}
+use Rattle.zeb_register.specs.PlainRows.{register_front}
 use Rattle.zeb_register.specs.RowPlaces.{first_two}
 use Rattle.zeb_register.specs.Sql.{IsListOf}
 use Rattle.zeb_register.specs.Store.{IsRest, dict_tree}
@@ -31,7 +32,6 @@ use Rattle.zeb_register.proofs.PackedLemmas.{blocks_have_terms, not_empty}
 use Rattle.zeb_register.proofs.RisingLists.{kept_rises, pushed_rises, same_list}
 use Rattle.zeb_register.proofs.Scans.{strictly_mapped}
 use Rattle.zeb_register.proofs.TermLists.{last_taken}
-use Rattle.zeb_register.proofs.TermRows.{register_front}
 
 -- ---- a term and its row
 
@@ -75,6 +75,13 @@ records_number content db key records storable count some =
     from : (n : ℕ) → records ≡ n → HasKey (posted content db) key (some_posting (content db key) some).0.sysno → 1 ≤ n
     from zero none has = absurd (counted_none (HasKey (posted content db) key) records _ count none has)
     from (suc n) more has = omega arith
+
+-- one row more shows one term more
+pub counted_more : (rows : List Row) (i : ℕ) (row : Row) (ts : List TermCount) (t : TermCount) → i < length rows → row ≡ get_or rows i row → map count_row ts ≡ map first_two (take i rows) → count_row t ≡ first_two row
+    → map count_row (ts ++ t ∷ []) ≡ map first_two (take (i + 1) rows)
+counted_more rows i row ts t within is before one =
+    let more : take (i + 1) rows ≡ take i rows ++ row ∷ [] = take_more rows i row within ∙ ap (λ r. take i rows ++ r ∷ []) (sym is) in
+    map-append count_row ts (t ∷ []) ∙ ap₂ (λ front last. front ++ last ∷ []) before one ∙ sym (ap (map first_two) more ∙ map-append first_two (take i rows) (row ∷ []))
 
 -- ---- parts of mapped lists
 
@@ -141,6 +148,21 @@ falling_is P rows others down up =
     let same : reverse rows ≡ others =
     same_list row_cmp_total (reverse rows) others (reversed_rises rows down.falling) up.rising (λ z h. (up.each z).1 ((down.each z).0 ((has_reversed rows z).0 h))) (λ z h. (has_reversed rows z).1 ((down.each z).1 ((up.each z).0 h))) in
     sym (reverse-reverse rows) ∙ ap reverse same
+
+-- the other way round such rows are the list
+pub reversed_list : (P : Row → Type 0) (rows : List Row) → IsFallingListOf P rows → IsListOf P (reverse rows)
+reversed_list P rows down = record {
+  each = λ x. let back = has_reversed rows x in (λ h. (down.each x).0 (back.0 h), λ h. back.1 ((down.each x).1 h));
+  rising = reversed_rises rows down.falling;
+}
+
+-- the last of them are the first of those that fall
+pub has_last : (P : Row → Type 0) (rows others : List Row) (n : ℕ) (row : Row) → IsFallingListOf P rows → IsListOf P others → Has (last n others) row ↔ Has (take n rows) row
+has_last P rows others n row down up =
+    let is : others ≡ reverse rows = one_list P others (reverse rows) up (reversed_list P rows down) in
+    let same : last n others ≡ reverse (take n rows) = ap (last n) is ∙ last_reversed n rows in
+    let back = has_reversed (take n rows) row in
+    (λ h. back.0 (subst (λ l. Has l row) same h), λ h. subst (λ l. Has l row) (sym same) (back.1 h))
 
 -- ---- the rows of one register
 
@@ -259,10 +281,10 @@ module _ (trees : Trees) (content : Content) (db : ℤ) (index : ℕ) (register 
       record { all = all.0; are = all.1; is = ap reverse found ∙ sym (last_reversed n back) ∙ ap (last n) (reverse-reverse passed) }
 
   -- each row can be read
-  pub rows_counted : IsStorable content → (row : Row) → IsRest dict_tree front trees row → IsCountRow row
+  pub rows_counted : IsStorable content → (row : Row) → IsRest dict_tree front trees row → CountsTerm row
   rows_counted storable row there =
       let it = dict_row_of row there in
       let key = key_in index register it.0.term in
       let p = (key_posted content db key it.2.0).0 it.2.1 in
       let number = records_number content db key it.0.records storable it.3 (λ none. not_empty (content db key) p.0 p.1 none) in
-      (it.0.term, it.0.records, it.1, (storable db key p.0 p.1).text, number.0, number.1)
+      (it.0.term, ap (λ (r : Row). column r 0) it.1, (storable db key p.0 p.1).text, (it.0.records, ap (λ (r : Row). column r 1) it.1, number.0, number.1))

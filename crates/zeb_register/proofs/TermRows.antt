@@ -22,7 +22,7 @@ use Rattle.zeb_register.specs.declared.registers.TermCount.{TermCount}
 use Rattle.zeb_register.specs.Sql.{HasRow, IsListOf}
 use Rattle.zeb_register.specs.Store.{postings_tree, key_of, IsRest}
 use Rattle.zeb_register.specs.Content.{Content, IsStorable, posted, posting_cmp}
-use Rattle.zeb_register.specs.PlainRows.{HoldsRows, posting_row}
+use Rattle.zeb_register.specs.PlainRows.{HoldsRows, posting_row, register_front}
 use Rattle.zeb_register.specs.Occurring.{IsCount, AreCounts, AreSpotsOf, AreTermsOf, HasSpot, Spot, TermIn, key_in, spot_cmp}
 use Rattle.zeb_register.specs.RowTerms.{IsInRecord, IsTerm, HasTerm, ShowsOccurrence, IsOccurrenceRow, IsShown, ShowsTerm, IsTermRow, ShowsLeast, ShowsGreatest, IsLeastTerm, IsGreatestTerm}
 use Rattle.zeb_register.proofs.RisingLists.{front_rises, before_last}
@@ -131,9 +131,6 @@ pub records_whole : (list : List Posting) (n : ℕ) → IsInRecord (take (length
 records_whole list n = (λ h. (h.0, subst (λ l. Has l h.0) (take_whole list) h.1, h.2), λ h. (h.0, subst (λ l. Has l h.0) (sym (take_whole list)) h.1, h.2))
 
 -- ---- the rows of one register
-
-abbrev pub register_front : ℤ → ℕ → Register → Row
-register_front db index register = Int db ∷ Int (pos index) ∷ Int (pos (register_code register)) ∷ []
 
 abbrev term_of_row : List ℕ → Posting → Row
 term_of_row term p = Text term ∷ posting_row p

@@ -7,11 +7,11 @@ use Rattle.zeb_profile.specs.Indexes.{register_code}
 use Rattle.zeb_register.specs.declared.statements.keys.KeyOf.{KeyOf}
 use Rattle.zeb_register.specs.declared.statements.keys.RegisterOf.{RegisterOf}
 use Rattle.zeb_register.specs.PackedChanges.{IsBlockOf, IsDictIn}
-use Rattle.zeb_register.specs.PlainRows.{key_row}
+use Rattle.zeb_register.specs.PlainRows.{key_row, register_front}
 use Rattle.zeb_register.specs.RowTerms.{HasTerm}
 
 abbrev pub register_columns : RegisterOf → Row
-register_columns at = Int at.db.0 ∷ Int (pos at.index) ∷ Int (pos (register_code at.register)) ∷ []
+register_columns at = register_front at.db.0 at.index at.register
 
 -- a posting of the register under the term
 abbrev pub HasTermOf : RegisterOf → Trees → List ℕ → Type 0

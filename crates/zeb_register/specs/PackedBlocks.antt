@@ -1,16 +1,18 @@
 -- Version 2, the layout with packed blocks: which rows hold a content. Such tables and blocks are this project's own.
-use Rattle.std.specs.Prelude.{◌≡◌, ◌≢◌, ◌↔◌, ◌+◌, ◌/◌, ◌==◌, if◌then◌else◌, ℕ, ℤ, pos, List, [], ◌∷◌, ◌++◌, filter}
-use Rattle.sqlite.specs.declared.types.Value.TheVariants.{Int, Blob}
-use Rattle.sqlite.specs.Order.{Row, column}
+use Rattle.std.specs.Prelude.{◌≡◌, ◌≢◌, ◌↔◌, ◌+◌, ◌/◌, ◌==◌, ◌≤◌, if◌then◌else◌, ℕ, ℤ, pos, true, false, List, [], ◌∷◌, ◌++◌, filter, take, IsUtf8}
+use Rattle.std.specs.Ordering.{is_lt}
+use Rattle.sqlite.specs.declared.types.Value.{Value}
+use Rattle.sqlite.specs.declared.types.Value.TheVariants.{Int, Text, Blob}
+use Rattle.sqlite.specs.Order.{Row, column, value_cmp}
 use Rattle.sqlite.specs.Tree.{Trees}
 use Rattle.sqlite_rules.specs.Lists.{Has}
 use Rattle.zeb_blocks.specs.declared.postings.Posting.{Posting}
 use Rattle.zeb_blocks.specs.Blocks.{BlockSpells, IsNumbered}
 use Rattle.zeb_extract.specs.declared.keys.Key.{Key}
-use Rattle.zeb_register.specs.Sql.{HasRow}
+use Rattle.zeb_register.specs.Sql.{HasRow, IsListOf}
 use Rattle.zeb_register.specs.Store.{IsRest, postings_tree, blocks_tree, dict_tree}
 use Rattle.zeb_register.specs.Content.{Content, IsRising, posted}
-use Rattle.zeb_register.specs.Occurring.{IsCount, HasKey}
+use Rattle.zeb_register.specs.Occurring.{IsCount, HasKey, last}
 use Rattle.zeb_register.specs.PlainRows.{key_row}
 
 -- the postings of a list that lie in the block: those whose system number div 256 is the block
@@ -59,3 +61,35 @@ SpellsPart row part = (block : ℕ) × (bytes : List ℕ) × (column row 0 ≡ I
 -- each row of `blocks` that begins with these columns spells some postings
 abbrev pub AreAllSpelled : Trees → Row → Type 0
 AreAllSpelled trees front = (row : Row) → IsRest blocks_tree front trees row → (part : List Posting) × SpellsPart row part
+
+-- ---- rows of `dict`, whatever they hold
+
+-- a number of records: each has a number of 1 to 999,999,999
+abbrev pub IsRecordNumber : Value → Type 0
+IsRecordNumber value = (records : ℕ) × (value ≡ Int (pos records)) × (1 ≤ records) × (records ≤ 999999999)
+
+-- the row shows a term of UTF-8, and a number of records that have it
+abbrev pub CountsTerm : Row → Type 0
+CountsTerm row = (term : List ℕ) × (column row 0 ≡ Text term) × IsUtf8 term × IsRecordNumber (column row 1)
+
+-- each row of `dict` that begins with these columns counts a term
+abbrev pub AreAllCounted : Trees → Row → Type 0
+AreAllCounted trees front = (row : Row) → IsRest dict_tree front trees row → CountsTerm row
+
+-- a row that follows these columns in some row of a table, and whose text isn't below the start
+abbrev pub IsRestFrom : ℕ → Row → List ℕ → Trees → Row → Type 0
+IsRestFrom tree front start trees row = IsRest tree front trees row × (is_lt (value_cmp (column row 0) (Text start)) ≡ false)
+
+-- the same of one whose text is below the start
+abbrev pub IsRestBefore : ℕ → Row → List ℕ → Trees → Row → Type 0
+IsRestBefore tree front start trees row = IsRest tree front trees row × (is_lt (value_cmp (column row 0) (Text start)) ≡ true)
+
+-- each of the first n of the rows of `dict` that begin with these columns and whose text isn't below the start counts a term
+abbrev pub AreFromCounted : Trees → Row → List ℕ → ℕ → Type 0
+AreFromCounted trees front start n =
+    (rows : List Row) → IsListOf (IsRestFrom dict_tree front start trees) rows → (row : Row) → Has (take n rows) row → CountsTerm row
+
+-- the same of the last n whose text is below the start
+abbrev pub AreBeforeCounted : Trees → Row → List ℕ → ℕ → Type 0
+AreBeforeCounted trees front start n =
+    (rows : List Row) → IsListOf (IsRestBefore dict_tree front start trees) rows → (row : Row) → Has (last n rows) row → CountsTerm row

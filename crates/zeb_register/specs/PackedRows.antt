@@ -1,10 +1,8 @@
 -- Steps of private functions, which no public clause speaks of: postings and terms as rows of the packed tables show them.
-use Rattle.std.specs.Prelude.{◌≡◌, ◌↔◌, ◌≤◌, ℕ, ℤ, pos, true, false, List, [], ◌∷◌, ◌++◌, IsUtf8}
-use Rattle.std.specs.Ordering.{is_lt}
+use Rattle.std.specs.Prelude.{◌≡◌, ◌↔◌, ℤ, pos, List, [], ◌∷◌, ◌++◌}
 use Rattle.std.specs.List.Sorted.{IsStrictlySortedBy}
-use Rattle.sqlite.specs.declared.types.Value.{Value}
 use Rattle.sqlite.specs.declared.types.Value.TheVariants.{Int, Text}
-use Rattle.sqlite.specs.Order.{Row, column, row_cmp, value_cmp}
+use Rattle.sqlite.specs.Order.{Row, row_cmp}
 use Rattle.sqlite.specs.State.{State, IsUnchanged}
 use Rattle.sqlite.specs.Tree.{Trees}
 use Rattle.sqlite_sql.specs.Query.{as_count, limited}
@@ -13,7 +11,7 @@ use Rattle.zeb_blocks.specs.declared.postings.Posting.{Posting}
 use Rattle.zeb_register.specs.declared.registers.TermCount.{TermCount}
 use Rattle.zeb_register.specs.PackedBlocks.{SpellsPart}
 use Rattle.zeb_register.specs.Sql.{IsListOf}
-use Rattle.zeb_register.specs.Store.{IsStore, IsRest}
+use Rattle.zeb_register.specs.Store.{IsStore}
 
 -- ---- what statements list
 
@@ -30,14 +28,6 @@ pub record IsFallingListOf (P : Row → Type 0) (rows : List Row) : Type 0 where
 abbrev pub ListsLast : ℤ → (Trees → Row → Type 0) → State → State → List Row → Type 0
 ListsLast limit P old new rows = IsUnchanged old new × (IsStore old → (all : List Row) × IsFallingListOf (P old.now.trees) all × (rows ≡ limited (as_count (Int limit)) all))
 
--- a row that follows these columns in some row of a table, and whose text isn't below the start
-abbrev pub IsRestFrom : ℕ → Row → List ℕ → Trees → Row → Type 0
-IsRestFrom tree front start trees row = IsRest tree front trees row × (is_lt (value_cmp (column row 0) (Text start)) ≡ false)
-
--- the same of one whose text is below the start
-abbrev pub IsRestBefore : ℕ → Row → List ℕ → Trees → Row → Type 0
-IsRestBefore tree front start trees row = IsRest tree front trees row × (is_lt (value_cmp (column row 0) (Text start)) ≡ true)
-
 -- ---- blocks
 
 -- each row spells some postings, and these are they, one part behind the other
@@ -50,11 +40,3 @@ AreSpelled (row ∷ rows) list = (part : List Posting) × (rest : List Posting) 
 -- the columns of a term beside the register
 abbrev pub count_row : TermCount → Row
 count_row t = Text t.term ∷ Int (pos t.records) ∷ []
-
--- a number of records: each has a number of 1 to 999,999,999
-abbrev pub IsRecordNumber : Value → Type 0
-IsRecordNumber value = (records : ℕ) × (value ≡ Int (pos records)) × (1 ≤ records) × (records ≤ 999999999)
-
--- a row of a text of UTF-8 and a number of records
-abbrev pub IsCountRow : Row → Type 0
-IsCountRow row = (term : List ℕ) × (records : ℕ) × (row ≡ Text term ∷ Int (pos records) ∷ []) × IsUtf8 term × (1 ≤ records) × (records ≤ 999999999)

@@ -5,6 +5,7 @@ use Rattle.sqlite.specs.Order.{Row}
 use Rattle.sqlite.specs.Tree.{Trees}
 use Rattle.sqlite_rules.specs.Lists.{Has}
 use Rattle.zeb_extract.specs.declared.keys.Key.{Key}
+use Rattle.zeb_profile.specs.declared.Register.{Register}
 use Rattle.zeb_profile.specs.Indexes.{register_code}
 use Rattle.zeb_blocks.specs.declared.postings.Posting.{Posting}
 use Rattle.zeb_register.specs.Sql.{HasRow}
@@ -13,6 +14,10 @@ use Rattle.zeb_register.specs.Content.{Content, IsRising}
 
 abbrev pub key_row : ℤ → Key → Row
 key_row db key = key_of db (pos key.index) (pos (register_code key.register)) key.term
+
+-- the columns with which the rows of a register begin
+abbrev pub register_front : ℤ → ℕ → Register → Row
+register_front db index register = Int db ∷ Int (pos index) ∷ Int (pos (register_code register)) ∷ []
 
 abbrev pub posting_row : Posting → Row
 posting_row p = Int (pos p.sysno) ∷ Int (pos p.seq) ∷ Int (pos p.pos) ∷ []

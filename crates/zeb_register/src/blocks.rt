@@ -1,12 +1,14 @@
 //! The layout of packed blocks.
 
-ghost use Rattle.std.specs.Prelude.{◌≡◌, OnOk};
+ghost use Rattle.std.specs.Prelude.{◌≡◌, length, IfOk, OnOk};
 ghost use Rattle.sqlite.specs.Held.{state};
 ghost use Rattle.sqlite.specs.State.{IsUnchanged};
 ghost use Rattle.zeb_register.specs.Calls.{Reading};
 ghost use Rattle.zeb_register.specs.Clauses.{IsHonest, IsHonestStorable, OnStore, TellsHeld};
-ghost use Rattle.zeb_register.specs.PackedBlocks.{AreAllSpelled, HoldsBlocks, blocks_of};
-ghost use Rattle.zeb_register.specs.PlainRows.{key_row};
+ghost use Rattle.zeb_register.specs.Content.{posted};
+ghost use Rattle.zeb_register.specs.Occurring.{AreTermsBefore, AreTermsFrom, AreTermsOf};
+ghost use Rattle.zeb_register.specs.PackedBlocks.{AreAllCounted, AreAllSpelled, AreBeforeCounted, AreFromCounted, HoldsBlocks, blocks_of};
+ghost use Rattle.zeb_register.specs.PlainRows.{key_row, register_front};
 ghost use Rattle.zeb_register.specs.Tallies.{Works};
 
 use crate::agreeing::lists_beside;
@@ -120,6 +122,8 @@ impl Layout for Blocks {
         Ok(list)
     }
 
+    /// The terms of a register that have a posting, in the order of their bytes. `Damaged` exactly where one of their rows of `dict` shows
+    /// no term of UTF-8 or doesn't say 1 to 999,999,999.
     fn terms_of<S: Alter>(
         alloc: Global,
         conn: &mut Connection<S>,
@@ -127,7 +131,17 @@ impl Layout for Blocks {
         db: DatabaseId,
         index: u32,
         register: Register,
-    ) -> Result<Vec<TermCount>, RegFault> {
+    ) -> Result<Vec<TermCount>, RegFault>
+        ensures call { Reading (state S.Store conn.old) (state S.Store conn.new) result (λ _. IsUnchanged) }
+        ensures value { TellsHeld HoldsBlocks (state S.Store conn.old) (state S.Store conn.new) result
+            (λ content list. AreTermsOf (posted content db.0) index register list.items) }
+        ensures honest { IsHonestStorable HoldsBlocks (state S.Store conn.old) (state S.Store conn.new) result }
+        ensures sound { OnStore (state S.Store conn.old) (state S.Store conn.new) (λ trees. OnOk result
+            (AreAllCounted trees (register_front db.0 index register))) }
+        ensures damaged { IsHonest (state S.Store conn.old) (state S.Store conn.new) result
+            (λ trees. AreAllCounted trees (register_front db.0 index register)) }
+        ensures counted { IfOk result (λ list. Works (length list.items) 0 0 0 work.old work.new) }
+    {
         let at = RegisterOf {
             db,
             index,
@@ -139,6 +153,7 @@ impl Layout for Blocks {
         Ok(counts)
     }
 
+    /// The first `n` of these terms that are not below `start`. `Damaged` exactly where one of their rows is so damaged.
     fn terms_from<S: Alter>(
         alloc: Global,
         conn: &mut Connection<S>,
@@ -148,7 +163,17 @@ impl Layout for Blocks {
         register: Register,
         start: &str,
         n: u64,
-    ) -> Result<Vec<TermCount>, RegFault> {
+    ) -> Result<Vec<TermCount>, RegFault>
+        ensures call { Reading (state S.Store conn.old) (state S.Store conn.new) result (λ _. IsUnchanged) }
+        ensures value { TellsHeld HoldsBlocks (state S.Store conn.old) (state S.Store conn.new) result
+            (λ content list. AreTermsFrom (posted content db.0) index register start.now n list.items) }
+        ensures honest { IsHonestStorable HoldsBlocks (state S.Store conn.old) (state S.Store conn.new) result }
+        ensures sound { OnStore (state S.Store conn.old) (state S.Store conn.new) (λ trees. OnOk result
+            (AreFromCounted trees (register_front db.0 index register) start.now n)) }
+        ensures damaged { IsHonest (state S.Store conn.old) (state S.Store conn.new) result
+            (λ trees. AreFromCounted trees (register_front db.0 index register) start.now n) }
+        ensures counted { IfOk result (λ list. Works (length list.items) 0 0 0 work.old work.new) }
+    {
         let limit = limit_of(n);
         let at = RegisterOf {
             db,
@@ -161,6 +186,7 @@ impl Layout for Blocks {
         Ok(counts)
     }
 
+    /// The last `n` of these terms that are below `start`. `Damaged` exactly where one of their rows is so damaged.
     fn terms_before<S: Alter>(
         alloc: Global,
         conn: &mut Connection<S>,
@@ -170,7 +196,17 @@ impl Layout for Blocks {
         register: Register,
         start: &str,
         n: u64,
-    ) -> Result<Vec<TermCount>, RegFault> {
+    ) -> Result<Vec<TermCount>, RegFault>
+        ensures call { Reading (state S.Store conn.old) (state S.Store conn.new) result (λ _. IsUnchanged) }
+        ensures value { TellsHeld HoldsBlocks (state S.Store conn.old) (state S.Store conn.new) result
+            (λ content list. AreTermsBefore (posted content db.0) index register start.now n list.items) }
+        ensures honest { IsHonestStorable HoldsBlocks (state S.Store conn.old) (state S.Store conn.new) result }
+        ensures sound { OnStore (state S.Store conn.old) (state S.Store conn.new) (λ trees. OnOk result
+            (AreBeforeCounted trees (register_front db.0 index register) start.now n)) }
+        ensures damaged { IsHonest (state S.Store conn.old) (state S.Store conn.new) result
+            (λ trees. AreBeforeCounted trees (register_front db.0 index register) start.now n) }
+        ensures counted { IfOk result (λ list. Works (length list.items) 0 0 0 work.old work.new) }
+    {
         let limit = limit_of(n);
         let at = RegisterOf {
             db,

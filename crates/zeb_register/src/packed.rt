@@ -6,8 +6,8 @@ ghost use Rattle.sqlite.specs.Order.{Row as Columns, column};
 ghost use Rattle.sqlite.specs.declared.types.Value.TheVariants.{Int};
 ghost use Rattle.sqlite_rules.specs.Lists.{Has};
 ghost use Rattle.sqlite_sql.specs.Query.{as_count, limited};
-ghost use Rattle.zeb_register.specs.PackedBlocks.{SpellsPart};
-ghost use Rattle.zeb_register.specs.PackedRows.{AreSpelled, IsCountRow, IsRecordNumber, count_row};
+ghost use Rattle.zeb_register.specs.PackedBlocks.{IsRecordNumber, CountsTerm, SpellsPart};
+ghost use Rattle.zeb_register.specs.PackedRows.{AreSpelled, count_row};
 ghost use Rattle.zeb_blocks.specs.Blocks.{BlockSpells};
 ghost use Rattle.zeb_register.specs.RowPlaces.{first_two};
 ghost use Rattle.zeb_register.specs.Tallies.{Rises};
@@ -84,7 +84,8 @@ pub(crate) fn limit_of(n: u64) -> i64
 pub(crate) fn counts_in(alloc: Global, rows: &[Row]) -> Result<Vec<TermCount>, RegFault>
     ensures ok { IfOk result (λ list. map count_row list.items ≡ map first_two rows.now) }
     ensures few { length rows.now < 2 ^ 63 }
-    ensures honest { result ≡ Err RegFault.Damaged → ¬ ((row : _) → Has rows.now row → IsCountRow row) }
+    ensures sound { OnOk result ((row : _) → Has rows.now row → CountsTerm row) }
+    ensures honest { result ≡ Err RegFault.Damaged → ¬ ((row : _) → Has rows.now row → CountsTerm row) }
 {
     let mut counts = Vec::new(alloc);
     for row in rows {
@@ -96,7 +97,8 @@ pub(crate) fn counts_in(alloc: Global, rows: &[Row]) -> Result<Vec<TermCount>, R
 /// The term that a row shows, with the number of its records.
 fn count_of(row: &Row) -> Result<TermCount, RegFault>
     ensures ok { IfOk result (λ t. count_row t ≡ first_two row.now) }
-    ensures honest { result ≡ Err RegFault.Damaged → ¬ IsCountRow row.now }
+    ensures sound { OnOk result (CountsTerm row.now) }
+    ensures honest { result ≡ Err RegFault.Damaged → ¬ CountsTerm row.now }
 {
     let term: String = read(row, 0)?;
     let records = records_at(row, 1)?;

@@ -10,10 +10,9 @@ ghost use Rattle.zeb_register.specs.Clauses.{Writes};
 ghost use Rattle.zeb_register.specs.Clauses.{InStore, TellsHeldInside};
 ghost use Rattle.zeb_register.specs.Content.{Content, IsStorable};
 ghost use Rattle.zeb_register.specs.KeyColumns.{IsOfNumbered};
-ghost use Rattle.zeb_register.specs.PackedBlocks.{HoldsBlocks, part_in};
+ghost use Rattle.zeb_register.specs.PackedBlocks.{HoldsBlocks, IsRecordNumber, part_in};
 ghost use Rattle.zeb_register.specs.PackedChanges.{HoldsBlockRows, IfTold, IsBlockIn, IsDictIn, IsKnown, IsTold};
 ghost use Rattle.zeb_register.specs.PackedChanges.{PutsBlock, PutsCount, SpellsIn};
-ghost use Rattle.zeb_register.specs.PackedRows.{IsRecordNumber};
 ghost use Rattle.zeb_register.specs.Store.{blocks_tree, dict_tree};
 
 use crate::packed::{add_spelled, records_at};

@@ -8,7 +8,8 @@ ghost use Rattle.zeb_register.specs.Store.{blocks_tree, dict_tree, IsPostingIn, 
 ghost use Rattle.zeb_register.specs.Calls.{Reading};
 ghost use Rattle.zeb_register.specs.Clauses.{Writes};
 ghost use Rattle.zeb_register.specs.KeyColumns.{register_columns};
-ghost use Rattle.zeb_register.specs.PackedRows.{IsRestBefore, IsRestFrom, ListsFirst, ListsLast};
+ghost use Rattle.zeb_register.specs.PackedBlocks.{IsRestBefore, IsRestFrom};
+ghost use Rattle.zeb_register.specs.PackedRows.{ListsFirst, ListsLast};
 ghost use Rattle.zeb_register.specs.RowStatements.{Lists};
 
 use crate::statements::keys::RegisterOf;

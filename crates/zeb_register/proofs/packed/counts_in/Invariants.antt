@@ -1,7 +1,13 @@
 use Rattle.std.proofs.Common.{◌≡◌, map, take}
+use Rattle.sqlite.specs.Order.{Row}
+use Rattle.sqlite_rules.specs.Lists.{Has}
+use Rattle.zeb_register.specs.PackedBlocks.{CountsTerm}
 use Rattle.zeb_register.specs.PackedRows.{count_row}
 use Rattle.zeb_register.specs.RowPlaces.{first_two}
 use Rattle.zeb_register.proofs.packed.counts_in.Given as goal
 
 abbrev pub invariant-loop-row : goal.invariant-loop-row
-invariant-loop-row l = map count_row l.counts.items ≡ map first_two (take l.row-index l.rows)
+invariant-loop-row l = record {
+  shown : map count_row l.counts.items ≡ map first_two (take l.row-index l.rows);
+  sound : (row : Row) → Has (take l.row-index l.rows) row → CountsTerm row;
+}

@@ -1,4 +1,4 @@
-use Rattle.std.proofs.Common.{◌≡◌, ◌∙◌, ◌<◌, ◌^◌, ap, map, take, length, sym, subst, w64, to_z, of_z, rules}
+use Rattle.std.proofs.Common.{◌≡◌, ◌∙◌, ◌<◌, ◌^◌, ap, map, take, length, reverse, sym, subst, w64, to_z, of_z, rules}
 use Rattle.std.proofs.Math.Facts.{to_z-of_z}
 use Rattle.sqlite.specs.Held.{state}
 use Rattle.sqlite.specs.declared.types.Value.TheVariants.{Int}
@@ -7,10 +7,11 @@ use Rattle.sqlite_rules.specs.Lists.{Has}
 use Rattle.zeb_register.specs.Content.{posted}
 use Rattle.zeb_register.specs.Occurring.{AreTermsBefore}
 use Rattle.zeb_register.specs.Store.{dict_tree}
-use Rattle.zeb_register.specs.PackedRows.{IsFallingListOf, IsRestBefore}
+use Rattle.zeb_register.specs.PackedBlocks.{IsRestBefore}
+use Rattle.zeb_register.specs.PackedRows.{IsFallingListOf}
+use Rattle.zeb_register.specs.PlainRows.{register_front}
 use Rattle.zeb_register.specs.RowPlaces.{first_two}
-use Rattle.zeb_register.proofs.PackedTerms.{first_has, before_read, rows_counted}
-use Rattle.zeb_register.proofs.TermRows.{register_front}
+use Rattle.zeb_register.proofs.PackedTerms.{first_has, before_read, has_last, reversed_list, rows_counted}
 use Rattle.zeb_register.proofs.blocks.BlocksLayout.terms_before.Goals as goal
 
 pub returns-clause-value : goal.returns-clause-value
@@ -35,3 +36,28 @@ returns-in_err-counts-clause-honest g c clean store is content texts holds =
     let limit : to_z w64 (of_z w64 c.limit_of-limit.result) ≡ c.limit_of-limit.result = to_z-of_z {w = w64} {z = c.limit_of-limit.result} c.limit_of-limit.ensures.fits in
     let cut : c.in_ok-rows.rows.items ≡ limited (as_count (Int c.limit_of-limit.result)) raw.0 = subst (λ z. c.in_ok-rows.rows.items ≡ limited (as_count (Int z)) raw.0) limit raw.2 in
     c.in_err-counts.ensures.honest (search rules) (λ row here. rows_counted trees content c.args.db.0 c.args.index c.args.register holds texts row ((held.each row).0 (first_has (as_count (Int c.limit_of-limit.result)) raw.0 row (subst (λ l. Has l row) (c.deref.ensures.value ∙ cut) here))).0)
+
+pub returns-clause-sound : goal.returns-clause-sound
+returns-clause-sound g c clean store every are row here =
+    let trees = (state g.S.Store c.args.conn.now).now.trees in
+    let items = c.in_ok-rows.rows.items in
+    let start = c.args.start.now in
+    let raw = (c.in_ok-rows.ensures.call.ok clean).1 store in
+    let held : IsFallingListOf (IsRestBefore dict_tree (register_front c.args.db.0 c.args.index c.args.register) start trees) raw.0 = raw.1 in
+    let limit : to_z w64 (of_z w64 c.limit_of-limit.result) ≡ c.limit_of-limit.result = to_z-of_z {w = w64} {z = c.limit_of-limit.result} c.limit_of-limit.ensures.fits in
+    let cut : items ≡ limited (as_count (Int c.limit_of-limit.result)) raw.0 = subst (λ z. items ≡ limited (as_count (Int z)) raw.0) limit raw.2 in
+    let first : items ≡ take c.args.n raw.0 = c.limit_of-limit.ensures.limit items raw.0 cut (subst (λ l. length l < 2 ^ 63) c.deref.ensures.value c.counts_in.ensures.few) in
+    c.in_ok-counts.ensures.sound row (subst (λ l. Has l row) (sym first ∙ sym c.deref.ensures.value) ((has_last _ raw.0 every c.args.n row held are).0 here))
+
+pub returns-in_err-counts-clause-damaged : goal.returns-in_err-counts-clause-damaged
+returns-in_err-counts-clause-damaged g c clean store is all =
+    let trees = (state g.S.Store c.args.conn.now).now.trees in
+    let items = c.in_ok-rows.rows.items in
+    let start = c.args.start.now in
+    let raw = (c.in_ok-rows.ensures.call.ok clean).1 store in
+    let held : IsFallingListOf (IsRestBefore dict_tree (register_front c.args.db.0 c.args.index c.args.register) start trees) raw.0 = raw.1 in
+    let limit : to_z w64 (of_z w64 c.limit_of-limit.result) ≡ c.limit_of-limit.result = to_z-of_z {w = w64} {z = c.limit_of-limit.result} c.limit_of-limit.ensures.fits in
+    let cut : items ≡ limited (as_count (Int c.limit_of-limit.result)) raw.0 = subst (λ z. items ≡ limited (as_count (Int z)) raw.0) limit raw.2 in
+    let first : items ≡ take c.args.n raw.0 = c.limit_of-limit.ensures.limit items raw.0 cut (subst (λ l. length l < 2 ^ 63) c.deref.ensures.value c.counts_in.ensures.few) in
+    let back = reversed_list _ raw.0 held in
+    c.in_err-counts.ensures.honest (search rules) (λ row here. all (reverse raw.0) back row ((has_last _ raw.0 (reverse raw.0) c.args.n row held back).1 (subst (λ l. Has l row) (c.deref.ensures.value ∙ first) here)))

@@ -118,11 +118,12 @@ returns-clause-work g c clean store content holds all given =
     let many : TermCount → ℕ = λ t. blocks_of (content c.args.db.0 (key_in c.args.index c.args.register t.term)) in
     let are = c.in_ok-terms.ensures.value (inv.clean clean) store content holds in
     let same : items ≡ all = one_terms (posted content c.args.db.0) c.args.index c.args.register items all are given in
-    let first = c.in_ok-terms.ensures.work (inv.clean clean) store content holds in
+    let first = c.in_ok-terms.ensures.counted in
+    let one : 1 * length items ≡ length items = omega arith in
     let whole = sum_of_all many c.deref-term-items.result.now items c.loop-term.term-index c.deref-term-items.ensures.value c.loop-term-test.false in
     let blocks = subst (λ (k : ℕ). Rises k c.terms_of.new.work.block_read c.loop-term.work.block_read) whole (inv.blocks clean store content holds) in
     subst (λ (l : List TermCount). Works (1 * length l) 0 (sum_by many l) 0 c.args.work.now c.loop-term.work) same (record {
-      reads_terms = subst (λ (w : Work). Rises (1 * length items) c.args.work.now.dict_read w.dict_read) (sym inv.others) first.reads_terms;
+      reads_terms = subst (λ (w : Work). Rises (1 * length items) c.args.work.now.dict_read w.dict_read) (sym inv.others) (subst (λ k. Rises k c.args.work.now.dict_read c.terms_of.new.work.dict_read) (sym one) first.reads_terms);
       writes_terms = subst (λ (w : Work). Rises 0 c.args.work.now.dict_written w.dict_written) (sym inv.others) first.writes_terms;
       reads_blocks = rises_last (sum_by many items) c.args.work.now.block_read c.terms_of.new.work.block_read c.loop-term.work.block_read inv.fits first.reads_blocks blocks;
       writes_blocks = subst (λ (w : Work). Rises 0 c.args.work.now.block_written w.block_written) (sym inv.others) first.writes_blocks;

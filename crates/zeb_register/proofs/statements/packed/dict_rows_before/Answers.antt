@@ -4,7 +4,8 @@ use Rattle.sqlite.specs.declared.types.Value.TheVariants.{Int}
 use Rattle.sqlite.specs.Order.{Row}
 use Rattle.sqlite_sql.specs.Query.{as_count, limited}
 use Rattle.zeb_profile.specs.Indexes.{register_code}
-use Rattle.zeb_register.specs.PackedRows.{IsFallingListOf, IsRestBefore}
+use Rattle.zeb_register.specs.PackedBlocks.{IsRestBefore}
+use Rattle.zeb_register.specs.PackedRows.{IsFallingListOf}
 use Rattle.zeb_register.specs.Store.{dict_tree}
 use Rattle.zeb_register.proofs.Calls.{read_so, nothing, quiet}
 use Rattle.zeb_register.proofs.PackedStatements.{lists_before, before_silent, register_of}

@@ -4,7 +4,7 @@ use Rattle.sqlite.specs.declared.types.Value.TheVariants.{Int}
 use Rattle.sqlite.specs.Order.{Row}
 use Rattle.sqlite_sql.specs.Query.{as_count, limited}
 use Rattle.zeb_profile.specs.Indexes.{register_code}
-use Rattle.zeb_register.specs.PackedRows.{IsRestFrom}
+use Rattle.zeb_register.specs.PackedBlocks.{IsRestFrom}
 use Rattle.zeb_register.specs.Sql.{IsListOf}
 use Rattle.zeb_register.specs.Store.{dict_tree}
 use Rattle.zeb_register.proofs.Calls.{read_so, nothing, quiet}
