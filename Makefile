@@ -2,7 +2,7 @@
 # make run        runs the first example
 # make quick      the daily check: layout, edits, names, pages, and the proofs of the crates that changed
 # make check      the gate: every proof, every test and the edits of must-fail/, from nothing; some hours of processor time
-# make words      runs the built program by words over a folder of files, and compares what it writes
+# make words      runs the built program by words over folders of files and altered registers, and compares what it writes with rows by hand
 # make session    runs the session of README.md as it stands there; installs Debian's yaz and idzebra-2.0-examples where they aren't there
 # make real       takes in real records and compares what is found in them with another count; installs the same packages
 # make examples   proves and builds a small caller of the engine as a library
@@ -43,6 +43,9 @@ check:
 
 words: bin/zebraidx
 	@tests/words/run
+	@tests/words/finds
+	@tests/words/registers
+	@tests/words/folders
 	@tests/words/faults
 
 session: bin/zebraidx
