@@ -19,10 +19,9 @@ use Rattle.zeb_profile.specs.Indexes.{register_code}
 use Rattle.zeb_register.specs.declared.registers.TermCount.{TermCount}
 use Rattle.zeb_register.specs.Content.{Content, IsStorable, posted}
 use Rattle.zeb_register.specs.Occurring.{AreTermsBefore, AreTermsFrom, AreTermsOf, HasKey, IsCount, TermIn, is_before, is_from, key_in, last, term_cmp}
-use Rattle.zeb_register.specs.PackedBlocks.{HoldsBlocks, IsRestBefore, IsRestFrom, CountsTerm}
-use Rattle.zeb_register.specs.PackedRows.{IsFallingListOf, count_row}
+use Rattle.zeb_register.specs.PackedBlocks.{HoldsBlocks, IsRestBefore, IsRestFrom, CountsTerm, count_row, first_two}
+use Rattle.zeb_register.specs.PackedRows.{IsFallingListOf}
 use Rattle.zeb_register.specs.PlainRows.{register_front}
-use Rattle.zeb_register.specs.RowPlaces.{first_two}
 use Rattle.zeb_register.specs.Sql.{IsListOf}
 use Rattle.zeb_register.specs.Store.{IsRest, dict_tree}
 use Rattle.zeb_register.proofs.ContentLemmas.{one_list, same_key}

@@ -7,6 +7,8 @@ use Rattle.std.specs.Cmp.Lexicographic.{slice_cmp, nat_list_cmp_total}
 use Rattle.std.specs.List.{sum_by}
 use Rattle.std.specs.List.Sorted.{IsStrictlySortedBy}
 use Rattle.std.specs.Ordering.{ordering_then}
+use Rattle.sqlite.specs.declared.types.Value.TheVariants.{Text}
+use Rattle.sqlite.specs.Order.{Row, column}
 use Rattle.sqlite.specs.Tree.{Trees}
 use Rattle.sqlite_rules.specs.Lists.{Has}
 use Rattle.sqlite_rules.proofs.ListLemmas.{all_has, has_either, has_left, has_right}
@@ -16,7 +18,7 @@ use Rattle.zeb_profile.specs.declared.Register.{Register}
 use Rattle.zeb_register.specs.declared.registers.TermCount.{TermCount}
 use Rattle.zeb_register.specs.Content.{Content, posted, posting_cmp}
 use Rattle.zeb_register.specs.Occurring.{AreSpotsOf, AreTermsOf, Spot, key_in, spot_cmp, term_cmp}
-use Rattle.zeb_register.specs.PackedBlocks.{HoldsBlocks}
+use Rattle.zeb_register.specs.PackedBlocks.{AreShown, HoldsBlocks, count_row, first_two}
 use Rattle.zeb_register.specs.Tallies.{Rises}
 use Rattle.zeb_register.proofs.OccurringLemmas.{key_posted, spot_total}
 use Rattle.zeb_register.proofs.RisingLists.{joined_rises}
@@ -101,6 +103,35 @@ module _ (trees : Trees) (content : Content) (db : ℤ) (index : ℕ) (register 
           subst (λ (term : List ℕ). Has (spots_in list_of all) (term, spot.1)) t.2 (spots_have list_of all t.0 spot.1 t.1 (subst (λ (term : List ℕ). Has (list_of term) spot.1) (sym t.2) h)),
     );
   }
+
+-- ---- terms and the rows that show them
+
+pub term_row : (ts : List TermCount) (rows : List Row) → AreShown ts rows → (t : TermCount) → Has ts t → (row : Row) × Has rows row × (column row 0 ≡ Text t.term)
+term_row [] rows shown t here = absurd here
+term_row (s ∷ ts) [] shown t here = absurd (cc)
+term_row (s ∷ ts) (row ∷ rows) shown t (inl same) =
+    let first : count_row s ≡ first_two row = cc in
+    (row, inl refl, sym (ap (λ (r : Row). column r 0) first) ∙ ap (λ (u : TermCount). Text u.term) (sym same))
+term_row (s ∷ ts) (row ∷ rows) shown t (inr later) =
+    let rest : map count_row ts ≡ map first_two rows = cc in
+    let it = term_row ts rows rest t later in
+    (it.0, inr it.1, it.2)
+
+pub row_term : (ts : List TermCount) (rows : List Row) → AreShown ts rows → (row : Row) → Has rows row → (t : TermCount) × Has ts t × (column row 0 ≡ Text t.term)
+row_term ts [] shown row here = absurd here
+row_term [] (r ∷ rows) shown row here = absurd (cc)
+row_term (s ∷ ts) (r ∷ rows) shown row (inl same) =
+    let first : count_row s ≡ first_two r = cc in
+    (s, inl refl, ap (λ (x : Row). column x 0) same ∙ sym (ap (λ (x : Row). column x 0) first))
+row_term (s ∷ ts) (r ∷ rows) shown row (inr later) =
+    let rest : map count_row ts ≡ map first_two rows = cc in
+    let it = row_term ts rows rest row later in
+    (it.0, inr it.1, it.2)
+
+pub one_text : (row : Row) (one two : List ℕ) → column row 0 ≡ Text one → column row 0 ≡ Text two → one ≡ two
+one_text row one two left right =
+    let e : Text one ≡ Text two = sym left ∙ right in
+    cc
 
 -- ---- sums
 

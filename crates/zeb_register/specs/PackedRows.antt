@@ -1,14 +1,13 @@
 -- Steps of private functions, which no public clause speaks of: postings and terms as rows of the packed tables show them.
-use Rattle.std.specs.Prelude.{◌≡◌, ◌↔◌, ℤ, pos, List, [], ◌∷◌, ◌++◌}
+use Rattle.std.specs.Prelude.{◌≡◌, ◌↔◌, ℤ, List, [], ◌∷◌, ◌++◌}
 use Rattle.std.specs.List.Sorted.{IsStrictlySortedBy}
-use Rattle.sqlite.specs.declared.types.Value.TheVariants.{Int, Text}
+use Rattle.sqlite.specs.declared.types.Value.TheVariants.{Int}
 use Rattle.sqlite.specs.Order.{Row, row_cmp}
 use Rattle.sqlite.specs.State.{State, IsUnchanged}
 use Rattle.sqlite.specs.Tree.{Trees}
 use Rattle.sqlite_sql.specs.Query.{as_count, limited}
 use Rattle.sqlite_rules.specs.Lists.{Has}
 use Rattle.zeb_blocks.specs.declared.postings.Posting.{Posting}
-use Rattle.zeb_register.specs.declared.registers.TermCount.{TermCount}
 use Rattle.zeb_register.specs.PackedBlocks.{SpellsPart}
 use Rattle.zeb_register.specs.Sql.{IsListOf}
 use Rattle.zeb_register.specs.Store.{IsStore}
@@ -34,9 +33,3 @@ ListsLast limit P old new rows = IsUnchanged old new × (IsStore old → (all : 
 abbrev pub AreSpelled : List Row → List Posting → Type 0
 AreSpelled [] list = list ≡ []
 AreSpelled (row ∷ rows) list = (part : List Posting) × (rest : List Posting) × SpellsPart row part × AreSpelled rows rest × (list ≡ part ++ rest)
-
--- ---- terms
-
--- the columns of a term beside the register
-abbrev pub count_row : TermCount → Row
-count_row t = Text t.term ∷ Int (pos t.records) ∷ []

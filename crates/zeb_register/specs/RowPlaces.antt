@@ -26,9 +26,6 @@ IsThreeNumbers row = (a : ℕ) × (b : ℕ) × (c : ℕ) × (row ≡ Int (pos a)
 abbrev pub place_row : Place → Row
 place_row place = Int (pos place.seq) ∷ Int (pos place.pos) ∷ []
 
-abbrev pub first_two : Row → Row
-first_two row = column row 0 ∷ column row 1 ∷ []
-
 -- a row of two numbers of 0 or more
 abbrev pub IsTwoNumbers : Row → Type 0
 IsTwoNumbers row = (a : ℕ) × (b : ℕ) × (row ≡ Int (pos a) ∷ Int (pos b) ∷ [])

@@ -1,15 +1,20 @@
 //! The layout of packed blocks.
 
-ghost use Rattle.std.specs.Prelude.{◌≡◌, length, IfOk, OnOk};
+ghost use Rattle.std.specs.Prelude.{◌≡◌, ◌*◌, List, length, sum_by, IfOk, OnOk};
 ghost use Rattle.sqlite.specs.Held.{state};
+ghost use Rattle.sqlite.specs.Order.{Row as Columns};
 ghost use Rattle.sqlite.specs.State.{IsUnchanged};
 ghost use Rattle.zeb_register.specs.Calls.{Reading};
-ghost use Rattle.zeb_register.specs.Clauses.{IsHonest, IsHonestStorable, OnStore, TellsHeld};
+ghost use Rattle.zeb_register.specs.Clauses.{IsHonest, IsHonestStorable, OnStore, Tells, TellsHeld};
 ghost use Rattle.zeb_register.specs.Content.{posted};
-ghost use Rattle.zeb_register.specs.Occurring.{AreTermsBefore, AreTermsFrom, AreTermsOf};
-ghost use Rattle.zeb_register.specs.PackedBlocks.{AreAllCounted, AreAllSpelled, AreBeforeCounted, AreFromCounted, HoldsBlocks, blocks_of};
+ghost use Rattle.zeb_register.specs.Occurring.{AreTermsBefore, AreTermsFrom, AreTermsOf, AreTotals, key_in};
+ghost use Rattle.zeb_register.specs.PackedBlocks.{AreAllCounted, AreAllSpelled, AreBeforeCounted, AreFromCounted, AreShown};
+ghost use Rattle.zeb_register.specs.PackedBlocks.{CountsRegister, HoldsBlocks, IsRegisterSound, blocks_of};
 ghost use Rattle.zeb_register.specs.PlainRows.{key_row, register_front};
+ghost use Rattle.zeb_register.specs.Sql.{IsListOf};
+ghost use Rattle.zeb_register.specs.Store.{IsRest, dict_tree};
 ghost use Rattle.zeb_register.specs.Tallies.{Works};
+ghost use Rattle.zeb_register.specs.declared.registers.TermCount.{TermCount};
 
 use crate::agreeing::lists_beside;
 use crate::dropping::database_drop_whole;
@@ -136,6 +141,8 @@ impl Layout for Blocks {
         ensures value { TellsHeld HoldsBlocks (state S.Store conn.old) (state S.Store conn.new) result
             (λ content list. AreTermsOf (posted content db.0) index register list.items) }
         ensures honest { IsHonestStorable HoldsBlocks (state S.Store conn.old) (state S.Store conn.new) result }
+        ensures shown { Tells (state S.Store conn.old) (state S.Store conn.new) result (λ trees list. (rows : List Columns)
+            × IsListOf (IsRest dict_tree (register_front db.0 index register) trees) rows × AreShown list.items rows) }
         ensures sound { OnStore (state S.Store conn.old) (state S.Store conn.new) (λ trees. OnOk result
             (AreAllCounted trees (register_front db.0 index register))) }
         ensures damaged { IsHonest (state S.Store conn.old) (state S.Store conn.new) result
@@ -220,7 +227,8 @@ impl Layout for Blocks {
         Ok(counts)
     }
 
-    /// The blocks of one term are held at a time, and no list of postings.
+    /// How many terms and postings a register holds. `Damaged` exactly where one of its rows of `dict` is so damaged, or one of `blocks` of
+    /// the terms that these show spells none. The blocks of one term are held at a time, and no list of postings.
     fn totals<S: Alter>(
         alloc: Global,
         conn: &mut Connection<S>,
@@ -228,7 +236,21 @@ impl Layout for Blocks {
         db: DatabaseId,
         index: u32,
         register: Register,
-    ) -> Result<Totals, RegFault> {
+    ) -> Result<Totals, RegFault>
+        ensures call { Reading (state S.Store conn.old) (state S.Store conn.new) result (λ _. IsUnchanged) }
+        ensures value { TellsHeld HoldsBlocks (state S.Store conn.old) (state S.Store conn.new) result
+            (λ content sums. AreTotals (posted content db.0) index register sums) }
+        ensures honest { IsHonestStorable HoldsBlocks (state S.Store conn.old) (state S.Store conn.new) result }
+        ensures sound { OnStore (state S.Store conn.old) (state S.Store conn.new) (λ trees. OnOk result
+            (IsRegisterSound trees db.0 index register)) }
+        ensures damaged { IsHonest (state S.Store conn.old) (state S.Store conn.new) result
+            (λ trees. IsRegisterSound trees db.0 index register) }
+        ensures work { TellsHeld HoldsBlocks (state S.Store conn.old) (state S.Store conn.new) result
+            (λ content _. (all : List TermCount) → AreTermsOf (posted content db.0) index register all → Works (1 * length all) 0
+            (sum_by (λ t. blocks_of (content db.0 (key_in index register t.term))) all) 0 work.old work.new) }
+        ensures counted { OnStore (state S.Store conn.old) (state S.Store conn.new) (λ trees. OnOk result
+            (CountsRegister trees db.0 index register work.old work.new)) }
+    {
         let terms = Self::terms_of(alloc, conn, work, db, index, register)?;
         let mut occurrences: u64 = 0;
         for term in &terms {

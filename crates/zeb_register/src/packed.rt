@@ -6,10 +6,9 @@ ghost use Rattle.sqlite.specs.Order.{Row as Columns, column};
 ghost use Rattle.sqlite.specs.declared.types.Value.TheVariants.{Int};
 ghost use Rattle.sqlite_rules.specs.Lists.{Has};
 ghost use Rattle.sqlite_sql.specs.Query.{as_count, limited};
-ghost use Rattle.zeb_register.specs.PackedBlocks.{IsRecordNumber, CountsTerm, SpellsPart};
-ghost use Rattle.zeb_register.specs.PackedRows.{AreSpelled, count_row};
+ghost use Rattle.zeb_register.specs.PackedBlocks.{AreShown, CountsTerm, IsRecordNumber, SpellsPart, count_row, first_two};
+ghost use Rattle.zeb_register.specs.PackedRows.{AreSpelled};
 ghost use Rattle.zeb_blocks.specs.Blocks.{BlockSpells};
-ghost use Rattle.zeb_register.specs.RowPlaces.{first_two};
 ghost use Rattle.zeb_register.specs.Tallies.{Rises};
 
 use crate::registers::TermCount;
@@ -82,7 +81,7 @@ pub(crate) fn limit_of(n: u64) -> i64
 
 /// The terms that rows show, each with the number of its records.
 pub(crate) fn counts_in(alloc: Global, rows: &[Row]) -> Result<Vec<TermCount>, RegFault>
-    ensures ok { IfOk result (λ list. map count_row list.items ≡ map first_two rows.now) }
+    ensures ok { IfOk result (λ list. AreShown list.items rows.now) }
     ensures few { length rows.now < 2 ^ 63 }
     ensures sound { OnOk result ((row : _) → Has rows.now row → CountsTerm row) }
     ensures honest { result ≡ Err RegFault.Damaged → ¬ ((row : _) → Has rows.now row → CountsTerm row) }

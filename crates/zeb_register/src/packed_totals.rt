@@ -2,13 +2,16 @@
 
 ghost use Rattle.std.specs.Prelude.{◌≡◌, ◌<◌, ◌^◌, List, length, IfOk, OnOk};
 ghost use Rattle.sqlite.specs.Held.{state};
+ghost use Rattle.sqlite.specs.Order.{Row as Columns};
 ghost use Rattle.sqlite.specs.State.{IsUnchanged};
 ghost use Rattle.zeb_register.specs.Calls.{Reading};
-ghost use Rattle.zeb_register.specs.Clauses.{IsHonestOfHeld, OnStore, TellsHeld};
+ghost use Rattle.zeb_register.specs.Clauses.{IsHonest, IsHonestOfHeld, OnStore, TellsHeld};
 ghost use Rattle.zeb_register.specs.Content.{Content};
 ghost use Rattle.zeb_register.specs.Occurring.{capped, key_in};
-ghost use Rattle.zeb_register.specs.PackedBlocks.{HoldsBlocks, SpellsPart, blocks_of};
+ghost use Rattle.zeb_register.specs.PackedBlocks.{AreAllSpelled, HoldsBlocks, IsBlockUnder, SpellsPart, blocks_of};
 ghost use Rattle.zeb_register.specs.PackedRows.{AreSpelled};
+ghost use Rattle.zeb_register.specs.PlainRows.{key_row};
+ghost use Rattle.zeb_register.specs.Sql.{IsListOf};
 ghost use Rattle.zeb_register.specs.Tallies.{Rises};
 
 use crate::packed::counted;
@@ -34,6 +37,13 @@ pub(crate) fn term_postings<S: Alter>(
     ensures value { TellsHeld HoldsBlocks (state S.Store conn.old) (state S.Store conn.new) result
         (λ content count. count ≡ capped (length (content db.0 (key_in index register term.now)))) }
     ensures honest { IsHonestOfHeld HoldsBlocks (state S.Store conn.old) (state S.Store conn.new) result }
+    ensures sound { OnStore (state S.Store conn.old) (state S.Store conn.new) (λ trees. OnOk result
+        (AreAllSpelled trees (key_row db.0 (key_in index register term.now)))) }
+    ensures damaged { IsHonest (state S.Store conn.old) (state S.Store conn.new) result
+        (λ trees. AreAllSpelled trees (key_row db.0 (key_in index register term.now))) }
+    ensures counted { OnStore (state S.Store conn.old) (state S.Store conn.new) (λ trees. OnOk result ((rows : List Columns)
+        → IsListOf (IsBlockUnder trees db.0 index register term.now) rows
+        → Rises (length rows) work.old.block_read work.new.block_read)) }
     ensures blocks { OnStore (state S.Store conn.old) (state S.Store conn.new) (λ trees. OnOk result ((content : Content)
         → HoldsBlocks trees content
         → Rises (blocks_of (content db.0 (key_in index register term.now))) work.old.block_read work.new.block_read)) }

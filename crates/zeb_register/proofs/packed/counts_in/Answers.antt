@@ -1,6 +1,5 @@
 use Rattle.std.proofs.Common.{◌≡◌, ◌∙◌, [], ◌∷◌, ◌++◌, ap, inl, inr, map, rules, subst, sym}
-use Rattle.zeb_register.specs.PackedBlocks.{CountsTerm}
-use Rattle.zeb_register.specs.PackedRows.{count_row}
+use Rattle.zeb_register.specs.PackedBlocks.{CountsTerm, count_row}
 use Rattle.zeb_register.proofs.ContentLemmas.{has_at}
 use Rattle.zeb_register.proofs.PackedTerms.{counted_more}
 use Rattle.zeb_register.proofs.TermRows.{taken_more}

@@ -1,9 +1,7 @@
 use Rattle.std.proofs.Common.{◌≡◌, map, take}
 use Rattle.sqlite.specs.Order.{Row}
 use Rattle.sqlite_rules.specs.Lists.{Has}
-use Rattle.zeb_register.specs.PackedBlocks.{CountsTerm}
-use Rattle.zeb_register.specs.PackedRows.{count_row}
-use Rattle.zeb_register.specs.RowPlaces.{first_two}
+use Rattle.zeb_register.specs.PackedBlocks.{CountsTerm, count_row, first_two}
 use Rattle.zeb_register.proofs.packed.counts_in.Given as goal
 
 abbrev pub invariant-loop-row : goal.invariant-loop-row

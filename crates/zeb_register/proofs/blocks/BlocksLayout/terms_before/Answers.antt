@@ -10,7 +10,7 @@ use Rattle.zeb_register.specs.Store.{dict_tree}
 use Rattle.zeb_register.specs.PackedBlocks.{IsRestBefore}
 use Rattle.zeb_register.specs.PackedRows.{IsFallingListOf}
 use Rattle.zeb_register.specs.PlainRows.{register_front}
-use Rattle.zeb_register.specs.RowPlaces.{first_two}
+use Rattle.zeb_register.specs.PackedBlocks.{first_two}
 use Rattle.zeb_register.proofs.PackedTerms.{first_has, before_read, has_last, reversed_list, rows_counted}
 use Rattle.zeb_register.proofs.blocks.BlocksLayout.terms_before.Goals as goal
 

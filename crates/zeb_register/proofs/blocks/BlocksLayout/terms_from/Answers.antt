@@ -8,7 +8,7 @@ use Rattle.zeb_register.specs.Sql.{IsListOf}
 use Rattle.zeb_register.specs.Store.{dict_tree}
 use Rattle.zeb_register.specs.PackedBlocks.{IsRestFrom}
 use Rattle.zeb_register.specs.PlainRows.{register_front}
-use Rattle.zeb_register.specs.RowPlaces.{first_two}
+use Rattle.zeb_register.specs.PackedBlocks.{first_two}
 use Rattle.zeb_register.proofs.ContentLemmas.{one_list}
 use Rattle.zeb_register.proofs.PackedTerms.{first_has, from_read, rows_counted}
 use Rattle.zeb_register.proofs.blocks.BlocksLayout.terms_from.Goals as goal

@@ -4,7 +4,7 @@ use Rattle.sqlite_rules.specs.Lists.{Has}
 use Rattle.zeb_register.specs.Sql.{IsListOf}
 use Rattle.zeb_register.specs.Store.{IsRest, dict_tree}
 use Rattle.zeb_register.specs.PlainRows.{register_front}
-use Rattle.zeb_register.specs.RowPlaces.{first_two}
+use Rattle.zeb_register.specs.PackedBlocks.{first_two}
 use Rattle.zeb_register.proofs.PackedTerms.{terms_read, rows_counted}
 use Rattle.zeb_register.proofs.blocks.BlocksLayout.terms_of.Goals as goal
 
@@ -39,3 +39,8 @@ returns-in_err-counts-clause-damaged g c clean store is all =
     let raw = (c.in_ok-rows.ensures.call.ok clean).1 store in
     let held : IsListOf (IsRest dict_tree (register_front c.args.db.0 c.args.index c.args.register) trees) items = raw in
     c.in_err-counts.ensures.honest (search rules) (λ row here. all row ((held.each row).0 (subst (λ l. Has l row) c.deref.ensures.value here)))
+
+pub returns-clause-shown : goal.returns-clause-shown
+returns-clause-shown g c clean store =
+    let items = c.in_ok-rows.rows.items in
+    (items, (c.in_ok-rows.ensures.call.ok clean).1 store, c.in_ok-counts.ensures.ok ∙ ap (map first_two) c.deref.ensures.value)
