@@ -5,8 +5,19 @@ use Rattle.std.specs.Option.{is_none, unwrap_or}
 use Rattle.std.proofs.lemmas.Bool.{eqb-true}
 use Rattle.zeb_query.specs.Attributes.{kept, is_among}
 use Rattle.zeb_query.specs.Checks.{Check, check, checked_by, first_that_applies, written, Refusal, Gives, answered}
-use Rattle.zeb_query.specs.PrivatePlanning.{kept_or, ◌>>=◌}
+use Rattle.zeb_query.specs.PrivatePlanning.{kept_or}
 use Rattle.zeb_query.specs.declared.faults.QueryFault.{QueryFault}
+
+-- a part after another, unless that one was refused
+infixl 10 ◌>>=◌
+abbrev pub ◌>>=◌ : {A B : Type 0} → Result A Refusal → (A → Result B Refusal) → Result B Refusal
+(Ok x) >>= f = f x
+(Err e) >>= f = Err e
+
+-- what is made of an answer
+pub answered_then : {A B : Type 0} (o : Option Refusal) (x : A) (f : A → B) → (answered o x >>= λ y. Ok (f y)) ≡ answered o (f x)
+answered_then None x f = refl
+answered_then (Some refusal) x f = refl
 
 -- one part after the other: the second one is asked where no check of the first one applies
 pub then_checks : {X Y : Type 0} (r : Result X Refusal) (next : X → Result Y Refusal) (cs ds : List Check) (x : X) (y : Y)

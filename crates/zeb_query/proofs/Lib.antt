@@ -14,6 +14,7 @@ pub mod TextFaults
 pub mod CheckLemmas
 pub mod ValueLemmas
 pub mod TermCheckLemmas
+pub mod TermSteps
 pub mod PlanSteps
 pub mod PlanCheckLemmas
 pub mod NearSteps

@@ -24,10 +24,11 @@ use Rattle.zeb_query.specs.Grammar.{HeadValue, is_number, number_of}
 use Rattle.zeb_query.specs.Attributes.{HoldingValue, holding_of, index_held, patterns_held}
 use Rattle.zeb_query.specs.Checks.{Check, check, first_that_applies, one_of, clash_checks, near_clash_checks, register_checks, number_checks, near_checks, Operand, kept_text, orderings, distance_relations, parameter_checks, separation_of, operand_checks, operands_checks, Refusal, Fails, refused, answered, checked_by}
 use Rattle.zeb_query.specs.Plans.{operand_pattern, NearOf, near_asked}
-use Rattle.zeb_query.specs.PrivatePlanning.{is_equal, is_phrase, is_local, register_of, kept_or, term_of, word_near, near_plan, ◌>>=◌}
+use Rattle.zeb_query.specs.PrivateValues.{is_equal, is_phrase, is_local, register_of, values_held, patterns_if}
+use Rattle.zeb_query.specs.PrivatePlanning.{kept_or, term_read, word_near, near_plan}
 use Rattle.zeb_query.proofs.NearSteps.{parameter_kept, separation_read, found_near, term_near, operands_plan}
-use Rattle.zeb_query.proofs.CheckLemmas.{then_checks, kept_by}
-use Rattle.zeb_query.proofs.TermCheckLemmas.{values_held, patterns_if, AreHeld, reading_checks, term_stage, term_held}
+use Rattle.zeb_query.proofs.CheckLemmas.{◌>>=◌, then_checks, kept_by}
+use Rattle.zeb_query.proofs.TermCheckLemmas.{AreHeld, reading_checks, term_held}
 use Rattle.zeb_query.proofs.PlanCheckLemmas.{Says, values_say, both_say, clashes_by, last_checks, values_with, number_checks_by, found_stage, is_found, found_is, index_is}
 
 -- ---- the parameters
@@ -144,17 +145,18 @@ near_term_stage profile place h text are =
     ∙ ap (λ t. checked_by (clashes_by place t ++ (near_clashes_by place t ++ last_checks place text t)) (index, unwrap_or (one_of t.patterns) [])) (sym (both_say profile h text found are))
 
 near_stage : (profile : Profile) (place : ℕ) (h : HoldingValue) (text : List ℕ)
-    → (term_of profile place text h >>= λ read. term_near profile place read)
+    → (term_read profile place text h >>= λ read. term_near profile place read)
     ≡ answered (first_that_applies (near_checks profile place h text)) (index_held profile h, unwrap_or (one_of (patterns_held h text)) [])
+unfolding term_read
 near_stage profile place h text =
-    then_checks (term_of profile place text h) (λ read. term_near profile place read) (reading_checks profile place h text)
+    then_checks (term_read profile place text h) (λ read. term_near profile place read) (reading_checks profile place h text)
     (clash_checks place h ++ (near_clash_checks place h text ++ (register_checks profile place h ++ number_checks place h text)))
     (values_held profile h, patterns_if (values_held profile h) text) (index_held profile h, unwrap_or (one_of (patterns_held h text)) [])
-    (term_stage profile place h text) (λ e. near_term_stage profile place h text (term_held profile place h text e))
+    refl (λ e. near_term_stage profile place h text (term_held profile place h text e))
 
 pub near_steps : (profile : Profile) (set : Option (List ℕ)) (head : HeadValue) (place : ℕ) (text : List ℕ)
     → word_near profile (record { place = place; held = holding_of set head; text = text })
-    ≡ (term_of profile place text (holding_of set head) >>= λ read. term_near profile place read)
+    ≡ (term_read profile place text (holding_of set head) >>= λ read. term_near profile place read)
 unfolding word_near
 near_steps profile set head place text = sym (near_stage profile place (holding_of set head) text)
 

@@ -9,7 +9,9 @@ use Rattle.zeb_query.specs.declared.plans.Separation.{Separation}
 use Rattle.zeb_query.specs.Grammar.{number_of}
 use Rattle.zeb_query.specs.Checks.{one_of, kept_text, orderings, distance_relations, Operand, Refusal, refused}
 use Rattle.zeb_query.specs.Plans.{PlanValue, NearOf}
-use Rattle.zeb_query.specs.PrivatePlanning.{clashes_near, register_of, kept_or, word_near, ◌>>=◌}
+use Rattle.zeb_query.proofs.CheckLemmas.{◌>>=◌}
+use Rattle.zeb_query.specs.PrivateValues.{clashes_near, register_of}
+use Rattle.zeb_query.specs.PrivatePlanning.{kept_or, word_near}
 
 -- the parameters of `@prox`, one after the other
 abbrev pub parameter_kept : ℕ → List ℕ → Bool → Result (Unit {0}) Refusal

@@ -19,14 +19,16 @@ use Rattle.zeb_query.specs.declared.attributes.Structure.{Structure}
 use Rattle.zeb_query.specs.declared.attributes.Structure.TheVariants.{Phrase, WordList, FreeForm, LocalNumber, Numeric}
 use Rattle.zeb_query.specs.declared.terms.Values.{Values}
 use Rattle.zeb_query.specs.Grammar.{HeadValue, is_number}
-use Rattle.zeb_query.specs.Attributes.{HoldingValue, holding_of, relation_is, structure_is, position_is, truncation_is, completeness_is, index_used, register_searched, patterns_held, index_held, relation_held, order_held, joined_words, joined_words_if_any, joined_if_any}
+use Rattle.zeb_query.specs.Attributes.{HoldingValue, holding_of, relation_is, structure_is, position_is, truncation_is, completeness_is, index_used, register_searched, patterns_held, index_held, relation_held, order_held, order_of, joined_words, joined_words_if_any, joined_if_any}
 use Rattle.zeb_query.specs.Checks.{Check, check, first_that_applies, has_target, clash_checks, scan_clash_checks, register_checks, number_checks, find_checks, scan_checks, Refusal, refused, answered, checked_by}
-use Rattle.zeb_query.specs.PrivatePlanning.{is_always, is_equal, is_ordered, is_first, is_truncated, is_complete, is_local, is_numeric, is_list, is_phrase, register_of, spread_of, kept_or, term_of, number_in, compared_plan, scan_start, leaf_plan, leaf_scan, ◌>>=◌}
+use Rattle.zeb_query.specs.PrivateValues.{is_always, is_equal, is_ordered, is_first, is_truncated, is_complete, is_local, is_numeric, is_list, is_phrase, register_of, spread_of, values_held, patterns_if}
+use Rattle.zeb_query.specs.PrivatePlanning.{kept_or, term_read, number_in, ordered_plan, compared_plan, scan_start, leaf_plan, leaf_scan}
+use Rattle.zeb_query.proofs.TermSteps.{number_parts, compared_parts, start_parts}
 use Rattle.zeb_query.proofs.PlanSteps.{related_plan, indexed_plan, term_plan, indexed_scan, term_scan}
 use Rattle.zeb_query.specs.Plans.{TermPlanValue, RecordNumberOf, AlwaysOf, NumberOf, OrderedOf, CompleteOf, PhraseOf, AllWordsOf, AnyWordOf, plan_asked, ScanValue, scan_asked}
-use Rattle.zeb_query.proofs.CheckLemmas.{then_checks}
+use Rattle.zeb_query.proofs.CheckLemmas.{◌>>=◌, answered_then, then_checks}
 use Rattle.zeb_query.proofs.ValueLemmas.{compared_by, ordered_by, is_word_list, is_free_form}
-use Rattle.zeb_query.proofs.TermCheckLemmas.{values_held, patterns_if, AreHeld, reading_checks, term_stage, term_held}
+use Rattle.zeb_query.proofs.TermCheckLemmas.{AreHeld, reading_checks, term_held}
 
 -- ---- what the checks of a term ask of its attributes
 
@@ -153,12 +155,34 @@ scan_with index v start = record { index = index; register = register_of v; star
 
 -- ---- a term that was read
 
--- a number, and what is made of it
-number_stage : {X : Type 0} (most place : ℕ) (text : List ℕ) (f : ℕ → X) → (number_in most place text >>= λ number. Ok (f number)) ≡ checked_by (check place 126 text (not (is_number most text)) ∷ []) (f (digits_value 10 text))
-number_stage most place text f = elim (is_number most text) as (λ b. (kept_or 126 place (Some text) (cond b (Some (digits_value 10 text)) None) >>= λ number. Ok (f number)) ≡ checked_by (check place 126 text (not b) ∷ []) (f (digits_value 10 text))) [
+pub number_steps : (most place : ℕ) (text : List ℕ) → number_in most place text ≡ number_parts most place text
+unfolding number_in
+number_steps most place text = elim (is_number most text) as (λ b. checked_by (check place 126 text (not b) ∷ []) (digits_value 10 text) ≡ kept_or 126 place (Some text) (cond b (Some (digits_value 10 text)) None)) [
   | true ↦ refl
   | false ↦ refl
 ]
+
+-- a number, and what is made of it
+number_stage : {X : Type 0} (most place : ℕ) (text : List ℕ) (f : ℕ → X) → (number_in most place text >>= λ number. Ok (f number)) ≡ checked_by (check place 126 text (not (is_number most text)) ∷ []) (f (digits_value 10 text))
+unfolding number_in
+number_stage most place text f = answered_then (first_that_applies (check place 126 text (not (is_number most text)) ∷ [])) (digits_value 10 text) f
+
+pub compared_steps : (place : ℕ) (text : List ℕ) (v : Values) (index : ℕ) (patterns : List (List Symbol)) (relation : Relation)
+    → compared_plan place text v index patterns relation ≡ compared_parts place text v index patterns relation
+unfolding compared_plan compared_parts
+compared_steps place text v index patterns relation = elim (is_numeric v.structure) as (λ b. checked_by (check place 126 text (b && not (is_number 18 text)) ∷ []) (cond b (NumberOf index relation (digits_value 10 text)) (ordered_plan text v index patterns (order_of relation)))
+    ≡ cond b (number_in 18 place text >>= λ number. Ok (NumberOf index relation number)) (Ok (ordered_plan text v index patterns (order_of relation)))) [
+      | true ↦ sym (number_stage 18 place text (λ number. NumberOf index relation number))
+      | false ↦ refl
+    ]
+
+pub start_steps : (place : ℕ) (text : List ℕ) (v : Values) → scan_start place text v ≡ start_parts place text v
+unfolding scan_start start_parts
+start_steps place text v = elim (is_numeric v.structure) as (λ b. checked_by (check place 126 text (b && not (is_number 18 text)) ∷ []) (cond b (number_key (digits_value 10 text)) (joined_words text))
+    ≡ cond b (number_in 18 place text >>= λ number. Ok (number_key number)) (Ok (joined_words text))) [
+      | true ↦ sym (number_stage 18 place text number_key)
+      | false ↦ refl
+    ]
 
 clash_stage : {X : Type 0} (place : ℕ) (a b c d : Bool) (rest : Result X Refusal) (cs : List Check) (x : X) → rest ≡ checked_by cs x
     → cond (a || (b || (c || d))) (refused 123 place []) rest ≡ checked_by (check place 123 [] a ∷ check place 123 [] b ∷ check place 123 [] c ∷ check place 123 [] d ∷ cs) x
@@ -192,7 +216,7 @@ related_stage place index text v Always Phrase e = refl
 related_stage place index text v Always WordList e = refl
 related_stage place index text v Always FreeForm e = refl
 related_stage place index text v Always Numeric e = refl
-related_stage place index text v (Compared r) Numeric e = number_stage 18 place text (λ number. NumberOf index r number)
+related_stage place index text v (Compared r) Numeric e = refl
 related_stage place index text v (Compared Equal) Phrase e = refl
 related_stage place index text v (Compared Equal) WordList e = refl
 related_stage place index text v (Compared Equal) FreeForm e = refl
@@ -251,15 +275,16 @@ plan_stage profile place h text are =
     ∙ ap (λ t. checked_by (clashes_by place t ++ last_checks place text t) (plan_by index text t)) (sym (both_say profile h text found are))
 
 find_stage : (profile : Profile) (place : ℕ) (h : HoldingValue) (text : List ℕ)
-    → (term_of profile place text h >>= λ read. term_plan profile place text read) ≡ answered (first_that_applies (find_checks profile place h text)) (plan_asked profile h text)
+    → (term_read profile place text h >>= λ read. term_plan profile place text read) ≡ answered (first_that_applies (find_checks profile place h text)) (plan_asked profile h text)
+unfolding term_read
 find_stage profile place h text =
-    then_checks (term_of profile place text h) (λ read. term_plan profile place text read) (reading_checks profile place h text)
+    then_checks (term_read profile place text h) (λ read. term_plan profile place text read) (reading_checks profile place h text)
     (clash_checks place h ++ (register_checks profile place h ++ number_checks place h text))
     (values_held profile h, patterns_if (values_held profile h) text) (plan_asked profile h text)
-    (term_stage profile place h text) (λ e. plan_stage profile place h text (term_held profile place h text e))
+    refl (λ e. plan_stage profile place h text (term_held profile place h text e))
 
 pub leaf_steps : (profile : Profile) (set : Option (List ℕ)) (head : HeadValue) (place : ℕ) (text : List ℕ)
-    → leaf_plan profile set head place text ≡ (term_of profile place text (holding_of set head) >>= λ read. term_plan profile place text read)
+    → leaf_plan profile set head place text ≡ (term_read profile place text (holding_of set head) >>= λ read. term_plan profile place text read)
 unfolding leaf_plan
 leaf_steps profile set head place text = sym (find_stage profile place (holding_of set head) text)
 
@@ -287,16 +312,8 @@ start_stage place index text v a Phrase e l = refl
 start_stage place index text v a WordList e l = refl
 start_stage place index text v a FreeForm e l = refl
 start_stage place index text v Always Numeric e l = absurd cc
-start_stage place index text v (Compared r) Numeric e l = number_start
-  where
-    number_start : ((number_in 18 place text >>= λ number. Ok (number_key number)) >>= λ start. Ok (scan_with index (values_with v (Compared r) Numeric index) start))
-        ≡ checked_by (check place 126 text (not (is_number 18 text)) ∷ []) (scan_with index (values_with v (Compared r) Numeric index) (number_key (digits_value 10 text)))
-    number_start = ap (λ q. q >>= λ start. Ok (scan_with index (values_with v (Compared r) Numeric index) start)) (number_stage 18 place text number_key)
-        ∙ elim (is_number 18 text) as (λ b. (checked_by (check place 126 text (not b) ∷ []) (number_key (digits_value 10 text)) >>= λ start. Ok (scan_with index (values_with v (Compared r) Numeric index) start))
-        ≡ checked_by (check place 126 text (not b) ∷ []) (scan_with index (values_with v (Compared r) Numeric index) (number_key (digits_value 10 text)))) [
-          | true ↦ refl
-          | false ↦ refl
-        ]
+start_stage place index text v (Compared r) Numeric e l =
+    answered_then (first_that_applies (check place 126 text (not (is_number 18 text)) ∷ [])) (number_key (digits_value 10 text)) (λ start. scan_with index (values_with v (Compared r) Numeric index) start)
 
 indexed_scan_stage : (profile : Profile) (place index : ℕ) (text : List ℕ) (v : Values) (a : Asked) (s : Structure) (found : Bool)
     → (is_local s ≡ false → has_pair profile (index, register_of (values_with v a s index)) ≡ found)
@@ -327,14 +344,15 @@ scan_term_stage profile place h text are =
     ∙ ap (λ t. checked_by (clashes_by place t ++ (scan_clashes_by place t ++ last_checks place text t)) (scan_by index text t)) (sym (both_say profile h text found are))
 
 scan_stage : (profile : Profile) (place : ℕ) (h : HoldingValue) (text : List ℕ)
-    → (term_of profile place text h >>= λ read. term_scan profile place text read.0) ≡ answered (first_that_applies (scan_checks profile place h text)) (scan_asked profile h text)
+    → (term_read profile place text h >>= λ read. term_scan profile place text read.0) ≡ answered (first_that_applies (scan_checks profile place h text)) (scan_asked profile h text)
+unfolding term_read
 scan_stage profile place h text =
-    then_checks (term_of profile place text h) (λ read. term_scan profile place text read.0) (reading_checks profile place h text)
+    then_checks (term_read profile place text h) (λ read. term_scan profile place text read.0) (reading_checks profile place h text)
     (clash_checks place h ++ (scan_clash_checks place h ++ (register_checks profile place h ++ number_checks place h text)))
     (values_held profile h, patterns_if (values_held profile h) text) (scan_asked profile h text)
-    (term_stage profile place h text) (λ e. scan_term_stage profile place h text (term_held profile place h text e))
+    refl (λ e. scan_term_stage profile place h text (term_held profile place h text e))
 
 pub scan_steps : (profile : Profile) (set : Option (List ℕ)) (head : HeadValue) (place : ℕ) (text : List ℕ)
-    → leaf_scan profile set head place text ≡ (term_of profile place text (holding_of set head) >>= λ read. term_scan profile place text read.0)
+    → leaf_scan profile set head place text ≡ (term_read profile place text (holding_of set head) >>= λ read. term_scan profile place text read.0)
 unfolding leaf_scan
 scan_steps profile set head place text = sym (scan_stage profile place (holding_of set head) text)

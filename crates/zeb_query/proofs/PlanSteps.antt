@@ -9,7 +9,9 @@ use Rattle.zeb_query.specs.declared.terms.Values.{Values}
 use Rattle.zeb_query.specs.declared.plans.Operator.{Operator}
 use Rattle.zeb_query.specs.Checks.{Refusal, refused}
 use Rattle.zeb_query.specs.Plans.{TermPlanValue, RecordNumberOf, AlwaysOf, ScanValue, PlanValue, PairOf}
-use Rattle.zeb_query.specs.PrivatePlanning.{clashes, clashes_in_scan, register_of, number_in, compared_plan, scan_start, ◌>>=◌}
+use Rattle.zeb_query.proofs.CheckLemmas.{◌>>=◌}
+use Rattle.zeb_query.specs.PrivateValues.{clashes, clashes_in_scan, register_of}
+use Rattle.zeb_query.specs.PrivatePlanning.{number_in, compared_plan, scan_start}
 
 abbrev pub related_plan : ℕ → List ℕ → Values → ℕ → List (List Symbol) → Asked → Result TermPlanValue Refusal
 related_plan place text v index patterns Always = Ok (AlwaysOf index (register_of v))

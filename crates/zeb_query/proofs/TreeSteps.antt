@@ -1,5 +1,5 @@
 -- The checks of a structure and what it asks for are those of its parts.
-use Rattle.std.proofs.Common.{◌≡◌, ℕ, List, ◌++◌, Option, Some, None, refl, sym}
+use Rattle.std.proofs.Common.{◌≡◌, ℕ, List, ◌++◌, Option, refl, sym}
 use Rattle.std.specs.Prelude.{Ok}
 use Rattle.zeb_profile.specs.declared.Profile.{Profile}
 use Rattle.zeb_query.specs.declared.plans.Operator.TheVariants as operator
@@ -8,16 +8,11 @@ use Rattle.zeb_query.specs.declared.queries.Connective.{Connective}
 use Rattle.zeb_query.specs.declared.queries.Connective.TheVariants.{And, Or, Not, Proximity}
 use Rattle.zeb_query.specs.Grammar.{HeadValue, TreeValue, TermValue, NamedValue, PairValue, heads}
 use Rattle.zeb_query.specs.Attributes.{holding_of}
-use Rattle.zeb_query.specs.Checks.{first_that_applies, find_checks, checks_in, operand_of, Check, Refusal, answered, checked_by, refused}
+use Rattle.zeb_query.specs.Checks.{first_that_applies, find_checks, checks_in, operand_of, Check, checked_by, refused}
 use Rattle.zeb_query.specs.Plans.{PlanValue, TermOf, PairOf, plan_asked, tree_asked}
-use Rattle.zeb_query.specs.PrivatePlanning.{leaf_plan, near_plan, tree_plan, operator_of, ◌>>=◌}
+use Rattle.zeb_query.specs.PrivatePlanning.{leaf_plan, near_plan, tree_plan, operator_of}
 use Rattle.zeb_query.proofs.PlanSteps.{pair_plan}
-use Rattle.zeb_query.proofs.CheckLemmas.{then_checks}
-
--- what is made of an answer
-answered_then : {A B : Type 0} (o : Option Refusal) (x : A) (f : A → B) → (answered o x >>= λ y. Ok (f y)) ≡ answered o (f x)
-answered_then None x f = refl
-answered_then (Some refusal) x f = refl
+use Rattle.zeb_query.proofs.CheckLemmas.{answered_then, then_checks, ◌>>=◌}
 
 -- an operator on sets: the checks of its left side, then those of its right side
 sides : (op : Operator) (left right : List Check) (one other : PlanValue)

@@ -1,5 +1,5 @@
 -- The values of a term's attributes as numbers, and as what they stand for.
-use Rattle.std.proofs.Common.{◌≡◌, ℕ, Bool, true, false, eqb, List, [], ◌∷◌, Option, Some, None, refl, ap, sym, ◌∙◌}
+use Rattle.std.proofs.Common.{◌≡◌, ℕ, Bool, true, false, eqb, [], ◌∷◌, Option, Some, None, refl, ap, sym, ◌∙◌}
 use Rattle.std.specs.Prelude.{not, ◌||◌, option_and_then, if◌then◌else◌}
 use Rattle.std.specs.Option.{is_none, unwrap_or}
 use Rattle.zeb_text.specs.declared.Cut.TheVariants as cut
@@ -15,13 +15,9 @@ use Rattle.zeb_query.specs.declared.attributes.Position.TheVariants.{Any}
 use Rattle.zeb_query.specs.declared.attributes.Structure.{Structure}
 use Rattle.zeb_query.specs.declared.attributes.Structure.TheVariants.{Phrase, WordList, FreeForm, LocalNumber, Numeric}
 use Rattle.zeb_query.specs.declared.attributes.Completeness.TheVariants.{Incomplete}
-use Rattle.zeb_query.specs.PrivatePlanning.{relations, positions, structures, completenesses, is_first, is_complete, is_truncated, is_ordered, is_equal, is_always, is_local, is_numeric, is_list, is_phrase, spread_of}
+use Rattle.zeb_query.specs.PrivateValues.{relations, positions, structures, completenesses, is_first, is_complete, is_truncated, is_ordered, is_equal, is_always, is_local, is_numeric, is_list, is_phrase, spread_of, kept_in, is_local_if}
 use Rattle.zeb_query.specs.Attributes.{order_of, truncations, kept, is_among, comparisons}
 use Rattle.zeb_query.proofs.CheckLemmas.{unkept, by_value}
-
--- what a table has for a number, or else a default
-abbrev pub kept_in : {X : Type 0} → List (ℕ × X) → X → Option ℕ → X
-kept_in rows d m = unwrap_or (option_and_then (kept rows) m) d
 
 abbrev pub compared_by : Asked → Relation
 compared_by (Compared relation) = relation
@@ -113,11 +109,6 @@ truncation_value m e = by_value (λ k. not (is_among (100 ∷ []) k) ≡ is_trun
 
 pub completeness_value : (m : Option ℕ) → is_among (1 ∷ 2 ∷ 3 ∷ []) m ≡ true → is_among (2 ∷ 3 ∷ []) m ≡ is_complete (kept_in completenesses Incomplete m)
 completeness_value m e = by_value (λ k. is_among (2 ∷ 3 ∷ []) k ≡ is_complete (kept_in completenesses Incomplete k)) m (1 ∷ 2 ∷ 3 ∷ []) e (refl, (refl, (refl, tt)))
-
--- a local number, also before it is known that the structure is kept
-abbrev pub is_local_if : Option Structure → Bool
-is_local_if None = false
-is_local_if (Some structure) = is_local structure
 
 pub local_value : (m : Option ℕ) → is_among (107 ∷ []) m ≡ is_local_if (option_and_then (kept structures) m)
 local_value m = at (is_among (1 ∷ 2 ∷ 6 ∷ 105 ∷ 107 ∷ 109 ∷ []) m) refl

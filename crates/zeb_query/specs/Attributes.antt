@@ -168,6 +168,25 @@ kept_completenesses = incomplete_texts ++ whole_texts
 
 -- ---- the value that holds
 
+-- what holds where there is no attribute of the type: use 1016, any; equal; any position; a phrase; no truncation; incomplete subfield
+abbrev pub default_use : ℕ
+default_use = 1016
+
+abbrev pub default_relation : ℕ
+default_relation = 3
+
+abbrev pub default_position : ℕ
+default_position = 3
+
+abbrev pub default_structure : ℕ
+default_structure = 1
+
+abbrev pub default_truncation : ℕ
+default_truncation = 100
+
+abbrev pub default_completeness : ℕ
+default_completeness = 1
+
 -- what a number stands for in a table
 abbrev pub kept : {A : Type 0} → List (ℕ × A) → ℕ → Option A
 kept [] number = None
@@ -189,19 +208,19 @@ is_among values (Some number) = list_any (λ value. number == value) values
 
 -- the value that holds, or the default where there is no attribute of the type, is one of these
 abbrev pub relation_is : HoldingValue → List ℕ → Bool
-relation_is h values = is_among values (number_or 3 h.relation)
+relation_is h values = is_among values (number_or default_relation h.relation)
 
 abbrev pub position_is : HoldingValue → List ℕ → Bool
-position_is h values = is_among values (number_or 3 h.position)
+position_is h values = is_among values (number_or default_position h.position)
 
 abbrev pub structure_is : HoldingValue → List ℕ → Bool
-structure_is h values = is_among values (number_or 1 h.structure)
+structure_is h values = is_among values (number_or default_structure h.structure)
 
 abbrev pub truncation_is : HoldingValue → List ℕ → Bool
-truncation_is h values = is_among values (number_or 100 h.truncation)
+truncation_is h values = is_among values (number_or default_truncation h.truncation)
 
 abbrev pub completeness_is : HoldingValue → List ℕ → Bool
-completeness_is h values = is_among values (number_or 1 h.completeness)
+completeness_is h values = is_among values (number_or default_completeness h.completeness)
 
 -- ---- what is compared for a term
 
@@ -211,13 +230,13 @@ completeness_is h values = is_among values (number_or 1 h.completeness)
 
 -- ---- indexes and registers
 
--- the index of a use attribute, by its number, or by its name where it is none; that of 1016 where there is no attribute
+-- the index of a use attribute, by its number, or by its name where it is none; that of the default where there is no attribute
 abbrev pub index_named : Profile → List ℕ → Option ℕ → Option ℕ
 index_named profile name (Some number) = index_by_use profile number
 index_named profile name None = index_by_name profile name
 
 abbrev pub index_used : Profile → Option (List ℕ) → Option ℕ
-index_used profile None = index_by_use profile 1016
+index_used profile None = index_by_use profile default_use
 index_used profile (Some text) = index_named profile text (number_of 9 text)
 
 abbrev pub index_held : Profile → HoldingValue → ℕ
@@ -233,7 +252,7 @@ register_searched h =
 
 -- the relation that holds, where it is one that compares
 abbrev pub relation_held : HoldingValue → Relation
-relation_held h = unwrap_or (value_of comparisons 3 h.relation) Equal
+relation_held h = unwrap_or (value_of comparisons default_relation h.relation) Equal
 
 -- the order that a relation is, but for equality
 abbrev pub order_of : Relation → Option Order
@@ -250,7 +269,7 @@ order_held h = unwrap_or (order_of (relation_held h)) in_order.Less
 
 -- the words of the term as patterns: the truncation puts stars on each word for structures 6 and 105, else at the ends
 abbrev pub cut_of : HoldingValue → Cut
-cut_of h = unwrap_or (value_of truncations 100 h.truncation) cut.None
+cut_of h = unwrap_or (value_of truncations default_truncation h.truncation) cut.None
 
 abbrev pub stars_of : HoldingValue → Spread
 stars_of h = if structure_is h lists then Each else Ends

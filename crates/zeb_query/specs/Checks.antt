@@ -5,15 +5,15 @@
 -- The numbers of diagnostics are Bib-1's. Own rules of this project: which fault has which number, and its place and addinfo; the order
 -- of the checks; that other values than the kept ones are refused; that a term has at most 64 words (5), and a number at most 9 or 18
 -- digits (126); and which values aren't taken together (123).
--- Proximity (YAZ manual, Prefix Query Format: `@prox`; ANSI/NISO Z39.50-2003, the proximity operator) is of two words in one unit.
--- The six parameters are exclusion, distance, ordered, relation, which-code and unit-code. Which of their values are kept, that
--- others are refused by 110, and which attributes the two terms may have, are own rules too.
+-- Proximity (YAZ manual, Prefix Query Format: `@prox`; ANSI/NISO Z39.50-2003, the proximity operator): the six parameters are exclusion,
+-- distance, ordered, relation, which-code and unit-code. Own rules too: which of their values are kept; that others, and operands that
+-- are no terms, are refused by 110; and that the operands are of one word each, in one index, with the attributes that are left.
 use Rattle.std.specs.Fmt.{decimal}
 use Rattle.std.specs.Option.{is_none, is_some, unwrap_or}
 use Rattle.std.specs.Prelude.{Bool, Err, List, None, Ok, Option, Result, Some, [], codes, false, if◌then◌else◌, length, nat_lt, not, string_bytes, true, ℕ, ◌&&◌, ◌++◌, ◌==◌, ◌∷◌, ◌≡◌, ◌||◌}
 use Rattle.std.specs.Str.{bytes_eq}
 use Rattle.std.specs.Str.Parse.{digits_value}
-use Rattle.zeb_profile.specs.Indexes.{has_pair, index_by_use}
+use Rattle.zeb_profile.specs.Indexes.{has_pair}
 use Rattle.zeb_profile.specs.declared.Profile.{Profile}
 use Rattle.zeb_profile.specs.declared.Register.{Register}
 use Rattle.zeb_query.specs.declared.faults.QueryFault.{QueryFault}
@@ -109,14 +109,18 @@ head_checks place h =
     ∷ check place 113 (numeral h.other_kind) (is_some h.other_kind)
     ∷ []
 
--- the values of the six attribute types; a local number has no use attribute
+-- the use attribute, as written or none; a local number has no index
+abbrev pub use_checks : Profile → ℕ → Bool → Option (List ℕ) → List Check
+use_checks profile place local use_attribute =
+    check place 114 (written use_attribute) (not local && (is_some use_attribute && is_none (index_used profile use_attribute)))
+    ∷ check place 116 [] (not local && (is_none use_attribute && is_none (index_used profile use_attribute)))
+    ∷ []
+
+-- the values of the six attribute types
 abbrev pub value_checks : Profile → ℕ → HoldingValue → List Check
 value_checks profile place h =
-    check place 114 (written h.use_attribute)
-    (not (structure_is h local_numbers) && (is_some h.use_attribute && is_none (index_used profile h.use_attribute)))
-    ∷ check place 116 []
-    (not (structure_is h local_numbers) && (is_none h.use_attribute && is_none (index_by_use profile 1016)))
-    ∷ check place 117 (written h.relation) (not (relation_is h kept_relations))
+    use_checks profile place (structure_is h local_numbers) h.use_attribute
+    ++ check place 117 (written h.relation) (not (relation_is h kept_relations))
     ∷ check place 119 (written h.position) (not (position_is h kept_positions))
     ∷ check place 118 (written h.structure) (not (structure_is h kept_structures))
     ∷ check place 120 (written h.truncation) (not (truncation_is h kept_truncations))

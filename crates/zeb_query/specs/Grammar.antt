@@ -6,8 +6,9 @@
 -- SET, TYPE, NAME and W are any words but bad ones; after @attr a word without `=` is the SET. SPEC is 1 to 9 digits, the
 -- type, then `=`, then a value of at least one character. TERM is a word that is no keyword. @attr and @term hold for all
 -- of the structure that follows; of several types the innermost holds.
--- Own rules of this project: that a type and a number have at most nine digits; that keywords are in lower case and unquoted; and that
--- an unquoted word which begins with @ and is no keyword is a TERM.
+-- Own rules of this project, which the manual leaves open or has otherwise: that a type is a number of at most nine digits; that a value
+-- has at least one character; that keywords are in lower case and unquoted, and have no meaning where a SET, a TYPE, a NAME or a W is due;
+-- that an unquoted word which begins with @ and is no keyword is a TERM; and that no query has a bad word.
 use Rattle.std.specs.Char.{is_ascii_digit}
 use Rattle.std.specs.List.{after_first, before_first, list_all, list_any, position_or_len}
 use Rattle.std.specs.Option.{option_map}

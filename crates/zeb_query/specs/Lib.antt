@@ -7,4 +7,5 @@ pub mod Plans
 pub mod Worked
 pub mod PrivateWalk
 pub mod PrivateReading
+pub mod PrivateValues
 pub mod PrivatePlanning

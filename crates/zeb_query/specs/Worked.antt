@@ -1,16 +1,19 @@
--- Worked examples: two small profiles of this project's own, and what the texts of queries come to under them.
+-- Worked examples: two small profiles of this project's own, each the directives of a text, and what the texts of queries come to under
+-- them.
 use Rattle.std.specs.Prelude.{List, None, Result, Some, [], codes, zero, suc, ℕ, ◌++◌, ◌∷◌, ◌≡◌}
 use Rattle.zeb_profile.specs.declared.directives.Directive.{Directive}
-use Rattle.zeb_profile.specs.declared.directives.Directive.TheVariants.{All, Att, Melm}
+use Rattle.zeb_profile.specs.declared.directives.Directive.TheVariants.{All, Att, Identifier, Melm, Store}
 use Rattle.zeb_profile.specs.declared.registers.Register.TheVariants.{Number, Phrase, Word}
 use Rattle.zeb_query.specs.Grammar.{QueryValue, SpellsQuery}
 use Rattle.zeb_query.specs.Checks.{Refusal}
 use Rattle.zeb_query.specs.Plans.{PlanValue, ScanValue, plan_of, scan_of}
 
--- words and phrases of titles, numbers of dates, and any words: the indexes Title (0), Date (1) and Any (2)
+-- words and phrases of titles, numbers of dates, and any words: the indexes Title (0), Date (1) and Any (2); 99 is `c`
 abbrev pub sample_profile : List Directive
 sample_profile =
-    Att 4 (codes "Title")
+    Store (codes "x")
+    ∷ Identifier (record { tag = codes "001"; code = None })
+    ∷ Att 4 (codes "Title")
     ∷ Att 31 (codes "Date")
     ∷ Att 1016 (codes "Any")
     ∷ Melm (record { tag = codes "245"; code = None })
@@ -21,7 +24,12 @@ sample_profile =
 
 -- words of titles alone, and no index for the use attribute that holds where none is given
 abbrev pub titles_alone : List Directive
-titles_alone = Att 4 (codes "Title") ∷ Melm (record { tag = codes "245"; code = None }) (record { name = codes "Title"; register = Word } ∷ []) ∷ []
+titles_alone =
+    Store (codes "x")
+    ∷ Identifier (record { tag = codes "001"; code = None })
+    ∷ Att 4 (codes "Title")
+    ∷ Melm (record { tag = codes "245"; code = None }) (record { name = codes "Title"; register = Word } ∷ [])
+    ∷ []
 
 -- the text spells a query, of which this is the plan or the first diagnostic under the profile
 pub record PlansUnder (profile : List Directive) (text : List ℕ) (result : Result PlanValue Refusal) : Type 0 where

@@ -1,8 +1,8 @@
 //! The values of a term's attributes that are kept, each type an enum of its own.
 ghost use Rattle.std.specs.Prelude.{◌≡◌, IfSome, ◌<◌, ◌^◌};
 ghost use Rattle.std.specs.Option.{option_map};
-ghost use Rattle.zeb_query.specs.PrivatePlanning.{relations, positions, structures, completenesses};
-ghost use Rattle.zeb_query.specs.Attributes.{truncations, number_or, value_of};
+ghost use Rattle.zeb_query.specs.PrivateValues.{relations, positions, structures, completenesses};
+ghost use Rattle.zeb_query.specs.Attributes.{default_completeness, default_position, default_relation, default_structure, default_truncation, truncations, number_or, value_of};
 
 use crate::digits::number_of;
 use crate::{Order, Relation};
@@ -80,7 +80,7 @@ fn number_or(value: Option<&str>, default: u64) -> Option<u64>
 
 /// The relation, equal where there is no attribute; nothing for a value that isn't kept.
 pub(crate) fn relation_of(value: Option<&str>) -> Option<Asked>
-    ensures { result ≡ value_of relations 3 (option_map (λ text. text.now) value.entry) }
+    ensures { result ≡ value_of relations default_relation (option_map (λ text. text.now) value.entry) }
 {
     match number_or(value, 3)? {
         1 => Some(Asked::Compared(Relation::Less)),
@@ -95,7 +95,7 @@ pub(crate) fn relation_of(value: Option<&str>) -> Option<Asked>
 
 /// The position, any where there is no attribute; nothing for a value that isn't kept.
 pub(crate) fn position_of(value: Option<&str>) -> Option<Position>
-    ensures { result ≡ value_of positions 3 (option_map (λ text. text.now) value.entry) }
+    ensures { result ≡ value_of positions default_position (option_map (λ text. text.now) value.entry) }
 {
     match number_or(value, 3)? {
         1 | 2 => Some(Position::First),
@@ -106,7 +106,7 @@ pub(crate) fn position_of(value: Option<&str>) -> Option<Position>
 
 /// The structure, a phrase where there is no attribute; nothing for a value that isn't kept.
 pub(crate) fn structure_of(value: Option<&str>) -> Option<Structure>
-    ensures { result ≡ value_of structures 1 (option_map (λ text. text.now) value.entry) }
+    ensures { result ≡ value_of structures default_structure (option_map (λ text. text.now) value.entry) }
 {
     match number_or(value, 1)? {
         1 | 2 => Some(Structure::Phrase),
@@ -120,7 +120,7 @@ pub(crate) fn structure_of(value: Option<&str>) -> Option<Structure>
 
 /// The truncation (Bib-1, attribute type 5), none where there is no attribute; nothing for a value that isn't kept.
 pub(crate) fn truncation_of(value: Option<&str>) -> Option<Cut>
-    ensures { result ≡ value_of truncations 100 (option_map (λ text. text.now) value.entry) }
+    ensures { result ≡ value_of truncations default_truncation (option_map (λ text. text.now) value.entry) }
 {
     match number_or(value, 100)? {
         1 => Some(Cut::Right),
@@ -134,7 +134,7 @@ pub(crate) fn truncation_of(value: Option<&str>) -> Option<Cut>
 
 /// The completeness, incomplete where there is no attribute; nothing for a value that isn't kept.
 pub(crate) fn completeness_of(value: Option<&str>) -> Option<Completeness>
-    ensures { result ≡ value_of completenesses 1 (option_map (λ text. text.now) value.entry) }
+    ensures { result ≡ value_of completenesses default_completeness (option_map (λ text. text.now) value.entry) }
 {
     match number_or(value, 1)? {
         1 => Some(Completeness::Incomplete),

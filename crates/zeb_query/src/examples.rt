@@ -5,9 +5,17 @@ ghost use Rattle.zeb_profile.specs.declared.registers.Register.TheVariants.{Word
 ghost use Rattle.zeb_query.specs.Places.{IsReadable, IsFaulty};
 ghost use Rattle.zeb_query.specs.Plans.{TermOf, PairOf, NearOf, RecordNumberOf, AlwaysOf, NumberOf, OrderedOf, CompleteOf, PhraseOf, AllWordsOf, AnyWordOf};
 ghost use Rattle.zeb_query.specs.Checks.{refused};
-ghost use Rattle.zeb_query.specs.Worked.{PlansAs, PlansUnder, ScansAs, titles_alone, times};
+ghost use Rattle.zeb_profile.specs.Profiles.{profile_of};
+ghost use Rattle.zeb_query.specs.Worked.{PlansAs, PlansUnder, ScansAs, sample_profile, titles_alone, times};
 
 use crate::{DistanceRelation, Operator, Order, Relation};
+
+/// The two profiles of the examples, each read from a text.
+pub fn profiles_at_examples()
+    ensures sample { profile_of (codes "store x\nidentifier 001\natt 4 Title\natt 31 Date\natt 1016 Any\nmelm 245 Title,Title:p\nmelm 260$c Date:n\nall Any")
+        ≡ Ok sample_profile }
+    ensures titles { profile_of (codes "store x\nidentifier 001\natt 4 Title\nmelm 245 Title") ≡ Ok titles_alone }
+{}
 
 /// Texts and their faults: where a query goes on no more, or isn't at its end, with places in bytes; the 101st operator; and
 /// each text of more than 65,535 bytes.

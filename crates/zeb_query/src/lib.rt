@@ -25,8 +25,8 @@ mod terms;
 mod words;
 
 pub use examples::{
-    diagnostics_at_examples, faults_at_examples, plans_at_examples, proximity_at_examples,
-    scans_at_examples, truncations_at_examples, values_at_examples,
+    diagnostics_at_examples, faults_at_examples, plans_at_examples, profiles_at_examples,
+    proximity_at_examples, scans_at_examples, truncations_at_examples, values_at_examples,
 };
 pub use faults::QueryFault;
 pub use laws::{

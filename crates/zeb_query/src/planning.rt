@@ -5,7 +5,6 @@ ghost use Rattle.zeb_query.specs.Grammar.{HeadValue, tree_value, query_value, he
 ghost use Rattle.zeb_query.specs.Checks.{Gives};
 ghost use Rattle.zeb_query.specs.Attributes.{holding_of};
 ghost use Rattle.zeb_query.specs.PrivateReading.{holding_value};
-ghost use Rattle.zeb_query.specs.PrivatePlanning.{term_of};
 ghost use Rattle.zeb_query.specs.Plans as plans;
 ghost use Rattle.zeb_query.specs.Attributes as term_words;
 ghost use Rattle.zeb_query.specs.PrivatePlanning as steps;
@@ -24,8 +23,8 @@ use zeb_text::{Pattern, join, join_patterns, words};
 
 /// The plan of a query over a profile (ANSI/NISO Z39.50-2003, attribute set Bib-1).
 ///
-/// The query is walked from left to right, an operator before its operands, and the first fault is answered, with the
-/// place of the word that it stands at:
+/// The checks of its operators, named sets and terms stand in the order of the text, and the first that applies is answered, with
+/// the place of the operator's word, of `@set` or of the term:
 /// - 18 at a named result set, about its name;
 /// - at `@prox`, 110 about the first of its parameters that isn't kept, or about `@prox` where an operand isn't a term or
 ///   there aren't six parameters; then the faults of its operands, for which 123 is answered also for a relation other than
@@ -138,6 +137,7 @@ fn plan_leaf(
 }
 
 /// The number that a term has to be, of at most so many digits.
+#[tactic(auto, using(crate::proofs::PlanCheckLemmas::number_steps))]
 pub(crate) fn number_in(alloc: Global, leaf: &Leaf, most: usize) -> Result<u64, QueryFault>
     requires { most ≤ 18 }
     ensures gives { Gives (λ x. x) result (steps.number_in most leaf.now.place (string_bytes leaf.now.text)) }
@@ -170,7 +170,7 @@ fn joined_words_if_any(alloc: Global, leaf: &Leaf) -> Result<Option<String>, All
 }
 
 /// The plan of a term that is compared with the entries of an index.
-#[tactic(auto, unfolding(crate::specs::PrivatePlanning::compared_plan))]
+#[tactic(auto, using(crate::proofs::PlanCheckLemmas::compared_steps), unfolding(crate::proofs::TermSteps::compared_parts))]
 fn compared(
     alloc: Global,
     leaf: &Leaf,

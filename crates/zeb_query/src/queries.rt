@@ -1,4 +1,5 @@
-//! Queries as they are read, each word with its place in the text.
+//! Queries, each word with its place in the text. What is said here of places, ranges and values is so of the queries that
+//! `read_pqf` gives, by its contract; another caller may build others.
 /// An attribute as it stands in a query: `@attr SET TYPE=VALUE` (YAZ manual, PQF).
 #[derive(Debug, Drop)]
 pub struct Attribute {

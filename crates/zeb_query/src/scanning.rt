@@ -65,7 +65,7 @@ fn scan_leaf(
 }
 
 /// The entry to begin with.
-#[tactic(auto, unfolding(crate::specs::PrivatePlanning::scan_start))]
+#[tactic(auto, using(crate::proofs::PlanCheckLemmas::start_steps), unfolding(crate::proofs::TermSteps::start_parts))]
 fn start_of(alloc: Global, leaf: &Leaf, values: &Values) -> Result<String, QueryFault>
     ensures { Gives (λ start. string_bytes start) result
         (steps.scan_start leaf.now.place (string_bytes leaf.now.text) values.now) }

@@ -3,7 +3,11 @@ ghost use Rattle.std.specs.Prelude.{◌≡◌, ◌∷◌, [], Option, Some, None
 ghost use Rattle.std.specs.Option.{option_map};
 ghost use Rattle.zeb_query.specs.Checks.{Gives};
 ghost use Rattle.zeb_query.specs.PrivateReading.{holding_value};
-ghost use Rattle.zeb_query.specs.PrivatePlanning.{kept_or, index_of, index_if, values_of, checked, type_checked, kind_checked, patterns_for, term_of};
+ghost use Rattle.std.specs.Prelude.{if◌then◌else◌};
+ghost use Rattle.std.specs.Option.{is_some};
+ghost use Rattle.zeb_query.specs.Attributes.{index_used};
+ghost use Rattle.zeb_query.specs.Checks.{check, checked_by, is_other_type, numeral, written};
+ghost use Rattle.zeb_query.specs.PrivatePlanning.{kept_or, index_read, values_read, head_read, patterns_read, term_read};
 
 use crate::attributes::{
     Asked, Completeness, Position, Structure, completeness_of, position_of, relation_of,
@@ -36,7 +40,7 @@ pub(crate) struct Values {
 
 impl Values {
     ghost use Rattle.std.specs.Prelude.{◌≡◌};
-    ghost use Rattle.zeb_query.specs.PrivatePlanning as terms;
+    ghost use Rattle.zeb_query.specs.PrivateValues as terms;
 
     /// Whether the words of the term are compared: it is no number, and the relation isn't "always matches".
     fn has_words(&self) -> bool
@@ -194,14 +198,14 @@ pub(crate) fn kept<T>(
 }
 
 /// The index of a use attribute: that of its number, or of its name where it is no number.
-#[tactic(auto, unfolding(crate::specs::PrivatePlanning::index_of))]
 fn index_of(
     alloc: Global,
     place: usize,
     written: Option<&str>,
     profile: &Profile,
 ) -> Result<u32, QueryFault>
-    ensures { Gives (λ x. x) result (index_of profile.now place (option_map (λ text. text.now) written.entry)) }
+    ensures { Gives (λ x. x) result (kept_or (if is_some written.entry then 114 else 116) place
+        (option_map (λ text. text.now) written.entry) (index_used profile.now (option_map (λ text. text.now) written.entry))) }
 {
     let Some(text) = written else {
         return kept(alloc, 116, place, None, profile.index_by_use(ANY));
@@ -214,6 +218,7 @@ fn index_of(
 }
 
 /// The index of a term with this structure; a local number has none.
+#[tactic(auto, using(crate::proofs::TermCheckLemmas::index_steps))]
 fn index_if(
     alloc: Global,
     place: usize,
@@ -221,7 +226,7 @@ fn index_if(
     structure: Option<Structure>,
     profile: &Profile,
 ) -> Result<Option<u32>, QueryFault>
-    ensures { Gives (λ x. x) result (index_if profile.now place (option_map (λ text. text.now) written.entry) structure) }
+    ensures { Gives (λ x. x) result (index_read profile.now place (option_map (λ text. text.now) written.entry) structure) }
 {
     match structure {
         Some(Structure::LocalNumber) => Ok(None),
@@ -230,14 +235,14 @@ fn index_if(
 }
 
 /// The values of the six attribute types, or the diagnostic of the first one that isn't kept.
-#[tactic(auto, unfolding(crate::specs::PrivatePlanning::values_of))]
+#[tactic(auto, using(crate::proofs::TermCheckLemmas::values_steps), unfolding(crate::proofs::TermSteps::value_parts))]
 fn values_of(
     alloc: Global,
     place: usize,
     holding: &Holding<'_>,
     profile: &Profile,
 ) -> Result<Values, QueryFault>
-    ensures { Gives (λ x. x) result (values_of profile.now place (holding_value holding.now)) }
+    ensures { Gives (λ x. x) result (values_read profile.now place (holding_value holding.now)) }
 {
     let structure = structure_of(holding.structure);
     let index = index_if(alloc, place, holding.use_attribute, structure, profile)?;
@@ -272,7 +277,8 @@ fn values_of(
 
 /// The fault of a term's type.
 fn check_type(alloc: Global, place: usize, term_type: Option<&str>) -> Result<(), QueryFault>
-    ensures { Gives (λ x. x) result (type_checked place (option_map (λ text. text.now) term_type.entry)) }
+    ensures { Gives (λ x. x) result (checked_by (check place 229 (written (option_map (λ text. text.now) term_type.entry))
+        (is_other_type (option_map (λ text. text.now) term_type.entry)) ∷ []) tt) }
 {
     let Some(text) = term_type else {
         return Ok(());
@@ -286,7 +292,7 @@ fn check_type(alloc: Global, place: usize, term_type: Option<&str>) -> Result<()
 
 /// The fault of the attribute types over a term.
 fn check_kind(alloc: Global, place: usize, kind: Option<u64>) -> Result<(), QueryFault>
-    ensures { Gives (λ x. x) result (kind_checked place kind) }
+    ensures { Gives (λ x. x) result (checked_by (check place 113 (numeral kind) (is_some kind) ∷ []) tt) }
 {
     let Some(kind) = kind else {
         return Ok(());
@@ -300,9 +306,9 @@ fn check_kind(alloc: Global, place: usize, kind: Option<u64>) -> Result<(), Quer
 }
 
 /// The faults of a term's type and of the sets and types of the attributes over it.
-#[tactic(auto, unfolding(crate::specs::PrivatePlanning::checked))]
+#[tactic(auto, using(crate::proofs::TermCheckLemmas::head_steps), unfolding(crate::proofs::TermSteps::head_parts))]
 fn check_holding(alloc: Global, place: usize, holding: &Holding<'_>) -> Result<(), QueryFault>
-    ensures { Gives (λ x. x) result (checked place (holding_value holding.now)) }
+    ensures { Gives (λ x. x) result (head_read place (holding_value holding.now)) }
 {
     check_type(alloc, place, holding.term_type)?;
     if let Some(set) = holding.other_set {
@@ -312,10 +318,9 @@ fn check_holding(alloc: Global, place: usize, holding: &Holding<'_>) -> Result<(
 }
 
 /// The patterns of a term's words; none where the words aren't compared.
-#[tactic(auto, unfolding(crate::specs::PrivatePlanning::patterns_for))]
 fn patterns_for(alloc: Global, leaf: &Leaf, values: &Values) -> Result<Vec<Pattern>, QueryFault>
     ensures { Gives (λ patterns. patterns.items) result
-        (patterns_for leaf.now.place (string_bytes leaf.now.text) values.now) }
+        (patterns_read leaf.now.place (string_bytes leaf.now.text) values.now) }
 {
     if !values.has_words() {
         return Ok(Vec::new(alloc));
@@ -335,7 +340,7 @@ fn patterns_for(alloc: Global, leaf: &Leaf, values: &Values) -> Result<Vec<Patte
 /// The values of a term's attributes and the patterns of its words, or the first diagnostic of: the term's type,
 /// the sets and types of the attributes, their values, the number of words. There are no patterns where the words
 /// aren't compared.
-#[tactic(auto, unfolding(crate::specs::PrivatePlanning::term_of))]
+#[tactic(auto, using(crate::proofs::TermCheckLemmas::term_steps), unfolding(crate::proofs::TermSteps::term_parts))]
 pub(crate) fn read_term(
     alloc: Global,
     leaf: &Leaf,
@@ -343,7 +348,7 @@ pub(crate) fn read_term(
     profile: &Profile,
 ) -> Result<(Values, Vec<Pattern>), QueryFault>
     ensures { Gives (λ read. (read.0, read.1.items)) result
-        (term_of profile.now leaf.now.place (string_bytes leaf.now.text) (holding_value holding.now)) }
+        (term_read profile.now leaf.now.place (string_bytes leaf.now.text) (holding_value holding.now)) }
 {
     check_holding(alloc, leaf.place, holding)?;
     let values = values_of(alloc, leaf.place, holding, profile)?;

@@ -1,0 +1,8 @@
+use Rattle.std.proofs.Common.{refl}
+use Rattle.zeb_query.proofs.examples.profiles_at_examples.Goals as goal
+
+pub returns-clause-sample : goal.returns-clause-sample
+returns-clause-sample c = refl
+
+pub returns-clause-titles : goal.returns-clause-titles
+returns-clause-titles c = refl
