@@ -14,7 +14,7 @@ use Rattle.zeb_query.specs.Grammar.{QueryValue, TermValue, IsQuery, is_term, is_
 use Rattle.zeb_query.specs.Attributes.{holding_of}
 use Rattle.zeb_query.proofs.WordStretches.{words_are_read}
 use Rattle.zeb_query.proofs.TextFaults.{apart, readable}
-use Rattle.zeb_query.specs.Plans.{leaf_plan, plan_asked, plan_of}
+use Rattle.zeb_query.specs.Plans.{plan_asked, plan_of}
 use Rattle.zeb_extract.specs.Sample.{title_profile}
 use Rattle.zeb_engine.specs.declared.commands.Command.{Command}
 use Rattle.zeb_engine.specs.declared.commands.Command.TheVariants.{Init, Check, Reindex, Upgrade, Create, Drop, Stat, Dump, Change, Find, Scan, Analyse}
@@ -58,7 +58,7 @@ unfolding chars is_utf8 encode kind_and_value
 is_readable = readable text refl
 
 planned : plan_of title_profile query ≡ Ok (title_plan (codes "whale"))
-unfolding leaf_plan plan_asked holding_of chars is_utf8 encode caseless ucd_category folded is_word_character runs_of truncated
+unfolding plan_asked holding_of chars is_utf8 encode caseless ucd_category folded is_word_character runs_of truncated
 planned = refl
 
 abbrev Answers : Answer → Type 0
