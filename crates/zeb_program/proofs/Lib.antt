@@ -10,7 +10,9 @@ pub mod RunLemmas
 pub mod ScriptAnswerLemmas
 pub mod ScriptLemmas
 pub mod ServingLemmas
+pub mod ShellLemmas
 pub mod TaskLemmas
 pub mod WarningLemmas
+pub mod WholeLineLemmas
 pub mod WordAnswerLemmas
 pub mod WordLemmas

@@ -14,7 +14,7 @@ abbrev pub HasNoLf : List ℕ → Type 0
 HasNoLf bs = position_or_len is_lf bs ≡ length bs
 
 -- the first LF of bytes without one, and then others
-position_past : (bs ys : List ℕ) → HasNoLf bs → position_or_len is_lf (bs ++ ys) ≡ length bs + position_or_len is_lf ys
+pub position_past : (bs ys : List ℕ) → HasNoLf bs → position_or_len is_lf (bs ++ ys) ≡ length bs + position_or_len is_lf ys
 position_past bs ys none =
     prefix_len-append (λ x. not (is_lf x)) bs ys
     ∙ ap (λ b. cond b (length bs + position_or_len is_lf ys) (position_or_len is_lf bs)) (eq-eqb (position_or_len is_lf bs) (length bs) none)

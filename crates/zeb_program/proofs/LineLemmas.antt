@@ -1,8 +1,6 @@
 -- What the first line of a text is, by what `str` says of its methods.
-use Rattle.std.proofs.Common.{suc, ne_eqb, ◌≡◌, ◌≢◌, ℕ, ◌+◌, ◌-◌, ◌<◌, ◌≤◌, Bool, true, false, List, [], ◌∷◌, ◌++◌, length, get_or, take, drop, refl, arith, rules, cond, eqb, sym, ◌∙◌, ap}
-use Rattle.std.proofs.lemmas.Grind.{common_steps}
-use Rattle.std.proofs.lemmas.Bool.Decides.{nat_tests}
-use Rattle.std.proofs.lemmas.List.{take_more, length-append, take-append-le, get_or-append-add}
+use Rattle.std.proofs.Common.{suc, ne_eqb, ◌≡◌, ◌≢◌, ℕ, ◌-◌, ◌<◌, List, [], ◌∷◌, ◌++◌, length, get_or, take, refl, arith, sym, ◌∙◌, ap}
+use Rattle.std.proofs.lemmas.List.{length-append}
 use Rattle.std.proofs.Math.Seq.{take-length, take-suc, take-append_seam, get_or-append_seam}
 use Rattle.std.specs.Prelude.{Option, Some, None, MatchOption, unwrap_or}
 use Rattle.std.specs.Borrow.{Bor}
@@ -15,7 +13,7 @@ strip_carriage_return-append xs =
     rw len (rw (get_or-append_seam, take-append_seam) refl)
 
 -- a list whose last byte is b ends in b
-ends_in : (xs : List ℕ) (b : ℕ) → 0 < b → get_or xs (length xs - 1) 0 ≡ b → xs ≡ take (length xs - 1) xs ++ b ∷ []
+pub ends_in : (xs : List ℕ) (b : ℕ) → 0 < b → get_or xs (length xs - 1) 0 ≡ b → xs ≡ take (length xs - 1) xs ++ b ∷ []
 ends_in [] b pos e = absurd (omega arith)
 ends_in (x ∷ xs) b pos e =
     let m : suc (length xs) - 1 ≡ length xs = omega arith in

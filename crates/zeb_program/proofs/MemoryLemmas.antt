@@ -1,5 +1,5 @@
 -- Stores over files whose disk answers nothing that isn't so, and which hold nothing yet.
-use Rattle.std.proofs.Common.{◌≡◌, ◌<◌, ◌∙◌, List, [], ap, arith, inl, inr, length}
+use Rattle.std.proofs.Common.{◌≡◌, ◌∙◌, [], ap, arith, inl, inr, length}
 use Rattle.std.specs.Prelude.{IsTrue}
 use Rattle.std.proofs.lemmas.Bool.{and_from}
 use Rattle.sqlite_catalog.proofs.ReadLemmas.{lists_once}

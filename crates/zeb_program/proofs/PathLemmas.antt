@@ -1,10 +1,10 @@
 -- Changes by a path of which the file's bytes are told.
-use Rattle.std.proofs.Common.{◌≡◌, ◌∙◌, ◌⊎◌, ◌+◌, ◌<◌, ◌≤◌, inl, inr, ℕ, zero, suc, Bool, false, List, [], ◌∷◌, ◌++◌, length, map, ap, arith, refl, subst, sym}
+use Rattle.std.proofs.Common.{◌≡◌, ◌∙◌, ◌⊎◌, ◌≤◌, inl, inr, ℕ, zero, suc, Bool, false, List, [], ◌∷◌, ◌++◌, length, map, ap, arith, refl, subst, sym}
 use Rattle.std.specs.Prelude.{Option, Some, Result, Ok, Err, IfOk, IsErr, IsErrAnd, OnErr, string_bytes}
 use Rattle.std.specs.declared.alloc.AllocError.{AllocError}
 use Rattle.std.specs.Io.KnownBytes.{Appends}
+use Rattle.std.specs.Str.{IsUtf8}
 use Rattle.std.proofs.lemmas.List.{length-map}
-use Rattle.sqlite.specs.Tree.{Trees}
 use Rattle.sqlite.specs.State.{State}
 use Rattle.zeb_register.specs.Calls.{ChangesNothing}
 use Rattle.zeb_change.specs.Conditions.{Conditions}
@@ -26,9 +26,9 @@ use Rattle.zeb_program.specs.declared.lines.Line.TheVariants.{Path}
 use Rattle.zeb_program.specs.declared.path_changes.PathChange.{PathChange}
 use Rattle.zeb_program.specs.Answers.{AnswersLine, ChangesBy, IsFileAnswer, Writes}
 use Rattle.zeb_program.specs.Lines.{first_line, after_first_line}
-use Rattle.zeb_program.specs.PathChanges.{AreFilesTold, IsLineTold, HasPath, NamesPath, file_of}
-use Rattle.zeb_program.specs.Says.{Says}
-use Rattle.zeb_program.specs.Scripts.{after_lines, line_at}
+use Rattle.zeb_program.specs.PathChanges.{AreFilesTold, IsLineTold, HasPath, NamesPath}
+use Rattle.zeb_program.specs.Says.{SaysText}
+use Rattle.zeb_program.specs.Scripts.{after_lines}
 use Rattle.zeb_program.specs.Serving.{AnswersFrom, Leads}
 use Rattle.zeb_program.specs.Words.{without_blanks}
 
@@ -104,12 +104,12 @@ has_path text change named = record { kind = change.kind; word = named.word; nam
 
 -- what is said of a line that names a change by a path
 pub path_line : (told : List ℕ → Option (List ℕ)) (c : Conditions) (change : PathChange) (number : ℕ) (text : List ℕ) (old new : State) (wrote writes : Option (List ℕ)) (failed : Bool) (Clean : Type 0) (r : Result ℕ AllocError)
-    → Says text (Path change)
+    → IsUtf8 text → SaysText text (Path change)
     → IfOk r (λ status. failed ≡ false → Clean → OfFile told change (λ file. Leads old new wrote writes (λ before bytes later. IsFileAnswer c change file before bytes status later)))
     → IfOk r (λ status. failed ≡ false → Clean → IsLineTold told text → Leads old new wrote writes (λ before bytes later. AnswersLine told c number text before bytes status later))
-path_line told c change number text old new wrote writes failed Clean (Err e) says h = h
-path_line told c change number text old new wrote writes failed Clean (Ok status) says h = λ sound clean known before keeps.
-    let at = known (has_path (without_blanks text) change says.1) in
+path_line told c change number text old new wrote writes failed Clean (Err e) utf8 says h = h
+path_line told c change number text old new wrote writes failed Clean (Ok status) utf8 says h = λ sound clean known before keeps.
+    let at = known utf8 (has_path (without_blanks text) change says.1) in
     let there : told (string_bytes change.path) ≡ Some at.0 = ap told says.1.rest ∙ at.1 in
     let w = h sound clean at.0 there before keeps in
-    (w.0, w.1, (w.2.0, (Path change, says, (at.0, there, w.2.1)), w.2.2))
+    (w.0, w.1, (w.2.0, (Path change, inl (utf8, says), (at.0, there, w.2.1)), w.2.2))

@@ -1,5 +1,5 @@
 -- How far the files at some paths have come, of which readers or contents are made.
-use Rattle.std.proofs.Common.{◌≡◌, ◌∙◌, ℕ, List, [], ◌∷◌, ◌++◌, Vec, ap, append_assoc, map, refl, subst, sym}
+use Rattle.std.proofs.Common.{◌≡◌, ◌∙◌, ℕ, List, [], ◌∷◌, ◌++◌, Vec, ap, append_assoc, map, refl, sym}
 use Rattle.std.specs.Prelude.{Option, Some, None, Result, Ok, Err, String, string_bytes}
 use Rattle.std.specs.declared.alloc.Global.{Global}
 use Rattle.std.proofs.lemmas.List.{append-nil, map-append}

@@ -1,6 +1,6 @@
 -- A batch is one run.
-use Rattle.std.proofs.Common.{◌≡◌, ◌∙◌, ◌⊎◌, ◌↔◌, ◌<◌, ◌≤◌, ◌+◌, ◌^◌, inl, inr, ℕ, List, [], ◌∷◌, ◌++◌, length, map, ap, arith, refl, subst, sym, String, Vec}
-use Rattle.std.specs.Prelude.{Option, Some, Result, Ok, Err, max, string_bytes}
+use Rattle.std.proofs.Common.{◌≡◌, ◌∙◌, ◌<◌, ◌≤◌, ◌+◌, ◌^◌, inl, inr, ℕ, List, [], ◌∷◌, ◌++◌, length, map, ap, arith, refl, subst, sym, Vec}
+use Rattle.std.specs.Prelude.{Option, Result, Err, max, string_bytes}
 use Rattle.zeb_change.specs.Conditions.{Conditions}
 use Rattle.zeb_change.specs.declared.refusals.Refusal.{Refusal}
 use Rattle.zeb_change.specs.declared.refusals.Refusal.TheVariants.{ReadFault}
@@ -11,7 +11,7 @@ use Rattle.zeb_engine.specs.declared.commands.Command.TheVariants.{Change}
 use Rattle.zeb_engine.specs.declared.replies.Reply.{Reply}
 use Rattle.zeb_image.specs.Holdings.{Holdings}
 use Rattle.zeb_image.specs.NameOf.{name_bytes}
-use Rattle.zeb_program.specs.Answers.{AnswersBatch, AnswersLine, AnswersLines, ChangesBy, IsAnswerTo, answer_status, answer_text, none as no_lines, more}
+use Rattle.zeb_program.specs.Answers.{AnswersLine, AnswersLines, ChangesBy, IsAnswerTo, answer_status, answer_text, none as no_lines, more}
 use Rattle.zeb_program.specs.BatchRuns.{AreFilesShort, BatchIsOneRun, IsOneRun, TellsLines, MakesChange, NamesCommand, NamesFile, none, remark, bad, command, unread}
 use Rattle.zeb_program.specs.Lines.{first_line, after_first_line}
 use Rattle.zeb_program.specs.Says.{Says}

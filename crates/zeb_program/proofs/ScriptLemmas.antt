@@ -1,6 +1,5 @@
 -- How far the search for a script's divider has come.
-use Rattle.std.proofs.Common.{◌≡◌, ◌≢◌, ◌≤◌, ◌<◌, ◌+◌, ◌-◌, ◌++◌, ◌⊎◌, inl, inr, [], ◌∷◌, zero, suc, length, take, drop, get_or, ℕ, List, arith, refl, ap, sym, subst, ◌∙◌, append_assoc, add-one, add-suc, add-zero, below_more, eqb, eqb-true, true, false}
-use Rattle.std.specs.Prelude.{codes}
+use Rattle.std.proofs.Common.{◌≡◌, ◌≤◌, ◌<◌, ◌+◌, ◌-◌, ◌++◌, inl, inr, [], ◌∷◌, zero, suc, length, take, drop, get_or, ℕ, List, arith, refl, ap, sym, subst, ◌∙◌, append_assoc, add-one, add-suc, add-zero, below_more, eqb, eqb-true, true, false}
 use Rattle.std.specs.Str.{IsUtf8, IsCharBoundary}
 use Rattle.std.specs.List.{position_or_len}
 use Rattle.std.proofs.lemmas.Str.{IsCharBoundary-start, IsCharBoundary-after_ascii, IsUtf8-drop, IsUtf8-nil}

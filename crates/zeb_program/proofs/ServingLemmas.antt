@@ -1,11 +1,9 @@
 -- How far the lines of a batch have come over a connection.
-use Rattle.std.proofs.Common.{◌≡◌, ◌<◌, ◌+◌, inl, inr, ℕ, Bool, false, List, [], ◌∷◌, ◌++◌, length, refl, subst}
+use Rattle.std.proofs.Common.{◌≡◌, ◌<◌, ◌+◌, ℕ, Bool, false, List, [], ◌∷◌, ◌++◌, length, refl, subst}
 use Rattle.std.specs.Prelude.{Option, Result, Ok, Err, IfOk, OnErr, max}
 use Rattle.std.specs.declared.alloc.AllocError.{AllocError}
 use Rattle.std.specs.Io.KnownBytes.{Appends}
-use Rattle.sqlite.specs.Tree.{Trees}
 use Rattle.sqlite.specs.State.{State}
-use Rattle.zeb_register.specs.Content.{Content}
 use Rattle.zeb_engine.specs.declared.commands.Command.{Command}
 use Rattle.zeb_change.specs.declared.refusals.Refusal.{Refusal}
 use Rattle.zeb_engine.specs.declared.replies.Reply.{Reply}

@@ -1,7 +1,7 @@
 -- Records that don't say that they are in Unicode: what is left of a file, and of files.
-use Rattle.std.proofs.Common.{◌≡◌, ◌∙◌, ℕ, zero, suc, ◌+◌, ◌<◌, ◌≤◌, true, false, List, [], ◌∷◌, ◌++◌, length, map, drop, get_or, append_assoc, refl, sym, ap, subst, arith}
+use Rattle.std.proofs.Common.{◌≡◌, ◌∙◌, ℕ, zero, suc, ◌+◌, ◌<◌, true, false, List, [], ◌∷◌, ◌++◌, length, map, drop, get_or, append_assoc, refl, sym, ap, subst, arith}
 use Rattle.std.specs.Prelude.{Option, Some, Ok, Err, is_some}
-use Rattle.std.proofs.lemmas.List.{append-nil, drop_all, length-append, length-map}
+use Rattle.std.proofs.lemmas.List.{length-append}
 use Rattle.zeb_marc.specs.declared.faults.MarcFault.{MarcFault}
 use Rattle.zeb_marc.specs.Splits.{Gives, Next, at_end, a_slice, a_fault, next_of, split_of}
 use Rattle.zeb_marc.proofs.SplitLaws.{NextIs, SoundSlice-from_checks, next_view, split_of-next}

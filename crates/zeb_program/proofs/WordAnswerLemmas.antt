@@ -111,11 +111,14 @@ pub stopped_shell_words : (words : List (List ℕ)) (left old new fault_old faul
 stopped_shell_words words left old new fault_old fault_new failed fault_failed (Ok status) names = tt
 stopped_shell_words words left old new fault_old fault_new failed fault_failed (Err e) names = λ _ _. served names (λ less. absurd (omega (arith, less)))
 
--- a shell that was refused before it read, or failed
-pub shell_fault : (r : Result ℕ AllocError) (End Unread Same : Type 0) → Unread ⊎ Same → (Unread → IfOk r (λ status. status ≡ 3)) → IfOk r (λ status. status < 3 → End ⊎ Same)
-shell_fault (Err e) End Unread Same why told = tt
-shell_fault (Ok status) End Unread Same (inl unread) told = λ less. absurd (omega (arith, told unread, less))
-shell_fault (Ok status) End Unread Same (inr same) told = λ less. inr same
+-- a shell that read, and one that was refused before it read
+pub shell_read : (r : Result ℕ AllocError) (End Same : Type 0) → IfOk r (λ status. status < 3 → End) → IfOk r (λ status. status < 3 → End ⊎ Same)
+shell_read (Err e) End Same whole = tt
+shell_read (Ok status) End Same whole = λ less. inl (whole less)
+
+pub shell_refused : (r : Result ℕ AllocError) (End Same : Type 0) → Same → IfOk r (λ status. status < 3 → End ⊎ Same)
+shell_refused (Err e) End Same same = tt
+shell_refused (Ok status) End Same same = λ less. inr same
 
 -- an output that is the same keeps what it holds
 pub shell_kept : {S : Type 0} (contents : S → Option (List ℕ)) (old new : S) (r : Result ℕ AllocError) (End : Type 0)

@@ -18,6 +18,7 @@ use Rattle.zeb_engine.specs.Steps.{Answered, Run, TakesFiles}
 use Rattle.zeb_program.specs.declared.lines.Line.{Line}
 use Rattle.zeb_program.specs.declared.lines.Line.TheVariants.{Remark, Command as Order, Path, Bad}
 use Rattle.zeb_program.specs.declared.path_changes.PathChange.{PathChange}
+use Rattle.zeb_program.specs.Inputs.{TakesAtMost}
 use Rattle.zeb_program.specs.Lines.{first_line, after_first_line}
 use Rattle.zeb_program.specs.Says.{Says}
 
@@ -81,3 +82,8 @@ AnswersBatch told c n text before bytes status last = AnswersLines told c n text
 -- the lines before one of the text are answered, and that line and those after it are not
 abbrev pub AnswersPart : (List ℕ → Option (List ℕ)) → Conditions → ℕ → List ℕ → Holdings → List ℕ → Type 0
 AnswersPart told c n text before bytes = (status : ℕ) × (rest : List ℕ) × (last : Holdings) × (0 < length rest) × AnswersLines told c n text before bytes status rest last
+
+-- The first lines of the text are answered, maybe all, and this is left of it: of the lines behind them no more is gone than one line may take.
+abbrev pub AnswersFirst : (List ℕ → Option (List ℕ)) → Conditions → ℕ → List ℕ → Option (List ℕ) → Holdings → List ℕ → Type 0
+AnswersFirst told c n text left before bytes =
+    (status : ℕ) × (rest : List ℕ) × (last : Holdings) × AnswersLines told c n text before bytes status rest last × TakesAtMost 16777217 (Some rest) left

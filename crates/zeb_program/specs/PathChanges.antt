@@ -1,5 +1,6 @@
 -- The lines of a batch that name a change by the path of its file (Zebra manual, zebraidx, whose commands they are; the line is this program's own).
 use Rattle.std.specs.Prelude.{◌≡◌, ◌≢◌, ℕ, List, [], Option, Some, IsOk, take, drop, codes, string_bytes}
+use Rattle.std.specs.Str.{IsUtf8}
 use Rattle.hex.specs.Hex.{decode_of}
 use Rattle.zeb_image.specs.Names.{IsDatabaseName}
 use Rattle.zeb_change.specs.declared.settings.Kind.{Kind}
@@ -34,9 +35,9 @@ pub record NamesPath (text : List ℕ) (change : PathChange) : Type 0 where
   pub some : file_of text ≢ []
   pub other : ¬ IsDigits (file_of text)
 
--- if a line names a change by a path, the bytes of the file there are told
+-- if a line of text names a change by a path, the bytes of the file there are told
 abbrev pub IsLineTold : (List ℕ → Option (List ℕ)) → List ℕ → Type 0
-IsLineTold told line = HasPath (without_blanks line) → (file : List ℕ) × (told (file_of (without_blanks line)) ≡ Some file)
+IsLineTold told line = IsUtf8 line → HasPath (without_blanks line) → (file : List ℕ) × (told (file_of (without_blanks line)) ≡ Some file)
 
 -- so it is of each line of a text
 abbrev pub AreFilesTold : (List ℕ → Option (List ℕ)) → List ℕ → Type 0

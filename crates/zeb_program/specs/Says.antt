@@ -1,5 +1,6 @@
--- What a line of a batch says.
+-- What a line of a batch or a shell says.
 use Rattle.std.specs.Prelude.{◌≡◌, ◌⊎◌, ℕ, List, [], Some, slice_get}
+use Rattle.std.specs.Str.{IsUtf8}
 use Rattle.zeb_engine.specs.declared.commands.Command.{Command}
 use Rattle.zeb_program.specs.declared.lines.Line.{Line}
 use Rattle.zeb_program.specs.declared.lines.Line.TheVariants.{Remark, Command as Order, Path, Bad}
@@ -11,9 +12,13 @@ use Rattle.zeb_program.specs.Words.{without_blanks}
 abbrev pub IsRemark : List ℕ → Type 0
 IsRemark text = (text ≡ []) ⊎ (slice_get text 0 ≡ Some 35)
 
--- what a line says
+-- what a line of text says
+abbrev pub SaysText : List ℕ → Line → Type 0
+SaysText text Remark = IsRemark (without_blanks text)
+SaysText text (Order command) = ¬ IsRemark (without_blanks text) × Names (without_blanks text) command
+SaysText text (Path change) = ¬ IsRemark (without_blanks text) × NamesPath (without_blanks text) change
+SaysText text Bad = ¬ IsRemark (without_blanks text) × ((command : Command) → ¬ Names (without_blanks text) command) × ¬ HasPath (without_blanks text)
+
+-- what a line of bytes says: one that isn't UTF-8 is no command
 abbrev pub Says : List ℕ → Line → Type 0
-Says text Remark = IsRemark (without_blanks text)
-Says text (Order command) = ¬ IsRemark (without_blanks text) × Names (without_blanks text) command
-Says text (Path change) = ¬ IsRemark (without_blanks text) × NamesPath (without_blanks text) change
-Says text Bad = ¬ IsRemark (without_blanks text) × ((command : Command) → ¬ Names (without_blanks text) command) × ¬ HasPath (without_blanks text)
+Says bytes line = (IsUtf8 bytes × SaysText bytes line) ⊎ (¬ IsUtf8 bytes × (line ≡ Bad))

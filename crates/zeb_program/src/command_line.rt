@@ -1,6 +1,6 @@
 //! The words of a command line: what they ask for is done, and its answer or why there is none is written.
 
-ghost use Rattle.std.specs.Prelude.{◌≡◌, ◌⊎◌, ◌≤◌, ◌<◌, ◌+◌, ◌++◌, false, true, map, string_bytes, IfErr, IfOk, IfSome, OnErr, IsErrAnd};
+ghost use Rattle.std.specs.Prelude.{◌≡◌, ◌⊎◌, ◌≤◌, ◌<◌, ◌+◌, ◌++◌, false, true, map, string_bytes, IfOk, IfSome, OnErr, IsErrAnd};
 ghost use Rattle.std.specs.Io.KnownBytes.{Appends, IsAtEnd, Keeps};
 ghost use Rattle.zeb_program.specs.Faults.{IsUnread};
 ghost use Rattle.zeb_program.specs.Inputs.{TakesAtMost};
@@ -14,7 +14,7 @@ use crate::input::{GREATEST_INPUT, read_text};
 use crate::outputs::Output;
 use crate::program::{ANSWERED, FAILED, MISUSED};
 use crate::script::Batch;
-use crate::shell::run_shell_lines;
+use crate::shell::serve_lines;
 use crate::sinks::Sink;
 use crate::tasks::{Errand, Task, Told, open_register, perform};
 use std::alloc::{AllocError, Global};
@@ -182,31 +182,18 @@ fn run_shell<R: Source, W: Output, V: Write, P: Paths>(
     ensures failed_read { R.has_failed input.new ≡ true → IfOk result (λ status. status ≡ FAILED) }
     ensures whole { IfOk result (λ status. status < FAILED → IsAtEnd (R.remaining input.new) ⊎ (output.new ≡ output.old)) }
 {
-    match serve(alloc, config, paths, input, output) {
-        Ok(status) => Ok(status),
+    match open(alloc, config, paths) {
+        Ok(mut session) => serve_lines(alloc, &mut session, paths, input, output, fault_output),
         Err(fault) => tell(alloc, &fault, fault_output),
     }
 }
 
-/// Opens the register, and then runs the lines of the input as they come.
-fn serve<R: Source, W: Output, P: Paths>(
+/// Opens the register that the profile in this file names.
+fn open<P: Paths>(
     alloc: Global,
     config: String,
     paths: &mut P,
-    input: &mut R,
-    output: &mut Sink<W>,
-) -> Result<u8, Fault>
-    requires { R.has_failed input.old ≡ false }
-    ensures range { IfOk result (λ status. status ≤ FAILED) }
-    ensures failed_read { R.has_failed input.new ≡ true → IsErrAnd result IsUnread }
-    ensures whole { IfOk result (λ status. status < FAILED → IsAtEnd (R.remaining input.new)) }
-    // Lines are answered only where a register was opened.
-    ensures begun { IfErr result (λ fault. IsUnread fault ⊎ (output.new ≡ output.old)) }
-{
+) -> Result<Session<P::Store, Blocks>, Fault> {
     let profile = read_profile(alloc, paths, config)?;
-    let mut session = open_register(alloc, paths, profile)?;
-    match run_shell_lines(alloc, &mut session, paths, input, output) {
-        Ok(status) => Ok(status),
-        Err(fault) => Err(unread(fault, String::from_str(alloc, "input")?)),
-    }
+    open_register(alloc, paths, profile)
 }

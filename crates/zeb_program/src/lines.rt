@@ -30,7 +30,7 @@ pub enum Line {
 }
 
 impl Line {
-    ghost use Rattle.zeb_program.specs.Says.{Says};
+    ghost use Rattle.zeb_program.specs.Says.{SaysText};
 
     /// Reads a line, in which words are separated by spaces and tabs:
     ///
@@ -54,7 +54,7 @@ impl Line {
     /// file's bytes, or else a path. Of the records that a query finds the first 20 are shown. A scan shows N terms
     /// (1 to 1,000), the start at place P (1 to N); both have 1 to 9 digits.
     pub fn read(alloc: Global, text: &str) -> Result<Line, AllocError>
-        ensures { IfOk result (Says text.now) }
+        ensures { IfOk result (SaysText text.now) }
     {
         let text = without_blanks(text);
         if text.is_empty() || text.starts_with('#') {

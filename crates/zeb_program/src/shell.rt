@@ -1,8 +1,16 @@
 //! A shell: the lines of the input in one session, each answered before the next is read.
 
-ghost use Rattle.std.specs.Prelude.{◌≡◌, ◌≤◌, ◌<◌, [], true, false, Some, IfOk, IfNone, IfSome};
+ghost use Rattle.std.specs.Prelude.{◌≡◌, ◌≤◌, ◌<◌, ◌+◌, [], length, true, false, Some, IfOk, IfNone, IfSome, OnErr};
 ghost use Rattle.std.specs.Io.KnownBytes.{Consumes, IsAtEnd};
-ghost use Rattle.zeb_program.specs.Lines.{whole_first_line};
+ghost use Rattle.sqlite.specs.Held.{state};
+ghost use Rattle.sqlite.specs.State.{HasCleanDisk};
+ghost use Rattle.zeb_change.specs.Conditions.{conditions};
+ghost use Rattle.zeb_register.specs.Formats.{version_of};
+ghost use Rattle.zeb_program.specs.Answers.{AnswersBatch, AnswersFirst, AnswersLine};
+ghost use Rattle.zeb_program.specs.Inputs.{TakesAtMost};
+ghost use Rattle.zeb_program.specs.Lines.{first_line, after_first_line, whole_first_line};
+ghost use Rattle.zeb_program.specs.PathChanges.{AreFilesTold, IsLineTold};
+ghost use Rattle.zeb_program.specs.Serving.{Leads, ServesLines, Stops};
 ghost use Rattle.zeb_program.specs.declared.input.InputFault.TheVariants.{Unreadable};
 
 use crate::batch::{refuse_line, run_line};
@@ -20,12 +28,52 @@ use zeb_marc::Source;
 use zeb_paths::Paths;
 use zeb_register::Layout;
 
+/// Runs the lines of the input in a session as `run_shell_lines` does, and answers the greatest status met. Where the input can't be
+/// read, that is told on the fault output, and the status is 3.
+pub fn serve_lines<R: Source, S: Alter, L: Layout, P: Paths, W: Output, V: Write>(
+    alloc: Global,
+    session: &mut Session<S, L>,
+    paths: &P,
+    input: &mut R,
+    output: &mut Sink<W>,
+    fault_output: &mut Sink<V>,
+) -> Result<u8, AllocError>
+    requires { R.has_failed input.old ≡ false }
+    ensures answer { IfOk result (λ status. output.new.failed ≡ false → fault_output.new.failed ≡ false
+        → HasCleanDisk (state S.Store session.new.connection)
+        → IfSome (R.remaining input.old) (λ text. AreFilesTold (P.tells paths.now) text
+        → ServesLines (P.tells paths.now) (conditions
+        (version_of L.format) session.old.profile session.old.limits) text (R.remaining input.new)
+        (state S.Store session.old.connection) (state S.Store session.new.connection) (W.contents output.old.writer)
+        (W.contents output.new.writer) (V.contents fault_output.old.writer) (V.contents fault_output.new.writer) status)) }
+    ensures stopped { OnErr result (output.new.failed ≡ false → HasCleanDisk (state S.Store session.new.connection)
+        → IfSome (R.remaining input.old) (λ text. AreFilesTold (P.tells paths.now) text
+        → Stops (state S.Store session.old.connection) (W.contents output.old.writer) (W.contents output.new.writer)
+        (AnswersFirst (P.tells paths.now) (conditions
+        (version_of L.format) session.old.profile session.old.limits) 0 text (R.remaining input.new)))) }
+    ensures silent { OnErr result (fault_output.new ≡ fault_output.old) }
+    ensures range { IfOk result (λ status. status ≤ FAILED) }
+    ensures failed_read { R.has_failed input.new ≡ true → IfOk result (λ status. status ≡ FAILED) }
+    ensures whole { IfOk result (λ status. status < FAILED → IsAtEnd (R.remaining input.new)) }
+{
+    match run_shell_lines(alloc, session, paths, input, output) {
+        Ok(status) => Ok(status),
+        Err(InputFault::Unreadable) => {
+            fault_output.write_line("zebraidx: cannot read input");
+            Ok(FAILED)
+        }
+        Err(InputFault::Memory) => Err(AllocError),
+    }
+}
+
 /// Runs the lines of the input in a session, and answers the greatest status met.
 ///
 /// Each line is answered, and the answer passed on, before a byte behind the line is read; so whoever writes the lines may
 /// wait for each answer. A line that isn't UTF-8 is a bad one. It ends at the input's end, or with status 3 where a write fails:
 /// no line is read whose answer could not be seen. A failed read, and a line that is longer than an input may be, are
 /// `Unreadable`; the answers of the lines before stay.
+///
+/// What is said of the answers is said of an input that tells its bytes, where the paths tell those of each file that a line names.
 pub fn run_shell_lines<R: Source, S: Alter, L: Layout, P: Paths, W: Output>(
     alloc: Global,
     session: &mut Session<S, L>,
@@ -35,6 +83,17 @@ pub fn run_shell_lines<R: Source, S: Alter, L: Layout, P: Paths, W: Output>(
 ) -> Result<u8, InputFault>
     requires { R.has_failed input.old ≡ false }
     ensures sound { output.new.failed ≡ false → output.old.failed ≡ false }
+    ensures answer { IfOk result (λ status. output.new.failed ≡ false → HasCleanDisk (state S.Store session.new.connection)
+        → IfSome (R.remaining input.old) (λ text. AreFilesTold (P.tells paths.now) text
+        → Leads (state S.Store session.old.connection) (state S.Store session.new.connection) (W.contents output.old.writer)
+        (W.contents output.new.writer)
+        (λ before bytes last. AnswersBatch (P.tells paths.now) (conditions
+        (version_of L.format) session.old.profile session.old.limits) 0 text before bytes status last))) }
+    ensures stopped { OnErr result (output.new.failed ≡ false → HasCleanDisk (state S.Store session.new.connection)
+        → IfSome (R.remaining input.old) (λ text. AreFilesTold (P.tells paths.now) text
+        → Stops (state S.Store session.old.connection) (W.contents output.old.writer) (W.contents output.new.writer)
+        (AnswersFirst (P.tells paths.now) (conditions
+        (version_of L.format) session.old.profile session.old.limits) 0 text (R.remaining input.new)))) }
     ensures range { IfOk result (λ status. status ≤ FAILED) }
     ensures failed { R.has_failed input.new ≡ true → result ≡ Err Unreadable }
     // Only where something failed a line may be left.
@@ -66,10 +125,24 @@ fn run_next_line<R: Source, S: Alter, L: Layout, P: Paths, W: Output>(
 ) -> Result<Option<u8>, InputFault>
     requires { R.has_failed input.old ≡ false }
     ensures sound { output.new.failed ≡ false → output.old.failed ≡ false }
+    ensures answer { IfOk result (λ found. IfSome found (λ status. output.new.failed ≡ false
+        → HasCleanDisk (state S.Store session.new.connection)
+        → IfSome (R.remaining input.old) (λ left. IsLineTold (P.tells paths.now) (first_line left)
+        → Leads (state S.Store session.old.connection) (state S.Store session.new.connection) (W.contents output.old.writer)
+        (W.contents output.new.writer)
+        (λ before bytes later. AnswersLine (P.tells paths.now) (conditions
+        (version_of L.format) session.old.profile session.old.limits) number (first_line left) before bytes status later)))) }
+    ensures stopped { OnErr result (output.new ≡ output.old) }
+    ensures clean { HasCleanDisk (state S.Store session.new.connection) → HasCleanDisk (state S.Store session.old.connection) }
+    ensures under { (session.new.profile ≡ session.old.profile) × (session.new.limits ≡ session.old.limits) }
     ensures range { IfOk result (λ found. IfSome found (λ status. status ≤ FAILED)) }
     ensures taken { IfOk result (λ _. IfSome (R.remaining input.old) (λ left.
         Consumes (Some left) (R.remaining input.new) (whole_first_line left))) }
+    ensures some { IfOk result (λ found. IfSome found (λ _. IfSome (R.remaining input.old) (λ left. 0 < length left))) }
     ensures end { IfOk result (λ found. IfNone found (IsAtEnd (R.remaining input.new))) }
+    ensures idle { IfOk result (λ found. IfNone found (IsAtEnd (R.remaining input.old) × (session.new ≡ session.old)
+        × (output.new ≡ output.old))) }
+    ensures bounded { TakesAtMost (GREATEST_INPUT + 1) (R.remaining input.old) (R.remaining input.new) }
     ensures going { IfOk result (λ _. R.has_failed input.new ≡ false) }
     ensures passed { IfOk result (λ found. IfSome found (λ _. output.new.failed ≡ false → W.held_back output.new.writer ≡ [])) }
     ensures failed { R.has_failed input.new ≡ true → result ≡ Err Unreadable }
@@ -93,6 +166,16 @@ fn run_bytes<S: Alter, L: Layout, P: Paths, W: Write>(
     output: &mut Sink<W>,
 ) -> Result<u8, AllocError>
     ensures sound { output.new.failed ≡ false → output.old.failed ≡ false }
+    // Of bytes that are one line.
+    ensures answer { IfOk result (λ status. output.new.failed ≡ false → HasCleanDisk (state S.Store session.new.connection)
+        → after_first_line bytes.items ≡ [] → IsLineTold (P.tells paths.now) (first_line bytes.items)
+        → Leads (state S.Store session.old.connection) (state S.Store session.new.connection) (W.contents output.old.writer)
+        (W.contents output.new.writer)
+        (λ before written later. AnswersLine (P.tells paths.now) (conditions
+        (version_of L.format) session.old.profile session.old.limits) number (first_line bytes.items) before written status later)) }
+    ensures stopped { OnErr result (output.new ≡ output.old) }
+    ensures clean { HasCleanDisk (state S.Store session.new.connection) → HasCleanDisk (state S.Store session.old.connection) }
+    ensures under { (session.new.profile ≡ session.old.profile) × (session.new.limits ≡ session.old.limits) }
     ensures range { IfOk result (λ status. status ≤ FAILED) }
 {
     let Ok(text) = String::from_utf8(bytes) else {

@@ -1,8 +1,8 @@
-use Rattle.std.proofs.Common.{subst}
+use Rattle.std.proofs.Common.{inl, subst}
 use Rattle.sqlite.specs.Held.{state}
 use Rattle.sqlite.specs.State.{HasCleanDisk}
 use Rattle.zeb_change.specs.Conditions.{conditions}
-use Rattle.zeb_program.specs.Says.{Says}
+use Rattle.zeb_program.specs.Says.{SaysText}
 use Rattle.zeb_program.specs.PathChanges.{IsLineTold}
 use Rattle.zeb_program.proofs.PathLemmas.{path_line}
 use Rattle.zeb_program.proofs.ServingLemmas.{bad_line_answer, ordered_line, remark_line}
@@ -13,7 +13,7 @@ pub returns-in-Remark-clause-answer : goal.returns-in-Remark-clause-answer
 returns-in-Remark-clause-answer g c =
     let k = conditions (version_of g.L.Layout.format) c.args.session.now.profile c.args.session.now.limits in
     let old = state g.S.Store c.args.session.now.connection in
-    λ _ _ _. remark_line (g.P.Paths.tells c.args.paths.now) k c.args.number c.args.line.now old (g.W.Write.contents c.args.output.now.writer) (subst (Says c.args.line.now) c.in-Remark.is c.in_ok-read.ensures)
+    λ _ _ _. remark_line (g.P.Paths.tells c.args.paths.now) k c.args.number c.args.line.now old (g.W.Write.contents c.args.output.now.writer) (inl (c.utf8.line, subst (SaysText c.args.line.now) c.in-Remark.is c.in_ok-read.ensures))
 
 pub returns-in-Command-clause-answer : goal.returns-in-Command-clause-answer
 returns-in-Command-clause-answer g c =
@@ -21,7 +21,7 @@ returns-in-Command-clause-answer g c =
     let old = state g.S.Store c.args.session.now.connection in
     let new = state g.S.Store c.run_command.new.session.connection in
     ordered_line (g.P.Paths.tells c.args.paths.now) k c.in-Command.command c.args.number c.args.line.now old new (g.W.Write.contents c.args.output.now.writer) (g.W.Write.contents c.run_command.new.output.writer)
-    c.run_command.new.output.failed (HasCleanDisk new) (IsLineTold (g.P.Paths.tells c.args.paths.now) c.args.line.now) c.run_command.result (subst (Says c.args.line.now) c.in-Command.is c.in_ok-read.ensures) c.run_command.ensures.answer
+    c.run_command.new.output.failed (HasCleanDisk new) (IsLineTold (g.P.Paths.tells c.args.paths.now) c.args.line.now) c.run_command.result (inl (c.utf8.line, subst (SaysText c.args.line.now) c.in-Command.is c.in_ok-read.ensures)) c.run_command.ensures.answer
 
 pub returns-in-Path-clause-answer : goal.returns-in-Path-clause-answer
 returns-in-Path-clause-answer g c =
@@ -29,11 +29,11 @@ returns-in-Path-clause-answer g c =
     let old = state g.S.Store c.args.session.now.connection in
     let new = state g.S.Store c.run_path_change.new.session.connection in
     path_line (g.P.Paths.tells c.args.paths.now) k c.in-Path.change c.args.number c.args.line.now old new (g.W.Write.contents c.args.output.now.writer) (g.W.Write.contents c.run_path_change.new.output.writer)
-    c.run_path_change.new.output.failed (HasCleanDisk new) c.run_path_change.result (subst (Says c.args.line.now) c.in-Path.is c.in_ok-read.ensures) c.run_path_change.ensures.answer
+    c.run_path_change.new.output.failed (HasCleanDisk new) c.run_path_change.result c.utf8.line (subst (SaysText c.args.line.now) c.in-Path.is c.in_ok-read.ensures) c.run_path_change.ensures.answer
 
 pub returns-in-Bad-clause-answer : goal.returns-in-Bad-clause-answer
 returns-in-Bad-clause-answer g c =
     let k = conditions (version_of g.L.Layout.format) c.args.session.now.profile c.args.session.now.limits in
     let old = state g.S.Store c.args.session.now.connection in
     λ sound _ _. bad_line_answer (g.P.Paths.tells c.args.paths.now) k c.args.number c.args.line.now old (g.W.Write.contents c.args.output.now.writer) (g.W.Write.contents c.refuse_line.new.output.writer)
-    c.refuse_line.result (subst (Says c.args.line.now) c.in-Bad.is c.in_ok-read.ensures) c.refuse_line.ensures.status (c.refuse_line.ensures.line sound)
+    c.refuse_line.result (inl (c.utf8.line, subst (SaysText c.args.line.now) c.in-Bad.is c.in_ok-read.ensures)) c.refuse_line.ensures.status (c.refuse_line.ensures.line sound)

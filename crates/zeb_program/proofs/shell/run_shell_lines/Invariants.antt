@@ -1,10 +1,22 @@
 use Rattle.std.proofs.Common.{◌≡◌, ◌≤◌, false}
+use Rattle.sqlite.specs.Held.{state}
+use Rattle.sqlite.specs.State.{HasCleanDisk}
+use Rattle.zeb_change.specs.Conditions.{conditions}
+use Rattle.zeb_register.specs.Formats.{version_of}
+use Rattle.zeb_program.proofs.ShellLemmas.{Serves}
 use Rattle.zeb_program.proofs.shell.run_shell_lines.Given as goal
 
+-- What was written answers the lines so far, of an input that tells its bytes.
 abbrev pub invariant-loop-lines_before : goal.invariant-loop-lines_before
 invariant-loop-lines_before g l =
+    let before = l.initial.session in
     record {
       read : g.R.Source.has_failed l.input ≡ false;
       range : l.greatest ≤ 3;
       sound : l.output.failed ≡ false → l.initial.output.failed ≡ false;
+      under : (l.session.profile ≡ before.profile) × (l.session.limits ≡ before.limits);
+      answers : l.output.failed ≡ false → HasCleanDisk (state g.S.Store l.session.connection)
+          → Serves (g.P.Paths.tells l.paths) (conditions (version_of g.L.Layout.format) before.profile before.limits) (state g.S.Store before.connection)
+          (state g.S.Store l.session.connection) (g.W.Write.contents l.initial.output.writer) (g.W.Write.contents l.output.writer)
+          (g.R.Source.remaining l.initial.input) (g.R.Source.remaining l.input) l.lines_before l.greatest;
     }

@@ -1,0 +1,77 @@
+use Rattle.std.proofs.Common.{◌≡◌, ◌∙◌, ◌+◌, [], false, refl, rules, subst₂, arith}
+use Rattle.std.specs.Prelude.{IfSome}
+use Rattle.std.proofs.KnownBytes.{Consumes-nil}
+use Rattle.sqlite.specs.Held.{state}
+use Rattle.sqlite.specs.State.{HasCleanDisk}
+use Rattle.zeb_change.specs.Conditions.{conditions}
+use Rattle.zeb_register.specs.Formats.{version_of}
+use Rattle.zeb_program.proofs.ShellLemmas.{AnswersNext, serves_start, serves_found, serves_end, serves_failure, serves_stop, found_none}
+use Rattle.zeb_program.proofs.shell.run_shell_lines.Goals as goal
+
+pub loop-lines_before-init : goal.loop-lines_before-init
+loop-lines_before-init g c =
+    let k = conditions (version_of g.L.Layout.format) c.args.session.now.profile c.args.session.now.limits in
+    let old = state g.S.Store c.args.session.now.connection in
+    record {
+      read = search rules;
+      range = omega arith;
+      sound = λ sound. sound;
+      under = (refl, refl);
+      answers = λ _ _. serves_start (g.P.Paths.tells c.args.paths.now) k old (g.W.Write.contents c.args.output.now.writer) (g.R.Source.remaining c.args.input.now);
+    }
+
+pub loop-lines_before-preserved : goal.loop-lines_before-preserved
+loop-lines_before-preserved g c =
+    let tells = g.P.Paths.tells c.args.paths.now in
+    let k = conditions (version_of g.L.Layout.format) c.args.session.now.profile c.args.session.now.limits in
+    let old = state g.S.Store c.args.session.now.connection in
+    let now = state g.S.Store c.loop-lines_before.session.connection in
+    let next = state g.S.Store c.run_next_line.new.session.connection in
+    let mid = g.W.Write.contents c.loop-lines_before.output.writer in
+    let writes = g.W.Write.contents c.run_next_line.new.output.writer in
+    let left = g.R.Source.remaining c.loop-lines_before.input in
+    let n = c.loop-lines_before.lines_before in
+    let failed = c.run_next_line.new.output.failed in
+    let same = c.loop-lines_before.invariant.under in
+    record {
+      read = search rules;
+      range = search rules;
+      sound = λ sound. c.loop-lines_before.invariant.sound (c.run_next_line.ensures.sound sound);
+      under = (c.run_next_line.ensures.under.0 ∙ same.0, c.run_next_line.ensures.under.1 ∙ same.1);
+      answers = λ sound clean.
+          let step = subst₂ (λ p l. IfSome c.in_ok-status.field-0 (λ s. failed ≡ false → HasCleanDisk next → IfSome left (AnswersNext tells (conditions (version_of g.L.Layout.format) p l) now next mid writes (n + 1) s)))
+          same.0 same.1 c.in_ok-status.ensures.answer in
+          serves_found tells k old now next (g.W.Write.contents c.args.output.now.writer) mid writes (g.R.Source.remaining c.args.input.now) left (g.R.Source.remaining c.run_next_line.new.input)
+          n c.loop-lines_before.greatest c.in-Some.status c.max-greatest.result failed (HasCleanDisk next) c.in_ok-status.field-0
+          c.in-Some.is c.max-greatest.ensures c.in_ok-status.ensures.some c.in_ok-status.ensures.taken step sound clean
+          (c.loop-lines_before.invariant.answers (c.run_next_line.ensures.sound sound) (c.run_next_line.ensures.clean clean));
+    }
+
+-- The line before which it ended is the one that couldn't be read, or for which memory ran out.
+pub returns-in_err-status-clause-stopped : goal.returns-in_err-status-clause-stopped
+returns-in_err-status-clause-stopped g c =
+    let k = conditions (version_of g.L.Layout.format) c.args.session.now.profile c.args.session.now.limits in
+    let old = state g.S.Store c.args.session.now.connection in
+    let now = state g.S.Store c.loop-lines_before.session.connection in
+    let clean = HasCleanDisk (state g.S.Store c.run_next_line.new.session.connection) in
+    rw c.in_err-status.ensures.stopped
+    (serves_failure (g.P.Paths.tells c.args.paths.now) k old now (g.W.Write.contents c.args.output.now.writer) (g.W.Write.contents c.loop-lines_before.output.writer)
+    (g.R.Source.remaining c.args.input.now) (g.R.Source.remaining c.loop-lines_before.input) (g.R.Source.remaining c.run_next_line.new.input) c.loop-lines_before.lines_before c.loop-lines_before.greatest
+    c.from_residual.result c.loop-lines_before.output.failed clean c.in_err-status.ensures.bounded (λ sound clean. c.loop-lines_before.invariant.answers sound (c.run_next_line.ensures.clean clean)))
+
+pub returns-in-None-clause-answer : goal.returns-in-None-clause-answer
+returns-in-None-clause-answer g c =
+    let k = conditions (version_of g.L.Layout.format) c.args.session.now.profile c.args.session.now.limits in
+    let idle = found_none c.in_ok-status.field-0 _ c.in-None.is c.in_ok-status.ensures.idle in
+    rw (idle.1, idle.2)
+    (λ sound clean. serves_end (g.P.Paths.tells c.args.paths.now) k (state g.S.Store c.args.session.now.connection) (state g.S.Store c.loop-lines_before.session.connection) (g.W.Write.contents c.args.output.now.writer)
+    (g.W.Write.contents c.loop-lines_before.output.writer) (g.R.Source.remaining c.args.input.now) (g.R.Source.remaining c.loop-lines_before.input) c.loop-lines_before.lines_before c.loop-lines_before.greatest
+    idle.0 (c.loop-lines_before.invariant.answers sound clean))
+
+pub returns-clause-stopped : goal.returns-clause-stopped
+returns-clause-stopped g c = λ sound clean.
+    let k = conditions (version_of g.L.Layout.format) c.args.session.now.profile c.args.session.now.limits in
+    let left = g.R.Source.remaining c.loop-lines_before.input in
+    serves_stop (g.P.Paths.tells c.args.paths.now) k (state g.S.Store c.args.session.now.connection) (state g.S.Store c.loop-lines_before.session.connection) (g.W.Write.contents c.args.output.now.writer)
+    (g.W.Write.contents c.loop-lines_before.output.writer) (g.R.Source.remaining c.args.input.now) left left c.loop-lines_before.lines_before c.loop-lines_before.greatest
+    ([], omega arith, Consumes-nil left) (c.loop-lines_before.invariant.answers sound clean)
