@@ -31,6 +31,10 @@ IsWhole sql count (Err e) = ⊥
 abbrev pub IsFit : Program → Row → Type 0
 IsFit p params = (trees : Trees) → ¬ IsShown (λ (r : Row). r) (record { schema = store_schema; trees = trees }) p params None
 
+-- on the tables of a store a failure of it at this query has a reason
+abbrev pub IsReasonedQuery : List ℕ → Row → Type 1
+IsReasonedQuery sql params = (old new : State) (e : Error) → IsStore old → fault_of e ≡ Store → FailsToQuery sql params old new e → MayRefuse old new
+
 by_cause : (old new : State) (kind : StoreError) → fault_of (store_error kind) ≡ Store → HasCause old new ⊥ kind → MayRefuse old new
 by_cause old new cause.OutOfMemory told h = absurd cc
 by_cause old new cause.Io told h = inr (inl h)
