@@ -1,12 +1,12 @@
 -- Why the store may have failed, one call after the other.
-use Rattle.std.proofs.Common.{◌≡◌, ◌≤◌, ◌∙◌, true, false, IsTrue, IsSome, Result, Ok, Err, inl, inr, refl, sym, subst, arith}
-use Rattle.std.proofs.lemmas.Bool.{cases_Bool}
+use Rattle.std.proofs.Common.{◌≡◌, IsTrue, Result, Ok, Err, refl}
 use Rattle.sqlite.specs.State.{State, Survives}
-use Rattle.zeb_register.specs.Calls.{ChangesNothing, MayRefuse}
+use Rattle.zeb_register.specs.Calls.{ChangesNothing}
 use Rattle.zeb_register.specs.Store.{IsStore}
 use Rattle.zeb_register.specs.declared.RegFault.{RegFault}
 use Rattle.zeb_register.specs.declared.RegFault.TheVariants as register
 use Rattle.zeb_register.proofs.Calls.{store_same}
+use Rattle.zeb_register.proofs.Causes.{may_after}
 use Rattle.zeb_change.specs.declared.refusals.Refusal.{Refusal}
 use Rattle.zeb_change.specs.declared.refusals.Refusal.TheVariants as refusal
 use Rattle.zeb_change.specs.Outcomes.{register_refusal}
@@ -20,16 +20,7 @@ fault_caused register.Memory caused is = absurd cc
 
 -- a call behind others that changed nothing
 module _ (old mid new : State) (survives : Survives old mid (λ _. ⊥)) (opened : IsTrue old.is_open → IsTrue mid.is_open) where
-  pub may_after : (IsTrue mid.is_open → MayRefuse mid new) → MayRefuse old new
-  may_after caused = elim (cases_Bool old.is_open) [
-    | inl was_open ↦ elim (caused (opened was_open)) [
-      | inl shut ↦ absurd (let e : true ≡ false = sym (opened was_open) ∙ shut in cc)
-      | inr (inl more) ↦ inr (inl (omega (arith, more, survives.counts)))
-      | inr (inr limit) ↦ inr (inr (subst IsSome survives.limit limit))
-    ]
-    | inr shut ↦ inl shut
-  ]
-
   pub cause_after : {T : Type 0} (result : Result T Refusal) → ChangesNothing old mid → HasStoreCause mid new result → HasStoreCause old new result
   cause_after (Ok x) nothing caused store = tt
-  cause_after (Err why) nothing caused store = λ is. may_after (λ is_open. caused (store_same old mid (nothing is_open).1 store) is)
+  cause_after (Err why) nothing caused store =
+      λ is. may_after old mid new survives opened (λ is_open. caused (store_same old mid (nothing is_open).1 store) is)

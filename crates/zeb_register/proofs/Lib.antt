@@ -14,6 +14,7 @@ pub mod CreateTable
 pub mod TableStatements
 pub mod CallsInTurn
 pub mod Calls
+pub mod Causes
 pub mod CreateKeepsTables
 pub mod TextStatements
 pub mod DatabaseStatements

@@ -1,5 +1,5 @@
 -- The statements that list rows of the packed tables, each with what it is compiled to.
-use Rattle.std.proofs.Common.{◌≡◌, ℕ, ℤ, false, List, [], ◌∷◌, ◌++◌, codes, refl, sym, ap, subst, Ordering, Less}
+use Rattle.std.proofs.Common.{◌≡◌, ℕ, ℤ, true, false, arith, List, [], ◌∷◌, ◌++◌, codes, refl, sym, ap, subst, Ordering, Less}
 use Rattle.std.specs.Ordering.{ordering_then}
 use Rattle.sqlite.specs.declared.types.Value.TheVariants.{Int, Text}
 use Rattle.sqlite.specs.Order.{Row, column, value_cmp}
@@ -19,8 +19,9 @@ use Rattle.zeb_register.proofs.Calls.{IsSilent}
 use Rattle.zeb_register.proofs.Falling.{alone_first, falling, falls_after}
 use Rattle.zeb_register.proofs.PostingStatements.{blocks, blocks_static, dict, dict_static}
 use Rattle.zeb_register.proofs.Prefix.{IsAfter, lists_after}
+use Rattle.zeb_register.proofs.Refusals.{IsFit, IsReasonedQuery, IsWhole, why_refused}
 use Rattle.zeb_register.proofs.Selects.{list_so}
-use Rattle.zeb_register.proofs.StatementForms.{Condition, alone, at_least, keyed_from, less_than, no_limit, reading, reading_by, shows}
+use Rattle.zeb_register.proofs.StatementForms.{Condition, alone, at_least, keyed_from, less_than, no_limit, reading, reading_by, rising, shows}
 use Rattle.zeb_register.proofs.ValueKinds.{HasKeys}
 
 then_less : (o p : Ordering) → o ≡ Less → ordering_then o p ≡ Less
@@ -51,6 +52,18 @@ key_plain = ((refl, refl), refl)
 pub key_silent : IsSilent key_text
 unfolding everything
 key_silent = λ schema base. refl
+
+key_whole : IsWhole key_text 4 (understood store_schema key_text)
+unfolding understood everything
+key_whole = (omega arith, refl)
+
+key_fit : (db idx reg : ℤ) (term : List ℕ) → IsFit (alone (reading 9 (keyed_from 1 0 4) (shows key_columns) (5 ∷ []) no_limit)) (key_of db idx reg term)
+unfolding everything
+key_fit db idx reg term trees mistyped = absurd (let t : true ≡ false = mistyped in cc)
+
+pub blocks_refused : (db idx reg : ℤ) (term : List ℕ) → IsReasonedQuery key_text (key_of db idx reg term)
+blocks_refused db idx reg term old new e store told failed =
+    why_refused key_text (key_of db idx reg term) 9 (keyed_from 1 0 4) (shows key_columns) (rising (5 ∷ [])) no_limit key_names key_is key_plain.0 key_plain.1 key_whole (key_fit db idx reg term) old new store e told failed
 
 pub lists_blocks : (db idx reg : ℤ) (term : List ℕ) (old new : State) (rows : List Row) → IsStore old → Shown key_text (key_of db idx reg term) old new rows
     → IsListOf (IsRest blocks_tree (key_of db idx reg term) old.now.trees) rows
@@ -90,6 +103,18 @@ terms_silent = λ schema base. refl
 abbrev pub register_of : ℤ → ℤ → ℤ → Row
 register_of db idx reg = Int db ∷ Int idx ∷ Int reg ∷ []
 
+terms_whole : IsWhole terms_text 3 (understood store_schema terms_text)
+unfolding understood everything
+terms_whole = (omega arith, refl)
+
+terms_fit : (db idx reg : ℤ) → IsFit (alone (reading 11 (keyed_from 1 0 3) (shows dict_columns) (4 ∷ []) no_limit)) (register_of db idx reg)
+unfolding everything
+terms_fit db idx reg trees mistyped = absurd (let t : true ≡ false = mistyped in cc)
+
+pub terms_refused : (db idx reg : ℤ) → IsReasonedQuery terms_text (register_of db idx reg)
+terms_refused db idx reg old new e store told failed =
+    why_refused terms_text (register_of db idx reg) 11 (keyed_from 1 0 3) (shows dict_columns) (rising (4 ∷ [])) no_limit dict_names terms_is terms_plain.0 terms_plain.1 terms_whole (terms_fit db idx reg) old new store e told failed
+
 pub lists_terms : (db idx reg : ℤ) (old new : State) (rows : List Row) → IsStore old → Shown terms_text (register_of db idx reg) old new rows
     → IsListOf (IsRest dict_tree (register_of db idx reg) old.now.trees) rows
 lists_terms db idx reg old new rows store shown =
@@ -122,6 +147,18 @@ from_silent = λ schema base. refl
 abbrev pub near : ℤ → ℤ → ℤ → List ℕ → ℤ → Row
 near db idx reg start limit = Int db ∷ Int idx ∷ Int reg ∷ Text start ∷ Int limit ∷ []
 
+from_whole : IsWhole from_text 5 (understood store_schema from_text)
+unfolding understood everything
+from_whole = (omega arith, refl)
+
+from_fit : (db idx reg : ℤ) (start : List ℕ) (limit : ℤ) → IsFit (alone (reading 11 (keyed_from 1 0 3 ++ from_more) (shows dict_columns) (4 ∷ []) (col 0 4))) (near db idx reg start limit)
+unfolding everything
+from_fit db idx reg start limit trees mistyped = absurd (let t : true ≡ false = mistyped in cc)
+
+pub from_refused : (db idx reg : ℤ) (start : List ℕ) (limit : ℤ) → IsReasonedQuery from_text (near db idx reg start limit)
+from_refused db idx reg start limit old new e store told failed =
+    why_refused from_text (near db idx reg start limit) 11 (keyed_from 1 0 3 ++ from_more) (shows dict_columns) (rising (4 ∷ [])) (col 0 4) dict_names from_is from_plain.0 from_plain.1 from_whole (from_fit db idx reg start limit) old new store e told failed
+
 pub lists_from : (db idx reg : ℤ) (start : List ℕ) (limit : ℤ) (old new : State) (rows : List Row) → IsStore old → Shown from_text (near db idx reg start limit) old new rows
     → (all : List Row) × IsListOf (IsRestFrom dict_tree (register_of db idx reg) start old.now.trees) all × (rows ≡ limited (as_count (Int limit)) all)
 lists_from db idx reg start limit old new rows store shown =
@@ -149,6 +186,18 @@ before_plain = ((refl, refl), refl)
 pub before_silent : IsSilent before_text
 unfolding everything
 before_silent = λ schema base. refl
+
+before_whole : IsWhole before_text 5 (understood store_schema before_text)
+unfolding understood everything
+before_whole = (omega arith, refl)
+
+before_fit : (db idx reg : ℤ) (start : List ℕ) (limit : ℤ) → IsFit (alone (reading_by 11 (keyed_from 1 0 3 ++ before_more) (shows dict_columns) (falling 4) (col 0 4))) (near db idx reg start limit)
+unfolding everything
+before_fit db idx reg start limit trees mistyped = absurd (let t : true ≡ false = mistyped in cc)
+
+pub before_refused : (db idx reg : ℤ) (start : List ℕ) (limit : ℤ) → IsReasonedQuery before_text (near db idx reg start limit)
+before_refused db idx reg start limit old new e store told failed =
+    why_refused before_text (near db idx reg start limit) 11 (keyed_from 1 0 3 ++ before_more) (shows dict_columns) (falling 4) (col 0 4) dict_names before_is before_plain.0 before_plain.1 before_whole (before_fit db idx reg start limit) old new store e told failed
 
 pub lists_before : (db idx reg : ℤ) (start : List ℕ) (limit : ℤ) (old new : State) (rows : List Row) → IsStore old → Shown before_text (near db idx reg start limit) old new rows
     → (all : List Row) × IsFallingListOf (IsRestBefore dict_tree (register_of db idx reg) start old.now.trees) all × (rows ≡ limited (as_count (Int limit)) all)

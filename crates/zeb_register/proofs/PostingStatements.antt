@@ -1,5 +1,5 @@
 -- The statements on postings, each with what it is compiled to.
-use Rattle.std.proofs.Common.{◌≡◌, sym, subst, ℕ, List, [], ◌∷◌, codes, refl, false, ℤ, Ok}
+use Rattle.std.proofs.Common.{◌≡◌, arith, sym, subst, ℕ, List, [], ◌∷◌, codes, refl, true, false, ℤ, Ok}
 use Rattle.sqlite.specs.declared.types.Value.TheVariants.{Null, Int}
 use Rattle.sqlite.specs.State.{State, Executes, Shown}
 use Rattle.sqlite.specs.Command.TheVariants.{Select, Delete, Insert}
@@ -10,7 +10,7 @@ use Rattle.sqlite.proofs.Callers.{IsPlain, command_of}
 use Rattle.sqlite_tied.specs.Compute.{everything}
 use Rattle.zeb_register.specs.Tables.{store_schema, postings_table, blocks_table, dict_table}
 use Rattle.zeb_register.specs.Sql.{Loses, IsListOf}
-use Rattle.zeb_register.proofs.StatementForms.{Condition, equals, reading, alone, keyed_from, shows, no_limit}
+use Rattle.zeb_register.proofs.StatementForms.{Condition, equals, reading, alone, keyed_from, rising, shows, no_limit}
 use Rattle.zeb_register.specs.RowStatements.{Gains, posting, place_key, IsPlaceOf}
 use Rattle.zeb_register.proofs.ValueKinds.{IsPlainTable, HasKeys}
 use Rattle.sqlite.specs.Table.{Table}
@@ -19,6 +19,7 @@ use Rattle.zeb_register.proofs.Writes.{deletes, inserts, loses, gains}
 use Rattle.zeb_register.proofs.Selects.{list_so}
 use Rattle.zeb_register.proofs.Prefix.{IsAfter, lists_after}
 use Rattle.zeb_register.proofs.Calls.{IsSilent}
+use Rattle.zeb_register.proofs.Refusals.{IsFit, IsReasonedQuery, IsWhole, why_refused}
 use Rattle.sqlite.specs.Order.{Row}
 
 abbrev pub postings : Table
@@ -148,6 +149,18 @@ pub key_silent : IsSilent key_text
 unfolding everything
 key_silent = λ schema base. refl
 
+key_whole : IsWhole key_text 4 (understood store_schema key_text)
+unfolding understood everything
+key_whole = (omega arith, refl)
+
+key_fit : (db idx reg : ℤ) (term : List ℕ) → IsFit (alone (reading 7 (keyed_from 1 0 4) (shows places) places no_limit)) (key_of db idx reg term)
+unfolding everything
+key_fit db idx reg term trees mistyped = absurd (let t : true ≡ false = mistyped in cc)
+
+pub key_refused : (db idx reg : ℤ) (term : List ℕ) → IsReasonedQuery key_text (key_of db idx reg term)
+key_refused db idx reg term old new e store told failed =
+    why_refused key_text (key_of db idx reg term) 7 (keyed_from 1 0 4) (shows places) (rising places) no_limit key_names key_is key_plain.0 key_plain.1 key_whole (key_fit db idx reg term) old new store e told failed
+
 abbrev pub spot_text : List ℕ
 spot_text = codes "SELECT seq, pos FROM postings WHERE db = ?1 AND idx = ?2 AND reg = ?3 AND term = ?4 AND sysno = ?5 ORDER BY seq, pos"
 
@@ -180,7 +193,10 @@ register_text = codes "SELECT term, sysno, seq, pos FROM postings WHERE db = ?1 
 abbrev alls : List ℕ
 alls = 4 ∷ 5 ∷ 6 ∷ 7 ∷ []
 
-register_is : command_of (understood store_schema register_text) ≡ Select (alone (reading 7 (keyed_from 1 0 3) (shows alls) alls no_limit)) (codes "term" ∷ codes "sysno" ∷ codes "seq" ∷ codes "pos" ∷ [])
+abbrev register_names : List (List ℕ)
+register_names = codes "term" ∷ codes "sysno" ∷ codes "seq" ∷ codes "pos" ∷ []
+
+register_is : command_of (understood store_schema register_text) ≡ Select (alone (reading 7 (keyed_from 1 0 3) (shows alls) alls no_limit)) register_names
 unfolding understood everything
 register_is = refl
 
@@ -191,6 +207,18 @@ register_plain = ((refl, refl), refl)
 pub register_silent : IsSilent register_text
 unfolding everything
 register_silent = λ schema base. refl
+
+register_whole : IsWhole register_text 3 (understood store_schema register_text)
+unfolding understood everything
+register_whole = (omega arith, refl)
+
+register_fit : (db idx reg : ℤ) → IsFit (alone (reading 7 (keyed_from 1 0 3) (shows alls) alls no_limit)) (Int db ∷ Int idx ∷ Int reg ∷ [])
+unfolding everything
+register_fit db idx reg trees mistyped = absurd (let t : true ≡ false = mistyped in cc)
+
+pub register_refused : (db idx reg : ℤ) → IsReasonedQuery register_text (Int db ∷ Int idx ∷ Int reg ∷ [])
+register_refused db idx reg old new e store told failed =
+    why_refused register_text (Int db ∷ Int idx ∷ Int reg ∷ []) 7 (keyed_from 1 0 3) (shows alls) (rising alls) no_limit register_names register_is register_plain.0 register_plain.1 register_whole (register_fit db idx reg) old new store e told failed
 
 pub lists_register : (db idx reg : ℤ) (old new : State) (rows : List Row) → IsStore old → Shown register_text (Int db ∷ Int idx ∷ Int reg ∷ []) old new rows
     → IsListOf (IsRest postings_tree (Int db ∷ Int idx ∷ Int reg ∷ []) old.now.trees) rows

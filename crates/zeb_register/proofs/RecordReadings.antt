@@ -1,7 +1,7 @@
 -- The statements that count the records of a database and that read one after the other.
-use Rattle.std.proofs.Common.{◌≡◌, ◌↔◌, ◌∙◌, ℕ, ℤ, pos, true, false, List, [], ◌∷◌, ◌++◌, length, map, min, take, codes, refl, sym, ap, subst, inl, inr, Some, Less, Equal, Greater, Ordering, arith}
+use Rattle.std.proofs.Common.{◌≡◌, ◌↔◌, ◌∙◌, ℕ, ℤ, pos, true, false, List, [], ◌∷◌, ◌++◌, length, map, min, take, codes, refl, sym, ap, subst, inl, inr, None, Some, Less, Equal, Greater, Ordering, arith}
 use Rattle.std.specs.Prelude.{filter, IsPermutation}
-use Rattle.std.specs.List.{AllZip, IsDistinct, list_all}
+use Rattle.std.specs.List.{AllZip, Any, IsDistinct, list_all}
 use Rattle.std.specs.Ordering.{eq_by_cmp, int_cmp, ordering_then}
 use Rattle.std.proofs.lemmas.Cmp.{int_ranked}
 use Rattle.std.proofs.lemmas.Bool.{cases_Bool}
@@ -22,7 +22,7 @@ use Rattle.sqlite.specs.Listing.{understood, reads_listing}
 use Rattle.sqlite.proofs.Callers.{IsPlain, command_of, one_permutation, reads_as}
 use Rattle.sqlite_catalog.proofs.LayoutLemmas.{ascending_filter}
 use Rattle.sqlite_rules.specs.Lists.{Has}
-use Rattle.sqlite_rules.proofs.ListLemmas.{all_has, has_filtered, has_got, has_kept}
+use Rattle.sqlite_rules.proofs.ListLemmas.{all_has, any_has, has_filtered, has_got, has_kept}
 use Rattle.sqlite_rules.proofs.ProbeLemmas.{has_mapped, mapped_has}
 use Rattle.sqlite.specs.Collation.TheVariants.{Binary}
 use Rattle.sqlite_sql.specs.Aggregate.{count}
@@ -41,7 +41,7 @@ use Rattle.zeb_register.specs.Tables.{store_schema}
 use Rattle.zeb_register.proofs.Calls.{IsSilent}
 use Rattle.zeb_register.proofs.Prefix.{IsAfter, lists_after}
 use Rattle.zeb_register.proofs.RecordStatements.{records, records_keys, records_static, row_of}
-use Rattle.zeb_register.proofs.Refusals.{IsFit, IsWhole, why_refused}
+use Rattle.zeb_register.proofs.Refusals.{IsFit, IsReasonedQuery, IsSure, IsWhole, why_query_refused, why_refused}
 use Rattle.zeb_register.proofs.RowLemmas.{shares_alone}
 use Rattle.zeb_register.proofs.Scans.{distinct_mapped, matched, plain, tied}
 use Rattle.zeb_register.proofs.Selects.{list_so}
@@ -106,6 +106,29 @@ count_plain = ((refl, refl), refl)
 pub count_silent : IsSilent count_text
 unfolding everything
 count_silent = λ schema base. refl
+
+count_whole : IsWhole count_text 1 (understood store_schema count_text)
+unfolding understood everything
+count_whole = (omega arith, refl)
+
+count_fit : (db : ℤ) → IsFit (alone (counting (reading 4 in_base [] [] no_limit))) (Int db ∷ [])
+unfolding everything
+count_fit db trees mistyped = absurd (let t : true ≡ false = mistyped in cc)
+
+-- a count of rows always has a value
+count_sure : (db : ℤ) → IsSure (counting (reading 4 in_base [] [] no_limit)) (Int db ∷ [])
+count_sure db trees (inl lost) =
+    let group = any_has (λ envs. Any (λ a. value_over envs a ≡ None) (row_count ∷ [])) lost.0 lost.2 in
+    let one = any_has (λ a. value_over group.0 a ≡ None) (row_count ∷ []) group.2 in
+    elim one.1 [
+      | inl same ↦ absurd (let e : Some (count (length (map (eval (lit Null)) group.0))) ≡ None = subst (λ a. value_over group.0 a ≡ None) same one.2 in cc)
+      | inr none ↦ none
+    ]
+count_sure db trees (inr some) = some.4
+
+pub count_refused : (db : ℤ) → IsReasonedQuery count_text (Int db ∷ [])
+count_refused db old new e store told failed =
+    why_query_refused count_text (Int db ∷ []) (counting (reading 4 in_base [] [] no_limit)) (codes "count(*)" ∷ []) count_is count_plain.0 count_plain.1 count_whole (count_fit db) (count_sure db) old new store e told failed
 
 integer_of : Value → ℤ
 integer_of (Int n) = n

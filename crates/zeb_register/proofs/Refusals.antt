@@ -3,6 +3,8 @@ use Rattle.std.proofs.Common.{◌≡◌, ◌∙◌, ◌≤◌, ℕ, List, length
 use Rattle.sqlite.specs.Order.{Row}
 use Rattle.sqlite.specs.Tree.{Trees}
 use Rattle.sqlite_schema.specs.declared.program.Program.{Program}
+use Rattle.sqlite_sql.specs.Program.{QueryOverflows}
+use Rattle.sqlite.specs.Query.{Query}
 use Rattle.sqlite.specs.Term.{Term}
 use Rattle.sqlite_value.specs.declared.keys.Key.{Key}
 use Rattle.sqlite.specs.Command.TheVariants.{Select}
@@ -31,6 +33,14 @@ IsWhole sql count (Err e) = ⊥
 abbrev pub IsFit : Program → Row → Type 0
 IsFit p params = (trees : Trees) → ¬ IsShown (λ (r : Row). r) (record { schema = store_schema; trees = trees }) p params None
 
+-- no sum of the query overflows
+abbrev pub IsSure : Query → Row → Type 0
+IsSure q params = (trees : Trees) → ¬ QueryOverflows q trees params
+
+-- on the tables of a store a failure of it at this query has a reason
+abbrev pub IsReasonedQuery : List ℕ → Row → Type 1
+IsReasonedQuery sql params = (old new : State) (e : Error) → IsStore old → fault_of e ≡ Store → FailsToQuery sql params old new e → MayRefuse old new
+
 by_cause : (old new : State) (kind : StoreError) → fault_of (store_error kind) ≡ Store → HasCause old new ⊥ kind → MayRefuse old new
 by_cause old new cause.OutOfMemory told h = absurd cc
 by_cause old new cause.Io told h = inr (inl h)
@@ -39,16 +49,16 @@ by_cause old new cause.Full told h = inr (inl h)
 by_cause old new cause.Broken told h = inl h
 by_cause old new cause.Unstorable told h = absurd h
 
-module _ (sql : List ℕ) (params : Row) (tree : ℕ) (wheres : List Condition) (project : List Term) (keys : List (Term × Key)) (limit : Term) (names : List (List ℕ))
-    (is : command_of (understood store_schema sql) ≡ Select (alone (reading_by tree wheres project keys limit)) names)
+module _ (sql : List ℕ) (params : Row) (query : Query) (names : List (List ℕ))
+    (is : command_of (understood store_schema sql) ≡ Select (alone query) names)
     (plain : IsPlain (understood store_schema sql)) (unlisted : reads_listing store_schema sql ≡ false)
     (whole : IsWhole sql (length params) (understood store_schema sql))
-    (fit : IsFit (alone (reading_by tree wheres project keys limit)) params)
+    (fit : IsFit (alone query) params) (sure : IsSure query params)
     (old new : State) (store : IsStore old) where
-  pub why_refused : (e : Error) → fault_of e ≡ Store → FailsToQuery sql params old new e → MayRefuse old new
+  pub why_query_refused : (e : Error) → fault_of e ≡ Store → FailsToQuery sql params old new e → MayRefuse old new
   unfolding FailsToQuery IsNotRun
-  why_refused e told (inl (inl (inl none, same))) = absurd (subst IsPlain (ap (λ s. understood s sql) (sym store.is) ∙ none.1) plain)
-  why_refused e told (inl (inl (inr unfit, same))) =
+  why_query_refused e told (inl (inl (inl none, same))) = absurd (subst IsPlain (ap (λ s. understood s sql) (sym store.is) ∙ none.1) plain)
+  why_query_refused e told (inl (inl (inr unfit, same))) =
       let known = ap (λ s. understood s sql) (sym store.is) ∙ unfit.1 in
       let fits = subst (IsWhole sql (length params)) known whole in
       elim unfit.2 [
@@ -56,14 +66,24 @@ module _ (sql : List ℕ) (params : Row) (tree : ℕ) (wheres : List Condition) 
         | inr (inl count) ↦ absurd (count.0 fits.1)
         | inr (inr clock) ↦ absurd (clock.0 (subst IsPlain known plain).1)
       ]
-  why_refused e told (inl (inr failed)) = by_cause old new failed.0 (ap fault_of (sym failed.1) ∙ told) failed.2
-  why_refused e told (inr h) =
+  why_query_refused e told (inl (inr failed)) = by_cause old new failed.0 (ap fault_of (sym failed.1) ∙ told) failed.2
+  why_query_refused e told (inr h) =
       let known = sym h.1.is ∙ ap (λ s. understood s sql) store.is in
       let bare = subst IsPlain (sym known) plain in
       let it = rw (bare.0, bare.1, append-nil params) at h.2 in
       let db : it.0 ≡ old.now = subst (λ b. IsSourceOf b old.now it.0) (ap (λ s. reads_listing s sql) store.is ∙ unlisted) it.1 in
       elim (subst₂ (λ k d. RefusesToRead old.step_limit k d params e) (ap command_of known ∙ is) db it.2) [
-        | inl mistyped ↦ absurd (fit old.now.trees (subst (λ s. IsShown (λ (r : Row). r) (record { schema = s; trees = old.now.trees }) (alone (reading_by tree wheres project keys limit)) params None) store.is mistyped.1))
-        | inr (inl over) ↦ absurd (elim over.1 [ inl none ↦ none | inr some ↦ some.4 ])
+        | inl mistyped ↦ absurd (fit old.now.trees (subst (λ s. IsShown (λ (r : Row). r) (record { schema = s; trees = old.now.trees }) (alone query) params None) store.is mistyped.1))
+        | inr (inl over) ↦ absurd (sure _ over.1)
         | inr (inr stopped) ↦ inr (inr stopped.1)
       ]
+
+-- the rows of one table, which the query sums nothing of
+module _ (sql : List ℕ) (params : Row) (tree : ℕ) (wheres : List Condition) (project : List Term) (keys : List (Term × Key)) (limit : Term) (names : List (List ℕ))
+    (is : command_of (understood store_schema sql) ≡ Select (alone (reading_by tree wheres project keys limit)) names)
+    (plain : IsPlain (understood store_schema sql)) (unlisted : reads_listing store_schema sql ≡ false)
+    (whole : IsWhole sql (length params) (understood store_schema sql))
+    (fit : IsFit (alone (reading_by tree wheres project keys limit)) params)
+    (old new : State) (store : IsStore old) where
+  pub why_refused : (e : Error) → fault_of e ≡ Store → FailsToQuery sql params old new e → MayRefuse old new
+  why_refused = why_query_refused sql params (reading_by tree wheres project keys limit) names is plain unlisted whole fit (λ trees over. elim over [ inl none ↦ none | inr some ↦ some.4 ]) old new store

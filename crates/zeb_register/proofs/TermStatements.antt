@@ -29,7 +29,7 @@ use Rattle.zeb_register.proofs.Scans.{reads}
 use Rattle.zeb_register.proofs.FirstRows.{first_shown}
 use Rattle.zeb_register.proofs.Writes.{codes_there, meets_there}
 use Rattle.zeb_register.proofs.Calls.{IsSilent}
-use Rattle.zeb_register.proofs.Refusals.{IsWhole, IsFit, why_refused}
+use Rattle.zeb_register.proofs.Refusals.{IsWhole, IsFit, IsReasonedQuery, why_refused}
 use Rattle.zeb_register.proofs.PostingStatements.{postings, postings_static}
 
 abbrev pub from_text : List ℕ
@@ -100,6 +100,30 @@ before_plain = ((refl, refl), refl)
 
 abbrev pub near : ℤ → ℤ → ℤ → List ℕ → Row
 near db idx reg start = Int db ∷ Int idx ∷ Int reg ∷ Text start ∷ []
+
+from_whole : IsWhole from_text 4 (understood store_schema from_text)
+unfolding understood everything
+from_whole = (omega arith, refl)
+
+from_fit : (db idx reg : ℤ) (start : List ℕ) → IsFit (alone (reading_by 7 (in_register (at_least 4 3)) (shows (4 ∷ [])) from_keys one_row)) (near db idx reg start)
+unfolding everything
+from_fit db idx reg start trees mistyped = absurd (let t : true ≡ false = mistyped in cc)
+
+pub from_refused : (db idx reg : ℤ) (start : List ℕ) → IsReasonedQuery from_text (near db idx reg start)
+from_refused db idx reg start old new e store told failed =
+    why_refused from_text (near db idx reg start) 7 (in_register (at_least 4 3)) (shows (4 ∷ [])) from_keys one_row (codes "term" ∷ []) from_is from_plain.0 from_plain.1 from_whole (from_fit db idx reg start) old new store e told failed
+
+before_whole : IsWhole before_text 4 (understood store_schema before_text)
+unfolding understood everything
+before_whole = (omega arith, refl)
+
+before_fit : (db idx reg : ℤ) (start : List ℕ) → IsFit (alone (reading_by 7 (in_register (less_than 4 3)) (shows (4 ∷ [])) before_keys one_row)) (near db idx reg start)
+unfolding everything
+before_fit db idx reg start trees mistyped = absurd (let t : true ≡ false = mistyped in cc)
+
+pub before_refused : (db idx reg : ℤ) (start : List ℕ) → IsReasonedQuery before_text (near db idx reg start)
+before_refused db idx reg start old new e store told failed =
+    why_refused before_text (near db idx reg start) 7 (in_register (less_than 4 3)) (shows (4 ∷ [])) before_keys one_row (codes "term" ∷ []) before_is before_plain.0 before_plain.1 before_whole (before_fit db idx reg start) old new store e told failed
 
 abbrev laid : Value → Row → List ℕ → Row
 laid id r term = id ∷ column r 1 ∷ column r 2 ∷ column r 3 ∷ Text term ∷ column r 5 ∷ column r 6 ∷ column r 7 ∷ []

@@ -5,7 +5,7 @@ ghost use Rattle.sqlite.specs.Held.{state};
 ghost use Rattle.sqlite.specs.Order.{Row as Columns};
 ghost use Rattle.sqlite.specs.State.{IsUnchanged};
 ghost use Rattle.zeb_register.specs.Calls.{Reading};
-ghost use Rattle.zeb_register.specs.Clauses.{IsHonest, IsHonestStorable, OnStore, Tells, TellsHeld};
+ghost use Rattle.zeb_register.specs.Clauses.{IsHonest, IsHonestStorable, IsReasoned, OnStore, Tells, TellsHeld};
 ghost use Rattle.zeb_register.specs.Content.{posted};
 ghost use Rattle.zeb_register.specs.Occurring.{AreTermsBefore, AreTermsFrom, AreTermsOf, AreTotals, key_in};
 ghost use Rattle.zeb_register.specs.PackedBlocks.{AreAllCounted, AreAllSpelled, AreBeforeCounted, AreFromCounted, AreShown};
@@ -109,6 +109,7 @@ impl Layout for Blocks {
         ensures value { TellsHeld HoldsBlocks (state S.Store conn.old) (state S.Store conn.new) result
             (λ content list. list.items ≡ content db.0 key.now) }
         ensures honest { IsHonestStorable HoldsBlocks (state S.Store conn.old) (state S.Store conn.new) result }
+        ensures refused { IsReasoned (state S.Store conn.old) (state S.Store conn.new) result }
         ensures spelled { OnStore (state S.Store conn.old) (state S.Store conn.new) (λ trees. OnOk result
             (AreAllSpelled trees (key_row db.0 key.now))) }
         ensures damaged { IsHonest (state S.Store conn.old) (state S.Store conn.new) result
@@ -141,6 +142,7 @@ impl Layout for Blocks {
         ensures value { TellsHeld HoldsBlocks (state S.Store conn.old) (state S.Store conn.new) result
             (λ content list. AreTermsOf (posted content db.0) index register list.items) }
         ensures honest { IsHonestStorable HoldsBlocks (state S.Store conn.old) (state S.Store conn.new) result }
+        ensures refused { IsReasoned (state S.Store conn.old) (state S.Store conn.new) result }
         ensures shown { Tells (state S.Store conn.old) (state S.Store conn.new) result (λ trees list. (rows : List Columns)
             × IsListOf (IsRest dict_tree (register_front db.0 index register) trees) rows × AreShown list.items rows) }
         ensures sound { OnStore (state S.Store conn.old) (state S.Store conn.new) (λ trees. OnOk result
@@ -175,6 +177,7 @@ impl Layout for Blocks {
         ensures value { TellsHeld HoldsBlocks (state S.Store conn.old) (state S.Store conn.new) result
             (λ content list. AreTermsFrom (posted content db.0) index register start.now n list.items) }
         ensures honest { IsHonestStorable HoldsBlocks (state S.Store conn.old) (state S.Store conn.new) result }
+        ensures refused { IsReasoned (state S.Store conn.old) (state S.Store conn.new) result }
         ensures sound { OnStore (state S.Store conn.old) (state S.Store conn.new) (λ trees. OnOk result
             (AreFromCounted trees (register_front db.0 index register) start.now n)) }
         ensures damaged { IsHonest (state S.Store conn.old) (state S.Store conn.new) result
@@ -208,6 +211,7 @@ impl Layout for Blocks {
         ensures value { TellsHeld HoldsBlocks (state S.Store conn.old) (state S.Store conn.new) result
             (λ content list. AreTermsBefore (posted content db.0) index register start.now n list.items) }
         ensures honest { IsHonestStorable HoldsBlocks (state S.Store conn.old) (state S.Store conn.new) result }
+        ensures refused { IsReasoned (state S.Store conn.old) (state S.Store conn.new) result }
         ensures sound { OnStore (state S.Store conn.old) (state S.Store conn.new) (λ trees. OnOk result
             (AreBeforeCounted trees (register_front db.0 index register) start.now n)) }
         ensures damaged { IsHonest (state S.Store conn.old) (state S.Store conn.new) result
@@ -241,6 +245,7 @@ impl Layout for Blocks {
         ensures value { TellsHeld HoldsBlocks (state S.Store conn.old) (state S.Store conn.new) result
             (λ content sums. AreTotals (posted content db.0) index register sums) }
         ensures honest { IsHonestStorable HoldsBlocks (state S.Store conn.old) (state S.Store conn.new) result }
+        ensures refused { IsReasoned (state S.Store conn.old) (state S.Store conn.new) result }
         ensures sound { OnStore (state S.Store conn.old) (state S.Store conn.new) (λ trees. OnOk result
             (IsRegisterSound trees db.0 index register)) }
         ensures damaged { IsHonest (state S.Store conn.old) (state S.Store conn.new) result

@@ -35,6 +35,7 @@ pub(crate) fn counted(count: u64, rows: usize) -> u64
 pub(crate) fn postings_in(alloc: Global, rows: &[Row]) -> Result<Vec<Posting>, RegFault>
     ensures ok { IfOk result (λ list. AreSpelled rows.now list.items) }
     ensures honest { result ≡ Err RegFault.Damaged → (list : List _) → ¬ AreSpelled rows.now list }
+    ensures unstored { result ≢ Err RegFault.Store }
 {
     let mut postings = Vec::new(alloc);
     for row in rows {
@@ -47,6 +48,7 @@ pub(crate) fn postings_in(alloc: Global, rows: &[Row]) -> Result<Vec<Posting>, R
 fn add_part(postings: &mut Vec<Posting>, row: &Row) -> Result<(), RegFault>
     ensures ok { OnOk result ((part : List _) × SpellsPart row.now part × (postings.new.items ≡ postings.old.items ++ part)) }
     ensures honest { result ≡ Err RegFault.Damaged → (part : List _) → ¬ SpellsPart row.now part }
+    ensures unstored { result ≢ Err RegFault.Store }
 {
     let block: u64 = read(row, 0)?;
     let bytes: Vec<u8> = read(row, 1)?;
@@ -61,6 +63,7 @@ pub(crate) fn add_spelled(
 ) -> Result<(), RegFault>
     ensures ok { OnOk result ((part : List _) × BlockSpells block part bytes.now × (postings.new.items ≡ postings.old.items ++ part)) }
     ensures honest { result ≡ Err RegFault.Damaged → (part : List _) → ¬ BlockSpells block part bytes.now }
+    ensures unstored { result ≢ Err RegFault.Store }
 {
     let Ok(part) = Postings::read(block, bytes) else {
         return Err(RegFault::Damaged);
@@ -85,6 +88,7 @@ pub(crate) fn counts_in(alloc: Global, rows: &[Row]) -> Result<Vec<TermCount>, R
     ensures few { length rows.now < 2 ^ 63 }
     ensures sound { OnOk result ((row : _) → Has rows.now row → CountsTerm row) }
     ensures honest { result ≡ Err RegFault.Damaged → ¬ ((row : _) → Has rows.now row → CountsTerm row) }
+    ensures unstored { result ≢ Err RegFault.Store }
 {
     let mut counts = Vec::new(alloc);
     for row in rows {
@@ -98,6 +102,7 @@ fn count_of(row: &Row) -> Result<TermCount, RegFault>
     ensures ok { IfOk result (λ t. count_row t ≡ first_two row.now) }
     ensures sound { OnOk result (CountsTerm row.now) }
     ensures honest { result ≡ Err RegFault.Damaged → ¬ CountsTerm row.now }
+    ensures unstored { result ≢ Err RegFault.Store }
 {
     let term: String = read(row, 0)?;
     let records = records_at(row, 1)?;

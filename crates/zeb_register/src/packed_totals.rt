@@ -1,11 +1,11 @@
 //! How much a packed register holds: its terms by their rows of `dict`, its postings by the blocks of each term.
 
-ghost use Rattle.std.specs.Prelude.{◌≡◌, ◌<◌, ◌^◌, List, length, IfOk, OnOk};
+ghost use Rattle.std.specs.Prelude.{◌≡◌, ◌≢◌, ◌<◌, ◌^◌, List, length, IfOk, OnOk};
 ghost use Rattle.sqlite.specs.Held.{state};
 ghost use Rattle.sqlite.specs.Order.{Row as Columns};
 ghost use Rattle.sqlite.specs.State.{IsUnchanged};
 ghost use Rattle.zeb_register.specs.Calls.{Reading};
-ghost use Rattle.zeb_register.specs.Clauses.{IsHonest, IsHonestOfHeld, OnStore, TellsHeld};
+ghost use Rattle.zeb_register.specs.Clauses.{IsHonest, IsHonestOfHeld, IsReasoned, OnStore, TellsHeld};
 ghost use Rattle.zeb_register.specs.Content.{Content};
 ghost use Rattle.zeb_register.specs.Occurring.{capped, key_in};
 ghost use Rattle.zeb_register.specs.PackedBlocks.{AreAllSpelled, HoldsBlocks, IsBlockUnder, SpellsPart, blocks_of};
@@ -37,6 +37,7 @@ pub(crate) fn term_postings<S: Alter>(
     ensures value { TellsHeld HoldsBlocks (state S.Store conn.old) (state S.Store conn.new) result
         (λ content count. count ≡ capped (length (content db.0 (key_in index register term.now)))) }
     ensures honest { IsHonestOfHeld HoldsBlocks (state S.Store conn.old) (state S.Store conn.new) result }
+    ensures refused { IsReasoned (state S.Store conn.old) (state S.Store conn.new) result }
     ensures sound { OnStore (state S.Store conn.old) (state S.Store conn.new) (λ trees. OnOk result
         (AreAllSpelled trees (key_row db.0 (key_in index register term.now)))) }
     ensures damaged { IsHonest (state S.Store conn.old) (state S.Store conn.new) result
@@ -65,6 +66,7 @@ pub(crate) fn term_postings<S: Alter>(
 fn rows_postings(rows: &[Row]) -> Result<u64, RegFault>
     ensures ok { IfOk result (λ count. (list : List _) × AreSpelled rows.now list × (count ≡ capped (length list))) }
     ensures honest { result ≡ Err RegFault.Damaged → (list : List _) → ¬ AreSpelled rows.now list }
+    ensures unstored { result ≢ Err RegFault.Store }
 {
     let mut count: u64 = 0;
     for row in rows {
@@ -77,6 +79,7 @@ fn rows_postings(rows: &[Row]) -> Result<u64, RegFault>
 fn row_postings(row: &Row) -> Result<u64, RegFault>
     ensures ok { IfOk result (λ count. (part : List _) × SpellsPart row.now part × (count ≡ length part)) }
     ensures honest { result ≡ Err RegFault.Damaged → (part : List _) → ¬ SpellsPart row.now part }
+    ensures unstored { result ≢ Err RegFault.Store }
 {
     let block: u64 = read(row, 0)?;
     let bytes: Vec<u8> = read(row, 1)?;

@@ -1,11 +1,11 @@
 //! Registers with one row for each posting.
 
-ghost use Rattle.std.specs.Prelude.{◌≡◌, map, IfOk};
+ghost use Rattle.std.specs.Prelude.{◌≡◌, ◌≢◌, map, IfOk};
 ghost use Rattle.sqlite_rules.specs.Lists.{Has};
 ghost use Rattle.sqlite.specs.Held.{state};
 ghost use Rattle.sqlite.specs.State.{IsUnchanged};
 ghost use Rattle.zeb_register.specs.Calls.{Reading};
-ghost use Rattle.zeb_register.specs.Clauses.{IsHonestOfHeld, TellsHeld};
+ghost use Rattle.zeb_register.specs.Clauses.{IsHonestOfHeld, IsReasoned, TellsHeld};
 ghost use Rattle.zeb_register.specs.Occurring.{key_in};
 ghost use Rattle.zeb_register.specs.PlainRows.{HoldsRows, posting_row};
 ghost use Rattle.zeb_register.specs.RowPlaces.{first_three, IsThreeNumbers};
@@ -202,6 +202,7 @@ pub(crate) fn postings_under<S: Alter>(
     ensures value { TellsHeld HoldsRows (state S.Store conn.old) (state S.Store conn.new) result
         (λ content list. list.items ≡ content db.0 (key_in index register term.now)) }
     ensures honest { IsHonestOfHeld HoldsRows (state S.Store conn.old) (state S.Store conn.new) result }
+    ensures refused { IsReasoned (state S.Store conn.old) (state S.Store conn.new) result }
 {
     let at = RegisterOf {
         db,
@@ -216,6 +217,7 @@ pub(crate) fn postings_under<S: Alter>(
 fn postings_of(alloc: Global, rows: &[Row]) -> Result<Vec<Posting>, RegFault>
     ensures ok { IfOk result (λ list. map posting_row list.items ≡ map first_three rows.now) }
     ensures honest { result ≡ Err RegFault.Damaged → ¬ ((row : _) → Has rows.now row → IsThreeNumbers row) }
+    ensures unstored { result ≢ Err RegFault.Store }
 {
     let mut postings = Vec::new(alloc);
     for row in rows {
@@ -228,6 +230,7 @@ fn postings_of(alloc: Global, rows: &[Row]) -> Result<Vec<Posting>, RegFault>
 fn posting_of(row: &Row) -> Result<Posting, RegFault>
     ensures ok { IfOk result (λ p. posting_row p ≡ first_three row.now) }
     ensures honest { result ≡ Err RegFault.Damaged → ¬ IsThreeNumbers row.now }
+    ensures unstored { result ≢ Err RegFault.Store }
 {
     Ok(Posting {
         sysno: read(row, 0)?,

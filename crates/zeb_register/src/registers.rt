@@ -5,7 +5,7 @@ ghost use Rattle.sqlite.specs.Held.{state};
 ghost use Rattle.sqlite.specs.State.{IsUnchanged};
 ghost use Rattle.sqlite_rules.specs.Lists.{Has};
 ghost use Rattle.zeb_register.specs.Calls.{GoesOn, Inside, Reading};
-ghost use Rattle.zeb_register.specs.Clauses.{ChangesHeld, DamagedHeld, FindsHeld, InStore, IsHonestStorable, TellsHeld, TellsWhether};
+ghost use Rattle.zeb_register.specs.Clauses.{ChangesHeld, DamagedHeld, FindsHeld, InStore, IsHonestStorable, IsReasoned, TellsHeld, TellsWhether};
 ghost use Rattle.sqlite.specs.Tree.{Trees};
 ghost use Rattle.zeb_register.specs.Content.{Content, IsRising, IsChangedAt, IsWithout};
 ghost use Rattle.zeb_register.specs.Formats.{Format, holds_in, version_of};
@@ -163,6 +163,7 @@ pub trait Layout {
         ensures value { TellsHeld (holds_in format) (state S.Store conn.old) (state S.Store conn.new) result
             (λ content list. list.items ≡ content db.0 key.now) }
         ensures honest { IsHonestStorable (holds_in format) (state S.Store conn.old) (state S.Store conn.new) result }
+        ensures refused { IsReasoned (state S.Store conn.old) (state S.Store conn.new) result }
         ensures work { TellsHeld (holds_in format) (state S.Store conn.old) (state S.Store conn.new) result
             (λ _ list. Works 0 0 (block_rows list.items) 0 work.old work.new) }
         ensures no_work { row_work ≡ 0 → work.new ≡ work.old };
@@ -180,6 +181,7 @@ pub trait Layout {
         ensures value { TellsHeld (holds_in format) (state S.Store conn.old) (state S.Store conn.new) result
             (λ content list. AreTermsOf (posted content db.0) index register list.items) }
         ensures honest { IsHonestStorable (holds_in format) (state S.Store conn.old) (state S.Store conn.new) result }
+        ensures refused { IsReasoned (state S.Store conn.old) (state S.Store conn.new) result }
         ensures work { TellsHeld (holds_in format) (state S.Store conn.old) (state S.Store conn.new) result
             (λ _ list. Works (row_work * length list.items) 0 0 0 work.old work.new) }
         ensures no_work { row_work ≡ 0 → work.new ≡ work.old };
@@ -199,6 +201,7 @@ pub trait Layout {
         ensures value { TellsHeld (holds_in format) (state S.Store conn.old) (state S.Store conn.new) result
             (λ content list. AreTermsFrom (posted content db.0) index register start.now n list.items) }
         ensures honest { IsHonestStorable (holds_in format) (state S.Store conn.old) (state S.Store conn.new) result }
+        ensures refused { IsReasoned (state S.Store conn.old) (state S.Store conn.new) result }
         ensures work { TellsHeld (holds_in format) (state S.Store conn.old) (state S.Store conn.new) result
             (λ _ list. Works (row_work * length list.items) 0 0 0 work.old work.new) }
         ensures no_work { row_work ≡ 0 → work.new ≡ work.old };
@@ -218,6 +221,7 @@ pub trait Layout {
         ensures value { TellsHeld (holds_in format) (state S.Store conn.old) (state S.Store conn.new) result
             (λ content list. AreTermsBefore (posted content db.0) index register start.now n list.items) }
         ensures honest { IsHonestStorable (holds_in format) (state S.Store conn.old) (state S.Store conn.new) result }
+        ensures refused { IsReasoned (state S.Store conn.old) (state S.Store conn.new) result }
         ensures work { TellsHeld (holds_in format) (state S.Store conn.old) (state S.Store conn.new) result
             (λ _ list. Works (row_work * length list.items) 0 0 0 work.old work.new) }
         ensures no_work { row_work ≡ 0 → work.new ≡ work.old };
@@ -235,6 +239,7 @@ pub trait Layout {
         ensures value { TellsHeld (holds_in format) (state S.Store conn.old) (state S.Store conn.new) result
             (λ content sums. AreTotals (posted content db.0) index register sums) }
         ensures honest { IsHonestStorable (holds_in format) (state S.Store conn.old) (state S.Store conn.new) result }
+        ensures refused { IsReasoned (state S.Store conn.old) (state S.Store conn.new) result }
         ensures work { TellsHeld (holds_in format) (state S.Store conn.old) (state S.Store conn.new) result
             (λ content _. (all : List TermCount) → AreTermsOf (posted content db.0) index register all → Works (row_work * length all) 0
             (sum_by (λ t. block_rows (content db.0 (key_in index register t.term))) all) 0 work.old work.new) }
@@ -249,7 +254,8 @@ pub trait Layout {
         ensures call { Reading (state S.Store conn.old) (state S.Store conn.new) result (λ _. IsUnchanged) }
         ensures value { TellsWhether (λ trees. AreExpected format trees expected.now) (IsOrdered expected.now)
             (state S.Store conn.old) (state S.Store conn.new) result }
-        ensures honest { result ≢ Err RegFault.Damaged };
+        ensures honest { result ≢ Err RegFault.Damaged }
+        ensures refused { IsReasoned (state S.Store conn.old) (state S.Store conn.new) result };
 }
 
 /// A content is told by its postings. It can be changed at one key of one record, and a database can be taken from it, each in one way.

@@ -7,7 +7,7 @@ ghost use Rattle.sqlite.specs.State.{IsUnchanged};
 ghost use Rattle.sqlite.specs.Order.{row_cmp};
 ghost use Rattle.sqlite_rules.specs.Lists.{Has};
 ghost use Rattle.zeb_register.specs.Calls.{Reading};
-ghost use Rattle.zeb_register.specs.Clauses.{IsHonestOfHeld, IsHonestStorable, TellsHeld};
+ghost use Rattle.zeb_register.specs.Clauses.{IsHonestOfHeld, IsHonestStorable, IsReasoned, TellsHeld};
 ghost use Rattle.zeb_register.specs.Content.{posting_cmp, posted};
 ghost use Rattle.zeb_register.specs.PlainRows.{HoldsRows};
 ghost use Rattle.zeb_register.specs.Occurring.{IsCount, AreCounts, TermIn};
@@ -30,6 +30,7 @@ use zeb_profile::Register;
 pub(crate) fn count_terms(alloc: Global, rows: &[Row]) -> Result<Vec<TermCount>, RegFault>
     ensures ok { IfOk result (λ list. IsStrictlySortedBy row_cmp rows.now → AreCounts (IsShown rows.now) list.items) }
     ensures honest { result ≡ Err RegFault.Damaged → ¬ ((row : _) → Has rows.now row → IsOccurrenceRow row) }
+    ensures unstored { result ≢ Err RegFault.Store }
 {
     let mut counts: Vec<TermCount> = Vec::new(alloc);
     let mut newest: u64 = 0;
@@ -45,6 +46,7 @@ pub(crate) fn count_terms(alloc: Global, rows: &[Row]) -> Result<Vec<TermCount>,
 fn occurrence_of(row: &Row) -> Result<(Term, u64), RegFault>
     ensures ok { IfOk result (λ o. ShowsOccurrence row.now o.0 o.1) }
     ensures honest { result ≡ Err RegFault.Damaged → ¬ IsOccurrenceRow row.now }
+    ensures unstored { result ≢ Err RegFault.Store }
 {
     let term: String = read(row, 0)?;
     let sysno: u64 = read(row, 1)?;
@@ -61,6 +63,7 @@ fn count_occurrence(
     requires room { (t : _) → Has counts.old.items t → t.records + 1 < 2 ^ 64 }
     ensures counted { OnOk result (IsCountedIn newest term sysno counts.old.items counts.new.items) }
     ensures honest { result ≢ Err RegFault.Damaged }
+    ensures unstored { result ≢ Err RegFault.Store }
 {
     if let Some(last) = counts.last_mut() {
         if last.term == term {
@@ -102,6 +105,7 @@ pub(crate) fn term_count<S: Alter>(
     ensures value { TellsHeld HoldsRows (state S.Store conn.old) (state S.Store conn.new) result
         (λ content t. (t.term ≡ string_bytes term) × IsCount (TermIn (posted content db.0) index register (string_bytes term)) t.records) }
     ensures honest { IsHonestOfHeld HoldsRows (state S.Store conn.old) (state S.Store conn.new) result }
+    ensures refused { IsReasoned (state S.Store conn.old) (state S.Store conn.new) result }
 {
     let list = postings_under(alloc, conn, db, index, register, term.as_str())?;
     let records = records_in(&list);
@@ -124,6 +128,7 @@ pub(crate) fn text_above(alloc: Global, text: &str) -> Result<String, AllocError
 fn term_of(rows: &[Row]) -> Result<Option<String>, RegFault>
     ensures ok { IfOk result (ShowsTerm rows.now) }
     ensures honest { result ≡ Err RegFault.Damaged → ¬ ((row : _) → Has rows.now row → IsTermRow row) }
+    ensures unstored { result ≢ Err RegFault.Store }
 {
     match rows.first() {
         Some(row) => Ok(Some(read(row, 0)?)),
@@ -143,6 +148,7 @@ pub(crate) fn term_from<S: Alter>(
     ensures value { TellsHeld HoldsRows (state S.Store conn.old) (state S.Store conn.new) result
         (λ content term. IsLeastTerm (TermIn (posted content db.0) index register) start.now term) }
     ensures honest { IsHonestStorable HoldsRows (state S.Store conn.old) (state S.Store conn.new) result }
+    ensures refused { IsReasoned (state S.Store conn.old) (state S.Store conn.new) result }
 {
     let at = RegisterOf {
         db,
@@ -165,6 +171,7 @@ pub(crate) fn term_before<S: Alter>(
     ensures value { TellsHeld HoldsRows (state S.Store conn.old) (state S.Store conn.new) result
         (λ content term. IsGreatestTerm (TermIn (posted content db.0) index register) start.now term) }
     ensures honest { IsHonestStorable HoldsRows (state S.Store conn.old) (state S.Store conn.new) result }
+    ensures refused { IsReasoned (state S.Store conn.old) (state S.Store conn.new) result }
 {
     let at = RegisterOf {
         db,

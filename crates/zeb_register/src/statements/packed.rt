@@ -6,7 +6,7 @@ ghost use Rattle.zeb_register.specs.Sql.{Loses};
 ghost use Rattle.sqlite.specs.declared.types.Value.TheVariants.{Text};
 ghost use Rattle.zeb_register.specs.Store.{blocks_tree, dict_tree, IsPostingIn, IsRest};
 ghost use Rattle.zeb_register.specs.Calls.{Reading};
-ghost use Rattle.zeb_register.specs.Clauses.{Writes};
+ghost use Rattle.zeb_register.specs.Clauses.{IsReasonedError, Writes};
 ghost use Rattle.zeb_register.specs.KeyColumns.{register_columns};
 ghost use Rattle.zeb_register.specs.PackedBlocks.{IsRestBefore, IsRestFrom};
 ghost use Rattle.zeb_register.specs.PackedRows.{ListsFirst, ListsLast};
@@ -23,6 +23,7 @@ pub(crate) fn block_rows<S: Alter>(
 ) -> Result<Vec<Row>, Error>
     ensures call { Reading (state S.Store conn.old) (state S.Store conn.new) result
         (λ rows a b. Lists (IsRest blocks_tree (register_columns at ++ Text term.now ∷ [])) a b rows.items) }
+    ensures err { IsReasonedError (state S.Store conn.old) (state S.Store conn.new) result }
 {
     // What is seen outside a transaction is what was committed.
     let _idle = conn.is_autocommit();
@@ -41,6 +42,7 @@ pub(crate) fn dict_rows<S: Alter>(
 ) -> Result<Vec<Row>, Error>
     ensures call { Reading (state S.Store conn.old) (state S.Store conn.new) result
         (λ rows a b. Lists (IsRest dict_tree (register_columns at)) a b rows.items) }
+    ensures err { IsReasonedError (state S.Store conn.old) (state S.Store conn.new) result }
 {
     // What is seen outside a transaction is what was committed.
     let _idle = conn.is_autocommit();
@@ -61,6 +63,7 @@ pub(crate) fn dict_rows_from<S: Alter>(
 ) -> Result<Vec<Row>, Error>
     ensures call { Reading (state S.Store conn.old) (state S.Store conn.new) result
         (λ rows a b. ListsFirst limit (IsRestFrom dict_tree (register_columns at) start.now) a b rows.items) }
+    ensures err { IsReasonedError (state S.Store conn.old) (state S.Store conn.new) result }
 {
     // What is seen outside a transaction is what was committed.
     let _idle = conn.is_autocommit();
@@ -82,6 +85,7 @@ pub(crate) fn dict_rows_before<S: Alter>(
 ) -> Result<Vec<Row>, Error>
     ensures call { Reading (state S.Store conn.old) (state S.Store conn.new) result
         (λ rows a b. ListsLast limit (IsRestBefore dict_tree (register_columns at) start.now) a b rows.items) }
+    ensures err { IsReasonedError (state S.Store conn.old) (state S.Store conn.new) result }
 {
     // What is seen outside a transaction is what was committed.
     let _idle = conn.is_autocommit();

@@ -37,6 +37,7 @@ pub(crate) fn posting_rows<S: Alter>(
 ) -> Result<Vec<Row>, Error>
     ensures call { Reading (state S.Store conn.old) (state S.Store conn.new) result
         (λ rows a b. Lists (IsRest postings_tree (register_columns at ++ Text term.now ∷ [])) a b rows.items) }
+    ensures err { IsReasonedError (state S.Store conn.old) (state S.Store conn.new) result }
 {
     // What is seen outside a transaction is what was committed.
     let _idle = conn.is_autocommit();
@@ -73,6 +74,7 @@ pub(crate) fn register_rows<S: Alter>(
 ) -> Result<Vec<Row>, Error>
     ensures call { Reading (state S.Store conn.old) (state S.Store conn.new) result
         (λ rows a b. Lists (IsRest postings_tree (register_columns at)) a b rows.items) }
+    ensures err { IsReasonedError (state S.Store conn.old) (state S.Store conn.new) result }
 {
     // What is seen outside a transaction is what was committed.
     let _idle = conn.is_autocommit();
@@ -138,6 +140,7 @@ pub(crate) fn rows_from<S: Alter>(
     ensures call { Reading (state S.Store conn.old) (state S.Store conn.new) result
         (λ rows a b. Reads (λ trees. ShowsLeast (λ term. HasTermOf at trees term
         × (is_lt (slice_cmp nat_cmp term start.now) ≡ false))) a b rows.items) }
+    ensures err { IsReasonedError (state S.Store conn.old) (state S.Store conn.new) result }
 {
     // What is seen outside a transaction is what was committed.
     let _idle = conn.is_autocommit();
@@ -158,6 +161,7 @@ pub(crate) fn rows_before<S: Alter>(
     ensures call { Reading (state S.Store conn.old) (state S.Store conn.new) result
         (λ rows a b. Reads (λ trees. ShowsGreatest (λ term. HasTermOf at trees term
         × (is_lt (slice_cmp nat_cmp term start.now) ≡ true))) a b rows.items) }
+    ensures err { IsReasonedError (state S.Store conn.old) (state S.Store conn.new) result }
 {
     // What is seen outside a transaction is what was committed.
     let _idle = conn.is_autocommit();

@@ -9,7 +9,8 @@ use Rattle.zeb_engine.proofs.Dumps.{all_readable, bytes_in, read_all, read_few, 
 use Rattle.zeb_engine.proofs.Dumps.{below, none_below}
 use Rattle.zeb_engine.proofs.ListedDatabases.{fault_fails}
 use Rattle.zeb_engine.proofs.Showing.{still_shows}
-use Rattle.zeb_engine.proofs.StoreCauses.{fault_caused, may_after}
+use Rattle.zeb_register.proofs.Causes.{may_after}
+use Rattle.zeb_engine.proofs.StoreCauses.{fault_caused}
 use Rattle.zeb_engine.proofs.dump.bytes_of.Goals as goal
 use Rattle.zeb_engine.proofs.dump.bytes_of.Goals.{else-loop-turn-test, then-loop-turn-test+in_ok-record+in_default}
 

@@ -14,7 +14,8 @@ use Rattle.zeb_engine.specs.Steps.{ready}
 use Rattle.zeb_change.specs.Refused.{Meets}
 use Rattle.zeb_engine.proofs.ListedDatabases.{fault_meets}
 use Rattle.zeb_engine.proofs.Ready.{version_in, profile_in, image_still, same_inside, told_version, told_profile, version_readable, profile_readable, texts_differ, texts_agree, ready_none, ready_old, ready_changed, ready_good}
-use Rattle.zeb_engine.proofs.StoreCauses.{fault_caused, may_after}
+use Rattle.zeb_register.proofs.Causes.{may_after}
+use Rattle.zeb_engine.proofs.StoreCauses.{fault_caused}
 use Rattle.zeb_engine.proofs.readiness.check_ready.Goals as goal
 use Rattle.zeb_register.specs.Formats.{version_of}
 use Rattle.sqlite.specs.Effect.{Database}
