@@ -15,6 +15,7 @@ pub mod PostingLemmas
 pub mod RangeLemmas
 pub mod ReadLemmas
 pub mod ReadableNames
+pub mod Reasons
 pub mod RisingTexts
 pub mod RowCounts
 pub mod SeparatedPostings

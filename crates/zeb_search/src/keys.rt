@@ -4,6 +4,7 @@ ghost use Rattle.std.specs.Prelude.{◌≡◌, List, IfOk, OnOk};
 ghost use Rattle.sqlite.specs.Held.{state};
 ghost use Rattle.sqlite.specs.State.{HasCleanDisk};
 ghost use Rattle.zeb_register.specs.Calls.{Reading};
+ghost use Rattle.zeb_register.specs.Clauses.{IsReasoned};
 ghost use Rattle.zeb_register.specs.Content.{Content, IsStorable, posted};
 ghost use Rattle.zeb_register.specs.Formats.{holds_in};
 ghost use Rattle.zeb_register.specs.Store.{IsStore};
@@ -86,6 +87,7 @@ fn terms_by_pages<S: Alter, L: Layout>(
         → HasWanted (posted content database.0) index register wanted.entry terms.items) }
     ensures honest { HasCleanDisk (state S.Store connection.new) → IsStore (state S.Store connection.old) → result ≡ Err RegFault.Damaged
         → (content : Content) → IsStorable content → ¬ holds_in L.format (state S.Store connection.old).now.trees content }
+    ensures refused { IsReasoned (state S.Store connection.old) (state S.Store connection.new) result }
     ensures work { OnOk result (Counted L.format (λ content. RegisterDict L.row_work content database.0 index register) NoRows
         (state S.Store connection.old) (state S.Store connection.new) work.old work.new) }
     ensures no_work { L.row_work ≡ 0 → work.new ≡ work.old }
@@ -132,6 +134,7 @@ fn terms_wanted<S: Alter, L: Layout>(
         → HasWanted (posted content database.0) index register wanted.entry terms.items) }
     ensures honest { HasCleanDisk (state S.Store connection.new) → IsStore (state S.Store connection.old) → result ≡ Err RegFault.Damaged
         → (content : Content) → IsStorable content → ¬ holds_in L.format (state S.Store connection.old).now.trees content }
+    ensures refused { IsReasoned (state S.Store connection.old) (state S.Store connection.new) result }
     ensures work { OnOk result (Counted L.format (λ content. RegisterDict L.row_work content database.0 index register) NoRows
         (state S.Store connection.old) (state S.Store connection.new) work.old work.new) }
     ensures no_work { L.row_work ≡ 0 → work.new ≡ work.old }
@@ -159,6 +162,7 @@ pub(crate) fn keys_wanted<S: Alter, L: Layout>(
         → AreKeysOf (posted content database.0) index register (IsWanted wanted.entry) keys.items) }
     ensures honest { HasCleanDisk (state S.Store connection.new) → IsStore (state S.Store connection.old) → result ≡ Err RegFault.Damaged
         → (content : Content) → IsStorable content → ¬ holds_in L.format (state S.Store connection.old).now.trees content }
+    ensures refused { IsReasoned (state S.Store connection.old) (state S.Store connection.new) result }
     ensures work { OnOk result (Counted L.format
         (λ content. EntryDict L.row_work content database.0 (NamesEntry wanted.entry) index register) NoRows
         (state S.Store connection.old) (state S.Store connection.new) work.old work.new) }

@@ -5,6 +5,7 @@ ghost use Rattle.sqlite.specs.Held.{state};
 ghost use Rattle.sqlite.specs.State.{HasCleanDisk};
 ghost use Rattle.zeb_query.specs.Plans.{HasSmallNumber, HasSmallNumbers, NearOf, PlanValue, TermOf, plan_value, term_plan_value};
 ghost use Rattle.zeb_register.specs.Calls.{Reading};
+ghost use Rattle.zeb_register.specs.Clauses.{IsReasoned};
 ghost use Rattle.zeb_register.specs.Content.{Content, IsStorable};
 ghost use Rattle.zeb_register.specs.Formats.{holds_in};
 ghost use Rattle.zeb_register.specs.Kept.{AreReadableIdents};
@@ -47,6 +48,7 @@ pub fn hits<S: Alter, L: Layout>(
     ensures honest { HasCleanDisk (state S.Store connection.new) → IsStore (state S.Store connection.old) → result ≡ Err RegFault.Damaged
         → NamesReadable (state S.Store connection.old).now.trees database.0 (plan_value plan.now)
         → (content : Content) → IsStorable content → ¬ holds_in L.format (state S.Store connection.old).now.trees content }
+    ensures refused { IsReasoned (state S.Store connection.old) (state S.Store connection.new) result }
     ensures work { OnOk result (Counted L.format (λ content. PlanDict L.row_work content database.0 (plan_value plan.now))
         (λ content. PlanRows L.block_rows content database.0 (plan_value plan.now))
         (state S.Store connection.old) (state S.Store connection.new) work.old work.new) }
@@ -79,6 +81,7 @@ fn term_hits<S: Alter, L: Layout>(
     ensures honest { HasCleanDisk (state S.Store connection.new) → IsStore (state S.Store connection.old) → result ≡ Err RegFault.Damaged
         → TermNamesReadable (state S.Store connection.old).now.trees database.0 (term_plan_value term.now)
         → (content : Content) → IsStorable content → ¬ holds_in L.format (state S.Store connection.old).now.trees content }
+    ensures refused { IsReasoned (state S.Store connection.old) (state S.Store connection.new) result }
     ensures work { OnOk result (Counted L.format (λ content. TermDict L.row_work content database.0 (term_plan_value term.now))
         (λ content. TermRows L.block_rows content database.0 (term_plan_value term.now))
         (state S.Store connection.old) (state S.Store connection.new) work.old work.new) }
@@ -182,6 +185,7 @@ fn record_hits<S: Alter>(
         → IfOk result (λ hits. AreNumbers (λ n. (n ≡ number) × is_kept_in (state S.Store connection.old).now.trees database.0 n) hits.items) }
     ensures honest { HasCleanDisk (state S.Store connection.new) → IsStore (state S.Store connection.old) → result ≡ Err RegFault.Damaged
         → ¬ AreReadableIdents (state S.Store connection.old).now.trees database.0 (pos number) }
+    ensures refused { IsReasoned (state S.Store connection.old) (state S.Store connection.new) result }
 {
     let Some(_ident) = ident_of(connection, database, number)? else {
         return Ok(Vec::new(alloc));
@@ -205,6 +209,7 @@ fn near_hits<S: Alter, L: Layout>(
         (NearOf plan.now.index plan.now.left plan.now.right plan.now.separation)) hits.items) }
     ensures honest { HasCleanDisk (state S.Store connection.new) → IsStore (state S.Store connection.old) → result ≡ Err RegFault.Damaged
         → (content : Content) → IsStorable content → ¬ holds_in L.format (state S.Store connection.old).now.trees content }
+    ensures refused { IsReasoned (state S.Store connection.old) (state S.Store connection.new) result }
     ensures work { OnOk result (Counted L.format
         (λ content. WordDict L.row_work content database.0 plan.now.index (plan.now.left ∷ plan.now.right ∷ []))
         (λ content. WordRows L.block_rows content database.0 plan.now.index (plan.now.left ∷ plan.now.right ∷ []))

@@ -4,6 +4,7 @@ ghost use Rattle.std.specs.Prelude.{◌≡◌, ℕ, List, IfOk, OnOk};
 ghost use Rattle.sqlite.specs.Held.{state};
 ghost use Rattle.sqlite.specs.State.{HasCleanDisk};
 ghost use Rattle.zeb_register.specs.Calls.{Reading};
+ghost use Rattle.zeb_register.specs.Clauses.{IsReasoned};
 ghost use Rattle.zeb_register.specs.Content.{Content, IsStorable, posted};
 ghost use Rattle.zeb_register.specs.Formats.{holds_in};
 ghost use Rattle.zeb_register.specs.Store.{IsStore};
@@ -39,6 +40,7 @@ fn postings_of<S: Alter, L: Layout>(
         → ArePostings (IsPostingOf content database.0 keys.now) list.items) }
     ensures honest { HasCleanDisk (state S.Store connection.new) → IsStore (state S.Store connection.old) → result ≡ Err RegFault.Damaged
         → (content : Content) → IsStorable content → ¬ holds_in L.format (state S.Store connection.old).now.trees content }
+    ensures refused { IsReasoned (state S.Store connection.old) (state S.Store connection.new) result }
     ensures work { OnOk result (Counted L.format NoRows (λ content n. n ≡ rows_under L.block_rows content database.0 keys.now)
         (state S.Store connection.old) (state S.Store connection.new) work.old work.new) }
     ensures no_work { L.row_work ≡ 0 → work.new ≡ work.old }
@@ -67,6 +69,7 @@ pub(crate) fn numbers_wanted<S: Alter, L: Layout>(
         → AreNumbers (HasEntry (posted content database.0) index register (IsWanted wanted.entry)) numbers.items) }
     ensures honest { HasCleanDisk (state S.Store connection.new) → IsStore (state S.Store connection.old) → result ≡ Err RegFault.Damaged
         → (content : Content) → IsStorable content → ¬ holds_in L.format (state S.Store connection.old).now.trees content }
+    ensures refused { IsReasoned (state S.Store connection.old) (state S.Store connection.new) result }
     ensures work { OnOk result (Counted L.format
         (λ content. EntryDict L.row_work content database.0 (NamesEntry wanted.entry) index register)
         (λ content. EntryRows L.block_rows content database.0 index register (IsWanted wanted.entry))
@@ -93,6 +96,7 @@ pub(crate) fn places_of_words<S: Alter, L: Layout>(
         → ArePostings (λ p. HasWord (posted content database.0) index pattern.now p.sysno p.seq p.pos) list.items) }
     ensures honest { HasCleanDisk (state S.Store connection.new) → IsStore (state S.Store connection.old) → result ≡ Err RegFault.Damaged
         → (content : Content) → IsStorable content → ¬ holds_in L.format (state S.Store connection.old).now.trees content }
+    ensures refused { IsReasoned (state S.Store connection.old) (state S.Store connection.new) result }
     ensures work { OnOk result (Counted L.format
         (λ content. EntryDict L.row_work content database.0 (HasNoStar pattern.now) index Register.Word)
         (λ content. EntryRows L.block_rows content database.0 index Register.Word (Fits pattern.now))

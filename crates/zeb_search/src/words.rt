@@ -5,6 +5,7 @@ ghost use Rattle.sqlite.specs.Held.{state};
 ghost use Rattle.sqlite.specs.State.{HasCleanDisk};
 ghost use Rattle.zeb_query.specs.Plans.{AllWordsOf, AnyWordOf, PhraseOf, TermOf};
 ghost use Rattle.zeb_register.specs.Calls.{Reading};
+ghost use Rattle.zeb_register.specs.Clauses.{IsReasoned};
 ghost use Rattle.zeb_register.specs.Content.{Content, IsStorable, posted};
 ghost use Rattle.zeb_register.specs.Formats.{holds_in};
 ghost use Rattle.zeb_register.specs.Store.{IsStore};
@@ -41,6 +42,7 @@ pub(crate) fn any_word_hits<S: Alter, L: Layout>(
         → AreNumbers (HoldsIn (state S.Store connection.old).now.trees content database.0 (TermOf (AnyWordOf index patterns.now))) hits.items) }
     ensures honest { HasCleanDisk (state S.Store connection.new) → IsStore (state S.Store connection.old) → result ≡ Err RegFault.Damaged
         → (content : Content) → IsStorable content → ¬ holds_in L.format (state S.Store connection.old).now.trees content }
+    ensures refused { IsReasoned (state S.Store connection.old) (state S.Store connection.new) result }
     ensures work { OnOk result (Counted L.format (λ content. WordDict L.row_work content database.0 index patterns.now)
         (λ content. WordRows L.block_rows content database.0 index patterns.now)
         (state S.Store connection.old) (state S.Store connection.new) work.old work.new) }
@@ -78,6 +80,7 @@ pub(crate) fn all_words_hits<S: Alter, L: Layout>(
         → AreNumbers (HoldsIn (state S.Store connection.old).now.trees content database.0 (TermOf (AllWordsOf index patterns.now))) hits.items) }
     ensures honest { HasCleanDisk (state S.Store connection.new) → IsStore (state S.Store connection.old) → result ≡ Err RegFault.Damaged
         → (content : Content) → IsStorable content → ¬ holds_in L.format (state S.Store connection.old).now.trees content }
+    ensures refused { IsReasoned (state S.Store connection.old) (state S.Store connection.new) result }
     ensures work { OnOk result (Counted L.format (λ content. WordDict L.row_work content database.0 index patterns.now)
         (λ content. WordRows L.block_rows content database.0 index patterns.now)
         (state S.Store connection.old) (state S.Store connection.new) work.old work.new) }
@@ -129,6 +132,7 @@ pub(crate) fn phrase_hits<S: Alter, L: Layout>(
         → AreNumbers (HoldsIn (state S.Store connection.old).now.trees content database.0 (TermOf (PhraseOf index patterns.now first))) hits.items) }
     ensures honest { HasCleanDisk (state S.Store connection.new) → IsStore (state S.Store connection.old) → result ≡ Err RegFault.Damaged
         → (content : Content) → IsStorable content → ¬ holds_in L.format (state S.Store connection.old).now.trees content }
+    ensures refused { IsReasoned (state S.Store connection.old) (state S.Store connection.new) result }
     ensures work { OnOk result (Counted L.format (λ content. WordDict L.row_work content database.0 index patterns.now)
         (λ content. WordRows L.block_rows content database.0 index patterns.now)
         (state S.Store connection.old) (state S.Store connection.new) work.old work.new) }
@@ -169,6 +173,7 @@ fn places_of_phrase<S: Alter, L: Layout>(
         → ArePostings (λ p. (patterns.now ≢ []) × HasWords (posted content database.0) index patterns.now p.sysno p.seq p.pos) places.items) }
     ensures honest { HasCleanDisk (state S.Store connection.new) → IsStore (state S.Store connection.old) → result ≡ Err RegFault.Damaged
         → (content : Content) → IsStorable content → ¬ holds_in L.format (state S.Store connection.old).now.trees content }
+    ensures refused { IsReasoned (state S.Store connection.old) (state S.Store connection.new) result }
     ensures work { OnOk result (Counted L.format (λ content. WordDict L.row_work content database.0 index patterns.now)
         (λ content. WordRows L.block_rows content database.0 index patterns.now)
         (state S.Store connection.old) (state S.Store connection.new) work.old work.new) }

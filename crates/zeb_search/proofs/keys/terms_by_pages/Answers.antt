@@ -1,4 +1,4 @@
-use Rattle.std.proofs.Common.{◌≡◌, ◌∙◌, ◌∷◌, ◌+◌, ◌*◌, [], ℕ, List, None, Some, ap, arith, length, length-append, refl, sym, subst, string_bytes}
+use Rattle.std.proofs.Common.{rules, ◌≡◌, ◌∙◌, ◌∷◌, ◌+◌, ◌*◌, [], ℕ, List, None, Some, ap, arith, length, length-append, refl, sym, subst, string_bytes, Err}
 use Rattle.sqlite.specs.Held.{state}
 use Rattle.sqlite_rules.specs.Lists.{Has}
 use Rattle.zeb_register.specs.declared.registers.TermCount.{TermCount}
@@ -12,6 +12,7 @@ use Rattle.zeb_search.proofs.PageLemmas.{HasUpTo, none_so_far, next_page, last_p
 use Rattle.zeb_search.proofs.ReadLemmas.{clean_before, one_read, read_still, read_then, still_store, still_trees}
 use Rattle.zeb_search.proofs.CountedLemmas.{counted_still, counted_within}
 use Rattle.zeb_search.proofs.DictCounts.{pages_counted, within_register}
+use Rattle.zeb_search.proofs.Reasons.{reasoned_error}
 use Rattle.zeb_search.proofs.keys.terms_by_pages.Goals as goal
 
 pub pages-init : goal.pages-init
@@ -108,3 +109,12 @@ returns-in-None-clause-work g c =
     are.are is)
     (pages_counted g.L.Layout.format row_work terms page all c.in_ok-append.ensures.items old now new c.args.work.now c.pages.work c.terms_from.new.work
     c.pages.invariant.read c.terms_from.ensures.call.crash c.pages.invariant.counted c.in_ok-page.ensures.work)
+
+pub returns-in_err-page-clause-refused : goal.returns-in_err-page-clause-refused
+returns-in_err-page-clause-refused g c =
+    let old = state g.S.Store c.args.connection.now in
+    let now = state g.S.Store c.pages.connection in
+    let new = state g.S.Store c.terms_from.new.conn in
+    let cause = c.in_err-page.field-0.0 in
+    let told : c.from_residual-in_err-page.result ≡ Err cause = search rules in
+    reasoned_error old now new c.pages.invariant.read c.terms_from.ensures.call.crash cause c.from_residual-in_err-page.result told c.in_err-page.ensures.refused

@@ -11,6 +11,7 @@ use Rattle.zeb_search.specs.ListRows.{PlanRows}
 use Rattle.zeb_search.specs.Registers.{NamesReadable}
 use Rattle.zeb_search.proofs.CountedLemmas.{counted_then}
 use Rattle.zeb_search.proofs.ReadLemmas.{as_read, clean_before, still_store, still_trees}
+use Rattle.zeb_search.proofs.Reasons.{reasoned_error}
 use Rattle.zeb_search.proofs.plans.+hits.Goals as goal
 
 pub returns-in_err-right-in-Pair-clause-honest : goal.returns-in_err-right-in-Pair-clause-honest
@@ -52,3 +53,12 @@ returns-in_ok-joined-in-Pair-clause-work g t c =
     (λ content. PlanDict row_work content db (PairOf pair.operator left right)) (λ content. PlanRows rows content db left) (λ content. PlanRows rows content db right)
     (λ content. PlanRows rows content db (PairOf pair.operator left right)) old mid new c.args.work.now c.hits.new.work c.hits-in-Pair.new.work (λ content m n first second. (m, n, first, second, refl))
     (λ content m n first second. (m, n, first, second, refl)) (as_read old mid c.in_ok-left-in-Pair.left c.in_ok-left-in-Pair.ensures.call) c.hits-in-Pair.ensures.call.crash of_left of_right)
+
+pub returns-in_err-right-in-Pair-clause-refused : goal.returns-in_err-right-in-Pair-clause-refused
+returns-in_err-right-in-Pair-clause-refused g t c =
+    let old = state g.S.Store c.args.connection.now in
+    let mid = state g.S.Store c.hits.new.connection in
+    let new = state g.S.Store c.hits-in-Pair.new.connection in
+    let cause = c.in_err-right-in-Pair.field-0.0 in
+    let told : c.from_residual-in_err-right-in-Pair.result ≡ Err cause = search rules in
+    reasoned_error old mid new (as_read old mid c.in_ok-left-in-Pair.left c.in_ok-left-in-Pair.ensures.call) c.hits-in-Pair.ensures.call.crash cause c.from_residual-in_err-right-in-Pair.result told c.in_err-right-in-Pair.ensures.refused

@@ -1,4 +1,4 @@
-use Rattle.std.proofs.Common.{◌∷◌, [], refl, sym, subst}
+use Rattle.std.proofs.Common.{rules, ◌∷◌, [], refl, sym, subst, ◌≡◌, Err}
 use Rattle.sqlite.specs.Held.{state}
 use Rattle.zeb_register.specs.Content.{posted}
 use Rattle.zeb_register.specs.Formats.{holds_in}
@@ -13,6 +13,7 @@ use Rattle.zeb_search.proofs.DictCounts.{one_dict}
 use Rattle.zeb_search.proofs.PlanLemmas.{IsWordAt, near_hits}
 use Rattle.zeb_search.proofs.ReadLemmas.{as_read, clean_before, still_store, still_trees}
 use Rattle.zeb_search.proofs.RowCounts.{one_pattern}
+use Rattle.zeb_search.proofs.Reasons.{reasoned_error}
 use Rattle.zeb_search.proofs.plans.near_hits.Goals as goal
 
 pub returns-clause-value : goal.returns-clause-value
@@ -43,3 +44,12 @@ returns-clause-work g c =
     old mid (state g.S.Store c.places_of_words-2.new.connection) c.args.work.now c.places_of_words.new.work c.places_of_words-2.new.work (λ content m n left right. (m, n, left, one_dict row_work content db plan.index plan.right n right, refl))
     (λ content m n left right. (m, n, left, one_pattern rows content db plan.index plan.right n right, refl)) (as_read old mid c.in_ok-left.left c.in_ok-left.ensures.call) c.places_of_words-2.ensures.call.crash
     c.in_ok-left.ensures.work c.in_ok-right.ensures.work
+
+pub returns-in_err-right-clause-refused : goal.returns-in_err-right-clause-refused
+returns-in_err-right-clause-refused g c =
+    let old = state g.S.Store c.args.connection.now in
+    let mid = state g.S.Store c.places_of_words.new.connection in
+    let new = state g.S.Store c.places_of_words-2.new.connection in
+    let cause = c.in_err-right.field-0.0 in
+    let told : c.from_residual-in_err-right.result ≡ Err cause = search rules in
+    reasoned_error old mid new (as_read old mid c.in_ok-left.left c.in_ok-left.ensures.call) c.places_of_words-2.ensures.call.crash cause c.from_residual-in_err-right.result told c.in_err-right.ensures.refused

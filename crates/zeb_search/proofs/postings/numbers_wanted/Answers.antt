@@ -1,4 +1,4 @@
-use Rattle.std.proofs.Common.{List, sym, subst}
+use Rattle.std.proofs.Common.{rules, List, sym, subst, ◌≡◌, Err}
 use Rattle.std.specs.List.Sorted.{IsStrictlySortedBy}
 use Rattle.sqlite.specs.Held.{state}
 use Rattle.zeb_extract.specs.declared.keys.Key.{Key}
@@ -10,6 +10,7 @@ use Rattle.zeb_search.specs.PrivateTerms.{HasPosting, IsPostingOf, IsWanted, Nam
 use Rattle.zeb_search.proofs.PostingLemmas.{entry_numbers}
 use Rattle.zeb_search.proofs.ReadLemmas.{as_read, clean_before, still_store, still_trees}
 use Rattle.zeb_search.proofs.RowCounts.{keys_counted}
+use Rattle.zeb_search.proofs.Reasons.{reasoned_error}
 use Rattle.zeb_search.proofs.postings.numbers_wanted.Goals as goal
 
 pub returns-clause-value : goal.returns-clause-value
@@ -34,3 +35,12 @@ returns-clause-work g c =
     keys_counted g.L.Layout.format (λ content. EntryDict g.L.Layout.row_work content c.args.database.0 (NamesEntry c.args.wanted) c.args.index c.args.register) g.L.Layout.block_rows c.args.database.0 c.args.index c.args.register (IsWanted c.args.wanted) c.in_ok-keys.keys.items _ c.deref.ensures.value
     old mid (state g.S.Store c.postings_of.new.connection) c.args.work.now c.keys_wanted.new.work c.postings_of.new.work (as_read old mid c.in_ok-keys.keys c.in_ok-keys.ensures.call) c.postings_of.ensures.call.crash
     c.in_ok-keys.ensures.work c.in_ok-keys.ensures.value c.in_ok-postings.ensures.work
+
+pub returns-in_err-postings-clause-refused : goal.returns-in_err-postings-clause-refused
+returns-in_err-postings-clause-refused g c =
+    let old = state g.S.Store c.args.connection.now in
+    let mid = state g.S.Store c.keys_wanted.new.connection in
+    let new = state g.S.Store c.postings_of.new.connection in
+    let cause = c.in_err-postings.field-0.0 in
+    let told : c.from_residual-in_err-postings.result ≡ Err cause = search rules in
+    reasoned_error old mid new (as_read old mid c.in_ok-keys.keys c.in_ok-keys.ensures.call) c.postings_of.ensures.call.crash cause c.from_residual-in_err-postings.result told c.in_err-postings.ensures.refused

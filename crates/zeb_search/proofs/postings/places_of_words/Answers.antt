@@ -12,6 +12,7 @@ use Rattle.zeb_search.specs.Counted.{HasNoStar}
 use Rattle.zeb_search.specs.DictRows.{EntryDict}
 use Rattle.zeb_search.specs.Holds.{Fits}
 use Rattle.zeb_search.proofs.RowCounts.{keys_counted}
+use Rattle.zeb_search.proofs.Reasons.{reasoned_behind}
 use Rattle.zeb_search.proofs.postings.places_of_words.Goals as goal
 
 pub returns-clause-value : goal.returns-clause-value
@@ -35,3 +36,10 @@ returns-clause-work g c =
     (keys_counted g.L.Layout.format (λ content. EntryDict g.L.Layout.row_work content c.args.database.0 (HasNoStar c.args.pattern.now) c.args.index register.Word) g.L.Layout.block_rows c.args.database.0 c.args.index register.Word (Fits c.args.pattern.now) c.in_ok-keys.keys.items _ c.deref.ensures.value
     old mid (state g.S.Store c.postings_of.new.connection) c.args.work.now c.keys_wanted.new.work c.postings_of.new.work (as_read old mid c.in_ok-keys.keys c.in_ok-keys.ensures.call) c.postings_of.ensures.call.crash
     c.in_ok-keys.ensures.work c.in_ok-keys.ensures.value) c.postings_of.ensures.work
+
+pub returns-clause-refused : goal.returns-clause-refused
+returns-clause-refused g c =
+    let old = state g.S.Store c.args.connection.now in
+    let mid = state g.S.Store c.keys_wanted.new.connection in
+    let read = as_read old mid c.in_ok-keys.keys c.in_ok-keys.ensures.call in
+    reasoned_behind old mid (state g.S.Store c.postings_of.new.connection) read c.postings_of.ensures.call.crash c.postings_of.result c.postings_of.ensures.refused

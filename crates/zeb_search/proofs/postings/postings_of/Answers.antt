@@ -1,4 +1,4 @@
-use Rattle.std.proofs.Common.{◌≡◌, ◌∙◌, ◌+◌, ◌++◌, List, arith, get_or, ap, ap₂, refl, sym, subst, take}
+use Rattle.std.proofs.Common.{rules, ◌≡◌, ◌∙◌, ◌+◌, ◌++◌, List, arith, get_or, ap, ap₂, refl, sym, subst, take, Err}
 use Rattle.sqlite.specs.Held.{state}
 use Rattle.sqlite_rules.specs.Lists.{Has}
 use Rattle.zeb_query.proofs.HoldingLemmas.{take_whole}
@@ -11,6 +11,7 @@ use Rattle.zeb_search.proofs.Gathering.{Gathers, gathers_next}
 use Rattle.zeb_search.proofs.ReadLemmas.{clean_before, one_read, read_then, still_store, still_trees}
 use Rattle.zeb_search.proofs.CountedLemmas.{counted_then, list_counts, no_rows_then}
 use Rattle.zeb_search.proofs.RowCounts.{rows_more}
+use Rattle.zeb_search.proofs.Reasons.{reasoned_error}
 use Rattle.zeb_search.proofs.postings.postings_of.Goals as goal
 
 pub loop-key-preserved : goal.loop-key-preserved
@@ -60,3 +61,12 @@ returns-clause-work g c =
     let whole = take_whole c.args.keys.now c.loop-key.key-index (omega (arith, c.loop-key-test.false)) in
     subst (λ (l : List Key). Counted g.L.Layout.format NoRows (λ content n. n ≡ rows_under g.L.Layout.block_rows content c.args.database.0 l) (state g.S.Store c.args.connection.now) (state g.S.Store c.loop-key.connection)
     c.args.work.now c.loop-key.work) whole c.loop-key.invariant.counted
+
+pub returns-in_err-list-clause-refused : goal.returns-in_err-list-clause-refused
+returns-in_err-list-clause-refused g c =
+    let old = state g.S.Store c.args.connection.now in
+    let now = state g.S.Store c.loop-key.connection in
+    let new = state g.S.Store c.key_list.new.conn in
+    let cause = c.in_err-list.field-0.0 in
+    let told : c.from_residual.result ≡ Err cause = search rules in
+    reasoned_error old now new c.loop-key.invariant.read c.key_list.ensures.call.crash cause c.from_residual.result told c.in_err-list.ensures.refused

@@ -1,4 +1,4 @@
-use Rattle.std.proofs.Common.{List, [], ◌≡◌, ◌++◌, ◌∷◌, ◌+◌, ap, arith, subst, sym, take, ◌∙◌}
+use Rattle.std.proofs.Common.{rules, List, [], ◌≡◌, ◌++◌, ◌∷◌, ◌+◌, ap, arith, subst, sym, take, ◌∙◌, Err}
 use Rattle.std.proofs.lemmas.List.{take_more}
 use Rattle.sqlite.specs.Held.{state}
 use Rattle.zeb_query.proofs.HoldingLemmas.{take_whole}
@@ -18,6 +18,7 @@ use Rattle.zeb_search.specs.DictRows.{EntryDict, WordDict}
 use Rattle.zeb_search.proofs.CountedLemmas.{counted_for, counted_then}
 use Rattle.zeb_search.proofs.DictCounts.{dict_behind, one_dict}
 use Rattle.zeb_search.proofs.RowCounts.{one_pattern, pattern_behind}
+use Rattle.zeb_search.proofs.Reasons.{reasoned_error}
 use Rattle.zeb_search.proofs.words.all_words_hits.Goals as goal
 
 pub returns-in_default-clause-value : goal.returns-in_default-clause-value
@@ -107,3 +108,12 @@ returns-clause-work g c =
     let all : first ∷ take c.loop-other.other-index others ≡ c.args.patterns.now = ap (λ (l : List (List Symbol)). first ∷ l) whole ∙ sym c.loop-other.invariant.found.1 in
     subst (λ (l : List (List Symbol)). Counted g.L.Layout.format (λ content. WordDict g.L.Layout.row_work content c.args.database.0 c.args.index l) (λ content. WordRows g.L.Layout.block_rows content c.args.database.0 c.args.index l) (state g.S.Store c.args.connection.now)
     (state g.S.Store c.loop-other.connection) c.args.work.now c.loop-other.work) all (c.loop-other.invariant.counted first c.loop-other.invariant.found.1)
+
+pub returns-in_err-found-clause-refused : goal.returns-in_err-found-clause-refused
+returns-in_err-found-clause-refused g c =
+    let old = state g.S.Store c.args.connection.now in
+    let now = state g.S.Store c.loop-other.connection in
+    let new = state g.S.Store c.numbers_wanted-in-loop-other.new.connection in
+    let cause = c.in_err-found.field-0.0 in
+    let told : c.from_residual-in_err-found.result ≡ Err cause = search rules in
+    reasoned_error old now new c.loop-other.invariant.read c.numbers_wanted-in-loop-other.ensures.call.crash cause c.from_residual-in_err-found.result told c.in_err-found.ensures.refused

@@ -1,4 +1,4 @@
-use Rattle.std.proofs.Common.{List, [], ◌≡◌, ◌++◌, ◌∷◌, ◌+◌, ap, arith, subst, sym, take, refl, ◌∙◌}
+use Rattle.std.proofs.Common.{rules, List, [], ◌≡◌, ◌++◌, ◌∷◌, ◌+◌, ap, arith, subst, sym, take, refl, ◌∙◌, Err}
 use Rattle.std.proofs.lemmas.List.{take_more}
 use Rattle.sqlite.specs.Held.{state}
 use Rattle.zeb_query.proofs.HoldingLemmas.{take_whole}
@@ -18,6 +18,7 @@ use Rattle.zeb_search.specs.DictRows.{EntryDict, WordDict}
 use Rattle.zeb_search.proofs.CountedLemmas.{counted_still, counted_then}
 use Rattle.zeb_search.proofs.DictCounts.{dict_behind}
 use Rattle.zeb_search.proofs.RowCounts.{pattern_behind}
+use Rattle.zeb_search.proofs.Reasons.{reasoned_error}
 use Rattle.zeb_search.proofs.words.any_word_hits.Goals as goal
 
 pub loop-pattern-init : goal.loop-pattern-init
@@ -77,3 +78,12 @@ returns-clause-work g c =
     let whole = take_whole c.args.patterns.now c.loop-pattern.pattern-index (omega (arith, c.loop-pattern-test.false)) in
     subst (λ (l : List (List Symbol)). Counted g.L.Layout.format (λ content. WordDict g.L.Layout.row_work content c.args.database.0 c.args.index l) (λ content. WordRows g.L.Layout.block_rows content c.args.database.0 c.args.index l) (state g.S.Store c.args.connection.now)
     (state g.S.Store c.loop-pattern.connection) c.args.work.now c.loop-pattern.work) whole c.loop-pattern.invariant.counted
+
+pub returns-in_err-found-clause-refused : goal.returns-in_err-found-clause-refused
+returns-in_err-found-clause-refused g c =
+    let old = state g.S.Store c.args.connection.now in
+    let now = state g.S.Store c.loop-pattern.connection in
+    let new = state g.S.Store c.numbers_wanted.new.connection in
+    let cause = c.in_err-found.field-0.0 in
+    let told : c.from_residual.result ≡ Err cause = search rules in
+    reasoned_error old now new c.loop-pattern.invariant.read c.numbers_wanted.ensures.call.crash cause c.from_residual.result told c.in_err-found.ensures.refused

@@ -1,4 +1,4 @@
-use Rattle.std.proofs.Common.{◌≡◌, ◌∙◌, ◌++◌, ◌∷◌, ◌+◌, [], List, ap, subst, sym}
+use Rattle.std.proofs.Common.{rules, ◌≡◌, ◌∙◌, ◌++◌, ◌∷◌, ◌+◌, [], List, ap, subst, sym, Err}
 use Rattle.std.proofs.lemmas.List.{append_assoc, append_cancel_left}
 use Rattle.sqlite.specs.Held.{state}
 use Rattle.zeb_register.specs.Content.{posted}
@@ -16,6 +16,7 @@ use Rattle.zeb_search.proofs.CountedLemmas.{counted_for, counted_then}
 use Rattle.zeb_search.proofs.DictCounts.{dict_before, one_dict}
 use Rattle.zeb_search.proofs.RowCounts.{one_pattern, pattern_before}
 use Rattle.zeb_search.proofs.JustLemmas.{just_same}
+use Rattle.zeb_search.proofs.Reasons.{reasoned_error}
 use Rattle.zeb_search.proofs.words.places_of_phrase.Goals as goal
 
 pub returns-in_default-clause-value : goal.returns-in_default-clause-value
@@ -104,3 +105,12 @@ returns-clause-work g c =
     c.loop-pattern.invariant.behind.2 ∙ ap (λ (l : List (List Symbol)). l ++ rest) (no_patterns c.loop-pattern.others.now c.in_default-split_last.ensures.cases) in
     subst (λ (l : List (List Symbol)). Counted g.L.Layout.format (λ content. WordDict g.L.Layout.row_work content c.args.database.0 c.args.index l) (λ content. WordRows g.L.Layout.block_rows content c.args.database.0 c.args.index l) (state g.S.Store c.args.connection.now)
     (state g.S.Store c.loop-pattern.connection) c.args.work.now c.loop-pattern.work) (sym whole) (c.loop-pattern.invariant.counted rest c.loop-pattern.invariant.behind.2)
+
+pub returns-in_err-starts-clause-refused : goal.returns-in_err-starts-clause-refused
+returns-in_err-starts-clause-refused g c =
+    let old = state g.S.Store c.args.connection.now in
+    let now = state g.S.Store c.loop-pattern.connection in
+    let new = state g.S.Store c.places_of_words-in-Some-split_last.new.connection in
+    let cause = c.in_err-starts.field-0.0 in
+    let told : c.from_residual-in_err-starts.result ≡ Err cause = search rules in
+    reasoned_error old now new c.loop-pattern.invariant.read c.places_of_words-in-Some-split_last.ensures.call.crash cause c.from_residual-in_err-starts.result told c.in_err-starts.ensures.refused
