@@ -27,7 +27,7 @@ use Rattle.sqlite.specs.declared.error.Error.{Error}
 use Rattle.zeb_register.specs.declared.faults.RegFault.TheVariants.{Store}
 use Rattle.zeb_register.specs.Faults.{fault_of}
 use Rattle.zeb_register.specs.Calls.{MayRefuse}
-use Rattle.zeb_register.proofs.Refusals.{IsWhole, IsFit, why_refused}
+use Rattle.zeb_register.proofs.Refusals.{IsWhole, IsFit, IsReasonedQuery, why_refused}
 use Rattle.sqlite.specs.Order.{Row, column}
 use Rattle.sqlite_rules.specs.Lists.{Has}
 
@@ -137,6 +137,18 @@ elder_plain = ((refl, refl), refl)
 pub elder_silent : IsSilent elder_text
 unfolding everything
 elder_silent = λ schema base. refl
+
+elder_whole : IsWhole elder_text 2 (understood store_schema elder_text)
+unfolding understood everything
+elder_whole = (omega arith, refl)
+
+elder_fit : (db : ℤ) (ident : List ℕ) → IsFit (alone (reading 4 elder_wheres (shows elder_shows) [] no_limit)) (Int db ∷ Text ident ∷ [])
+unfolding everything
+elder_fit db ident trees mistyped = absurd (let t : true ≡ false = mistyped in cc)
+
+pub elder_refused : (db : ℤ) (ident : List ℕ) → IsReasonedQuery elder_text (Int db ∷ Text ident ∷ [])
+elder_refused db ident old new e store told failed =
+    why_refused elder_text (Int db ∷ Text ident ∷ []) 4 elder_wheres (shows elder_shows) [] no_limit (codes "sysno" ∷ codes "bytes" ∷ []) elder_is elder_plain.0 elder_plain.1 elder_whole (elder_fit db ident) old new store e told failed
 
 pub lists_elder : (db : ℤ) (ident : List ℕ) (old new : State) (rows : List Row) → IsStore old → Shown elder_text (Int db ∷ Text ident ∷ []) old new rows → IsListOf (IsElderRow db ident old.now.trees) rows
 lists_elder db ident old new rows store shown =
