@@ -1,8 +1,13 @@
 -- Why the store may have failed, one call after the other.
-use Rattle.std.proofs.Common.{◌≡◌, ◌≤◌, ◌∙◌, true, false, IsTrue, IsSome, inl, inr, sym, subst, arith}
+use Rattle.std.proofs.Common.{◌≡◌, ◌∙◌, true, false, IsTrue, IsSome, Result, Err, inl, inr, sym, subst, arith}
 use Rattle.std.proofs.lemmas.Bool.{cases_Bool}
-use Rattle.sqlite.specs.State.{State, Survives}
+use Rattle.sqlite.specs.State.{State, HasCleanDisk, IsUnchanged, Survives}
+use Rattle.zeb_register.specs.declared.faults.RegFault.{RegFault}
+use Rattle.zeb_register.specs.declared.faults.RegFault.TheVariants.{Store}
 use Rattle.zeb_register.specs.Calls.{MayRefuse}
+use Rattle.zeb_register.specs.Clauses.{IsReasoned}
+use Rattle.zeb_register.specs.Store.{IsStore}
+use Rattle.zeb_register.proofs.Calls.{store_same}
 
 -- a call behind others that have left an open connection open
 pub may_after : (old mid new : State) → Survives old mid (λ _. ⊥) → (IsTrue old.is_open → IsTrue mid.is_open)
@@ -15,3 +20,11 @@ may_after old mid new survives opened caused = elim (cases_Bool old.is_open) [
   ]
   | inr shut ↦ inl shut
 ]
+
+-- a call on the tables of a store behind others that changed nothing
+pub reasoned_after : {A : Type 0} (old mid new : State) (result : Result A RegFault) → Survives old mid (λ _. ⊥) → (HasCleanDisk mid → IsUnchanged old mid) → Survives mid new (λ _. ⊥)
+    → IsReasoned mid new result → result ≡ Err Store → HasCleanDisk new → IsStore old → MayRefuse old new
+reasoned_after old mid new result first same next reasoned told clean store =
+    let clean_mid : HasCleanDisk mid = omega (arith, clean, next.clean) in
+    let before = (same clean_mid).0 in
+    may_after old mid new first (λ _. before.is_open) (λ _. reasoned clean (store_same old mid before.now_is store) told)

@@ -3,12 +3,11 @@ use Rattle.std.proofs.Common.{◌≡◌, ◌∙◌, ℕ, pos, true, false, List,
 use Rattle.std.specs.Cmp.Lexicographic.{slice_cmp}
 use Rattle.std.specs.List.Sorted.{IsStrictlySortedBy}
 use Rattle.std.specs.Ordering.{ordering_then}
-use Rattle.sqlite.specs.declared.error.Error.{Error}
 use Rattle.sqlite.specs.declared.types.Value.TheVariants.{Null, Int, Text}
 use Rattle.sqlite.specs.Command.TheVariants.{Select}
 use Rattle.sqlite.specs.Listing.{understood, reads_listing}
 use Rattle.sqlite.specs.Order.{Row, column, row_cmp}
-use Rattle.sqlite.specs.State.{State, Shown, FailsToQuery}
+use Rattle.sqlite.specs.State.{State, Shown}
 use Rattle.sqlite.proofs.Callers.{IsPlain, command_of}
 use Rattle.sqlite_rules.specs.Lists.{Has}
 use Rattle.sqlite_rules.proofs.ListLemmas.{all_from, all_has}
@@ -16,10 +15,7 @@ use Rattle.sqlite_rules.proofs.ProbeLemmas.{has_mapped, mapped_has}
 use Rattle.sqlite_tied.specs.Compute.{everything}
 use Rattle.sqlite_value.proofs.OrderLemmas.{row_cmp_total, value_cmp-Text}
 use Rattle.zeb_register.specs.declared.catalog.ListedDatabase.{ListedDatabase}
-use Rattle.zeb_register.specs.declared.faults.RegFault.TheVariants.{Store}
-use Rattle.zeb_register.specs.Calls.{MayRefuse}
 use Rattle.zeb_register.specs.Catalog.{AreDatabases, AreReadableDatabases, listed_order, listed_row}
-use Rattle.zeb_register.specs.Faults.{fault_of}
 use Rattle.zeb_register.specs.RowPlaces.{first_three}
 use Rattle.zeb_register.specs.RowStatements.{IsDatabaseShown, IsListedRow}
 use Rattle.zeb_register.specs.Sql.{IsListOf}
@@ -28,7 +24,7 @@ use Rattle.zeb_register.specs.Tables.{store_schema}
 use Rattle.zeb_register.proofs.Calls.{IsSilent}
 use Rattle.zeb_register.proofs.DatabaseStatements.{database_row, databases, databases_keys, databases_static, one_name}
 use Rattle.zeb_register.proofs.Falling.{alone_first}
-use Rattle.zeb_register.proofs.Refusals.{IsWhole, IsFit, why_refused}
+use Rattle.zeb_register.proofs.Refusals.{IsWhole, IsFit, IsReasonedQuery, why_refused}
 use Rattle.zeb_register.proofs.RisingLists.{never_itself}
 use Rattle.zeb_register.proofs.RowLemmas.{same_bytes}
 use Rattle.zeb_register.proofs.RowsAreLists.{one_last}
@@ -67,7 +63,7 @@ list_fit : IsFit (alone (reading 2 [] (shows list_shows) (2 ∷ []) no_limit)) [
 unfolding everything
 list_fit trees mistyped = absurd (let t : true ≡ false = mistyped in cc)
 
-pub list_refused : (old new : State) (e : Error) → IsStore old → fault_of e ≡ Store → FailsToQuery list_text [] old new e → MayRefuse old new
+pub list_refused : IsReasonedQuery list_text []
 list_refused old new e store told failed =
     why_refused list_text [] 2 [] (shows list_shows) (rising (2 ∷ [])) no_limit list_names list_is list_plain.0 list_plain.1 list_whole list_fit old new store e told failed
 

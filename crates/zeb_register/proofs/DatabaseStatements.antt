@@ -20,12 +20,7 @@ use Rattle.zeb_register.proofs.Writes.{next_free, GainsRow, LosesRows, RemakesRo
 use Rattle.zeb_register.proofs.RowLemmas.{null_of, spread, code_at, int_of, text_of}
 use Rattle.zeb_register.proofs.Selects.{IsSelected, selects, list_so}
 use Rattle.zeb_register.proofs.Calls.{IsSilent}
-use Rattle.sqlite.specs.State.{FailsToQuery}
-use Rattle.sqlite.specs.declared.error.Error.{Error}
-use Rattle.zeb_register.specs.declared.faults.RegFault.TheVariants.{Store}
-use Rattle.zeb_register.specs.Faults.{fault_of}
-use Rattle.zeb_register.specs.Calls.{MayRefuse}
-use Rattle.zeb_register.proofs.Refusals.{IsWhole, IsFit, why_refused}
+use Rattle.zeb_register.proofs.Refusals.{IsWhole, IsFit, IsReasonedQuery, why_refused}
 use Rattle.sqlite.specs.Order.{Row, column}
 use Rattle.sqlite.specs.Tree.{Trees}
 use Rattle.sqlite_rules.specs.Lists.{Has}
@@ -177,7 +172,7 @@ named_fit : (name : List ℕ) → IsFit (alone (reading 2 named_wheres (shows na
 unfolding everything
 named_fit name trees mistyped = absurd (let t : true ≡ false = mistyped in cc)
 
-pub named_refused : (name : List ℕ) (old new : State) (e : Error) → IsStore old → fault_of e ≡ Store → FailsToQuery named_text (Text name ∷ []) old new e → MayRefuse old new
+pub named_refused : (name : List ℕ) → IsReasonedQuery named_text (Text name ∷ [])
 named_refused name old new e store told failed = why_refused named_text (Text name ∷ []) 2 named_wheres (shows named_shows) [] no_limit (codes "id" ∷ codes "last" ∷ []) named_is named_plain.0 named_plain.1 named_whole (named_fit name) old new store e told failed
 
 pub lists_named : (name : List ℕ) (old new : State) (rows : List Row) → IsStore old → Shown named_text (Text name ∷ []) old new rows → IsListOf (IsDatabaseRow old.now.trees name) rows

@@ -53,17 +53,17 @@ pub key_silent : IsSilent key_text
 unfolding everything
 key_silent = λ schema base. refl
 
-key_whole : IsWhole key_text 4 (understood store_schema key_text)
+blocks_whole : IsWhole key_text 4 (understood store_schema key_text)
 unfolding understood everything
-key_whole = (omega arith, refl)
+blocks_whole = (omega arith, refl)
 
-key_fit : (db idx reg : ℤ) (term : List ℕ) → IsFit (alone (reading 9 (keyed_from 1 0 4) (shows key_columns) (5 ∷ []) no_limit)) (key_of db idx reg term)
+blocks_fit : (db idx reg : ℤ) (term : List ℕ) → IsFit (alone (reading 9 (keyed_from 1 0 4) (shows key_columns) (5 ∷ []) no_limit)) (key_of db idx reg term)
 unfolding everything
-key_fit db idx reg term trees mistyped = absurd (let t : true ≡ false = mistyped in cc)
+blocks_fit db idx reg term trees mistyped = absurd (let t : true ≡ false = mistyped in cc)
 
 pub blocks_refused : (db idx reg : ℤ) (term : List ℕ) → IsReasonedQuery key_text (key_of db idx reg term)
 blocks_refused db idx reg term old new e store told failed =
-    why_refused key_text (key_of db idx reg term) 9 (keyed_from 1 0 4) (shows key_columns) (rising (5 ∷ [])) no_limit key_names key_is key_plain.0 key_plain.1 key_whole (key_fit db idx reg term) old new store e told failed
+    why_refused key_text (key_of db idx reg term) 9 (keyed_from 1 0 4) (shows key_columns) (rising (5 ∷ [])) no_limit key_names key_is key_plain.0 key_plain.1 blocks_whole (blocks_fit db idx reg term) old new store e told failed
 
 pub lists_blocks : (db idx reg : ℤ) (term : List ℕ) (old new : State) (rows : List Row) → IsStore old → Shown key_text (key_of db idx reg term) old new rows
     → IsListOf (IsRest blocks_tree (key_of db idx reg term) old.now.trees) rows

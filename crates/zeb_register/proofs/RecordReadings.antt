@@ -9,12 +9,11 @@ use Rattle.std.proofs.lemmas.List.{length-map}
 use Rattle.std.proofs.lemmas.List.Sorted.{length_permutation}
 use Rattle.sqlite.specs.declared.types.Value.{Value}
 use Rattle.sqlite.specs.declared.types.Value.TheVariants.{Null, Int, Real, Text, Blob}
-use Rattle.sqlite.specs.declared.error.Error.{Error}
 use Rattle.sqlite.specs.Order.{Row, column, value_cmp}
 use Rattle.sqlite.specs.Query.{IsAnswer, Output, matches_as, output}
 use Rattle.sqlite.specs.Program.{overlay}
 use Rattle.sqlite.specs.Effect.{Answers, Database, IsDatabase}
-use Rattle.sqlite.specs.State.{FailsToQuery, Shown, State}
+use Rattle.sqlite.specs.State.{Shown, State}
 use Rattle.sqlite.specs.Term.{Env, eval, holds, lit}
 use Rattle.sqlite.specs.Tree.{rowid}
 use Rattle.sqlite.specs.Command.TheVariants.{Select}
@@ -30,9 +29,6 @@ use Rattle.sqlite_sql.specs.declared.aggregate.AggregateOp.TheVariants.{CountRow
 use Rattle.sqlite_sql.specs.Group.{Aggregate, Grouping, IsSummary, value_over}
 use Rattle.sqlite_tied.specs.Compute.{everything}
 use Rattle.sqlite_tied.specs.Listing.{counting}
-use Rattle.zeb_register.specs.declared.faults.RegFault.TheVariants.{Store}
-use Rattle.zeb_register.specs.Calls.{MayRefuse}
-use Rattle.zeb_register.specs.Faults.{fault_of}
 use Rattle.zeb_register.specs.Kept.{IsNumberOf}
 use Rattle.zeb_register.specs.RowStatements.{IsRestAtLeast, ShowsCount}
 use Rattle.zeb_register.specs.Sql.{IsListOf}
@@ -247,5 +243,5 @@ from_fit : (db start : ℤ) → IsFit (alone (reading 4 (keyed_from 1 0 1 ++ fro
 unfolding everything
 from_fit db start trees mistyped = absurd (let t : true ≡ false = mistyped in cc)
 
-pub from_refused : (db start : ℤ) (old new : State) (e : Error) → IsStore old → fault_of e ≡ Store → FailsToQuery from_text (Int db ∷ Int start ∷ []) old new e → MayRefuse old new
+pub from_refused : (db start : ℤ) → IsReasonedQuery from_text (Int db ∷ Int start ∷ [])
 from_refused db start old new e store told failed = why_refused from_text (Int db ∷ Int start ∷ []) 4 (keyed_from 1 0 1 ++ from_more) (shows (2 ∷ 3 ∷ 4 ∷ [])) (rising (2 ∷ [])) one_row from_names from_is from_plain.0 from_plain.1 from_whole (from_fit db start) old new store e told failed

@@ -22,12 +22,7 @@ use Rattle.zeb_register.proofs.RowLemmas.{spread, code_at, int_of, text_of, blob
 use Rattle.zeb_register.proofs.Selects.{IsSelected, selects, list_so}
 use Rattle.zeb_register.proofs.Prefix.{IsAfter, lists_after}
 use Rattle.zeb_register.proofs.Calls.{IsSilent}
-use Rattle.sqlite.specs.State.{FailsToQuery}
-use Rattle.sqlite.specs.declared.error.Error.{Error}
-use Rattle.zeb_register.specs.declared.faults.RegFault.TheVariants.{Store}
-use Rattle.zeb_register.specs.Faults.{fault_of}
-use Rattle.zeb_register.specs.Calls.{MayRefuse}
-use Rattle.zeb_register.proofs.Refusals.{IsWhole, IsFit, why_refused}
+use Rattle.zeb_register.proofs.Refusals.{IsWhole, IsFit, IsReasonedQuery, why_refused}
 use Rattle.sqlite.specs.Order.{Row, column}
 use Rattle.sqlite_rules.specs.Lists.{Has}
 
@@ -138,6 +133,18 @@ pub elder_silent : IsSilent elder_text
 unfolding everything
 elder_silent = λ schema base. refl
 
+elder_whole : IsWhole elder_text 2 (understood store_schema elder_text)
+unfolding understood everything
+elder_whole = (omega arith, refl)
+
+elder_fit : (db : ℤ) (ident : List ℕ) → IsFit (alone (reading 4 elder_wheres (shows elder_shows) [] no_limit)) (Int db ∷ Text ident ∷ [])
+unfolding everything
+elder_fit db ident trees mistyped = absurd (let t : true ≡ false = mistyped in cc)
+
+pub elder_refused : (db : ℤ) (ident : List ℕ) → IsReasonedQuery elder_text (Int db ∷ Text ident ∷ [])
+elder_refused db ident old new e store told failed =
+    why_refused elder_text (Int db ∷ Text ident ∷ []) 4 elder_wheres (shows elder_shows) [] no_limit (codes "sysno" ∷ codes "bytes" ∷ []) elder_is elder_plain.0 elder_plain.1 elder_whole (elder_fit db ident) old new store e told failed
+
 pub lists_elder : (db : ℤ) (ident : List ℕ) (old new : State) (rows : List Row) → IsStore old → Shown elder_text (Int db ∷ Text ident ∷ []) old new rows → IsListOf (IsElderRow db ident old.now.trees) rows
 lists_elder db ident old new rows store shown =
     let all = old.now.trees 4 in
@@ -176,7 +183,7 @@ ident_fit : (db sysno : ℤ) → IsFit (alone (reading 4 number_wheres (shows (3
 unfolding everything
 ident_fit db sysno trees mistyped = absurd (let t : true ≡ false = mistyped in cc)
 
-pub ident_refused : (db sysno : ℤ) (old new : State) (e : Error) → IsStore old → fault_of e ≡ Store → FailsToQuery ident_text (Int db ∷ Int sysno ∷ []) old new e → MayRefuse old new
+pub ident_refused : (db sysno : ℤ) → IsReasonedQuery ident_text (Int db ∷ Int sysno ∷ [])
 ident_refused db sysno old new e store told failed = why_refused ident_text (Int db ∷ Int sysno ∷ []) 4 number_wheres (shows (3 ∷ [])) [] no_limit (codes "ident" ∷ []) ident_is ident_plain.0 ident_plain.1 ident_whole (ident_fit db sysno) old new store e told failed
 
 pub lists_ident : (db sysno : ℤ) (old new : State) (rows : List Row) → IsStore old → Shown ident_text (Int db ∷ Int sysno ∷ []) old new rows → IsListOf (IsIdentRow db sysno old.now.trees) rows
@@ -217,7 +224,7 @@ all_fit : (db : ℤ) → IsFit (alone (reading 4 (keyed_from 1 0 1) (shows (2 �
 unfolding everything
 all_fit db trees mistyped = absurd (let t : true ≡ false = mistyped in cc)
 
-pub all_refused : (db : ℤ) (old new : State) (e : Error) → IsStore old → fault_of e ≡ Store → FailsToQuery all_text (Int db ∷ []) old new e → MayRefuse old new
+pub all_refused : (db : ℤ) → IsReasonedQuery all_text (Int db ∷ [])
 all_refused db old new e store told failed = why_refused all_text (Int db ∷ []) 4 (keyed_from 1 0 1) (shows (2 ∷ 3 ∷ 4 ∷ [])) (rising (2 ∷ [])) no_limit (codes "sysno" ∷ codes "ident" ∷ codes "bytes" ∷ []) all_is all_plain.0 all_plain.1 all_whole (all_fit db) old new store e told failed
 
 first_lower : (o p : Ordering) → ordering_then o Equal ≡ Less → ordering_then o p ≡ Less

@@ -1,5 +1,5 @@
 -- Why a query that fits the tables is refused.
-use Rattle.std.proofs.Common.{◌≡◌, ◌∙◌, ◌≤◌, ℕ, List, length, Ok, Err, Result, inl, inr, None, false, sym, ap, subst, subst₂, append-nil}
+use Rattle.std.proofs.Common.{◌≡◌, ◌⊎◌, ◌∙◌, ◌≤◌, ℕ, List, length, Ok, Err, Result, IsTrue, inl, inr, None, true, false, sym, ap, subst, subst₂, append-nil}
 use Rattle.sqlite.specs.Order.{Row}
 use Rattle.sqlite.specs.Tree.{Trees}
 use Rattle.sqlite_schema.specs.declared.program.Program.{Program}
@@ -10,7 +10,7 @@ use Rattle.sqlite_value.specs.declared.keys.Key.{Key}
 use Rattle.sqlite.specs.Command.TheVariants.{Select}
 use Rattle.sqlite.specs.Effect.{IsShown, RefusesToRead}
 use Rattle.sqlite.specs.Listing.{understood, reads_listing, IsSourceOf}
-use Rattle.sqlite.specs.State.{State, HasCause, FailsToQuery, IsNotRun, store_error}
+use Rattle.sqlite.specs.State.{State, HasCause, FailsToQuery, IsNotRun, IsTooLate, store_error}
 use Rattle.sqlite.specs.declared.error.Error.{Error}
 use Rattle.sqlite.proofs.Callers.{IsPlain, command_of}
 use Rattle.sqlite_resolve.specs.declared.compiled.Compiled.{Compiled}
@@ -40,6 +40,11 @@ IsSure q params = (trees : Trees) → ¬ QueryOverflows q trees params
 -- on the tables of a store a failure of it at this query has a reason
 abbrev pub IsReasonedQuery : List ℕ → Row → Type 1
 IsReasonedQuery sql params = (old new : State) (e : Error) → IsStore old → fault_of e ≡ Store → FailsToQuery sql params old new e → MayRefuse old new
+
+-- a query inside a transaction that goes on fails as any other
+pub not_late : (sql : List ℕ) (params : Row) (old new : State) (e : Error) → IsTrue old.in_transaction → FailsToQuery sql params old new e ⊎ IsTooLate sql params old new e → FailsToQuery sql params old new e
+not_late sql params old new e inside (inl failed) = failed
+not_late sql params old new e inside (inr late) = absurd (let ended : true ≡ false = sym inside ∙ late.3 in cc)
 
 by_cause : (old new : State) (kind : StoreError) → fault_of (store_error kind) ≡ Store → HasCause old new ⊥ kind → MayRefuse old new
 by_cause old new cause.OutOfMemory told h = absurd cc

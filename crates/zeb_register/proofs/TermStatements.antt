@@ -6,8 +6,7 @@ use Rattle.sqlite.specs.declared.types.Value.{Value}
 use Rattle.sqlite.specs.declared.types.Value.TheVariants.{Int, Text}
 use Rattle.sqlite.specs.Order.{Row, column, value_cmp}
 use Rattle.sqlite.specs.Tree.{Trees}
-use Rattle.sqlite.specs.State.{State, Shown, FailsToQuery}
-use Rattle.sqlite.specs.declared.error.Error.{Error}
+use Rattle.sqlite.specs.State.{State, Shown}
 use Rattle.sqlite.specs.Term.{Term, col, lit}
 use Rattle.sqlite.specs.Command.TheVariants.{Select}
 use Rattle.sqlite.specs.Listing.{understood, reads_listing}
@@ -16,9 +15,6 @@ use Rattle.sqlite_tied.specs.Compute.{everything}
 use Rattle.sqlite_value.specs.declared.keys.Key.{Key}
 use Rattle.sqlite_value.proofs.OrderLemmas.{value_cmp-Text, then-Equal}
 use Rattle.sqlite_rules.specs.Lists.{Has}
-use Rattle.zeb_register.specs.declared.faults.RegFault.TheVariants.{Store}
-use Rattle.zeb_register.specs.Calls.{MayRefuse}
-use Rattle.zeb_register.specs.Faults.{fault_of}
 use Rattle.zeb_register.specs.Tables.{store_schema}
 use Rattle.zeb_register.proofs.StatementForms.{Condition, equals, at_least, less_than, MeetsAll, passes, reading, reading_by, alone, shows, ascending, descending, one_row}
 use Rattle.zeb_register.proofs.ValueKinds.{code, codes_of}
@@ -61,7 +57,7 @@ nothing_fit : IsFit (alone (reading 7 [] (shows (4 ∷ [])) [] (lit (Int (pos 0)
 unfolding everything
 nothing_fit trees mistyped = absurd (let t : true ≡ false = mistyped in cc)
 
-pub nothing_refused : (old new : State) (e : Error) → IsStore old → fault_of e ≡ Store → FailsToQuery nothing_text [] old new e → MayRefuse old new
+pub nothing_refused : IsReasonedQuery nothing_text []
 nothing_refused old new e store told failed =
     why_refused nothing_text [] 7 [] (shows (4 ∷ [])) [] (lit (Int (pos 0))) (codes "term" ∷ []) nothing_is nothing_plain.0 nothing_plain.1 nothing_whole nothing_fit old new store e told failed
 

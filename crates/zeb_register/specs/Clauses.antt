@@ -65,9 +65,15 @@ IsOpenDamageInside old new result = HasCleanDisk new → IsTrue old.in_transacti
 abbrev pub IsReasoned : {A : Type 0} → State → State → Result A RegFault → Type 0
 IsReasoned old new result = HasCleanDisk new → IsStore old → result ≡ Err Store → MayRefuse old new
 
+abbrev pub IsReasonedInside : {A : Type 0} → State → State → Result A RegFault → Type 0
+IsReasonedInside old new result = InStore old new (λ _. result ≡ Err Store → MayRefuse old new)
+
 -- the same, of a statement whose error is told as that refusal
 abbrev pub IsReasonedError : {A : Type 0} → State → State → Result A Error → Type 0
 IsReasonedError old new result = OnStore old new (λ _. IfErr result (λ e. fault_of e ≡ Store → MayRefuse old new))
+
+abbrev pub IsReasonedErrorInside : {A : Type 0} → State → State → Result A Error → Type 0
+IsReasonedErrorInside old new result = InStore old new (λ _. IfErr result (λ e. fault_of e ≡ Store → MayRefuse old new))
 
 -- ---- calls on tables that hold a content in some format
 

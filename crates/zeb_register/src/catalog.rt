@@ -13,7 +13,7 @@ ghost use Rattle.sqlite_rules.specs.Lists.{Has};
 ghost use Rattle.zeb_register.specs.Calls.{GoesOn, OnlyReads, Inside, Reading};
 ghost use Rattle.zeb_register.specs.Clauses.{Writes};
 ghost use Rattle.zeb_register.specs.Clauses.{ChangesTable, InStore, IsHonest, IsHonestInside, IsOpenDamage, IsOpenDamageInside};
-ghost use Rattle.zeb_register.specs.Clauses.{IsReasoned, Tells, TellsInside};
+ghost use Rattle.zeb_register.specs.Clauses.{IsReasoned, IsReasonedInside, Tells, TellsInside};
 
 use crate::RegFault;
 use crate::statements::databases::{
@@ -104,6 +104,7 @@ pub fn databases_inside<S: Alter>(
         (λ trees list. AreDatabases trees list.items) }
     ensures honest { IsHonestInside (state S.Store tx.old.conn.now) (state S.Store tx.new.conn.now) result AreReadableDatabases }
     ensures opened { IsOpenDamageInside (state S.Store tx.old.conn.now) (state S.Store tx.new.conn.now) result }
+    ensures refused { IsReasonedInside (state S.Store tx.old.conn.now) (state S.Store tx.new.conn.now) result }
 {
     let rows = listed_rows_inside(tx)?;
     databases_in(alloc, &rows)

@@ -13,7 +13,7 @@ ghost use Rattle.zeb_register.specs.Kept.{IsFirstFrom, IsRecordCount};
 ghost use Rattle.zeb_register.specs.RowStatements.{IsRecordShown};
 ghost use Rattle.zeb_register.specs.Calls.{OnlyReads, Inside, Reading};
 ghost use Rattle.zeb_register.specs.Clauses.{Writes};
-ghost use Rattle.zeb_register.specs.Clauses.{InStore, IsHonest, IsHonestInside, IsOpenDamage, IsOpenDamageInside, IsReasoned};
+ghost use Rattle.zeb_register.specs.Clauses.{InStore, IsHonest, IsHonestInside, IsOpenDamage, IsOpenDamageInside, IsReasoned, IsReasonedInside};
 ghost use Rattle.zeb_register.specs.Clauses.{OnStore, Tells, TellsInside};
 
 use crate::statements::inside::{nothing_inside, rows_from_inside};
@@ -95,6 +95,7 @@ pub fn record_of_ident<S: Alter>(
     ensures honest { IsHonestInside (state S.Store tx.old.conn.now) (state S.Store tx.new.conn.now) result
         (λ trees. AreNumbered trees db.0 ident.now) }
     ensures opened { IsOpenDamageInside (state S.Store tx.old.conn.now) (state S.Store tx.new.conn.now) result }
+    ensures refused { IsReasonedInside (state S.Store tx.old.conn.now) (state S.Store tx.new.conn.now) result }
 {
     let rows = elder_rows(tx, db.column(), ident)?;
     match rows.first() {
@@ -199,6 +200,7 @@ pub fn record_from_inside<S: Alter>(
     ensures honest { IsHonestInside (state S.Store tx.old.conn.now) (state S.Store tx.new.conn.now) result
         (λ trees. AreReadable trees db.0) }
     ensures opened { IsOpenDamageInside (state S.Store tx.old.conn.now) (state S.Store tx.new.conn.now) result }
+    ensures refused { IsReasonedInside (state S.Store tx.old.conn.now) (state S.Store tx.new.conn.now) result }
 {
     let Ok(start) = stored(start) else {
         // A closed connection is refused for such a number too.

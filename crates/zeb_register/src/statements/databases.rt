@@ -6,7 +6,7 @@ ghost use Rattle.zeb_register.specs.Store.{databases_tree, TakesDatabase};
 ghost use Rattle.zeb_register.specs.RowStatements.{AddsDatabase, SetsLast, IsDatabaseRow, IsListedRow, Lists, ListsInside};
 ghost use Rattle.zeb_register.specs.Calls.{Alters, Inside, Reading};
 ghost use Rattle.zeb_register.specs.Clauses.{Writes};
-ghost use Rattle.zeb_register.specs.Clauses.{IsReasonedError};
+ghost use Rattle.zeb_register.specs.Clauses.{IsReasonedError, IsReasonedErrorInside};
 
 use crate::RegFault;
 use sqlite::{Alter, Connection, Error, Row, Transaction, params};
@@ -55,6 +55,7 @@ pub(crate) fn listed_rows_inside<S: Alter>(tx: &mut Transaction<'_, S>) -> Resul
     ensures same { tx.new.conn.ghost_name ≡ tx.old.conn.ghost_name }
     ensures call { Inside (state S.Store tx.old.conn.now) (state S.Store tx.new.conn.now) result
         (λ rows a b. ListsInside IsListedRow a b rows.items) }
+    ensures err { IsReasonedErrorInside (state S.Store tx.old.conn.now) (state S.Store tx.new.conn.now) result }
 {
     tx.query_all("SELECT name, id, last FROM databases ORDER BY name", &[])
 }

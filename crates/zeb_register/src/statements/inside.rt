@@ -4,17 +4,20 @@ ghost use Rattle.std.specs.Prelude.{◌≡◌, List, [], ◌∷◌, take};
 ghost use Rattle.sqlite.specs.Held.{state};
 ghost use Rattle.sqlite.specs.declared.types.Value.TheVariants.{Int};
 ghost use Rattle.zeb_register.specs.Calls.{Inside, OnlyReads};
+ghost use Rattle.zeb_register.specs.Clauses.{IsReasonedErrorInside};
 ghost use Rattle.zeb_register.specs.RowStatements.{IsRestAtLeast};
 ghost use Rattle.zeb_register.specs.RowTerms.{ReadsInside};
 ghost use Rattle.zeb_register.specs.Sql.{IsListOf};
 ghost use Rattle.zeb_register.specs.Store.{records_tree};
 
+use crate::RegFault;
 use sqlite::{Alter, Error, Row, Transaction, params};
 
 /// Reads nothing. It is refused where the connection is closed.
 pub(crate) fn nothing_inside<S: Alter>(tx: &mut Transaction<'_, S>) -> Result<(), Error>
     ensures same { tx.new.conn.ghost_name ≡ tx.old.conn.ghost_name }
     ensures call { Inside (state S.Store tx.old.conn.now) (state S.Store tx.new.conn.now) result (λ _. OnlyReads) }
+    ensures err { IsReasonedErrorInside (state S.Store tx.old.conn.now) (state S.Store tx.new.conn.now) result }
 {
     tx.query_all("SELECT term FROM postings LIMIT 0", &[])?;
     Ok(())
@@ -30,6 +33,7 @@ pub(crate) fn rows_from_inside<S: Alter>(
     ensures call { Inside (state S.Store tx.old.conn.now) (state S.Store tx.new.conn.now) result
         (λ rows a b. ReadsInside (λ trees rows. (all : List _) × IsListOf (IsRestAtLeast records_tree (Int db ∷ []) start trees) all
         × (rows ≡ take 1 all)) a b rows.items) }
+    ensures err { IsReasonedErrorInside (state S.Store tx.old.conn.now) (state S.Store tx.new.conn.now) result }
 {
     tx.query_all(
         "SELECT sysno, ident, bytes FROM records WHERE db = ?1 AND sysno >= ?2 ORDER BY sysno LIMIT 1",

@@ -9,7 +9,7 @@ ghost use Rattle.zeb_register.specs.RowStatements.{IsElderRow, IsIdentRow, IsRes
 ghost use Rattle.zeb_register.specs.RowTerms.{Reads};
 ghost use Rattle.zeb_register.specs.Calls.{Inside, Reading};
 ghost use Rattle.zeb_register.specs.Clauses.{Writes};
-ghost use Rattle.zeb_register.specs.Clauses.{IsReasonedError};
+ghost use Rattle.zeb_register.specs.Clauses.{IsReasonedError, IsReasonedErrorInside};
 
 use crate::RegFault;
 use sqlite::{Alter, Connection, Error, Row, Transaction, params};
@@ -60,6 +60,7 @@ pub(crate) fn elder_rows<S: Alter>(
     ensures same { tx.new.conn.ghost_name ≡ tx.old.conn.ghost_name }
     ensures call { Inside (state S.Store tx.old.conn.now) (state S.Store tx.new.conn.now) result
         (λ rows a b. ListsInside (IsElderRow db ident.now) a b rows.items) }
+    ensures err { IsReasonedErrorInside (state S.Store tx.old.conn.now) (state S.Store tx.new.conn.now) result }
 {
     tx.query_all(
         "SELECT sysno, bytes FROM records WHERE db = ?1 AND ident = ?2",

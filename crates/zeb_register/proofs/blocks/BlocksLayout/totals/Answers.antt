@@ -17,7 +17,7 @@ use Rattle.zeb_register.specs.Sql.{IsListOf}
 use Rattle.zeb_register.specs.Tallies.{Rises, Works}
 use Rattle.zeb_register.proofs.Calls.{nothing_then, store_same}
 use Rattle.zeb_register.proofs.CallsInTurn.{quiet_then}
-use Rattle.zeb_register.proofs.Causes.{may_after}
+use Rattle.zeb_register.proofs.Causes.{reasoned_after}
 use Rattle.zeb_register.proofs.ContentLemmas.{has_at, one_list}
 use Rattle.zeb_register.proofs.OccurringLemmas.{one_terms}
 use Rattle.zeb_register.proofs.PackedTerms.{same_terms}
@@ -62,11 +62,7 @@ returns-in_err-more-clause-honest g c clean store is content texts holds =
 
 pub returns-in_err-more-clause-refused : goal.returns-in_err-more-clause-refused
 returns-in_err-more-clause-refused g c clean store is =
-    let s0 = state g.S.Store c.args.conn.now in
-    let s1 = state g.S.Store c.loop-term.conn in
-    let clean1 : HasCleanDisk s1 = omega (arith, c.term_postings.ensures.call.crash.clean) in
-    let before = (c.loop-term.invariant.ok clean1).0 in
-    may_after s0 s1 (state g.S.Store c.term_postings.new.conn) c.loop-term.invariant.crash (λ _. before.is_open) (λ _. c.in_err-more.ensures.refused clean (store_same s0 s1 before.now_is store) (search rules))
+    reasoned_after (state g.S.Store c.args.conn.now) (state g.S.Store c.loop-term.conn) (state g.S.Store c.term_postings.new.conn) _ c.loop-term.invariant.crash c.loop-term.invariant.ok c.term_postings.ensures.call.crash c.in_err-more.ensures.refused (search rules) clean store
 
 pub loop-term-preserved : goal.loop-term-preserved
 loop-term-preserved g c =

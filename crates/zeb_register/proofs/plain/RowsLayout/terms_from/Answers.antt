@@ -9,7 +9,7 @@ use Rattle.zeb_register.specs.RowTerms.{IsLeastTerm}
 use Rattle.sqlite.proofs.Callers.{unchanged_then}
 use Rattle.zeb_register.proofs.Calls.{nothing_then, store_same}
 use Rattle.zeb_register.proofs.CallsInTurn.{quiet_then}
-use Rattle.zeb_register.proofs.Causes.{may_after}
+use Rattle.zeb_register.proofs.Causes.{reasoned_after}
 use Rattle.zeb_register.proofs.TermLists.{from_step, from_whole, from_end}
 use Rattle.zeb_register.proofs.TermRows.{held_terms}
 use Rattle.zeb_register.proofs.plain.RowsLayout.terms_from.Goals as goal
@@ -40,22 +40,16 @@ returns-in_err-count-clause-honest g c clean store is content texts holds =
 
 pub returns-in_err-term-clause-refused : goal.returns-in_err-term-clause-refused
 returns-in_err-term-clause-refused g c clean store is =
-    let s0 = state g.S.Store c.args.conn.now in
-    let s1 = state g.S.Store c.loop-done.conn in
-    let clean1 : HasCleanDisk s1 = omega (arith, c.term_from.ensures.call.crash.clean) in
-    let before = (c.loop-done.invariant.ok clean1).0 in
-    may_after s0 s1 (state g.S.Store c.term_from.new.conn) c.loop-done.invariant.crash (λ _. before.is_open) (λ _. c.in_err-term.ensures.refused clean (store_same s0 s1 before.now_is store) (search rules))
+    reasoned_after (state g.S.Store c.args.conn.now) (state g.S.Store c.loop-done.conn) (state g.S.Store c.term_from.new.conn) _ c.loop-done.invariant.crash c.loop-done.invariant.ok c.term_from.ensures.call.crash c.in_err-term.ensures.refused (search rules) clean store
 
 pub returns-in_err-count-clause-refused : goal.returns-in_err-count-clause-refused
 returns-in_err-count-clause-refused g c clean store is =
     let s0 = state g.S.Store c.args.conn.now in
     let s1 = state g.S.Store c.loop-done.conn in
     let s2 = state g.S.Store c.term_from.new.conn in
-    let clean2 : HasCleanDisk s2 = omega (arith, c.term_count.ensures.call.crash.clean) in
-    let clean1 : HasCleanDisk s1 = omega (arith, clean2, c.term_from.ensures.call.crash.clean) in
-    let before = (unchanged_then s0 s1 s2 (c.loop-done.invariant.ok clean1) (c.in_ok-term.ensures.call.ok clean2)).0 in
-    may_after s0 s2 (state g.S.Store c.term_count.new.conn) (quiet_then s0 s1 s2 c.loop-done.invariant.crash c.term_from.ensures.call.crash) (λ _. before.is_open)
-    (λ _. c.in_err-count.ensures.refused clean (store_same s0 s2 before.now_is store) (search rules))
+    let clean_a = λ (clean2 : HasCleanDisk (state g.S.Store c.term_from.new.conn)). (let e : HasCleanDisk (state g.S.Store c.loop-done.conn) = omega (arith, clean2, c.term_from.ensures.call.crash.clean) in e) in
+    reasoned_after s0 s2 (state g.S.Store c.term_count.new.conn) _ (quiet_then s0 s1 s2 c.loop-done.invariant.crash c.term_from.ensures.call.crash)
+    (λ clean2. unchanged_then s0 s1 s2 (c.loop-done.invariant.ok (clean_a clean2)) (c.in_ok-term.ensures.call.ok clean2)) c.term_count.ensures.call.crash c.in_err-count.ensures.refused (search rules) clean store
 
 pub loop-done-preserved : goal.loop-done-preserved
 loop-done-preserved g c =

@@ -1,3 +1,5 @@
+use Rattle.std.proofs.lemmas.Result.{IfErr-weaker}
+use Rattle.zeb_register.proofs.Refusals.{not_late}
 use Rattle.std.proofs.Common.{rules, ◌≡◌, List, [], ◌∷◌, take}
 use Rattle.std.proofs.Math.Facts.{to_z-of_z}
 use Rattle.sqlite.specs.Order.{Row}
@@ -6,7 +8,7 @@ use Rattle.zeb_register.specs.RowStatements.{IsRestAtLeast}
 use Rattle.zeb_register.specs.Sql.{IsListOf}
 use Rattle.zeb_register.specs.Store.{records_tree}
 use Rattle.zeb_register.proofs.Calls.{read_inside, query_keeps}
-use Rattle.zeb_register.proofs.RecordReadings.{from_silent, lists_from}
+use Rattle.zeb_register.proofs.RecordReadings.{from_refused, from_silent, lists_from}
 use Rattle.zeb_register.proofs.statements.inside.rows_from_inside.Goals as goal
 
 pub returns-clause-call : goal.returns-clause-call
@@ -16,3 +18,6 @@ returns-clause-call g c = record {
   err = λ clean inside. query_keeps _ _ _ _ c.query_all.result from_silent (c.query_all.ensures.err clean);
   crash = search rules;
 }
+
+pub returns-clause-err : goal.returns-clause-err
+returns-clause-err g c clean inside store = IfErr-weaker c.query_all.result _ _ (λ e failed told. from_refused c.args.db c.args.start _ _ e store told (not_late _ _ _ _ e inside (simp (c.params-to_sql.ensures, c.params-to_sql-2.ensures, to_z-of_z, c.ranges.db, c.ranges.start) at failed))) (c.query_all.ensures.err clean)
