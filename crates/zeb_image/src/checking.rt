@@ -5,6 +5,7 @@ ghost use Rattle.sqlite.specs.Held.{state};
 ghost use Rattle.sqlite.specs.State.{HasCleanDisk};
 ghost use Rattle.zeb_profile.specs.Canonical.{canonical_text};
 ghost use Rattle.zeb_register.specs.Calls.{Reading};
+ghost use Rattle.zeb_register.specs.Clauses.{IsReasoned};
 ghost use Rattle.zeb_register.specs.Formats.{version_of};
 ghost use Rattle.zeb_register.specs.Store.{IsStore};
 ghost use Rattle.zeb_change.specs.Base.{Base};
@@ -36,6 +37,7 @@ pub fn is_image<S: Alter, L: Layout>(
         → IfOk result (λ it. IsTrue it ↔ ((bases : List Base) × IsImage (state S.Store connection.old).now.trees
         (under (version_of L.format) (canonical_text profile.now) bases))) }
     ensures honest { result ≢ Err RegFault.Damaged }
+    ensures refused { IsReasoned (state S.Store connection.old) (state S.Store connection.new) result }
 {
     // Its profile is some text's.
     profile.is_of_some_text();
@@ -55,6 +57,7 @@ fn expectation<S: Alter, L: Layout>(
     ensures value { HasCleanDisk (state S.Store connection.new) → IsStore (state S.Store connection.old)
         → IfOk result (IsExpectationOrNone L.format profile.now (state S.Store connection.old).now.trees) }
     ensures honest { result ≢ Err RegFault.Damaged }
+    ensures refused { IsReasoned (state S.Store connection.old) (state S.Store connection.new) result }
 {
     let Some(databases) = expected_databases(alloc, connection, profile)? else {
         return Ok(None);

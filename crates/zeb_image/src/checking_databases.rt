@@ -4,6 +4,7 @@ ghost use Rattle.std.specs.Prelude.{◌≡◌, ◌≢◌, IsSome, IfOk};
 ghost use Rattle.sqlite.specs.Held.{state};
 ghost use Rattle.sqlite.specs.State.{HasCleanDisk, IsUnchanged};
 ghost use Rattle.zeb_register.specs.Calls.{Reading};
+ghost use Rattle.zeb_register.specs.Clauses.{IsReasoned};
 ghost use Rattle.zeb_register.specs.Store.{IsStore};
 ghost use Rattle.zeb_image.specs.Looking.{Looks};
 ghost use Rattle.zeb_image.specs.PrivateChecking.{AreMadeOrNone, IsMadeOrNone};
@@ -26,6 +27,7 @@ pub(crate) fn expected_databases<S: Alter>(
     ensures value { HasCleanDisk (state S.Store connection.new) → IsStore (state S.Store connection.old)
         → IfOk result (AreMadeOrNone profile.now (state S.Store connection.old).now.trees) }
     ensures honest { result ≢ Err RegFault.Damaged }
+    ensures refused { IsReasoned (state S.Store connection.old) (state S.Store connection.new) result }
 {
     let list = match databases(alloc, connection) {
         Ok(list) => list,
@@ -54,6 +56,7 @@ fn expected_database<S: Alter>(
     ensures value { HasCleanDisk (state S.Store connection.new) → IsStore (state S.Store connection.old)
         → IfOk result (IsMadeOrNone profile.now (state S.Store connection.old).now.trees listed) }
     ensures honest { result ≢ Err RegFault.Damaged }
+    ensures refused { IsReasoned (state S.Store connection.old) (state S.Store connection.new) result }
 {
     let ListedDatabase { id, name, last } = listed;
     if last > Limits::GREATEST.numbers || DbName::read(name.as_str()).is_none() {

@@ -26,6 +26,7 @@ pub(crate) fn postings_of(
 ) -> Result<Option<Vec<KeyPosting>>, RegFault>
     ensures value { IfOk result (ArePostingsOrNone profile.now last records.now) }
     ensures honest { result ≢ Err RegFault.Damaged }
+    ensures unstored { result ≢ Err RegFault.Store }
 {
     let mut postings = Vec::new(alloc);
     for kept in records {
@@ -46,6 +47,7 @@ fn occurrences_of(
 ) -> Result<Option<Vec<Occurrence>>, RegFault>
     ensures value { IfOk result (AreOccurrencesOrNone profile.now last kept.now) }
     ensures honest { result ≢ Err RegFault.Damaged }
+    ensures unstored { result ≢ Err RegFault.Store }
 {
     if kept.sysno == 0 || kept.sysno > last {
         return Ok(None);

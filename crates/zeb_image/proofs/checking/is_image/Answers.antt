@@ -10,6 +10,7 @@ use Rattle.zeb_register.proofs.Calls.{nothing_then, store_same}
 use Rattle.zeb_register.proofs.CallsInTurn.{quiet_then}
 use Rattle.zeb_image.specs.PrivateChecking.{IsExpectationOrNone}
 use Rattle.zeb_image.proofs.CheckedImages.{all_ordered, expected_is, is_expected, no_image}
+use Rattle.zeb_register.proofs.Causes.{may_after}
 use Rattle.zeb_image.proofs.checking.is_image.Goals as goal
 
 pub returns-in-None-clause-value : goal.returns-in-None-clause-value
@@ -50,3 +51,12 @@ returns-in-Some-clause-call g c =
       same = λ clean i. nothing_then s0 s1 s2 (before.same (clean_a clean) i) (c.agrees.ensures.call.same clean (before.idle i));
       crash = quiet_then s0 s1 s2 before.crash c.agrees.ensures.call.crash;
     }
+
+pub returns-in-Some-clause-refused : goal.returns-in-Some-clause-refused
+returns-in-Some-clause-refused g c clean store told =
+    let s0 = state g.S.Store c.args.connection.now in
+    let s1 = state g.S.Store c.expectation.new.connection in
+    let s2 = state g.S.Store c.agrees.new.conn in
+    let first : HasCleanDisk s1 = omega (arith, c.agrees.ensures.call.crash.clean) in
+    let same = (c.in_ok-expected.ensures.call.ok first).1 (ap is_some c.in-Some.is) in
+    may_after s0 s1 s2 c.in_ok-expected.ensures.call.crash (λ _. same.0.is_open) (λ _. c.agrees.ensures.refused clean (store_same s0 s1 same.0.now_is store) told)

@@ -1,4 +1,4 @@
-use Rattle.std.proofs.Common.{rules, ◌≡◌, ◌∙◌, ◌++◌, pos, [], ◌∷◌, append_assoc, inl, refl, sym, ap, subst, arith, string_bytes}
+use Rattle.std.proofs.Common.{rules, ◌≡◌, ◌∙◌, ◌++◌, pos, [], ◌∷◌, append_assoc, Err, inl, refl, sym, ap, subst, arith, string_bytes}
 use Rattle.std.specs.List.{AllZip}
 use Rattle.std.specs.Option.{is_some}
 use Rattle.std.specs.Vec.Iter.{into_iter_items}
@@ -12,6 +12,9 @@ use Rattle.zeb_register.proofs.Calls.{nothing_then, store_same}
 use Rattle.zeb_register.proofs.CallsInTurn.{quiet_then}
 use Rattle.zeb_image.specs.PrivateChecking.{CanBeHeld, IsMadeOf, IsMadeOrNone}
 use Rattle.zeb_image.proofs.CheckedLists.{zip_push}
+use Rattle.zeb_register.proofs.Causes.{may_after}
+use Rattle.zeb_register.specs.declared.RegFault.{RegFault}
+use Rattle.zeb_register.specs.declared.RegFault.TheVariants as fault
 use Rattle.zeb_image.proofs.checking_databases.expected_databases.Goals as goal
 
 pub loop-listed-preserved : goal.loop-listed-preserved
@@ -55,3 +58,15 @@ returns-in_default-clause-value g c clean store sound =
     let there = subst (λ l. Has l listed) (sym all) (has_right c.loop-listed.yielded (listed ∷ into_iter_items c.next.new.self) listed (inl refl)) in
     let row = ((c.in-Ok.ensures.value (inv.clean first) store).each listed.id.0 (string_bytes listed.name) (pos listed.last)).1 (listed, there, refl, refl, refl) in
     subst (λ (d : Database). CanBeHeld profile d.trees listed.id.0 (string_bytes listed.name) listed.last → ⊥) at none (sound.each listed.id.0 (string_bytes listed.name) listed.last row)
+
+pub returns-in_err-made-clause-refused : goal.returns-in_err-made-clause-refused
+returns-in_err-made-clause-refused g c clean store told =
+    let inv = c.loop-listed.invariant in
+    let s0 = state g.S.Store c.args.connection.now in
+    let s1 = state g.S.Store c.loop-listed.connection in
+    let s2 = state g.S.Store c.expected_database.new.connection in
+    let first : HasCleanDisk s1 = omega (arith, c.expected_database.ensures.call.crash.clean) in
+    let same = inv.ok first in
+    let cause = c.in_err-made.field-0.0 in
+    let is_store : ◌≡◌ {A = RegFault} cause fault.Store = let is : c.from_residual.result ≡ Err cause = search rules in cc in
+    may_after s0 s1 s2 inv.crash (λ _. same.0.is_open) (λ _. c.in_err-made.ensures.refused clean (store_same s0 s1 same.0.now_is store) (ap Err is_store))
