@@ -1,5 +1,5 @@
 -- The statements that count the records of a database and that read one after the other.
-use Rattle.std.proofs.Common.{◌≡◌, ◌↔◌, ◌∙◌, ℕ, ℤ, pos, true, false, List, [], ◌∷◌, ◌++◌, length, map, min, take, codes, refl, sym, ap, subst, inl, inr, Some, Less, Equal, Greater, Ordering, arith}
+use Rattle.std.proofs.Common.{◌≡◌, ◌↔◌, ◌∙◌, ◌<◌, ℕ, zero, suc, ℤ, pos, true, false, List, [], ◌∷◌, ◌++◌, length, map, min, take, codes, slice_index_or, refl, sym, ap, subst, inl, inr, Some, None, Less, Equal, Greater, Ordering, arith}
 use Rattle.std.specs.Prelude.{filter, IsPermutation}
 use Rattle.std.specs.List.{AllZip, IsDistinct, list_all}
 use Rattle.std.specs.Ordering.{eq_by_cmp, int_cmp, ordering_then}
@@ -41,7 +41,7 @@ use Rattle.zeb_register.specs.Tables.{store_schema}
 use Rattle.zeb_register.proofs.Calls.{IsSilent}
 use Rattle.zeb_register.proofs.Prefix.{IsAfter, lists_after}
 use Rattle.zeb_register.proofs.RecordStatements.{records, records_keys, records_static, row_of}
-use Rattle.zeb_register.proofs.Refusals.{IsFit, IsWhole, why_refused}
+use Rattle.zeb_register.proofs.Refusals.{IsFit, IsWhole, SumsFit, query_refused, why_refused}
 use Rattle.zeb_register.proofs.RowLemmas.{shares_alone}
 use Rattle.zeb_register.proofs.Scans.{distinct_mapped, matched, plain, tied}
 use Rattle.zeb_register.proofs.Selects.{list_so}
@@ -178,6 +178,31 @@ module _ (s : State) (db : ℤ) (store : IsStore s) where
         record { numbers = map sysno_at kept; apart = numbers_apart; each = numbers_each; count_is = ap (λ n. min n 9223372036854775807) (sym (length-map kept sysno_at)) },
         counted s.now 4 in_base (Int db ∷ []) rows read,
       )
+
+the_count : (k : ℕ) (a : Aggregate) → k < 1 → slice_index_or (row_count ∷ []) k a ≡ a → row_count ≡ a
+the_count zero a less is = is
+the_count (suc k) a less is = absurd (omega (arith, less))
+
+-- a count of rows is no sum
+no_sum : (tree : ℕ) (wheres : List Condition) (params : Row) → SumsFit (counting (reading tree wheres [] [] no_limit)) params
+no_sum tree wheres params trees (inl over) =
+    let group = over.2.1 in
+    let one = over.2.4 in
+    let none : value_over group row_count ≡ None = subst (λ a. value_over group a ≡ None) (sym (the_count one.0 one.1 one.2 one.3)) one.4 in
+    absurd (let e : Some (count (length (map (eval (lit Null)) group))) ≡ None = none in cc)
+no_sum tree wheres params trees (inr some) = some.4
+
+count_whole : IsWhole count_text 1 (understood store_schema count_text)
+unfolding understood everything
+count_whole = (omega arith, refl)
+
+count_fit : (db : ℤ) → IsFit (alone (counting (reading 4 in_base [] [] no_limit))) (Int db ∷ [])
+unfolding everything
+count_fit db trees mistyped = absurd (let t : true ≡ false = mistyped in cc)
+
+pub count_refused : (db : ℤ) (old new : State) (e : Error) → IsStore old → fault_of e ≡ Store → FailsToQuery count_text (Int db ∷ []) old new e → MayRefuse old new
+count_refused db old new e store told failed = query_refused count_text (Int db ∷ []) (counting (reading 4 in_base [] [] no_limit)) (codes "count(*)" ∷ []) count_is count_plain.0 count_plain.1 count_whole (count_fit db) (no_sum 4 in_base (Int db ∷ []))
+    old new store e told failed
 
 -- ---- one record after the other
 

@@ -1,5 +1,5 @@
 -- Why a query that fits the tables is refused.
-use Rattle.std.proofs.Common.{◌≡◌, ◌∙◌, ◌≤◌, ℕ, List, length, Ok, Err, Result, inl, inr, None, false, sym, ap, subst, subst₂, append-nil}
+use Rattle.std.proofs.Common.{◌≡◌, ◌∙◌, ◌≤◌, ℕ, List, [], length, Ok, Err, Result, inl, inr, None, false, sym, ap, subst, subst₂, append-nil}
 use Rattle.sqlite.specs.Order.{Row}
 use Rattle.sqlite.specs.Tree.{Trees}
 use Rattle.sqlite_schema.specs.declared.program.Program.{Program}
@@ -10,7 +10,9 @@ use Rattle.sqlite.specs.Effect.{IsShown, RefusesToRead}
 use Rattle.sqlite.specs.Listing.{understood, reads_listing, IsSourceOf}
 use Rattle.sqlite.specs.State.{State, HasCause, FailsToQuery, IsNotRun, store_error}
 use Rattle.sqlite.specs.declared.error.Error.{Error}
+use Rattle.sqlite.specs.Query.{Query}
 use Rattle.sqlite.proofs.Callers.{IsPlain, command_of}
+use Rattle.sqlite_sql.specs.Program.{ProgramOverflows}
 use Rattle.sqlite_resolve.specs.declared.compiled.Compiled.{Compiled}
 use Rattle.sqlite_resolve.specs.declared.error.CompileError.{CompileError}
 use Rattle.sqlite_trees.specs.declared.error.StoreError.{StoreError}
@@ -39,16 +41,20 @@ by_cause old new cause.Full told h = inr (inl h)
 by_cause old new cause.Broken told h = inl h
 by_cause old new cause.Unstorable told h = absurd h
 
-module _ (sql : List ℕ) (params : Row) (tree : ℕ) (wheres : List Condition) (project : List Term) (keys : List (Term × Key)) (limit : Term) (names : List (List ℕ))
-    (is : command_of (understood store_schema sql) ≡ Select (alone (reading_by tree wheres project keys limit)) names)
+-- no sum of the query overflows, whatever the tables hold
+abbrev pub SumsFit : Query → Row → Type 0
+SumsFit q params = (trees : Trees) → ¬ ProgramOverflows trees params [] [] q
+
+module _ (sql : List ℕ) (params : Row) (q : Query) (names : List (List ℕ))
+    (is : command_of (understood store_schema sql) ≡ Select (alone q) names)
     (plain : IsPlain (understood store_schema sql)) (unlisted : reads_listing store_schema sql ≡ false)
     (whole : IsWhole sql (length params) (understood store_schema sql))
-    (fit : IsFit (alone (reading_by tree wheres project keys limit)) params)
+    (fit : IsFit (alone q) params) (sums : SumsFit q params)
     (old new : State) (store : IsStore old) where
-  pub why_refused : (e : Error) → fault_of e ≡ Store → FailsToQuery sql params old new e → MayRefuse old new
+  pub query_refused : (e : Error) → fault_of e ≡ Store → FailsToQuery sql params old new e → MayRefuse old new
   unfolding FailsToQuery IsNotRun
-  why_refused e told (inl (inl (inl none, same))) = absurd (subst IsPlain (ap (λ s. understood s sql) (sym store.is) ∙ none.1) plain)
-  why_refused e told (inl (inl (inr unfit, same))) =
+  query_refused e told (inl (inl (inl none, same))) = absurd (subst IsPlain (ap (λ s. understood s sql) (sym store.is) ∙ none.1) plain)
+  query_refused e told (inl (inl (inr unfit, same))) =
       let known = ap (λ s. understood s sql) (sym store.is) ∙ unfit.1 in
       let fits = subst (IsWhole sql (length params)) known whole in
       elim unfit.2 [
@@ -56,14 +62,27 @@ module _ (sql : List ℕ) (params : Row) (tree : ℕ) (wheres : List Condition) 
         | inr (inl count) ↦ absurd (count.0 fits.1)
         | inr (inr clock) ↦ absurd (clock.0 (subst IsPlain known plain).1)
       ]
-  why_refused e told (inl (inr failed)) = by_cause old new failed.0 (ap fault_of (sym failed.1) ∙ told) failed.2
-  why_refused e told (inr h) =
+  query_refused e told (inl (inr failed)) = by_cause old new failed.0 (ap fault_of (sym failed.1) ∙ told) failed.2
+  query_refused e told (inr h) =
       let known = sym h.1.is ∙ ap (λ s. understood s sql) store.is in
       let bare = subst IsPlain (sym known) plain in
       let it = rw (bare.0, bare.1, append-nil params) at h.2 in
       let db : it.0 ≡ old.now = subst (λ b. IsSourceOf b old.now it.0) (ap (λ s. reads_listing s sql) store.is ∙ unlisted) it.1 in
       elim (subst₂ (λ k d. RefusesToRead old.step_limit k d params e) (ap command_of known ∙ is) db it.2) [
-        | inl mistyped ↦ absurd (fit old.now.trees (subst (λ s. IsShown (λ (r : Row). r) (record { schema = s; trees = old.now.trees }) (alone (reading_by tree wheres project keys limit)) params None) store.is mistyped.1))
-        | inr (inl over) ↦ absurd (elim over.1 [ inl none ↦ none | inr some ↦ some.4 ])
+        | inl mistyped ↦ absurd (fit old.now.trees (subst (λ s. IsShown (λ (r : Row). r) (record { schema = s; trees = old.now.trees }) (alone q) params None) store.is mistyped.1))
+        | inr (inl over) ↦ absurd (sums old.now.trees over.1)
         | inr (inr stopped) ↦ inr (inr stopped.1)
       ]
+
+module _ (sql : List ℕ) (params : Row) (tree : ℕ) (wheres : List Condition) (project : List Term) (keys : List (Term × Key)) (limit : Term) (names : List (List ℕ))
+    (is : command_of (understood store_schema sql) ≡ Select (alone (reading_by tree wheres project keys limit)) names)
+    (plain : IsPlain (understood store_schema sql)) (unlisted : reads_listing store_schema sql ≡ false)
+    (whole : IsWhole sql (length params) (understood store_schema sql))
+    (fit : IsFit (alone (reading_by tree wheres project keys limit)) params)
+    (old new : State) (store : IsStore old) where
+  no_sum : SumsFit (reading_by tree wheres project keys limit) params
+  no_sum trees (inl none) = none
+  no_sum trees (inr some) = some.4
+
+  pub why_refused : (e : Error) → fault_of e ≡ Store → FailsToQuery sql params old new e → MayRefuse old new
+  why_refused e told failed = query_refused sql params (reading_by tree wheres project keys limit) names is plain unlisted whole fit no_sum old new store e told failed

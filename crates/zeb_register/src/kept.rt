@@ -144,6 +144,7 @@ pub fn record_count<S: Alter>(conn: &mut Connection<S>, db: DatabaseId) -> Resul
     ensures value { Tells (state S.Store conn.old) (state S.Store conn.new) result (λ trees. IsRecordCount trees db.0) }
     ensures honest { OnStore (state S.Store conn.old) (state S.Store conn.new) (λ trees. result ≢ Err RegFault.Damaged) }
     ensures opened { IsOpenDamage (state S.Store conn.old) (state S.Store conn.new) result }
+    ensures refused { IsReasoned (state S.Store conn.old) (state S.Store conn.new) result }
 {
     let rows = count_rows(conn, db.column())?;
     match rows.first() {

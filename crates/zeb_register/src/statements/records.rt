@@ -101,6 +101,7 @@ pub(crate) fn record_rows<S: Alter>(conn: &mut Connection<S>, db: i64) -> Result
 pub(crate) fn count_rows<S: Alter>(conn: &mut Connection<S>, db: i64) -> Result<Vec<Row>, Error>
     ensures call { Reading (state S.Store conn.old) (state S.Store conn.new) result
         (λ rows a b. Reads (ShowsCount db) a b rows.items) }
+    ensures err { IsReasonedError (state S.Store conn.old) (state S.Store conn.new) result }
 {
     // What is seen outside a transaction is what was committed.
     let _idle = conn.is_autocommit();
