@@ -297,7 +297,7 @@ analysis_own (analysis.Ident file nth ident.Memory) is = absurd is
 analysis_own analysis.TooManyRecords is = tt
 analysis_own analysis.Memory is = absurd is
 
-analysed_own : (c : Conditions) (texts : List (List ℕ)) (answer : Answer) → IsAnalysed c.profile c.limits.records texts answer → IsOwnAnswer answer
+pub analysed_own : (c : Conditions) (texts : List (List ℕ)) (answer : Answer) → IsAnalysed c.profile c.limits.records texts answer → IsOwnAnswer answer
 analysed_own c texts answer is = subst IsOwnAnswer (sym is.2) (go is.0 is.1)
   where
     go : (said : Result (List Analysed) AnalysisFault) → AnalysesTo c.profile c.limits.records texts said → IsOwnAnswer (analysis_answer c.profile said)

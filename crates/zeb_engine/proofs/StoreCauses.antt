@@ -1,16 +1,27 @@
 -- Why the store may have failed, one call after the other.
-use Rattle.std.proofs.Common.{◌≡◌, IsTrue, Result, Ok, Err, refl}
-use Rattle.sqlite.specs.State.{State, Survives}
-use Rattle.zeb_register.specs.Calls.{ChangesNothing}
+use Rattle.std.proofs.Common.{◌≡◌, ◌⊎◌, ◌∙◌, ℕ, List, IsTrue, Result, Ok, Err, ap, inl, inr, refl, subst, sym}
+use Rattle.sqlite.specs.State.{State, HasCleanDisk, Survives}
+use Rattle.zeb_query.specs.declared.faults.QueryFault.{QueryFault}
+use Rattle.zeb_query.specs.declared.faults.QueryFault.TheVariants as query
+use Rattle.zeb_register.specs.Calls.{ChangesNothing, MayRefuse}
+use Rattle.zeb_register.specs.Clauses.{IsReasoned}
 use Rattle.zeb_register.specs.Store.{IsStore}
 use Rattle.zeb_register.specs.declared.RegFault.{RegFault}
 use Rattle.zeb_register.specs.declared.RegFault.TheVariants as register
-use Rattle.zeb_register.proofs.Calls.{store_same}
+use Rattle.zeb_register.proofs.Calls.{nothing_then, store_same}
+use Rattle.zeb_register.proofs.CallsInTurn.{quiet_then}
 use Rattle.zeb_register.proofs.Causes.{may_after}
 use Rattle.zeb_change.specs.declared.refusals.Refusal.{Refusal}
 use Rattle.zeb_change.specs.declared.refusals.Refusal.TheVariants as refusal
-use Rattle.zeb_change.specs.Outcomes.{register_refusal}
+use Rattle.zeb_change.specs.Conditions.{Conditions}
+use Rattle.zeb_change.specs.Outcomes.{query_refusal, register_refusal}
+use Rattle.zeb_change.specs.Refused.{why_of}
+use Rattle.zeb_engine.specs.Adopting.{StaysOpen}
+use Rattle.zeb_engine.specs.Analysed.{IsAnalysed}
+use Rattle.zeb_engine.specs.Answers.{answer_of, refused}
 use Rattle.zeb_engine.specs.Causes.{HasStoreCause}
+use Rattle.zeb_engine.specs.declared.replies.Reply.{Reply}
+use Rattle.zeb_engine.proofs.OwnAnswers.{IsOwn, analysed_own}
 
 -- a fault of the tables that is answered as a failed store is one
 pub fault_caused : {X : Type 0} (fault : RegFault) → (fault ≡ register.Store → X) → register_refusal fault ≡ refusal.Store → X
@@ -18,9 +29,49 @@ fault_caused register.Damaged caused is = absurd cc
 fault_caused register.Store caused is = caused refl
 fault_caused register.Memory caused is = absurd cc
 
--- a call behind others that changed nothing
-module _ (old mid new : State) (survives : Survives old mid (λ _. ⊥)) (opened : IsTrue old.is_open → IsTrue mid.is_open) where
-  pub cause_after : {T : Type 0} (result : Result T Refusal) → ChangesNothing old mid → HasStoreCause mid new result → HasStoreCause old new result
-  cause_after (Ok x) nothing caused store = tt
-  cause_after (Err why) nothing caused store =
-      λ is. may_after old mid new survives opened (λ is_open. caused (store_same old mid (nothing is_open).1 store) is)
+-- this refusal, where it is a failed store, has a cause
+abbrev pub HasCauseFor : State → State → Refusal → Type 0
+HasCauseFor old new why = IsStore old → why ≡ refusal.Store → MayRefuse old new
+
+-- a query is never refused as a failed store
+pub query_caused : (old new : State) (fault : QueryFault) → HasCauseFor old new (query_refusal fault)
+query_caused old new (query.Diagnostic number place addinfo) store is = absurd cc
+query_caused old new query.Memory store is = absurd cc
+
+-- nor is an analysis
+pub analysis_caused : (c : Conditions) (texts : List (List ℕ)) (old new : State) (result : Result Reply Refusal)
+    → IsAnalysed c.profile c.limits.records texts (answer_of result) ⊎ (result ≡ Err refusal.Memory) → HasStoreCause old new result
+analysis_caused c texts old new (Ok reply) told store = tt
+analysis_caused c texts old new (Err why) (inl said) store = λ is. absurd (subst (λ (r : Refusal). IsOwn (why_of r)) is (analysed_own c texts (refused (why_of why)) said))
+analysis_caused c texts old new (Err why) (inr memory) store = λ is. absurd (let same : why ≡ refusal.Memory = cc in let e : refusal.Memory ≡ refusal.Store = sym same ∙ is in cc)
+
+-- ---- calls behind others
+
+-- the calls before changed nothing, and left an open connection open
+pub record LeavesAll (old mid : State) : Type 0 where
+  pub survives : Survives old mid (λ _. ⊥)
+  pub opened : IsTrue old.is_open → IsTrue mid.is_open
+  pub nothing : ChangesNothing old mid
+
+pub accepted_leaves : (old mid : State) → Survives old mid (λ _. ⊥) → StaysOpen old mid → ChangesNothing old mid → LeavesAll old mid
+accepted_leaves old mid survives stays nothing = record { survives = survives; opened = λ _. stays.1; nothing = nothing }
+
+pub leaves_then : (a b c : State) → LeavesAll a b → LeavesAll b c → LeavesAll a c
+leaves_then a b c one two = record {
+  survives = quiet_then a b c one.survives two.survives;
+  opened = λ was. two.opened (one.opened was);
+  nothing = nothing_then a b c one.nothing two.nothing;
+}
+
+module _ (old mid new : State) (leaves : LeavesAll old mid) where
+  pub refusal_after : (why : Refusal) → HasCauseFor mid new why → HasCauseFor old new why
+  refusal_after why caused store is =
+      may_after old mid new leaves.survives leaves.opened (λ is_open. caused (store_same old mid (leaves.nothing is_open).1 store) is)
+
+  pub cause_after : {T : Type 0} (result : Result T Refusal) → HasStoreCause mid new result → HasStoreCause old new result
+  cause_after (Ok x) caused store = tt
+  cause_after (Err why) caused store = refusal_after why caused store
+
+  -- the fault of a call on the tables
+  pub fault_after : {A : Type 0} (fault : RegFault) → HasCleanDisk new → IsReasoned {A = A} mid new (Err fault) → HasCauseFor old new (register_refusal fault)
+  fault_after fault clean reasoned = refusal_after (register_refusal fault) (λ store. fault_caused fault (λ is. reasoned clean store (ap Err is)))

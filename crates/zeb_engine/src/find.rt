@@ -1,6 +1,6 @@
 //! Finding records by a query.
 
-ghost use Rattle.std.specs.Prelude.{◌≡◌, ◌⊎◌, ◌<◌, ◌^◌, ℕ, List, false, map, string_bytes, IfOk, IfErr, OnOk, IsTrue, Ok};
+ghost use Rattle.std.specs.Prelude.{◌≡◌, ◌≢◌, ◌⊎◌, ◌<◌, ◌^◌, ℕ, List, false, map, string_bytes, IfOk, IfErr, OnOk, IsTrue, Ok, Err};
 ghost use Rattle.sqlite.specs.Held.{state};
 ghost use Rattle.sqlite.specs.State.{HasCleanDisk, Survives};
 ghost use Rattle.sqlite.specs.Tree.{Trees};
@@ -11,6 +11,7 @@ ghost use Rattle.zeb_search.specs.Registers.{has_ident_in};
 ghost use Rattle.zeb_change.specs.declared.settings.Limits.{Limits};
 ghost use Rattle.zeb_engine.specs.Adopting.{StaysOpen};
 ghost use Rattle.zeb_engine.specs.Answers.{answer_of, refused, IsFailure};
+ghost use Rattle.zeb_engine.specs.Causes.{HasStoreCause};
 ghost use Rattle.zeb_change.specs.Refused.{why_of, NeverUnready, Meets};
 ghost use Rattle.zeb_change.specs.Conditions.{conditions};
 ghost use Rattle.zeb_engine.specs.Alone.{Alone, FindSays, HidesOne, RefusedAlone, RefusesFind};
@@ -69,6 +70,8 @@ fn show<S: Alter>(
     ensures crash { Survives (state S.Store connection.old) (state S.Store connection.new) (λ _. ⊥) }
     ensures unread { NoReadFault result }
     ensures ready { NeverUnready result }
+    ensures caused { HasCleanDisk (state S.Store connection.new)
+        → HasStoreCause (state S.Store connection.old) (state S.Store connection.new) result }
 {
     let mut shown = Vec::with_capacity(alloc, numbers.len())?;
     for number in numbers {
@@ -90,6 +93,7 @@ fn asked_for<'a>(
     question: &Question<'_>,
 ) -> Result<&'a [u64], Refusal>
     ensures asked { Meets (λ wanted asked. asked.now ≡ wanted) (asked_of hits.now question.now.first question.now.count) result }
+    ensures unstored { result ≢ Err Refusal.Store }
     ensures unread { NoReadFault result }
     ensures ready { NeverUnready result }
 {
@@ -138,6 +142,9 @@ pub(crate) fn find<S: Alter, L: Layout>(
     ensures refused { HasCleanDisk (state S.Store connection.new)
         → RefusedAlone L.format (RefusesFind profile.now (name_bytes name.now) question.entry.query.now question.entry.first
         question.entry.count) (state S.Store connection.old) result }
+    // The store fails for a cause.
+    ensures caused { HasCleanDisk (state S.Store connection.new)
+        → HasStoreCause (state S.Store connection.old) (state S.Store connection.new) result }
     // No row is written; of terms no more are read than the searched registers have, once for each pattern with a star and each entry that
     // isn't named, and no more lists than those that the query asks for.
     ensures work { HasCleanDisk (state S.Store connection.new)

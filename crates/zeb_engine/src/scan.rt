@@ -11,6 +11,7 @@ ghost use Rattle.zeb_register.specs.Store.{IsStore};
 ghost use Rattle.zeb_change.specs.declared.settings.Limits.{Limits};
 ghost use Rattle.zeb_engine.specs.Adopting.{StaysOpen};
 ghost use Rattle.zeb_engine.specs.Answers.{answer_of, refused, IsFailure};
+ghost use Rattle.zeb_engine.specs.Causes.{HasStoreCause};
 ghost use Rattle.zeb_change.specs.Refused.{why_of, NeverUnready};
 ghost use Rattle.zeb_change.specs.Conditions.{conditions};
 ghost use Rattle.zeb_image.specs.Holdings.{Holdings};
@@ -76,6 +77,8 @@ fn terms_around<S: Alter, L: Layout>(
     ensures crash { Survives (state S.Store connection.old) (state S.Store connection.new) (λ _. ⊥) }
     ensures unread { NoReadFault result }
     ensures ready { NeverUnready result }
+    ensures caused { HasCleanDisk (state S.Store connection.new)
+        → HasStoreCause (state S.Store connection.old) (state S.Store connection.new) result }
     ensures work { HasCleanDisk (state S.Store connection.new)
         → OnOk result (ScanReads L.format L.row_work around.now.number around.now.position (state S.Store connection.old)
         work.old work.new) }
@@ -122,6 +125,9 @@ pub(crate) fn scan<S: Alter, L: Layout>(
     ensures alone { HasCleanDisk (state S.Store connection.new)
         → Alone L.format (ScanSays profile.now around.entry.query.now around.entry.number around.entry.position) (name_bytes name.now)
         (state S.Store connection.old) result }
+    // The store fails for a cause.
+    ensures caused { HasCleanDisk (state S.Store connection.new)
+        → HasStoreCause (state S.Store connection.old) (state S.Store connection.new) result }
     // The terms that are asked for are read, one more at most, and nothing else.
     ensures work { HasCleanDisk (state S.Store connection.new)
         → OnOk result (ScanReads L.format L.row_work around.entry.number around.entry.position (state S.Store connection.old)

@@ -240,8 +240,8 @@ impl<S: Alter, L: Layout> Session<S, L> {
         ensures read_work { HasCleanDisk (state S.Store self.new.connection)
             → CommandReads L.format L.row_work L.block_rows self.old.profile command.now
             (state S.Store self.old.connection) result self.new.work }
-        // A dump finds the store failed only for a cause.
-        ensures caused { HasCleanDisk (state S.Store self.new.connection) → (name : _) → command.now ≡ Command.Dump name
+        // A command that only asks finds the store failed only for a cause.
+        ensures caused { HasCleanDisk (state S.Store self.new.connection) → OnlyAsks command.now
             → HasStoreCause (state S.Store self.old.connection) (state S.Store self.new.connection) result }
         // Over a layout whose rows count nothing no work is counted.
         ensures no_work { HasCleanDisk (state S.Store self.new.connection) → L.row_work ≡ 0
@@ -297,7 +297,7 @@ impl<S: Alter, L: Layout> Session<S, L> {
         ensures read_work { HasCleanDisk (state S.Store self.new.connection)
             → CommandReads L.format L.row_work L.block_rows self.old.profile command.now
             (state S.Store self.old.connection) result self.new.work }
-        ensures caused { HasCleanDisk (state S.Store self.new.connection) → (name : _) → command.now ≡ Command.Dump name
+        ensures caused { HasCleanDisk (state S.Store self.new.connection) → OnlyAsks command.now
             → HasStoreCause (state S.Store self.old.connection) (state S.Store self.new.connection) result }
         ensures no_work { L.row_work ≡ 0 → IsNoChange command.now → self.new.work ≡ no_work }
     {

@@ -10,6 +10,7 @@ ghost use Rattle.zeb_register.specs.Content.{Content, IsStorable, posted};
 ghost use Rattle.zeb_engine.specs.Adopting.{StaysOpen};
 ghost use Rattle.zeb_engine.specs.Alone.{Alone, StatSays};
 ghost use Rattle.zeb_engine.specs.Answers.{IsFailure, extent_of, refused};
+ghost use Rattle.zeb_engine.specs.Causes.{HasStoreCause};
 ghost use Rattle.zeb_change.specs.Refused.{why_of, NeverUnready};
 ghost use Rattle.zeb_change.specs.Conditions.{conditions};
 ghost use Rattle.zeb_engine.specs.Counting.{IsExtent, Paired, name_of_index, target_in, target_list};
@@ -106,6 +107,8 @@ fn holdings_of<S: Alter, L: Layout>(
     ensures crash { Survives (state S.Store connection.old) (state S.Store connection.new) (λ _. ⊥) }
     ensures unread { NoReadFault result }
     ensures ready { NeverUnready result }
+    ensures caused { HasCleanDisk (state S.Store connection.new)
+        → HasStoreCause (state S.Store connection.old) (state S.Store connection.new) result }
     ensures no_work { L.row_work ≡ 0 → work.new ≡ work.old }
 {
     let mut holdings = Vec::with_capacity(alloc, targets.len())?;
@@ -142,6 +145,9 @@ pub(crate) fn stat<S: Alter, L: Layout>(
     // The terms and occurrences are counted in the registers, on any tables that hold a content.
     ensures alone { HasCleanDisk (state S.Store connection.new)
         → Alone L.format (StatSays profile.now) (name_bytes name.now) (state S.Store connection.old) result }
+    // The store fails for a cause.
+    ensures caused { HasCleanDisk (state S.Store connection.new)
+        → HasStoreCause (state S.Store connection.old) (state S.Store connection.new) result }
     ensures no_work { L.row_work ≡ 0 → work.new ≡ work.old }
 {
     // Its profile is some text's.

@@ -8,6 +8,7 @@ ghost use Rattle.zeb_register.specs.Formats.{version_of};
 ghost use Rattle.zeb_engine.specs.Alone.{Alone, FindSays, RefusedAlone, RefusesFind, ScanSays};
 ghost use Rattle.zeb_change.specs.Conditions.{conditions};
 ghost use Rattle.zeb_image.specs.NameOf.{name_bytes};
+ghost use Rattle.zeb_engine.specs.Causes.{HasStoreCause};
 ghost use Rattle.zeb_engine.specs.Checking.{ChecksTables};
 ghost use Rattle.zeb_engine.specs.Readiness.{GoesByTexts, IsReadyFor};
 ghost use Rattle.zeb_engine.specs.Reads.{FindReads, ScanReads};
@@ -52,6 +53,8 @@ impl<S: Alter, L: Layout> Session<S, L> {
             → IsReadyFor (version_of L.format) self.old.profile (state S.Store self.old.connection).now.trees
             → RefusedAlone L.format (RefusesFind self.old.profile (name_bytes database.now) question.entry.query.now question.entry.first
             question.entry.count) (state S.Store self.old.connection) result }
+        ensures caused { HasCleanDisk (state S.Store self.new.connection)
+            → HasStoreCause (state S.Store self.old.connection) (state S.Store self.new.connection) result }
         ensures work { HasCleanDisk (state S.Store self.new.connection)
             → OnOk result (FindReads L.format L.row_work L.block_rows self.old.profile (name_bytes database.now)
             question.entry.query.now (state S.Store self.old.connection) self.old.work self.new.work) }
@@ -85,6 +88,8 @@ impl<S: Alter, L: Layout> Session<S, L> {
         ensures alone { HasCleanDisk (state S.Store self.new.connection)
             → Alone L.format (ScanSays self.old.profile around.entry.query.now around.entry.number around.entry.position)
             (name_bytes database.now) (state S.Store self.old.connection) result }
+        ensures caused { HasCleanDisk (state S.Store self.new.connection)
+            → HasStoreCause (state S.Store self.old.connection) (state S.Store self.new.connection) result }
         ensures work { HasCleanDisk (state S.Store self.new.connection)
             → OnOk result (ScanReads L.format L.row_work around.entry.number around.entry.position
             (state S.Store self.old.connection) self.old.work self.new.work) }
@@ -116,6 +121,8 @@ impl<S: Alter, L: Layout> Session<S, L> {
             → GoesByTexts (version_of L.format) self.old.profile (state S.Store self.old.connection) result }
         ensures checked { HasCleanDisk (state S.Store self.new.connection)
             → ChecksTables (version_of L.format) self.old.profile (state S.Store self.old.connection) result }
+        ensures caused { HasCleanDisk (state S.Store self.new.connection)
+            → HasStoreCause (state S.Store self.old.connection) (state S.Store self.new.connection) result }
         ensures unworked { self.new.work ≡ self.old.work }
     {
         // What is shown is what was committed.

@@ -2,15 +2,14 @@ use Rattle.std.proofs.Common.{rules, ◌≡◌, ◌∙◌, ◌+◌, ◌<◌, ◌
 use Rattle.sqlite.specs.Held.{state}
 use Rattle.sqlite.specs.State.{HasCleanDisk}
 use Rattle.sqlite.specs.Tree.{Trees}
-use Rattle.zeb_register.proofs.Calls.{nothing_still, nothing_then, store_same}
+use Rattle.zeb_register.proofs.Calls.{nothing_still, nothing_then}
 use Rattle.zeb_register.specs.Kept.{AreReadable, IsFirstFrom}
 use Rattle.zeb_change.specs.Outcomes.{register_refusal}
 use Rattle.zeb_engine.proofs.Dumps.{all_readable, bytes_in, read_all, read_few, read_more}
 use Rattle.zeb_engine.proofs.Dumps.{below, none_below}
 use Rattle.zeb_engine.proofs.ListedDatabases.{fault_fails}
 use Rattle.zeb_engine.proofs.Showing.{still_shows}
-use Rattle.zeb_register.proofs.Causes.{may_after}
-use Rattle.zeb_engine.proofs.StoreCauses.{fault_caused}
+use Rattle.zeb_engine.proofs.StoreCauses.{LeavesAll, fault_after}
 use Rattle.zeb_engine.proofs.dump.bytes_of.Goals as goal
 use Rattle.zeb_engine.proofs.dump.bytes_of.Goals.{else-loop-turn-test, then-loop-turn-test+in_ok-record+in_default}
 
@@ -80,12 +79,11 @@ returns-clause-joined g c clean trees shows was records keeps =
     ]
 
 pub returns-in_err-record-clause-caused : goal.returns-in_err-record-clause-caused
-returns-in_err-record-clause-caused g c clean store =
+returns-in_err-record-clause-caused g c clean =
     let old = state g.S.Store c.args.connection.now in
     let now = state g.S.Store c.loop-turn.connection in
-    let new = state g.S.Store c.record_from.new.conn in
     let first : HasCleanDisk now = omega (arith, c.record_from.ensures.call.crash.clean) in
     let fault = c.in_err-record.field-0.0 in
     let told : c.from_residual.result ≡ Err (register_refusal fault) = search rules in
-    rw told (fault_caused fault (λ is. may_after old now new c.loop-turn.invariant.crash (c.loop-turn.invariant.open_still first)
-    (λ is_open. c.in_err-record.ensures.refused clean (store_same old now (c.loop-turn.invariant.same first is_open).1 store) (ap Err is))))
+    let leaves : LeavesAll old now = record { survives = c.loop-turn.invariant.crash; opened = c.loop-turn.invariant.open_still first; nothing = c.loop-turn.invariant.same first } in
+    rw told (fault_after old now (state g.S.Store c.record_from.new.conn) leaves fault clean c.in_err-record.ensures.refused)

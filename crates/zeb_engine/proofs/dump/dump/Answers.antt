@@ -4,7 +4,6 @@ use Rattle.sqlite.specs.State.{HasCleanDisk}
 use Rattle.zeb_register.proofs.Calls.{nothing_then}
 use Rattle.zeb_register.specs.Store.{HasDatabase}
 use Rattle.zeb_register.specs.declared.catalog.Database.{Database}
-use Rattle.zeb_engine.specs.declared.replies.Reply.{Reply}
 use Rattle.zeb_engine.specs.declared.replies.Reply.TheVariants.{Dumped}
 use Rattle.zeb_engine.specs.Answers.{dumped}
 use Rattle.zeb_change.specs.Conditions.{conditions}
@@ -15,7 +14,7 @@ use Rattle.zeb_engine.proofs.Commanding.{ready_kept}
 use Rattle.zeb_engine.proofs.Dumps.{Dumps, base_kept, dump_fails, dump_told, dump_unknown, unready_dumps}
 use Rattle.zeb_engine.proofs.Held.{looked_up}
 use Rattle.zeb_engine.proofs.Showing.{still_shows}
-use Rattle.zeb_engine.proofs.StoreCauses.{cause_after}
+use Rattle.zeb_engine.proofs.StoreCauses.{accepted_leaves, leaves_then, refusal_after}
 use Rattle.zeb_engine.proofs.dump.dump.Goals as goal
 use Rattle.zeb_register.specs.Formats.{version_of}
 use Rattle.zeb_engine.proofs.ReadyTexts.{ready_then}
@@ -122,23 +121,21 @@ pub returns-in_err-database-clause-caused : goal.returns-in_err-database-clause-
 returns-in_err-database-clause-caused g c clean =
     let s0 = state g.S.Store c.args.connection.now in
     let s1 = state g.S.Store c.check_ready.new.connection in
-    let s2 = state g.S.Store c.existing_database.new.connection in
     let clean1 : HasCleanDisk s1 = omega (arith, c.existing_database.ensures.crash.clean) in
     let refusal = c.in_err-database.field-0.0 in
     let told : c.from_residual-in_err-database.result ≡ Err refusal = search rules in
-    rw told (cause_after s0 s1 s2 c.check_ready.ensures.crash (λ _. (c.in_ok-check_ready.ensures.open clean1).1) {T = Reply} (Err refusal) (c.check_ready.ensures.same clean1)
-    (c.in_err-database.ensures.caused clean))
+    let looked = accepted_leaves s0 s1 c.check_ready.ensures.crash (c.in_ok-check_ready.ensures.open clean1) (c.check_ready.ensures.same clean1) in
+    rw told (refusal_after s0 s1 (state g.S.Store c.existing_database.new.connection) looked refusal (c.in_err-database.ensures.caused clean))
 
 pub returns-in_err-bytes-clause-caused : goal.returns-in_err-bytes-clause-caused
 returns-in_err-bytes-clause-caused g c clean =
     let s0 = state g.S.Store c.args.connection.now in
     let s1 = state g.S.Store c.check_ready.new.connection in
     let s2 = state g.S.Store c.existing_database.new.connection in
-    let s3 = state g.S.Store c.bytes_of.new.connection in
     let clean2 : HasCleanDisk s2 = omega (arith, c.bytes_of.ensures.crash.clean) in
     let clean1 : HasCleanDisk s1 = omega (arith, clean2, c.existing_database.ensures.crash.clean) in
     let refusal = c.in_err-bytes.field-0.0 in
     let told : c.from_residual-in_err-bytes.result ≡ Err refusal = search rules in
-    let later = cause_after s1 s2 s3 c.existing_database.ensures.crash (λ _. (c.in_ok-database.ensures.found clean2).1) {T = Reply} (Err refusal) (c.existing_database.ensures.same clean2)
-    (c.in_err-bytes.ensures.caused clean) in
-    rw told (cause_after s0 s1 s3 c.check_ready.ensures.crash (λ _. (c.in_ok-check_ready.ensures.open clean1).1) {T = Reply} (Err refusal) (c.check_ready.ensures.same clean1) later)
+    let looked = accepted_leaves s0 s1 c.check_ready.ensures.crash (c.in_ok-check_ready.ensures.open clean1) (c.check_ready.ensures.same clean1) in
+    let found = accepted_leaves s1 s2 c.existing_database.ensures.crash (c.in_ok-database.ensures.found clean2) (c.existing_database.ensures.same clean2) in
+    rw told (refusal_after s0 s2 (state g.S.Store c.bytes_of.new.connection) (leaves_then s0 s1 s2 looked found) refusal (c.in_err-bytes.ensures.caused clean))

@@ -24,6 +24,7 @@ use Rattle.zeb_engine.proofs.Lookups.{base_found, hits_asked, still_holds}
 use Rattle.zeb_engine.proofs.FindRefusals.{asked_refused, asked_small, hits_refused, misses_refused, plan_refused, query_refused, show_refused}
 use Rattle.zeb_engine.proofs.ReadyTexts.{fault_never}
 use Rattle.zeb_engine.proofs.Showing.{kept_fails}
+use Rattle.zeb_engine.proofs.StoreCauses.{LeavesAll, accepted_leaves, fault_after, leaves_then, query_caused, refusal_after}
 use Rattle.zeb_engine.proofs.find.find.Goals as goal
 
 pub returns-in_err-query-clause-found : goal.returns-in_err-query-clause-found
@@ -266,3 +267,50 @@ returns-in_err-hits-clause-ready g c =
     let fault = c.in_err-hits.field-0.0 in
     let told : c.from_residual-in_err-hits.result ≡ Err (register_refusal fault) = search rules in
     rw told (fault_never {T = Reply} fault)
+
+pub returns-in_err-query-clause-caused : goal.returns-in_err-query-clause-caused
+returns-in_err-query-clause-caused g c clean =
+    let s0 = state g.S.Store c.args.connection.now in
+    let fault = c.in_err-query.field-0.0 in
+    let told : c.from_residual.result ≡ Err (query_refusal fault) = search rules in
+    rw told (query_caused s0 s0 fault)
+
+pub returns-in_err-database-clause-caused : goal.returns-in_err-database-clause-caused
+returns-in_err-database-clause-caused g c clean =
+    let told : c.from_residual-in_err-database.result ≡ Err c.in_err-database.field-0.0 = search rules in
+    rw told (c.in_err-database.ensures.caused clean)
+
+pub returns-in_err-plan-clause-caused : goal.returns-in_err-plan-clause-caused
+returns-in_err-plan-clause-caused g c clean =
+    let fault = c.in_err-plan.field-0.0 in
+    let told : c.from_residual-in_err-plan.result ≡ Err (query_refusal fault) = search rules in
+    rw told (query_caused (state g.S.Store c.args.connection.now) (state g.S.Store c.existing_database.new.connection) fault)
+
+pub returns-in_err-hits-clause-caused : goal.returns-in_err-hits-clause-caused
+returns-in_err-hits-clause-caused g c clean =
+    let s0 = state g.S.Store c.args.connection.now in
+    let s1 = state g.S.Store c.existing_database.new.connection in
+    let clean1 : HasCleanDisk s1 = omega (arith, c.hits.ensures.call.crash.clean) in
+    let fault = c.in_err-hits.field-0.0 in
+    let told : c.from_residual-in_err-hits.result ≡ Err (register_refusal fault) = search rules in
+    let found = accepted_leaves s0 s1 c.existing_database.ensures.crash (c.in_ok-database.ensures.found clean1) (c.existing_database.ensures.same clean1) in
+    rw told (fault_after s0 s1 (state g.S.Store c.hits.new.connection) found fault clean c.in_err-hits.ensures.refused)
+
+pub returns-in_err-asked-clause-caused : goal.returns-in_err-asked-clause-caused
+returns-in_err-asked-clause-caused g c clean store =
+    let refusal = c.in_err-asked.field-0.0 in
+    let told : c.from_residual-in_err-asked.result ≡ Err refusal = search rules in
+    rw told (λ is. absurd (c.in_err-asked.ensures.unstored (ap Err is)))
+
+pub returns-in_err-shown-clause-caused : goal.returns-in_err-shown-clause-caused
+returns-in_err-shown-clause-caused g c clean =
+    let s0 = state g.S.Store c.args.connection.now in
+    let s1 = state g.S.Store c.existing_database.new.connection in
+    let s2 = state g.S.Store c.hits.new.connection in
+    let clean2 : HasCleanDisk s2 = omega (arith, c.show.ensures.crash.clean) in
+    let clean1 : HasCleanDisk s1 = omega (arith, clean2, c.hits.ensures.call.crash.clean) in
+    let refusal = c.in_err-shown.field-0.0 in
+    let told : c.from_residual-in_err-shown.result ≡ Err refusal = search rules in
+    let found = accepted_leaves s0 s1 c.existing_database.ensures.crash (c.in_ok-database.ensures.found clean1) (c.existing_database.ensures.same clean1) in
+    let searched : LeavesAll s1 s2 = record { survives = c.hits.ensures.call.crash; opened = λ was. ((c.in_ok-hits.ensures.call.ok clean2).1 was).0.is_open; nothing = c.hits.ensures.call.same clean2 c.existing_database.ensures.idle } in
+    rw told (refusal_after s0 s2 (state g.S.Store c.show.new.connection) (leaves_then s0 s1 s2 found searched) refusal (c.in_err-shown.ensures.caused clean))

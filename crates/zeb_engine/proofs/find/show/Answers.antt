@@ -15,6 +15,7 @@ use Rattle.zeb_change.specs.Outcomes.{register_refusal}
 use Rattle.zeb_query.proofs.HoldingLemmas.{take_whole}
 use Rattle.zeb_engine.proofs.ListedDatabases.{fault_or_damage}
 use Rattle.zeb_engine.proofs.Showing.{hidden_shown, ident_stored, none_shown, shown_more, still_shows}
+use Rattle.zeb_engine.proofs.StoreCauses.{LeavesAll, fault_after}
 use Rattle.zeb_engine.proofs.find.show.Goals as goal
 
 abbrev told : Hit → ℕ × List ℕ
@@ -75,3 +76,13 @@ returns-in_err-ident-clause-refused g c clean trees shows small =
     let at = still_shows old now trees (c.loop-number.invariant.same first) shows (c.in_err-ident.ensures.opened clean damaged) in
     hidden_shown trees c.args.database.0 c.args.numbers.now index number c.loop-number-test.true refl
     (subst (λ (t : Trees). ¬ AreReadableIdents t c.args.database.0 (pos number)) at.1 (c.in_err-ident.ensures.honest clean at.0 damaged))))
+
+pub returns-in_err-ident-clause-caused : goal.returns-in_err-ident-clause-caused
+returns-in_err-ident-clause-caused g c clean =
+    let old = state g.S.Store c.args.connection.now in
+    let now = state g.S.Store c.loop-number.connection in
+    let first : HasCleanDisk now = omega (arith, c.ident_of.ensures.call.crash.clean) in
+    let fault = c.in_err-ident.field-0.0 in
+    let told : c.from_residual-in_err-ident.result ≡ Err (register_refusal fault) = search rules in
+    let leaves : LeavesAll old now = record { survives = c.loop-number.invariant.crash; opened = c.loop-number.invariant.open_still first; nothing = c.loop-number.invariant.same first } in
+    rw told (fault_after old now (state g.S.Store c.ident_of.new.conn) leaves fault clean c.in_err-ident.ensures.refused)

@@ -17,6 +17,7 @@ use Rattle.zeb_engine.proofs.Asked.{Ends, existing_ends, query_ends, refused_end
 use Rattle.zeb_engine.proofs.Held.{looked_up}
 use Rattle.zeb_engine.proofs.Scans.{plan_ends, scanned_ends, terms_answered}
 use Rattle.zeb_engine.proofs.Showing.{still_shows}
+use Rattle.zeb_engine.proofs.StoreCauses.{accepted_leaves, query_caused, refusal_after}
 use Rattle.zeb_engine.proofs.scan.scan.Goals as goal
 use Rattle.zeb_register.specs.Formats.{holds_in, version_of}
 
@@ -126,3 +127,31 @@ returns-clause-work g c clean store content format =
     let clean1 : HasCleanDisk s1 = omega (arith, c.terms_around.ensures.crash.clean) in
     let there = still_shows s0 s1 s0.now.trees (c.existing_database.ensures.same clean1) (λ _. (store, refl)) (c.in_ok-entries.ensures.«open» clean).0 in
     c.in_ok-entries.ensures.work clean there.0 content (subst (λ db. holds_in g.L.Layout.format db content) (sym there.1) format)
+
+pub returns-in_err-query-clause-caused : goal.returns-in_err-query-clause-caused
+returns-in_err-query-clause-caused g c clean =
+    let s0 = state g.S.Store c.args.connection.now in
+    let fault = c.in_err-query.field-0.0 in
+    let told : c.from_residual.result ≡ Err (query_refusal fault) = search rules in
+    rw told (query_caused s0 s0 fault)
+
+pub returns-in_err-database-clause-caused : goal.returns-in_err-database-clause-caused
+returns-in_err-database-clause-caused g c clean =
+    let told : c.from_residual-in_err-database.result ≡ Err c.in_err-database.field-0.0 = search rules in
+    rw told (c.in_err-database.ensures.caused clean)
+
+pub returns-in_err-plan-clause-caused : goal.returns-in_err-plan-clause-caused
+returns-in_err-plan-clause-caused g c clean =
+    let fault = c.in_err-plan.field-0.0 in
+    let told : c.from_residual-in_err-plan.result ≡ Err (query_refusal fault) = search rules in
+    rw told (query_caused (state g.S.Store c.args.connection.now) (state g.S.Store c.existing_database.new.connection) fault)
+
+pub returns-in_err-entries-clause-caused : goal.returns-in_err-entries-clause-caused
+returns-in_err-entries-clause-caused g c clean =
+    let s0 = state g.S.Store c.args.connection.now in
+    let s1 = state g.S.Store c.existing_database.new.connection in
+    let clean1 : HasCleanDisk s1 = omega (arith, c.terms_around.ensures.crash.clean) in
+    let refusal = c.in_err-entries.field-0.0 in
+    let told : c.from_residual-in_err-entries.result ≡ Err refusal = search rules in
+    let found = accepted_leaves s0 s1 c.existing_database.ensures.crash (c.in_ok-database.ensures.found clean1) (c.existing_database.ensures.same clean1) in
+    rw told (refusal_after s0 s1 (state g.S.Store c.terms_around.new.connection) found refusal (c.in_err-entries.ensures.caused clean))

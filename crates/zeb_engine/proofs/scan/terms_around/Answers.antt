@@ -9,6 +9,7 @@ use Rattle.zeb_change.specs.Outcomes.{register_refusal}
 use Rattle.zeb_engine.proofs.ListedDatabases.{fault_fails}
 use Rattle.zeb_engine.proofs.AskedReads.{around_reads}
 use Rattle.zeb_engine.proofs.Scans.{around_lists}
+use Rattle.zeb_engine.proofs.StoreCauses.{LeavesAll, fault_after, fault_caused}
 use Rattle.zeb_engine.proofs.scan.terms_around.Goals as goal
 use Rattle.zeb_register.specs.Formats.{holds_in}
 
@@ -57,3 +58,19 @@ returns-clause-work g c clean store content format least most =
     c.in_ok-first.first.items c.in_ok-rest.rest.items c.args.work.now c.terms_before.new.work c.terms_from.new.work below from least most
     (c.in_ok-first.ensures.value clean1 store content format) (c.in_ok-rest.ensures.value clean there content held)
     (c.in_ok-first.ensures.work clean1 store content format) (c.in_ok-rest.ensures.work clean there content held)
+
+pub returns-in_err-first-clause-caused : goal.returns-in_err-first-clause-caused
+returns-in_err-first-clause-caused g c clean store =
+    let fault = c.in_err-first.field-0.0 in
+    let told : c.from_residual.result ≡ Err (register_refusal fault) = search rules in
+    rw told (fault_caused fault (λ is. c.in_err-first.ensures.refused clean store (ap Err is)))
+
+pub returns-in_err-rest-clause-caused : goal.returns-in_err-rest-clause-caused
+returns-in_err-rest-clause-caused g c clean =
+    let old = state g.S.Store c.args.connection.now in
+    let mid = state g.S.Store c.terms_before.new.conn in
+    let clean1 : HasCleanDisk mid = omega (arith, c.terms_from.ensures.call.crash.clean) in
+    let fault = c.in_err-rest.field-0.0 in
+    let told : c.from_residual-in_err-rest.result ≡ Err (register_refusal fault) = search rules in
+    let leaves : LeavesAll old mid = record { survives = c.terms_before.ensures.call.crash; opened = λ _. (c.in_ok-first.ensures.call.ok clean1).0.is_open; nothing = c.terms_before.ensures.call.same clean1 c.requires.idle } in
+    rw told (fault_after old mid (state g.S.Store c.terms_from.new.conn) leaves fault clean c.in_err-rest.ensures.refused)

@@ -16,6 +16,7 @@ use Rattle.std.proofs.lemmas.List.{take_more}
 use Rattle.zeb_engine.proofs.ListedDatabases.{fault_fails}
 use Rattle.zeb_engine.proofs.Showing.{still_shows}
 use Rattle.zeb_engine.proofs.Stats.{paired_more}
+use Rattle.zeb_engine.proofs.StoreCauses.{LeavesAll, fault_after}
 use Rattle.zeb_engine.proofs.stat.holdings_of.Goals as goal
 use Rattle.zeb_register.specs.Formats.{holds_in}
 
@@ -65,3 +66,13 @@ returns-in_err-totals-clause-failed g c clean trees shows was content storable h
     let fault = c.in_err-totals.field-0.0 in
     let told : c.from_residual-in_err-totals.result ≡ Err (register_refusal fault) = search rules in
     rw told (fault_fails fault (λ is. c.in_err-totals.ensures.honest clean at.0 (ap Err is) content storable (subst (λ (t : Trees). holds_in g.L.Layout.format t content) (sym at.1) has)))
+
+pub returns-in_err-totals-clause-caused : goal.returns-in_err-totals-clause-caused
+returns-in_err-totals-clause-caused g c clean =
+    let old = state g.S.Store c.args.connection.now in
+    let now = state g.S.Store c.loop-target.connection in
+    let first : HasCleanDisk now = omega (arith, c.totals.ensures.call.crash.clean) in
+    let fault = c.in_err-totals.field-0.0 in
+    let told : c.from_residual-in_err-totals.result ≡ Err (register_refusal fault) = search rules in
+    let leaves : LeavesAll old now = record { survives = c.loop-target.invariant.crash; opened = c.loop-target.invariant.open_still first; nothing = c.loop-target.invariant.same first } in
+    rw told (fault_after old now (state g.S.Store c.totals.new.conn) leaves fault clean c.in_err-totals.ensures.refused)

@@ -21,6 +21,7 @@ use Rattle.zeb_engine.proofs.Held.{looked_up}
 use Rattle.zeb_engine.proofs.ListedDatabases.{fault_fails}
 use Rattle.zeb_engine.proofs.Showing.{still_shows}
 use Rattle.zeb_engine.proofs.Stats.{Counts, count_fails, count_known, count_unknown, extents_as, last_named, unready_counts}
+use Rattle.zeb_engine.proofs.StoreCauses.{LeavesAll, accepted_leaves, fault_after, leaves_then, refusal_after}
 use Rattle.zeb_engine.proofs.stat.stat.Goals as goal
 use Rattle.zeb_register.specs.Formats.{version_of}
 use Rattle.zeb_engine.proofs.ReadyTexts.{fault_never, ready_then}
@@ -208,3 +209,47 @@ returns-clause-ready g c clean =
     let clean2 : HasCleanDisk (state g.S.Store c.existing_database.new.connection) = omega (arith, clean3, c.record_count.ensures.call.crash.clean) in
     let clean1 : HasCleanDisk (state g.S.Store c.check_ready.new.connection) = omega (arith, clean2, c.existing_database.ensures.crash.clean) in
     c.in_ok-check_ready.ensures.texts clean1
+
+pub returns-in_err-check_ready-clause-caused : goal.returns-in_err-check_ready-clause-caused
+returns-in_err-check_ready-clause-caused g c clean =
+    let told : c.from_residual.result ≡ Err c.in_err-check_ready.field-0.0 = search rules in
+    rw told (c.in_err-check_ready.ensures.caused clean)
+
+pub returns-in_err-database-clause-caused : goal.returns-in_err-database-clause-caused
+returns-in_err-database-clause-caused g c clean =
+    let s0 = state g.S.Store c.args.connection.now in
+    let s1 = state g.S.Store c.check_ready.new.connection in
+    let clean1 : HasCleanDisk s1 = omega (arith, c.existing_database.ensures.crash.clean) in
+    let refusal = c.in_err-database.field-0.0 in
+    let told : c.from_residual-in_err-database.result ≡ Err refusal = search rules in
+    let looked = accepted_leaves s0 s1 c.check_ready.ensures.crash (c.in_ok-check_ready.ensures.open clean1) (c.check_ready.ensures.same clean1) in
+    rw told (refusal_after s0 s1 (state g.S.Store c.existing_database.new.connection) looked refusal (c.in_err-database.ensures.caused clean))
+
+pub returns-in_err-kept-clause-caused : goal.returns-in_err-kept-clause-caused
+returns-in_err-kept-clause-caused g c clean =
+    let s0 = state g.S.Store c.args.connection.now in
+    let s1 = state g.S.Store c.check_ready.new.connection in
+    let s2 = state g.S.Store c.existing_database.new.connection in
+    let clean2 : HasCleanDisk s2 = omega (arith, c.record_count.ensures.call.crash.clean) in
+    let clean1 : HasCleanDisk s1 = omega (arith, clean2, c.existing_database.ensures.crash.clean) in
+    let fault = c.in_err-kept.field-0.0 in
+    let told : c.from_residual-in_err-kept.result ≡ Err (register_refusal fault) = search rules in
+    let looked = accepted_leaves s0 s1 c.check_ready.ensures.crash (c.in_ok-check_ready.ensures.open clean1) (c.check_ready.ensures.same clean1) in
+    let found = accepted_leaves s1 s2 c.existing_database.ensures.crash (c.in_ok-database.ensures.found clean2) (c.existing_database.ensures.same clean2) in
+    rw told (fault_after s0 s2 (state g.S.Store c.record_count.new.conn) (leaves_then s0 s1 s2 looked found) fault clean c.in_err-kept.ensures.refused)
+
+pub returns-in_err-holdings-clause-caused : goal.returns-in_err-holdings-clause-caused
+returns-in_err-holdings-clause-caused g c clean =
+    let s0 = state g.S.Store c.args.connection.now in
+    let s1 = state g.S.Store c.check_ready.new.connection in
+    let s2 = state g.S.Store c.existing_database.new.connection in
+    let s3 = state g.S.Store c.record_count.new.conn in
+    let clean3 : HasCleanDisk s3 = omega (arith, c.holdings_of.ensures.crash.clean) in
+    let clean2 : HasCleanDisk s2 = omega (arith, clean3, c.record_count.ensures.call.crash.clean) in
+    let clean1 : HasCleanDisk s1 = omega (arith, clean2, c.existing_database.ensures.crash.clean) in
+    let refusal = c.in_err-holdings.field-0.0 in
+    let told : c.from_residual-in_err-holdings.result ≡ Err refusal = search rules in
+    let looked = accepted_leaves s0 s1 c.check_ready.ensures.crash (c.in_ok-check_ready.ensures.open clean1) (c.check_ready.ensures.same clean1) in
+    let found = accepted_leaves s1 s2 c.existing_database.ensures.crash (c.in_ok-database.ensures.found clean2) (c.existing_database.ensures.same clean2) in
+    let counted : LeavesAll s2 s3 = record { survives = c.record_count.ensures.call.crash; opened = λ _. (c.in_ok-kept.ensures.call.ok clean3).0.is_open; nothing = c.record_count.ensures.call.same clean3 c.existing_database.ensures.idle } in
+    rw told (refusal_after s0 s3 (state g.S.Store c.holdings_of.new.connection) (leaves_then s0 s2 s3 (leaves_then s0 s1 s2 looked found) counted) refusal (c.in_err-holdings.ensures.caused clean))

@@ -16,6 +16,7 @@ use Rattle.zeb_engine.proofs.Commanding.{analysis_answers, analysis_serves, asks
 use Rattle.zeb_engine.proofs.Crashing.{ends_commit, none_commits, survives_as}
 use Rattle.zeb_engine.proofs.AskedReads.{find_command_reads, scan_command_reads}
 use Rattle.zeb_engine.proofs.Serving.{on_ok}
+use Rattle.zeb_engine.proofs.StoreCauses.{analysis_caused}
 use Rattle.zeb_engine.proofs.Unasked.{reads_command}
 use Rattle.zeb_engine.specs.Costs.{CostsAlone, no_work}
 use Rattle.zeb_engine.proofs.session.Session.carry_out.Goals as goal
@@ -459,3 +460,27 @@ returns-in-Analyse-clause-read_work g c clean = rw c.in-Analyse.is tt
 
 pub returns-in-Change-clause-no_work : goal.returns-in-Change-clause-no_work
 returns-in-Change-clause-no_work g c none is = absurd (subst IsNoChange c.in-Change.is is)
+
+pub returns-in-Init-clause-caused : goal.returns-in-Init-clause-caused
+returns-in-Init-clause-caused g c clean asks = absurd (subst OnlyAsks c.in-Init.is asks)
+
+pub returns-in-Create-clause-caused : goal.returns-in-Create-clause-caused
+returns-in-Create-clause-caused g c clean asks = absurd (subst OnlyAsks c.in-Create.is asks)
+
+pub returns-in-Drop-clause-caused : goal.returns-in-Drop-clause-caused
+returns-in-Drop-clause-caused g c clean asks = absurd (subst OnlyAsks c.in-Drop.is asks)
+
+pub returns-in-Change-clause-caused : goal.returns-in-Change-clause-caused
+returns-in-Change-clause-caused g c clean asks = absurd (subst OnlyAsks c.in-Change.is asks)
+
+pub returns-in-Upgrade-clause-caused : goal.returns-in-Upgrade-clause-caused
+returns-in-Upgrade-clause-caused g c clean asks = absurd (subst OnlyAsks c.in-Upgrade.is asks)
+
+pub returns-in-Reindex-clause-caused : goal.returns-in-Reindex-clause-caused
+returns-in-Reindex-clause-caused g c clean asks = absurd (subst OnlyAsks c.in-Reindex.is asks)
+
+pub returns-in-Analyse-clause-caused : goal.returns-in-Analyse-clause-caused
+returns-in-Analyse-clause-caused g c clean asks =
+    let k = conditions (version_of g.L.Layout.format) c.args.self.now.profile c.args.self.now.limits in
+    let s = state g.S.Store c.args.self.now.connection in
+    analysis_caused k (map (λ file. file.items) c.deref-in-Analyse.result.now) s s c.analyse_files.result c.analyse_files.ensures.told

@@ -12,6 +12,7 @@ use Rattle.zeb_engine.specs.Works.{Always, Serves}
 use Rattle.zeb_engine.proofs.Checks.{damage_serves, tells_none, tells_some, unready_tells}
 use Rattle.zeb_engine.proofs.Commanding.{ready_met, unready_checks}
 use Rattle.zeb_engine.proofs.ReadyTexts.{fault_never, ready_then}
+use Rattle.zeb_engine.proofs.StoreCauses.{accepted_leaves, fault_after}
 use Rattle.zeb_engine.proofs.session.Session.check.Goals as goal
 
 pub returns-in_err-check_ready-clause-serves : goal.returns-in_err-check_ready-clause-serves
@@ -87,3 +88,18 @@ returns-else-branch-clause-checked g c clean store texts =
     let still = (c.check_ready.ensures.same first (c.in_ok-is_image.ensures.call.ok clean).0).1 in
     let no : c.in_ok-is_image.field-0 ≡ false = search rules in
     tells_none k own old mid still c.in_ok-is_image.field-0 (c.in_ok-is_image.ensures.value clean (store_same old mid still store)) texts no
+
+pub returns-in_err-check_ready-clause-caused : goal.returns-in_err-check_ready-clause-caused
+returns-in_err-check_ready-clause-caused g c clean =
+    let told : c.from_residual.result ≡ Err c.in_err-check_ready.field-0.0 = search rules in
+    rw told (c.in_err-check_ready.ensures.caused clean)
+
+pub returns-in_err-is_image-clause-caused : goal.returns-in_err-is_image-clause-caused
+returns-in_err-is_image-clause-caused g c clean =
+    let old = state g.S.Store c.args.self.now.connection in
+    let mid = state g.S.Store c.check_ready.new.connection in
+    let first : HasCleanDisk mid = omega (arith, c.is_image.ensures.call.crash.clean) in
+    let fault = c.in_err-is_image.field-0.0 in
+    let told : c.from_residual-in_err-is_image.result ≡ Err (register_refusal fault) = search rules in
+    let looked = accepted_leaves old mid c.check_ready.ensures.crash (c.in_ok-check_ready.ensures.open first) (c.check_ready.ensures.same first) in
+    rw told (fault_after old mid (state g.S.Store c.is_image.new.connection) looked fault clean c.in_err-is_image.ensures.refused)

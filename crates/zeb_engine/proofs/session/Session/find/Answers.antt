@@ -17,6 +17,7 @@ use Rattle.zeb_engine.proofs.Asked.{alone_after, ready_asked, refused_after, unr
 use Rattle.zeb_engine.proofs.AskedReads.{told_after}
 use Rattle.zeb_engine.proofs.Commanding.{ready_met}
 use Rattle.zeb_engine.proofs.Serving.{keeps_still}
+use Rattle.zeb_engine.proofs.StoreCauses.{accepted_leaves, cause_after}
 use Rattle.zeb_engine.proofs.session.Session.find.Goals as goal
 use Rattle.zeb_register.specs.Formats.{version_of}
 use Rattle.zeb_engine.proofs.ReadyTexts.{ready_then, unready_fails}
@@ -102,3 +103,16 @@ returns-clause-work g c clean =
     (λ trees content. (plan : PlanValue) × IsPlanOf c.args.self.now.profile c.args.question.query.now plan
     × PlanReads g.L.Layout.row_work g.L.Layout.block_rows plan (name_bytes c.args.database.now) trees content c.args.self.now.work c.find.new.work) old mid new c.find.result
     (c.check_ready.ensures.same clean1) (c.find.ensures.open clean) (c.find.ensures.work clean)
+
+pub returns-in_err-check_ready-clause-caused : goal.returns-in_err-check_ready-clause-caused
+returns-in_err-check_ready-clause-caused g c clean =
+    let told : c.from_residual.result ≡ Err c.in_err-check_ready.field-0.0 = search rules in
+    rw told (c.in_err-check_ready.ensures.caused clean)
+
+pub returns-clause-caused : goal.returns-clause-caused
+returns-clause-caused g c clean =
+    let old = state g.S.Store c.args.self.now.connection in
+    let mid = state g.S.Store c.check_ready.new.connection in
+    let clean1 : HasCleanDisk mid = omega (arith, c.find.ensures.crash.clean) in
+    let looked = accepted_leaves old mid c.check_ready.ensures.crash (c.in_ok-check_ready.ensures.open clean1) (c.check_ready.ensures.same clean1) in
+    cause_after old mid (state g.S.Store c.find.new.connection) looked c.find.result (c.find.ensures.caused clean)

@@ -15,6 +15,7 @@ use Rattle.zeb_engine.proofs.Commanding.{ready_met}
 use Rattle.zeb_engine.proofs.Asked.{alone_after, ready_asked, unready_asked}
 use Rattle.zeb_engine.proofs.AskedReads.{told_after}
 use Rattle.zeb_engine.proofs.Serving.{keeps_still}
+use Rattle.zeb_engine.proofs.StoreCauses.{accepted_leaves, cause_after}
 use Rattle.zeb_engine.proofs.session.Session.scan.Goals as goal
 use Rattle.zeb_register.specs.Formats.{version_of}
 use Rattle.zeb_search.specs.Counted.{Counts}
@@ -87,3 +88,16 @@ returns-clause-work g c clean =
     told_after g.L.Layout.format
     (λ trees content. 1 ≤ position → position ≤ number → Counts (g.L.Layout.row_work * (number + 1)) 0 c.args.self.now.work c.scan.new.work) old mid new c.scan.result
     (c.check_ready.ensures.same clean1) (c.scan.ensures.«open» clean) (c.scan.ensures.work clean)
+
+pub returns-in_err-check_ready-clause-caused : goal.returns-in_err-check_ready-clause-caused
+returns-in_err-check_ready-clause-caused g c clean =
+    let told : c.from_residual.result ≡ Err c.in_err-check_ready.field-0.0 = search rules in
+    rw told (c.in_err-check_ready.ensures.caused clean)
+
+pub returns-clause-caused : goal.returns-clause-caused
+returns-clause-caused g c clean =
+    let old = state g.S.Store c.args.self.now.connection in
+    let mid = state g.S.Store c.check_ready.new.connection in
+    let clean1 : HasCleanDisk mid = omega (arith, c.scan.ensures.crash.clean) in
+    let looked = accepted_leaves old mid c.check_ready.ensures.crash (c.in_ok-check_ready.ensures.open clean1) (c.check_ready.ensures.same clean1) in
+    cause_after old mid (state g.S.Store c.scan.new.connection) looked c.scan.result (c.scan.ensures.caused clean)
