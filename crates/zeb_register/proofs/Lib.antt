@@ -58,5 +58,5 @@ pub mod Expecting
 pub mod ExpectingRows
 pub mod PackedBeside
 pub mod ExpectingBlocks
-pub mod KeyCounts
+pub mod KeyRuns
 pub mod RowReads

@@ -180,10 +180,14 @@ IsBlockBefore row postings rest =
     (key : Key) × (block : ℕ) × (bytes : List ℕ) × (part : List Posting) × (row ≡ key_shown key ++ Int (pos block) ∷ Blob bytes ∷ [])
     × BlockSpells block part bytes × (postings ≡ map (with_key key) part ++ rest)
 
+-- the rows take the postings, each its own from the front of those that are left
+abbrev pub TakeAll : (Row → List KeyPosting → List KeyPosting → Type 0) → List Row → List KeyPosting → Type 0
+TakeAll Before [] postings = postings ≡ []
+TakeAll Before (row ∷ rows) postings = (rest : List KeyPosting) × Before row postings rest × TakeAll Before rows rest
+
 -- the rows spell the postings, one behind the other
 abbrev pub AreBlocks : List Row → List KeyPosting → Type 0
-AreBlocks [] postings = postings ≡ []
-AreBlocks (row ∷ rows) postings = (rest : List KeyPosting) × IsBlockBefore row postings rest × AreBlocks rows rest
+AreBlocks = TakeAll IsBlockBefore
 
 -- `dict` holds what is expected, and the table of single postings has no row
 abbrev pub HoldsKeysAlone : List ListedDatabase → List ExpectedDatabase → Trees → Type 0

@@ -6,10 +6,9 @@ use Rattle.sqlite.specs.State.{State, IsUnchanged}
 use Rattle.zeb_register.specs.declared.agreeing.Table.{Table}
 use Rattle.zeb_register.specs.declared.agreeing.Table.TheVariants.{Records, Postings, Blocks, Dict}
 use Rattle.zeb_register.specs.declared.expected.ExpectedDatabase.{ExpectedDatabase}
-use Rattle.zeb_register.specs.declared.key_counts.KeyCount.{KeyCount}
 use Rattle.zeb_register.specs.Kept.{record_shown}
-use Rattle.zeb_register.specs.RowExpected.{AreBlocks, posting_shown, tree_of}
-use Rattle.zeb_register.specs.RowKeys.{count_shown}
+use Rattle.zeb_register.specs.RowExpected.{AreBlocks, IsInOrder, TakeAll, posting_shown, tree_of}
+use Rattle.zeb_register.specs.RowKeys.{IsRunBefore}
 use Rattle.zeb_register.specs.Sql.{IsListOf}
 use Rattle.zeb_register.specs.Store.{IsRest, IsStore}
 
@@ -28,21 +27,22 @@ owners_text Blocks = codes "SELECT db FROM blocks"
 owners_text Dict = codes "SELECT db FROM dict"
 
 -- how long the list is that a table's rows are compared with
-abbrev pub size_of : Table → ExpectedDatabase → List KeyCount → ℕ
-size_of Records database counts = length database.records.items
-size_of Postings database counts = length database.postings.items
-size_of Blocks database counts = length database.postings.items
-size_of Dict database counts = length counts
+abbrev pub size_of : Table → ExpectedDatabase → ℕ
+size_of Records database = length database.records.items
+size_of Postings database = length database.postings.items
+size_of Blocks database = length database.postings.items
+size_of Dict database = length database.postings.items
 
 -- the rows are those that this list has from a place on
-abbrev pub Fits : Table → ExpectedDatabase → List KeyCount → List Row → ℕ → Type 0
-Fits Records database counts rows at = rows ≡ map record_shown (drop at database.records.items)
-Fits Postings database counts rows at = rows ≡ map posting_shown (drop at database.postings.items)
-Fits Blocks database counts rows at = AreBlocks rows (drop at database.postings.items)
-Fits Dict database counts rows at = rows ≡ map count_shown (drop at counts)
+abbrev pub Fits : Table → ExpectedDatabase → List Row → ℕ → Type 0
+Fits Records database rows at = rows ≡ map record_shown (drop at database.records.items)
+Fits Postings database rows at = rows ≡ map posting_shown (drop at database.postings.items)
+Fits Blocks database rows at = AreBlocks rows (drop at database.postings.items)
+Fits Dict database rows at = TakeAll IsRunBefore rows (drop at database.postings.items)
 
--- nothing is changed, and the answer tells whether the rows under the id are those of the whole list
-abbrev pub ReadsRests : Table → ℤ → ExpectedDatabase → List KeyCount → Bool → State → State → Type 0
-ReadsRests table db database counts agree old new =
+-- nothing is changed, and the answer tells whether the rows under the id are those of the whole list, where it rises
+abbrev pub ReadsRests : Table → ℤ → ExpectedDatabase → Bool → State → State → Type 0
+ReadsRests table db database agree old new =
     IsUnchanged old new
-    × (IsStore old → (rows : List Row) × IsListOf (IsRest (tree_of table) (Int db ∷ []) old.now.trees) rows × (IsTrue agree ↔ Fits table database counts rows 0))
+    × (IsStore old → (rows : List Row) × IsListOf (IsRest (tree_of table) (Int db ∷ []) old.now.trees) rows
+    × (IsInOrder database → IsTrue agree ↔ Fits table database rows 0))

@@ -13,7 +13,7 @@ mod dropping;
 mod expected;
 mod faults;
 mod kept;
-mod key_counts;
+mod key_runs;
 mod lists;
 mod meta;
 mod occurring;
