@@ -60,3 +60,6 @@ pub mod PackedBeside
 pub mod ExpectingBlocks
 pub mod KeyRuns
 pub mod RowReads
+pub mod OwnerStatements
+pub mod Reasons
+pub mod OwnersListed

@@ -27,16 +27,15 @@ use Rattle.zeb_register.specs.declared.expected.KeyPosting.{KeyPosting}
 use Rattle.zeb_register.specs.Calls.{ChangesNothing}
 use Rattle.zeb_register.specs.Expected.{key_posting_order}
 use Rattle.zeb_register.specs.Kept.{record_shown}
-use Rattle.zeb_register.specs.RowExpected.{AsExpected, BelongsTo, IsBlockBefore, IsInOrder, IsOwnedBy, ShowsOwners, posting_shown, tree_of, TakeAll}
+use Rattle.zeb_register.specs.RowExpected.{AsExpected, IsBlockBefore, IsInOrder, posting_shown, tree_of, TakeAll}
 use Rattle.zeb_register.specs.RowKeys.{IsRunBefore}
-use Rattle.zeb_register.specs.RowReads.{Fits, owners_text, rests_text, size_of}
+use Rattle.zeb_register.specs.RowReads.{Fits, rests_text, size_of}
 use Rattle.zeb_register.specs.Sql.{IsListOf}
 use Rattle.zeb_register.specs.Store.{IsRest, IsStore, postings_tree, records_tree}
 use Rattle.zeb_register.specs.Tables.{store_schema}
 use Rattle.zeb_register.proofs.Calls.{IsSilent, never_returns, store_same}
-use Rattle.zeb_register.proofs.ExpectedLists.{belong_owners, owners_belong, postings_rise, records_rise, rows_under, under_rows}
-use Rattle.zeb_register.proofs.ExpectedStatements.{blocks_is, blocks_owned, blocks_owners_is, blocks_owners_silent, blocks_silent, dict_owned, dict_owners_is, dict_owners_silent, keys_is, keys_silent, lists_blocks, lists_keys, lists_postings}
-use Rattle.zeb_register.proofs.ExpectedStatements.{postings_is, postings_owned, postings_owners_is, postings_owners_silent, postings_silent, records_owned, records_owners_is, records_owners_silent}
+use Rattle.zeb_register.proofs.ExpectedLists.{postings_rise, records_rise, rows_under, under_rows}
+use Rattle.zeb_register.proofs.ExpectedStatements.{blocks_is, blocks_silent, keys_is, keys_silent, lists_blocks, lists_keys, lists_postings, postings_is, postings_silent}
 use Rattle.zeb_register.proofs.KeyRuns.{one_run, runs_all, runs_rest}
 use Rattle.zeb_register.proofs.PackedBeside.{all_numbered, blocks_all, blocks_rest, drop_none, drop_over, map_none, one_before}
 use Rattle.zeb_register.proofs.RecordStatements.{all_is, all_silent, lists_all}
@@ -210,43 +209,3 @@ fits_expected Dict s store id d order rows are = (
       ),
   λ has. runs_all rows d.postings.items order.1 are.rising (λ r. ((λ h. (has r).0 ((are.each r).0 h)), λ h. (are.each r).1 ((has r).1 h))),
 )
-
--- ---- whose the rows of a table are
-
-pub owners_silent : (t : Table) → IsSilent (owners_text t)
-owners_silent Records = records_owners_silent
-owners_silent Postings = postings_owners_silent
-owners_silent Blocks = blocks_owners_silent
-owners_silent Dict = dict_owners_silent
-
-owners_is : (t : Table) → (q : Query) × (names : List (List ℕ)) × (command_of (understood store_schema (owners_text t)) ≡ Select (alone q) names)
-owners_is Records = (_, _, records_owners_is)
-owners_is Postings = (_, _, postings_owners_is)
-owners_is Blocks = (_, _, blocks_owners_is)
-owners_is Dict = (_, _, dict_owners_is)
-
-shows_owned : (t : Table) (old new : State) (rows : List Row) → IsStore old → Shown (owners_text t) [] old new rows → ShowsOwners (tree_of t) old.now.trees rows
-shows_owned Records = records_owned
-shows_owned Postings = postings_owned
-shows_owned Blocks = blocks_owned
-shows_owned Dict = dict_owned
-
-module _ {S : Type 0} (g : store.Ghosts S) (t : Table) (owners : List ListedDatabase) (old : State) (is_store : IsStore old) (now : Held S) (same : IsUnchanged old (state g now)) where
-  shown_owned : (new : State) (rows : List Row) → Shown (owners_text t) [] (state g now) new rows → ShowsOwners (tree_of t) old.now.trees rows
-  shown_owned new rows shown = subst (λ (db : Database). ShowsOwners (tree_of t) db.trees rows) same.0.now_is (shows_owned t (state g now) new rows (store_same old (state g now) same.0.now_is is_store) shown)
-
-  pub owned_whole : (new : State) (given : List Row) → Shown (owners_text t) [] (state g now) new given → ((row : Row) → Has given row → IsOwnedBy owners row) → BelongsTo (tree_of t) owners old.now.trees
-  owned_whole new given shown each = owners_belong (tree_of t) old.now.trees given (shown_owned new given shown) owners each
-
-  pub owned_broken : (given : List Row) (row : Row) → HasGiven g (owners_text t) [] now (given ++ row ∷ []) → ¬ IsOwnedBy owners row → ¬ BelongsTo (tree_of t) owners old.now.trees
-  owned_broken given row it none belongs =
-      let known = owners_is t in
-      let all = stopped g (owners_text t) [] known.0 known.1 known.2 now (given ++ row ∷ []) (store_same old (state g now) same.0.now_is is_store) same.0.is_open it in
-      let rows : List Row = (given ++ row ∷ []) ++ all.0 in
-      none (belong_owners (tree_of t) old.now.trees rows (shown_owned (state g now) rows all.1) owners belongs row (has_left (given ++ row ∷ []) all.0 row (has_right given (row ∷ []) row (inl refl))))
-
-pub owned_further : (owners : List ListedDatabase) (given : List Row) (row : Row) → ((x : Row) → Has given x → IsOwnedBy owners x) → IsOwnedBy owners row → (x : Row) → Has (given ++ row ∷ []) x → IsOwnedBy owners x
-owned_further owners given row each this x here = elim (has_either given (row ∷ []) x here) [
-  | inl before ↦ each x before
-  | inr last ↦ elim last [ inl one ↦ subst (IsOwnedBy owners) (sym one) this | inr none ↦ absurd none ]
-]

@@ -1,13 +1,15 @@
 -- Steps of private functions, which no public clause speaks of: the rows of one table, read one at a time, beside what is expected.
-use Rattle.std.specs.Prelude.{◌≡◌, ◌↔◌, ℕ, ℤ, Bool, IsTrue, List, [], ◌∷◌, length, map, drop, codes}
+use Rattle.std.specs.Prelude.{◌≡◌, ◌↔◌, ℕ, ℤ, Bool, IsTrue, List, [], ◌∷◌, length, map, drop, codes, ◌≤ℤ◌, Option, Some, None}
 use Rattle.sqlite.specs.declared.types.Value.TheVariants.{Int}
 use Rattle.sqlite.specs.Order.{Row}
 use Rattle.sqlite.specs.State.{State, IsUnchanged}
+use Rattle.sqlite.specs.Tree.{Trees}
 use Rattle.zeb_register.specs.declared.agreeing.Table.{Table}
 use Rattle.zeb_register.specs.declared.agreeing.Table.TheVariants.{Records, Postings, Blocks, Dict}
+use Rattle.zeb_register.specs.declared.belonging.Ends.{Ends}
 use Rattle.zeb_register.specs.declared.expected.ExpectedDatabase.{ExpectedDatabase}
 use Rattle.zeb_register.specs.Kept.{record_shown}
-use Rattle.zeb_register.specs.RowExpected.{AreBlocks, IsInOrder, TakeAll, posting_shown, tree_of}
+use Rattle.zeb_register.specs.RowExpected.{AreBlocks, IsInOrder, Owns, TakeAll, posting_shown, tree_of}
 use Rattle.zeb_register.specs.RowKeys.{IsRunBefore}
 use Rattle.zeb_register.specs.Sql.{IsListOf}
 use Rattle.zeb_register.specs.Store.{IsRest, IsStore}
@@ -19,12 +21,34 @@ rests_text Postings = codes "SELECT idx, reg, term, sysno, seq, pos FROM posting
 rests_text Blocks = codes "SELECT idx, reg, term, block, data FROM blocks WHERE db = ?1 ORDER BY idx, reg, term, block"
 rests_text Dict = codes "SELECT idx, reg, term, records FROM dict WHERE db = ?1 ORDER BY idx, reg, term"
 
--- the query for the id of its database of each row of a table
-abbrev pub owners_text : Table → List ℕ
-owners_text Records = codes "SELECT db FROM records"
-owners_text Postings = codes "SELECT db FROM postings"
-owners_text Blocks = codes "SELECT db FROM blocks"
-owners_text Dict = codes "SELECT db FROM dict"
+-- the queries for the least id with which a row of the table begins, for the greatest, and for the least from one on
+abbrev pub least_text : Table → List ℕ
+least_text Records = codes "SELECT db FROM records ORDER BY db LIMIT 1"
+least_text Postings = codes "SELECT db FROM postings ORDER BY db LIMIT 1"
+least_text Blocks = codes "SELECT db FROM blocks ORDER BY db LIMIT 1"
+least_text Dict = codes "SELECT db FROM dict ORDER BY db LIMIT 1"
+
+abbrev pub greatest_text : Table → List ℕ
+greatest_text Records = codes "SELECT db FROM records ORDER BY db DESC LIMIT 1"
+greatest_text Postings = codes "SELECT db FROM postings ORDER BY db DESC LIMIT 1"
+greatest_text Blocks = codes "SELECT db FROM blocks ORDER BY db DESC LIMIT 1"
+greatest_text Dict = codes "SELECT db FROM dict ORDER BY db DESC LIMIT 1"
+
+abbrev pub next_text : Table → List ℕ
+next_text Records = codes "SELECT db FROM records WHERE db >= ?1 ORDER BY db LIMIT 1"
+next_text Postings = codes "SELECT db FROM postings WHERE db >= ?1 ORDER BY db LIMIT 1"
+next_text Blocks = codes "SELECT db FROM blocks WHERE db >= ?1 ORDER BY db LIMIT 1"
+next_text Dict = codes "SELECT db FROM dict WHERE db >= ?1 ORDER BY db LIMIT 1"
+
+-- at most one row, and it shows the id that is P and is so to each other that is P
+abbrev pub ShowsFirst : (ℤ → ℤ → Type 0) → (ℤ → Type 0) → List Row → Type 0
+ShowsFirst Up P [] = (id : ℤ) → ¬ P id
+ShowsFirst Up P (row ∷ rows) = (id : ℤ) × (row ≡ Int id ∷ []) × P id × ((other : ℤ) → P other → Up id other)
+
+-- the least id with which a row of the table begins, and one that none is above; none where the table has no row
+abbrev pub AreEnds : ℕ → Trees → Option Ends → Type 0
+AreEnds tree trees None = (id : ℤ) → ¬ Owns tree trees id
+AreEnds tree trees (Some ends) = Owns tree trees ends.first × ((id : ℤ) → Owns tree trees id → (ends.first ≤ℤ id) × (id ≤ℤ ends.last))
 
 -- how long the list is that a table's rows are compared with
 abbrev pub size_of : Table → ExpectedDatabase → ℕ

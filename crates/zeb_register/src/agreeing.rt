@@ -11,9 +11,10 @@ ghost use Rattle.zeb_register.specs.RowExpected.{AreBeside, AreInOrder, AsExpect
 ghost use Rattle.zeb_register.specs.RowExpected.{HoldsExpected, HoldsThere, IsInOrder, LacksPacked, ListsAgree};
 ghost use Rattle.zeb_register.specs.RowExpected.{tree_of};
 
+use crate::belonging::belongs;
 use crate::catalog::databases_in;
 use crate::expected::{are_named, are_texts};
-use crate::read_beside::{belongs, rests_agree};
+use crate::read_beside::rests_agree;
 use crate::statements::databases::listed_rows;
 use crate::statements::postings::nothing_of;
 use crate::statements::texts::all_texts;

@@ -7,6 +7,7 @@
 #![tactic(auto)]
 
 mod agreeing;
+mod belonging;
 mod blocks;
 mod catalog;
 mod dropping;

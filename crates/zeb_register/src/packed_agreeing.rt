@@ -12,8 +12,8 @@ ghost use Rattle.zeb_register.specs.Clauses.{TellsWhether};
 ghost use Rattle.zeb_register.specs.RowExpected.{AreInOrder, HoldsExpected, HoldsKeysAlone, IsBlockBefore, with_key};
 
 use crate::agreeing::{Table, table_agrees};
+use crate::belonging::belongs;
 use crate::expected::is_key;
-use crate::read_beside::belongs;
 use crate::{ExpectedDatabase, KeyPosting, ListedDatabase, RegFault};
 use sqlite::types::ValueRef;
 use sqlite::{Alter, Connection, Row};

@@ -1,22 +1,18 @@
 //! The rows of a table, read one at a time beside what is expected of them.
 
-ghost use Rattle.std.specs.Prelude.{◌≡◌, ◌≢◌, ◌<◌, ◌≤◌, ◌↔◌, List, ◌∷◌, true, false, length, drop, map, IfSome, IsTrue, MatchOption};
+ghost use Rattle.std.specs.Prelude.{◌≡◌, ◌≢◌, ◌<◌, ◌≤◌, ◌↔◌, List, ◌∷◌, length, drop, map, IfSome, MatchOption};
 ghost use Rattle.sqlite.specs.Held.{state};
-ghost use Rattle.sqlite.specs.State.{IsUnchanged};
-ghost use Rattle.sqlite.specs.declared.types.Value.TheVariants.{Int};
-ghost use Rattle.sqlite.specs.Order.{Row, column};
+ghost use Rattle.sqlite.specs.Order.{Row};
 ghost use Rattle.zeb_register.specs.Calls.{Reading};
-ghost use Rattle.zeb_register.specs.Clauses.{Tells};
 ghost use Rattle.zeb_register.specs.Kept.{record_shown};
-ghost use Rattle.zeb_register.specs.RowExpected.{BelongsTo, IsInOrder, IsOwnedBy, posting_shown, tree_of};
-ghost use Rattle.zeb_register.specs.RowReads.{Fits, ReadsRests, owners_text, rests_text, size_of};
+ghost use Rattle.zeb_register.specs.RowExpected.{IsInOrder, posting_shown};
+ghost use Rattle.zeb_register.specs.RowReads.{Fits, ReadsRests, rests_text, size_of};
 
 use crate::agreeing::Table;
 use crate::expected::{is_posting, is_record};
 use crate::key_runs::run_end;
 use crate::packed_agreeing::block_end;
-use crate::{DatabaseId, ExpectedDatabase, KeyPosting, ListedDatabase, Record, RegFault};
-use sqlite::types::ValueRef;
+use crate::{ExpectedDatabase, KeyPosting, Record, RegFault};
 use sqlite::{Alter, Connection, Row, params};
 
 /// Whether the rows of a table under this id are just the expected ones. One row is held at a time.
@@ -45,44 +41,6 @@ pub(crate) fn rests_agree<S: Alter>(
         at = end;
     }
     Ok(false)
-}
-
-/// Whether each row of a table belongs to one of these databases. One row is held at a time.
-pub(crate) fn belongs<S: Alter>(
-    conn: &mut Connection<S>,
-    table: Table,
-    listed: &[ListedDatabase],
-) -> Result<bool, RegFault>
-    ensures call { Reading (state S.Store conn.old) (state S.Store conn.new) result (λ _. IsUnchanged) }
-    ensures value { Tells (state S.Store conn.old) (state S.Store conn.new) result
-        (λ trees agree. IsTrue agree ↔ BelongsTo (tree_of table) listed.now trees) }
-    ensures honest { result ≢ Err RegFault.Damaged }
-{
-    // What is seen outside a transaction is what was committed.
-    let _idle = conn.is_autocommit();
-    let mut rows = conn.query(owners_text(table), &[])?;
-    'rows: for _ in 0..u64::MAX {
-        let Some(row) = rows.next()? else {
-            return Ok(true);
-        };
-        if !is_owned(row, listed) {
-            return Ok(false);
-        }
-    }
-    // No table has so many rows.
-    Err(RegFault::Store)
-}
-
-/// The query for the id of its database of each row of a table.
-fn owners_text(table: Table) -> &'static str
-    ensures { result.now ≡ owners_text table }
-{
-    match table {
-        Table::Records => "SELECT db FROM records",
-        Table::Postings => "SELECT db FROM postings",
-        Table::Blocks => "SELECT db FROM blocks",
-        Table::Dict => "SELECT db FROM dict",
-    }
 }
 
 /// The query for the rows of a table under the id of a database, in the order of the table's key.
@@ -153,29 +111,5 @@ fn posting_end(row: &Row, postings: &[KeyPosting], at: usize) -> Option<usize>
         Some(at + 1)
     } else {
         None
-    }
-}
-
-/// Whether the row shows the id of one of these databases.
-fn is_owned(row: &Row, listed: &[ListedDatabase]) -> bool
-    ensures same { result ≡ true → IsOwnedBy listed.now row.now }
-    ensures other { result ≡ false → ¬ IsOwnedBy listed.now row.now }
-{
-    for database in listed {
-        if is_id(row, database.id) {
-            return true;
-        }
-    }
-    false
-}
-
-/// Whether the row shows this id.
-fn is_id(row: &Row, id: DatabaseId) -> bool
-    ensures same { result ≡ true → column row.now 0 ≡ Int id.0 }
-    ensures other { result ≡ false → column row.now 0 ≢ Int id.0 }
-{
-    match row.get_ref(0) {
-        Ok(ValueRef::Int(value)) => value == id.column(),
-        _ => false,
     }
 }
