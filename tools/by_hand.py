@@ -20,7 +20,6 @@ MADE_BY_HAND = {
     "crates/zeb_query/src/faults.rt": (["about"], "an addinfo that there is no memory for"),
     "crates/zeb_register/src/packed_changes.rt": (["block_begin", "block_begin"], "the refusal of a row, which is passed on as it was told"),
     "crates/zeb_register/src/packed_parts.rt": (["check_numbers", "check_place"], "a number or a place that no row has"),
-    "crates/zeb_register/src/read_beside.rt": (["belongs", "rests_agree"], "more rows than there are numbers"),
     "crates/zeb_register/src/values.rt": (["stored"], "a number that no column stores"),
     "crates/zeb_image/src/rebuilding.rt": (["database_post"], "more turns than there are numbers"),
     "crates/zeb_engine/src/session.rt": (["run_all"], "no room for the answers"),

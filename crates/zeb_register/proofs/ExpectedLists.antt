@@ -16,7 +16,7 @@ use Rattle.zeb_register.specs.declared.expected.KeyPosting.{KeyPosting}
 use Rattle.zeb_register.specs.declared.kept.Record.{Record}
 use Rattle.zeb_register.specs.Expected.{IsTextOf, key_posting_order, number_order}
 use Rattle.zeb_register.specs.Kept.{record_shown}
-use Rattle.zeb_register.specs.RowExpected.{BelongsTo, HasTexts, HoldsUnder, IsOwnedBy, ShowsOwners, posting_shown, text_rows}
+use Rattle.zeb_register.specs.RowExpected.{HasTexts, HoldsUnder, posting_shown, text_rows}
 use Rattle.zeb_register.specs.Sql.{HasRow, IsListOf}
 use Rattle.zeb_register.specs.Store.{IsRest, IsStore, entry, meta_tree}
 use Rattle.zeb_register.specs.Tables.{store_schema, meta_table}
@@ -152,18 +152,3 @@ module _ (s : State) (expected : Expected) (store : IsStore s) (rows : List Row)
       back r (inr (inl same)) = put (codes "profile") _ r same (inr (inl (refl, refl)))
       back r (inr (inr (inl same))) = put (codes "version") _ r same (inl (refl, refl))
       back r (inr (inr (inr none))) = absurd none
-
--- ---- whose the rows are
-
-module _ (tree : ℕ) (trees : Trees) (rows : List Row) (shows : ShowsOwners tree trees rows) (listed : List ListedDatabase) where
-  pub owners_belong : ((row : Row) → Has rows row → IsOwnedBy listed row) → BelongsTo tree listed trees
-  owners_belong owned id owns =
-      let it = owned (Int id ∷ []) ((shows (Int id ∷ [])).1 (id, refl, owns)) in
-      let same : Int id ≡ Int it.0.id.0 = it.2 in
-      (it.0, it.1, (let e : id ≡ it.0.id.0 = cc in e))
-
-  pub belong_owners : BelongsTo tree listed trees → (row : Row) → Has rows row → IsOwnedBy listed row
-  belong_owners belongs row here =
-      let r = (shows row).0 here in
-      let d = belongs r.0 r.2 in
-      (d.0, d.1, ap (λ (x : Row). column x 0) r.1 ∙ ap Int d.2)

@@ -11,8 +11,7 @@ use Rattle.sqlite.proofs.Callers.{IsPlain, command_of, reads_as}
 use Rattle.sqlite_rules.specs.Lists.{Has}
 use Rattle.sqlite_tied.specs.Compute.{everything}
 use Rattle.zeb_register.specs.declared.agreeing.Table.TheVariants.{Records, Postings, Blocks, Dict}
-use Rattle.zeb_register.specs.RowExpected.{ShowsOwners}
-use Rattle.zeb_register.specs.RowReads.{owners_text, rests_text}
+use Rattle.zeb_register.specs.RowReads.{rests_text}
 use Rattle.zeb_register.specs.Sql.{HasRow, IsListOf}
 use Rattle.zeb_register.specs.Store.{IsStore, IsRest, blocks_tree, dict_tree, meta_tree, postings_tree, records_tree}
 use Rattle.zeb_register.specs.Tables.{store_schema, meta_table}
@@ -170,90 +169,3 @@ module _ (at : ℕ) (table : Table) (static : IsPlainTable store_schema at table
   -- a row of the table begins with the id of a database
   pub owner_row : (s : State) (r : Row) → IsStore s → Has (s.now.trees table.tree) r → (i : ℤ) × (id : ℤ) × (rest : Row) × (r ≡ Int i ∷ Int id ∷ rest)
   owner_row s r store here = two_first r more (codes_there store_schema at table static s r store here ∙ codes_are)
-
-  pub shows_owners : (sql : List ℕ) (names : List (List ℕ)) → command_of (understood store_schema sql) ≡ Select (alone (reading table.tree [] (shows (1 ∷ [])) [] no_limit)) names
-      → IsPlain (understood store_schema sql) → reads_listing store_schema sql ≡ false → (old new : State) (rows : List Row) → IsStore old → Shown sql [] old new rows → ShowsOwners table.tree old.now.trees rows
-  shows_owners sql names is bare unlisted old new rows store shown =
-      let db = old.now.trees table.tree in
-      let read = reads_as sql [] old new store_schema store.is (Select (alone (reading table.tree [] (shows (1 ∷ [])) [] no_limit)) names) is bare unlisted rows shown in
-      let answer = reads old.now table.tree [] (shows (1 ∷ [])) (rising []) no_limit [] rows read in
-      let each = shows_each db [] (shows (1 ∷ [])) (rising []) no_limit [] rows answer in
-      subst (ShowsOwners table.tree old.now.trees) (sym answer.shown) (λ x. (
-        λ h.
-            let r = (each x).0 h in
-            let it = owner_row old r.0 store r.1 in
-            (it.1, r.3 ∙ ap (λ (y : Row). column y 1 ∷ []) it.3, (it.2, (it.0, subst (Has db) it.3 r.1))),
-        λ h. (each x).1 (Int h.2.1.0 ∷ Int h.0 ∷ h.2.0, h.2.1.1, refl, h.1),
-      ))
-
-abbrev pub records_owners_text : List ℕ
-records_owners_text = owners_text Records
-
-pub records_owners_is : command_of (understood store_schema records_owners_text) ≡ Select (alone (reading 4 [] (shows (1 ∷ [])) [] no_limit)) (codes "db" ∷ [])
-unfolding understood everything
-records_owners_is = refl
-
-records_owners_plain : IsPlain (understood store_schema records_owners_text) × (reads_listing store_schema records_owners_text ≡ false)
-unfolding understood everything
-records_owners_plain = ((refl, refl), refl)
-
-pub records_owners_silent : IsSilent records_owners_text
-unfolding everything
-records_owners_silent = λ schema base. refl
-
-pub records_owned : (old new : State) (rows : List Row) → IsStore old → Shown records_owners_text [] old new rows → ShowsOwners records_tree old.now.trees rows
-records_owned = shows_owners 2 records records_static _ refl records_owners_text (codes "db" ∷ []) records_owners_is records_owners_plain.0 records_owners_plain.1
-
-abbrev pub postings_owners_text : List ℕ
-postings_owners_text = owners_text Postings
-
-pub postings_owners_is : command_of (understood store_schema postings_owners_text) ≡ Select (alone (reading 7 [] (shows (1 ∷ [])) [] no_limit)) (codes "db" ∷ [])
-unfolding understood everything
-postings_owners_is = refl
-
-postings_owners_plain : IsPlain (understood store_schema postings_owners_text) × (reads_listing store_schema postings_owners_text ≡ false)
-unfolding understood everything
-postings_owners_plain = ((refl, refl), refl)
-
-pub postings_owners_silent : IsSilent postings_owners_text
-unfolding everything
-postings_owners_silent = λ schema base. refl
-
-pub postings_owned : (old new : State) (rows : List Row) → IsStore old → Shown postings_owners_text [] old new rows → ShowsOwners postings_tree old.now.trees rows
-postings_owned = shows_owners 3 postings postings_static _ refl postings_owners_text (codes "db" ∷ []) postings_owners_is postings_owners_plain.0 postings_owners_plain.1
-
-abbrev pub blocks_owners_text : List ℕ
-blocks_owners_text = owners_text Blocks
-
-pub blocks_owners_is : command_of (understood store_schema blocks_owners_text) ≡ Select (alone (reading 9 [] (shows (1 ∷ [])) [] no_limit)) (codes "db" ∷ [])
-unfolding understood everything
-blocks_owners_is = refl
-
-blocks_owners_plain : IsPlain (understood store_schema blocks_owners_text) × (reads_listing store_schema blocks_owners_text ≡ false)
-unfolding understood everything
-blocks_owners_plain = ((refl, refl), refl)
-
-pub blocks_owners_silent : IsSilent blocks_owners_text
-unfolding everything
-blocks_owners_silent = λ schema base. refl
-
-pub blocks_owned : (old new : State) (rows : List Row) → IsStore old → Shown blocks_owners_text [] old new rows → ShowsOwners blocks_tree old.now.trees rows
-blocks_owned = shows_owners 4 blocks blocks_static _ refl blocks_owners_text (codes "db" ∷ []) blocks_owners_is blocks_owners_plain.0 blocks_owners_plain.1
-
-abbrev pub dict_owners_text : List ℕ
-dict_owners_text = owners_text Dict
-
-pub dict_owners_is : command_of (understood store_schema dict_owners_text) ≡ Select (alone (reading 11 [] (shows (1 ∷ [])) [] no_limit)) (codes "db" ∷ [])
-unfolding understood everything
-dict_owners_is = refl
-
-dict_owners_plain : IsPlain (understood store_schema dict_owners_text) × (reads_listing store_schema dict_owners_text ≡ false)
-unfolding understood everything
-dict_owners_plain = ((refl, refl), refl)
-
-pub dict_owners_silent : IsSilent dict_owners_text
-unfolding everything
-dict_owners_silent = λ schema base. refl
-
-pub dict_owned : (old new : State) (rows : List Row) → IsStore old → Shown dict_owners_text [] old new rows → ShowsOwners dict_tree old.now.trees rows
-dict_owned = shows_owners 5 dict dict_static _ refl dict_owners_text (codes "db" ∷ []) dict_owners_is dict_owners_plain.0 dict_owners_plain.1

@@ -58,5 +58,8 @@ pub mod Expecting
 pub mod ExpectingRows
 pub mod PackedBeside
 pub mod ExpectingBlocks
-pub mod KeyCounts
+pub mod KeyRuns
 pub mod RowReads
+pub mod OwnerStatements
+pub mod Reasons
+pub mod OwnersListed

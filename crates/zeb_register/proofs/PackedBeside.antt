@@ -1,6 +1,7 @@
 -- The rows of `blocks` of a database beside the postings that are expected of it.
-use Rattle.std.proofs.Common.{◌≡◌, ◌↔◌, ◌∙◌, ◌<◌, ◌≤◌, ◌+◌, ◌/◌, ℕ, zero, suc, ℤ, pos, length, drop, get_or, drop-cons, List, [], ◌∷◌, ◌++◌, map, refl, sym, ap, ap₂, subst, inl, inr, Ordering, Less, Equal, Greater, nat_cmp, arith}
+use Rattle.std.proofs.Common.{◌≡◌, ◌↔◌, ◌∙◌, ◌<◌, ◌≤◌, ◌+◌, ◌/◌, ℕ, zero, suc, ℤ, pos, length, drop, get_or, drop-cons, List, [], ◌∷◌, ◌++◌, map, refl, sym, ap, ap₂, subst, inl, inr, Ordering, Less, Equal, Greater, nat_cmp, ◌≢◌, arith, length-append}
 use Rattle.std.proofs.lemmas.Cmp.{tied_itself}
+use Rattle.std.proofs.lemmas.List.{length-drop}
 use Rattle.std.specs.Cmp.Lexicographic.{slice_cmp}
 use Rattle.std.specs.List.Sorted.{IsStrictlySortedBy}
 use Rattle.std.specs.Ordering.{ordering_then}
@@ -123,6 +124,17 @@ pub drop_none : {X : Type 0} (xs : List X) (i : ℕ) → drop i xs ≡ [] → le
 drop_none [] i none = omega arith
 drop_none (x ∷ xs) zero none = absurd (cc)
 drop_none (x ∷ xs) (suc i) none = let e = drop_none xs i none in omega arith
+
+-- a front that isn't empty moves the place on
+pub moved_on : {X : Type 0} (ps : List X) (front : List X) (at end : ℕ) → drop at ps ≡ front ++ drop end ps → front ≢ [] → at < end
+moved_on ps [] at end is some = absurd (some refl)
+moved_on ps (x ∷ front) at end is some =
+    let long = ap length is ∙ length-append (x ∷ front) (drop end ps) in
+    omega (arith, long, length-drop at ps, length-drop end ps)
+
+pub map_none : {A B : Type 0} (f : A → B) (xs : List A) → map f xs ≡ [] → xs ≡ []
+map_none f [] none = refl
+map_none f (x ∷ xs) none = absurd (cc)
 
 -- ---- what the rows spell, by its members
 

@@ -24,22 +24,20 @@ use Rattle.zeb_register.specs.declared.agreeing.Table.TheVariants.{Records, Post
 use Rattle.zeb_register.specs.declared.catalog.ListedDatabase.{ListedDatabase}
 use Rattle.zeb_register.specs.declared.expected.ExpectedDatabase.{ExpectedDatabase}
 use Rattle.zeb_register.specs.declared.expected.KeyPosting.{KeyPosting}
-use Rattle.zeb_register.specs.declared.key_counts.KeyCount.{KeyCount}
 use Rattle.zeb_register.specs.Calls.{ChangesNothing}
 use Rattle.zeb_register.specs.Expected.{key_posting_order}
 use Rattle.zeb_register.specs.Kept.{record_shown}
-use Rattle.zeb_register.specs.RowExpected.{AreBlocks, AsExpected, BelongsTo, IsBlockBefore, IsInOrder, IsOwnedBy, ShowsOwners, posting_shown, tree_of}
-use Rattle.zeb_register.specs.RowKeys.{AreKeyCounts, IsKeyed, count_shown}
-use Rattle.zeb_register.specs.RowReads.{Fits, owners_text, rests_text, size_of}
+use Rattle.zeb_register.specs.RowExpected.{AsExpected, IsBlockBefore, IsInOrder, posting_shown, tree_of, TakeAll}
+use Rattle.zeb_register.specs.RowKeys.{IsRunBefore}
+use Rattle.zeb_register.specs.RowReads.{Fits, rests_text, size_of}
 use Rattle.zeb_register.specs.Sql.{IsListOf}
 use Rattle.zeb_register.specs.Store.{IsRest, IsStore, postings_tree, records_tree}
 use Rattle.zeb_register.specs.Tables.{store_schema}
 use Rattle.zeb_register.proofs.Calls.{IsSilent, never_returns, store_same}
-use Rattle.zeb_register.proofs.ExpectedLists.{belong_owners, owners_belong, postings_rise, records_rise, rows_under, under_rows}
-use Rattle.zeb_register.proofs.ExpectedStatements.{blocks_is, blocks_owned, blocks_owners_is, blocks_owners_silent, blocks_silent, dict_owned, dict_owners_is, dict_owners_silent, keys_is, keys_silent, lists_blocks, lists_keys, lists_postings}
-use Rattle.zeb_register.proofs.ExpectedStatements.{postings_is, postings_owned, postings_owners_is, postings_owners_silent, postings_silent, records_owned, records_owners_is, records_owners_silent}
-use Rattle.zeb_register.proofs.KeyCounts.{counts_rest, counts_rise}
-use Rattle.zeb_register.proofs.PackedBeside.{all_numbered, blocks_all, blocks_rest, drop_none, drop_over, one_before}
+use Rattle.zeb_register.proofs.ExpectedLists.{postings_rise, records_rise, rows_under, under_rows}
+use Rattle.zeb_register.proofs.ExpectedStatements.{blocks_is, blocks_silent, keys_is, keys_silent, lists_blocks, lists_keys, lists_postings, postings_is, postings_silent}
+use Rattle.zeb_register.proofs.KeyRuns.{one_run, runs_all, runs_rest}
+use Rattle.zeb_register.proofs.PackedBeside.{all_numbered, blocks_all, blocks_rest, drop_none, drop_over, map_none, one_before}
 use Rattle.zeb_register.proofs.RecordStatements.{all_is, all_silent, lists_all}
 use Rattle.zeb_register.proofs.RisingLists.{same_list}
 use Rattle.zeb_register.proofs.StatementForms.{alone}
@@ -103,57 +101,61 @@ lists_rests Dict = lists_keys
 -- ---- one row more
 
 -- where the list goes on behind a row
-abbrev pub EndsAt : Table → ExpectedDatabase → List KeyCount → Row → ℕ → Option ℕ → Type 0
-EndsAt t d counts row at found =
-    MatchOption found ((more : List Row) → ¬ Fits t d counts (row ∷ more) at)
-    (λ end. (end ≤ size_of t d counts) × ((more : List Row) → Fits t d counts (row ∷ more) at ↔ Fits t d counts more end))
+abbrev pub EndsAt : Table → ExpectedDatabase → Row → ℕ → Option ℕ → Type 0
+EndsAt t d row at found =
+    MatchOption found ((more : List Row) → ¬ Fits t d (row ∷ more) at) (λ end. (more : List Row) → Fits t d (row ∷ more) at ↔ Fits t d more end)
 
-pub block_ends : (d : ExpectedDatabase) (counts : List KeyCount) (row : Row) (at : ℕ) (found : Option ℕ)
-    → MatchOption found ((rest : List KeyPosting) → ¬ IsBlockBefore row (drop at d.postings.items) rest) (λ end. (end ≤ length d.postings.items) × IsBlockBefore row (drop at d.postings.items) (drop end d.postings.items))
-    → EndsAt Blocks d counts row at found
-block_ends d counts row at None none = λ more fits. none fits.0 fits.1
-block_ends d counts row at (Some end) it = (
-  it.0,
-  λ more. (
-    λ fits. subst (AreBlocks more) (one_before row (drop at d.postings.items) fits.0 (drop end d.postings.items) fits.1 it.1) fits.2,
-    λ later. (drop end d.postings.items, it.1, later),
-  ),
+-- a row that takes its postings from the front does so in one way
+taken_ends : (Before : Row → List KeyPosting → List KeyPosting → Type 0) → ((row : Row) (ps one two : List KeyPosting) → Before row ps one → Before row ps two → one ≡ two) → (ps : List KeyPosting) (row : Row) (at : ℕ) (found : Option ℕ)
+    → MatchOption found ((rest : List KeyPosting) → ¬ Before row (drop at ps) rest) (λ end. Before row (drop at ps) (drop end ps))
+    → MatchOption found ((more : List Row) → ¬ TakeAll Before (row ∷ more) (drop at ps)) (λ end. (more : List Row) → TakeAll Before (row ∷ more) (drop at ps) ↔ TakeAll Before more (drop end ps))
+taken_ends Before one ps row at None none = λ more fits. none fits.0 fits.1
+taken_ends Before one ps row at (Some end) it = λ more. (
+  λ fits. subst (TakeAll Before more) (one row (drop at ps) fits.0 (drop end ps) fits.1 it) fits.2,
+  λ later. (drop end ps, it, later),
 )
 
-map_none : {A B : Type 0} (f : A → B) (xs : List A) → [] ≡ map f xs → xs ≡ []
-map_none f [] none = refl
-map_none f (x ∷ xs) none = absurd (cc)
+pub block_ends : (d : ExpectedDatabase) (row : Row) (at : ℕ) (found : Option ℕ)
+    → MatchOption found ((rest : List KeyPosting) → ¬ IsBlockBefore row (drop at d.postings.items) rest) (λ end. IsBlockBefore row (drop at d.postings.items) (drop end d.postings.items)) → EndsAt Blocks d row at found
+block_ends d = taken_ends IsBlockBefore one_before d.postings.items
+
+pub run_ends : (d : ExpectedDatabase) (row : Row) (at : ℕ) (found : Option ℕ)
+    → MatchOption found ((rest : List KeyPosting) → ¬ IsRunBefore row (drop at d.postings.items) rest) (λ end. IsRunBefore row (drop at d.postings.items) (drop end d.postings.items)) → EndsAt Dict d row at found
+run_ends d = taken_ends IsRunBefore one_run d.postings.items
 
 over : {A B : Type 0} (f : A → B) (xs : List A) (at : ℕ) → at ≤ length xs → (at ≡ length xs) ↔ ([] ≡ map f (drop at xs))
 over f xs at within = (
   λ whole. ap (map f) (sym (drop_over xs at (omega (arith, whole)))),
-  λ none. let e = drop_none xs at (map_none f (drop at xs) none) in omega (arith, e, within),
+  λ none. let e = drop_none xs at (map_none f (drop at xs) (sym none)) in omega (arith, e, within),
 )
 
 -- no row is left to come just where the list is at its end
-pub fits_none : (t : Table) (d : ExpectedDatabase) (counts : List KeyCount) (at : ℕ) → at ≤ size_of t d counts → (at ≡ size_of t d counts) ↔ Fits t d counts [] at
-fits_none Records d counts at within = over record_shown d.records.items at within
-fits_none Postings d counts at within = over posting_shown d.postings.items at within
-fits_none Blocks d counts at within = (
+pub fits_none : (t : Table) (d : ExpectedDatabase) (at : ℕ) → at ≤ size_of t d → (at ≡ size_of t d) ↔ Fits t d [] at
+fits_none Records d at within = over record_shown d.records.items at within
+fits_none Postings d at within = over posting_shown d.postings.items at within
+fits_none Blocks d at within = (
   λ whole. drop_over d.postings.items at (omega (arith, whole)),
   λ none. let e = drop_none d.postings.items at none in omega (arith, e, within),
 )
-fits_none Dict d counts at within = over count_shown counts at within
+fits_none Dict d at within = (
+  λ whole. drop_over d.postings.items at (omega (arith, whole)),
+  λ none. let e = drop_none d.postings.items at none in omega (arith, e, within),
+)
 
 -- what is so of the rows up to one, and of it
-pub one_further : (t : Table) (d : ExpectedDatabase) (counts : List KeyCount) (given : List Row) (row : Row) (more : List Row) (at end : ℕ) → ((more : List Row) → Fits t d counts (given ++ more) 0 ↔ Fits t d counts more at)
-    → Fits t d counts (row ∷ more) at ↔ Fits t d counts more end → Fits t d counts ((given ++ row ∷ []) ++ more) 0 ↔ Fits t d counts more end
-one_further t d counts given row more at end so one =
+pub one_further : (t : Table) (d : ExpectedDatabase) (given : List Row) (row : Row) (more : List Row) (at end : ℕ) → ((more : List Row) → Fits t d (given ++ more) 0 ↔ Fits t d more at)
+    → Fits t d (row ∷ more) at ↔ Fits t d more end → Fits t d ((given ++ row ∷ []) ++ more) 0 ↔ Fits t d more end
+one_further t d given row more at end so one =
     let joined = append_assoc given (row ∷ []) more in (
-      λ h. one.0 ((so (row ∷ more)).0 (subst (λ (l : List Row). Fits t d counts l 0) joined h)),
-      λ h. subst (λ (l : List Row). Fits t d counts l 0) (sym joined) ((so (row ∷ more)).1 (one.1 h)),
+      λ h. one.0 ((so (row ∷ more)).0 (subst (λ (l : List Row). Fits t d l 0) joined h)),
+      λ h. subst (λ (l : List Row). Fits t d l 0) (sym joined) ((so (row ∷ more)).1 (one.1 h)),
     )
 
 -- ---- what the answer tells
 
-module _ {S : Type 0} (g : store.Ghosts S) (t : Table) (d : ExpectedDatabase) (counts : List KeyCount) (id : ℤ) (old : State) (is_store : IsStore old) (now : Held S) (same : IsUnchanged old (state g now)) where
+module _ {S : Type 0} (g : store.Ghosts S) (t : Table) (d : ExpectedDatabase) (id : ℤ) (old : State) (is_store : IsStore old) (now : Held S) (same : IsUnchanged old (state g now)) where
   abbrev pub Tells : Bool → Type 0
-  Tells answer = (rows : List Row) × IsListOf (IsRest (tree_of t) (Int id ∷ []) old.now.trees) rows × (IsTrue answer ↔ Fits t d counts rows 0)
+  Tells answer = (rows : List Row) × IsListOf (IsRest (tree_of t) (Int id ∷ []) old.now.trees) rows × (IsInOrder d → IsTrue answer ↔ Fits t d rows 0)
 
   listed : (new : State) (rows : List Row) → Shown (rests_text t) (Int id ∷ []) (state g now) new rows → IsListOf (IsRest (tree_of t) (Int id ∷ []) old.now.trees) rows
   listed new rows shown =
@@ -161,87 +163,49 @@ module _ {S : Type 0} (g : store.Ghosts S) (t : Table) (d : ExpectedDatabase) (c
 
   -- all rows were read
   pub tells_whole : (new : State) (given : List Row) (at : ℕ) (answer : Bool) → Shown (rests_text t) (Int id ∷ []) (state g now) new given
-      → ((more : List Row) → Fits t d counts (given ++ more) 0 ↔ Fits t d counts more at) → IsTrue answer ↔ Fits t d counts [] at → Tells answer
-  tells_whole new given at answer shown so is =
-      let whole = subst (λ (l : List Row). Fits t d counts l 0 ↔ Fits t d counts [] at) (append-nil given) (so []) in
-      (given, listed new given shown, told_so (Fits t d counts [] at) (Fits t d counts given 0) answer (whole.1, whole.0) is)
+      → (IsInOrder d → (more : List Row) → Fits t d (given ++ more) 0 ↔ Fits t d more at) → IsTrue answer ↔ Fits t d [] at → Tells answer
+  tells_whole new given at answer shown so is = (
+    given,
+    listed new given shown,
+    λ order.
+        let whole = subst (λ (l : List Row). Fits t d l 0 ↔ Fits t d [] at) (append-nil given) (so order []) in
+        told_so (Fits t d [] at) (Fits t d given 0) answer (whole.1, whole.0) is,
+  )
 
   -- a row was read that isn't the next
   pub tells_broken : (given : List Row) (row : Row) (at : ℕ) → HasGiven g (rests_text t) (Int id ∷ []) now (given ++ row ∷ [])
-      → ((more : List Row) → Fits t d counts (given ++ more) 0 ↔ Fits t d counts more at) → ((more : List Row) → ¬ Fits t d counts (row ∷ more) at) → Tells false
+      → (IsInOrder d → (more : List Row) → Fits t d (given ++ more) 0 ↔ Fits t d more at) → (IsInOrder d → (more : List Row) → ¬ Fits t d (row ∷ more) at) → Tells false
   tells_broken given row at it so none =
       let known = rests_is t in
       let all = stopped g (rests_text t) (Int id ∷ []) known.0 known.1 known.2 now (given ++ row ∷ []) (store_same old (state g now) same.0.now_is is_store) same.0.is_open it in
       let rows : List Row = (given ++ row ∷ []) ++ all.0 in (
         rows,
         listed (state g now) rows all.1,
-        (
+        λ order. (
           λ h. absurd (let e : false ≡ true = h in cc),
-          λ fits. absurd (none all.0 ((so (row ∷ all.0)).0 (subst (λ (l : List Row). Fits t d counts l 0) (append_assoc given (row ∷ []) all.0) fits))),
+          λ fits. absurd (none order all.0 ((so order (row ∷ all.0)).0 (subst (λ (l : List Row). Fits t d l 0) (append_assoc given (row ∷ []) all.0) fits))),
         ),
       )
 
 -- the rows are those of the whole list just where the table is as expected
-pub fits_expected : (t : Table) (s : State) → IsStore s → (id : ℤ) (d : ExpectedDatabase) (counts : List KeyCount) → IsInOrder d → (t ≡ Dict → IsStrictlySortedBy key_posting_order d.postings.items → AreKeyCounts (IsKeyed d.postings.items) counts)
-    → (rows : List Row) → IsListOf (IsRest (tree_of t) (Int id ∷ []) s.now.trees) rows → Fits t d counts rows 0 ↔ AsExpected t id d s.now.trees
-fits_expected Records s store id d counts order counted rows are = (
+pub fits_expected : (t : Table) (s : State) → IsStore s → (id : ℤ) (d : ExpectedDatabase) → IsInOrder d → (rows : List Row) → IsListOf (IsRest (tree_of t) (Int id ∷ []) s.now.trees) rows → Fits t d rows 0 ↔ AsExpected t id d s.now.trees
+fits_expected Records s store id d order rows are = (
   λ fits. under_rows records_tree id s.now.trees rows (map record_shown d.records.items) are fits,
   λ has. rows_under records_tree id s.now.trees rows (map record_shown d.records.items) are (records_rise _ order.0) has,
 )
-fits_expected Postings s store id d counts order counted rows are = (
+fits_expected Postings s store id d order rows are = (
   λ fits. under_rows postings_tree id s.now.trees rows (map posting_shown d.postings.items) are fits,
   λ has. rows_under postings_tree id s.now.trees rows (map posting_shown d.postings.items) are (postings_rise _ order.1) has,
 )
-fits_expected Blocks s store id d counts order counted rows are = (
+fits_expected Blocks s store id d order rows are = (
   λ all. (all_numbered s store id d.postings.items order.1 rows are all, blocks_rest s store id d.postings.items order.1 rows are all),
   λ has. blocks_all s store id d.postings.items order.1 rows are has.0 has.1,
 )
-fits_expected Dict s store id d counts order counted rows are =
-    let known = counted refl order.1 in
-    let rest = counts_rest d.postings.items counts known in (
-      λ fits row. (
-        λ h. (rest row).0 (subst (λ l. Has l row) fits ((are.each row).1 h)),
-        λ h. (are.each row).0 (subst (λ l. Has l row) (sym fits) ((rest row).1 h)),
+fits_expected Dict s store id d order rows are = (
+  λ fits row.
+      let rest = runs_rest rows d.postings.items order.1 fits row in (
+        λ h. rest.0 ((are.each row).1 h),
+        λ h. (are.each row).0 (rest.1 h),
       ),
-      λ has. same_list row_cmp_total rows (map count_shown counts) are.rising (counts_rise d.postings.items counts known) (λ r h. (rest r).1 ((has r).0 ((are.each r).0 h))) (λ r h. (are.each r).1 ((has r).1 ((rest r).0 h))),
-    )
-
--- ---- whose the rows of a table are
-
-pub owners_silent : (t : Table) → IsSilent (owners_text t)
-owners_silent Records = records_owners_silent
-owners_silent Postings = postings_owners_silent
-owners_silent Blocks = blocks_owners_silent
-owners_silent Dict = dict_owners_silent
-
-owners_is : (t : Table) → (q : Query) × (names : List (List ℕ)) × (command_of (understood store_schema (owners_text t)) ≡ Select (alone q) names)
-owners_is Records = (_, _, records_owners_is)
-owners_is Postings = (_, _, postings_owners_is)
-owners_is Blocks = (_, _, blocks_owners_is)
-owners_is Dict = (_, _, dict_owners_is)
-
-shows_owned : (t : Table) (old new : State) (rows : List Row) → IsStore old → Shown (owners_text t) [] old new rows → ShowsOwners (tree_of t) old.now.trees rows
-shows_owned Records = records_owned
-shows_owned Postings = postings_owned
-shows_owned Blocks = blocks_owned
-shows_owned Dict = dict_owned
-
-module _ {S : Type 0} (g : store.Ghosts S) (t : Table) (owners : List ListedDatabase) (old : State) (is_store : IsStore old) (now : Held S) (same : IsUnchanged old (state g now)) where
-  shown_owned : (new : State) (rows : List Row) → Shown (owners_text t) [] (state g now) new rows → ShowsOwners (tree_of t) old.now.trees rows
-  shown_owned new rows shown = subst (λ (db : Database). ShowsOwners (tree_of t) db.trees rows) same.0.now_is (shows_owned t (state g now) new rows (store_same old (state g now) same.0.now_is is_store) shown)
-
-  pub owned_whole : (new : State) (given : List Row) → Shown (owners_text t) [] (state g now) new given → ((row : Row) → Has given row → IsOwnedBy owners row) → BelongsTo (tree_of t) owners old.now.trees
-  owned_whole new given shown each = owners_belong (tree_of t) old.now.trees given (shown_owned new given shown) owners each
-
-  pub owned_broken : (given : List Row) (row : Row) → HasGiven g (owners_text t) [] now (given ++ row ∷ []) → ¬ IsOwnedBy owners row → ¬ BelongsTo (tree_of t) owners old.now.trees
-  owned_broken given row it none belongs =
-      let known = owners_is t in
-      let all = stopped g (owners_text t) [] known.0 known.1 known.2 now (given ++ row ∷ []) (store_same old (state g now) same.0.now_is is_store) same.0.is_open it in
-      let rows : List Row = (given ++ row ∷ []) ++ all.0 in
-      none (belong_owners (tree_of t) old.now.trees rows (shown_owned (state g now) rows all.1) owners belongs row (has_left (given ++ row ∷ []) all.0 row (has_right given (row ∷ []) row (inl refl))))
-
-pub owned_further : (owners : List ListedDatabase) (given : List Row) (row : Row) → ((x : Row) → Has given x → IsOwnedBy owners x) → IsOwnedBy owners row → (x : Row) → Has (given ++ row ∷ []) x → IsOwnedBy owners x
-owned_further owners given row each this x here = elim (has_either given (row ∷ []) x here) [
-  | inl before ↦ each x before
-  | inr last ↦ elim last [ inl one ↦ subst (IsOwnedBy owners) (sym one) this | inr none ↦ absurd none ]
-]
+  λ has. runs_all rows d.postings.items order.1 are.rising (λ r. ((λ h. (has r).0 ((are.each r).0 h)), λ h. (are.each r).1 ((has r).1 h))),
+)

@@ -1,6 +1,6 @@
 -- Answers of yes and no.
 use Rattle.std.proofs.Common.{◌≡◌, ◌↔◌, Bool, true, false, IsTrue, Option, Some, None, refl}
-use Rattle.std.specs.Prelude.{MatchOption}
+use Rattle.std.specs.Prelude.{IfSome, MatchOption}
 
 pub told : (P : Type 0) (answer : Bool) → (answer ≡ true → P) → (answer ≡ false → ¬ P) → IsTrue answer ↔ P
 told P true yes' no' = (λ _. yes' refl, λ _. refl)
@@ -19,3 +19,7 @@ told_so P Q answer so is = (λ h. so.0 (is.0 h), λ q. is.1 (so.1 q))
 pub match_so : {X : Type 0} (N M : Type 0) (S R : X → Type 0) (found : Option X) → (N → M) → ((x : X) → S x → R x) → MatchOption found N S → MatchOption found M R
 match_so N M S R None none some is = none is
 match_so N M S R (Some x) none some is = some x is
+
+pub some_so : {X : Type 0} (N : Type 0) (S R : X → Type 0) (found : Option X) → ((x : X) → S x → R x) → MatchOption found N S → IfSome found R
+some_so N S R None some is = tt
+some_so N S R (Some x) some is = some x is

@@ -56,21 +56,13 @@ next_three row = column row 3 ∷ column row 4 ∷ column row 5 ∷ []
 abbrev pub Owns : ℕ → Trees → ℤ → Type 0
 Owns tree trees id = (rest : Row) × HasRow trees tree (Int id ∷ rest)
 
--- a row that shows such an id
-abbrev pub IsOwnerRow : ℕ → Trees → Row → Type 0
-IsOwnerRow tree trees row = (id : ℤ) × (row ≡ Int id ∷ []) × Owns tree trees id
-
--- the row shows the id of one of the databases
-abbrev pub IsOwnedBy : List ListedDatabase → Row → Type 0
-IsOwnedBy listed row = (database : ListedDatabase) × Has listed database × (column row 0 ≡ Int database.id.0)
-
--- the rows show the ids that rows of the table begin with, and no other
-abbrev pub ShowsOwners : ℕ → Trees → List Row → Type 0
-ShowsOwners tree trees rows = (row : Row) → Has rows row ↔ IsOwnerRow tree trees row
+-- one of the databases has the id
+abbrev pub IsListedId : List ListedDatabase → ℤ → Type 0
+IsListedId listed id = (database : ListedDatabase) × Has listed database × (id ≡ database.id.0)
 
 -- each row of the table begins with the id of one of the databases
 abbrev pub BelongsTo : ℕ → List ListedDatabase → Trees → Type 0
-BelongsTo tree listed trees = (id : ℤ) → Owns tree trees id → (database : ListedDatabase) × Has listed database × (id ≡ database.id.0)
+BelongsTo tree listed trees = (id : ℤ) → Owns tree trees id → IsListedId listed id
 
 -- the rows of the table that begin with the id go on like these
 abbrev pub HoldsUnder : ℕ → ℤ → List Row → Trees → Type 0
@@ -180,10 +172,14 @@ IsBlockBefore row postings rest =
     (key : Key) × (block : ℕ) × (bytes : List ℕ) × (part : List Posting) × (row ≡ key_shown key ++ Int (pos block) ∷ Blob bytes ∷ [])
     × BlockSpells block part bytes × (postings ≡ map (with_key key) part ++ rest)
 
+-- the rows take the postings, each its own from the front of those that are left
+abbrev pub TakeAll : (Row → List KeyPosting → List KeyPosting → Type 0) → List Row → List KeyPosting → Type 0
+TakeAll Before [] postings = postings ≡ []
+TakeAll Before (row ∷ rows) postings = (rest : List KeyPosting) × Before row postings rest × TakeAll Before rows rest
+
 -- the rows spell the postings, one behind the other
 abbrev pub AreBlocks : List Row → List KeyPosting → Type 0
-AreBlocks [] postings = postings ≡ []
-AreBlocks (row ∷ rows) postings = (rest : List KeyPosting) × IsBlockBefore row postings rest × AreBlocks rows rest
+AreBlocks = TakeAll IsBlockBefore
 
 -- `dict` holds what is expected, and the table of single postings has no row
 abbrev pub HoldsKeysAlone : List ListedDatabase → List ExpectedDatabase → Trees → Type 0

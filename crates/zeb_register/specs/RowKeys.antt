@@ -1,41 +1,36 @@
--- Steps of private functions, which no public clause speaks of: the keys of postings, each with how many records have it.
-use Rattle.std.specs.Prelude.{◌≡◌, ◌≢◌, ◌⊎◌, ◌+◌, ℕ, pos, List, [], ◌∷◌, ◌++◌}
-use Rattle.std.specs.declared.cmp.Ordering.{Ordering}
+-- Steps of private functions, which no public clause speaks of: rows of `dict` beside the postings of their keys.
+use Rattle.std.specs.Prelude.{◌≡◌, ◌≢◌, ⊤, ℕ, pos, List, [], ◌∷◌, ◌++◌, map, drop}
 use Rattle.std.specs.List.Sorted.{IsStrictlySortedBy}
 use Rattle.sqlite.specs.declared.types.Value.TheVariants.{Int}
 use Rattle.sqlite.specs.Order.{Row}
-use Rattle.sqlite_rules.specs.Lists.{Has}
+use Rattle.zeb_blocks.specs.declared.postings.Posting.{Posting}
 use Rattle.zeb_extract.specs.declared.keys.Key.{Key}
-use Rattle.zeb_extract.specs.Order.{key_order}
 use Rattle.zeb_register.specs.declared.expected.KeyPosting.{KeyPosting}
-use Rattle.zeb_register.specs.declared.key_counts.KeyCount.{KeyCount}
+use Rattle.zeb_register.specs.Expected.{key_posting_order}
 use Rattle.zeb_register.specs.Occurring.{IsCount}
-use Rattle.zeb_register.specs.RowExpected.{key_shown}
+use Rattle.zeb_register.specs.RowExpected.{key_shown, with_key}
+use Rattle.zeb_register.specs.RowTerms.{IsInRecord}
 
--- one of the postings puts the key in the record of this number
-abbrev pub IsKeyed : List KeyPosting → Key → ℕ → Type 0
-IsKeyed postings key sysno = (p : KeyPosting) × Has postings p × (p.key ≡ key) × (p.posting.sysno ≡ sysno)
+-- no posting of the key stands at the front
+abbrev pub BeginsOther : Key → List KeyPosting → Type 0
+BeginsOther key [] = ⊤
+BeginsOther key (p ∷ rest) = p.key ≢ key
 
-abbrev pub count_order : KeyCount → KeyCount → Ordering
-count_order a b = key_order a.key b.key
+-- the run is all that stands before the rest of the key
+abbrev pub IsFrontOf : Key → List Posting → List KeyPosting → List KeyPosting → Type 0
+IsFrontOf key run postings rest = (postings ≡ map (with_key key) run ++ rest) × BeginsOther key rest
 
--- these are the keys that P has with some number, each once and in order, with how many numbers P has with them
-pub record AreKeyCounts (P : Key → ℕ → Type 0) (list : List KeyCount) : Type 0 where
-  pub rising : IsStrictlySortedBy count_order list
-  pub found : (key : Key) (n : ℕ) → P key n → (t : KeyCount) × Has list t × (t.key ≡ key)
-  pub some : (t : KeyCount) → Has list t → (n : ℕ) × P t.key n
-  pub counts : (t : KeyCount) → Has list t → IsCount (P t.key) t.records
+-- the postings of the key from a place on end there, and where they rise so many records have one of them
+abbrev pub IsRunFrom : Key → List KeyPosting → ℕ → ℕ → ℕ → Type 0
+IsRunFrom key postings at end records =
+    (run : List Posting) × IsFrontOf key run (drop at postings) (drop end postings)
+    × (IsStrictlySortedBy key_posting_order postings → IsCount (IsInRecord run) records)
 
-abbrev pub count_with : Key → ℕ → KeyCount
-count_with key records = record { key = key; records = records }
+abbrev pub dict_rest : Key → ℕ → Row
+dict_rest key records = key_shown key ++ Int (pos records) ∷ []
 
--- one posting more is counted: of the last key and its newest number, of the last key and another number, or of another key
-abbrev pub IsKeyCountedIn : ℕ → Key → ℕ → List KeyCount → List KeyCount → Type 0
-IsKeyCountedIn newest key sysno old new =
-    ((front : List KeyCount) × (last : KeyCount) × (old ≡ front ++ last ∷ []) × (last.key ≡ key)
-    × (((sysno ≡ newest) × (new ≡ old)) ⊎ ((sysno ≢ newest) × (new ≡ front ++ count_with last.key (last.records + 1) ∷ []))))
-    ⊎ (((front : List KeyCount) (last : KeyCount) → old ≡ front ++ last ∷ [] → last.key ≢ key) × (new ≡ old ++ count_with key 1 ∷ []))
-
--- the columns of a row of `dict` beside its database
-abbrev pub count_shown : KeyCount → Row
-count_shown count = key_shown count.key ++ Int (pos count.records) ∷ []
+-- the row shows the key of the postings that stand before the rest, and how many records have one of them
+abbrev pub IsRunBefore : Row → List KeyPosting → List KeyPosting → Type 0
+IsRunBefore row postings rest =
+    (key : Key) × (records : ℕ) × (run : List Posting) × (row ≡ dict_rest key records) × (run ≢ []) × IsCount (IsInRecord run) records
+    × IsFrontOf key run postings rest

@@ -6,16 +6,15 @@ ghost use Rattle.sqlite.specs.State.{IsUnchanged};
 ghost use Rattle.std.specs.List.Sorted.{IsStrictlySortedBy};
 ghost use Rattle.zeb_register.specs.Calls.{Reading};
 ghost use Rattle.zeb_register.specs.Clauses.{OnStore, Tells, TellsWhether};
-ghost use Rattle.zeb_register.specs.Expected.{IsOrdered, key_posting_order, name_order};
+ghost use Rattle.zeb_register.specs.Expected.{IsOrdered, name_order};
 ghost use Rattle.zeb_register.specs.RowExpected.{AreBeside, AreInOrder, AsExpected, BelongsTo, EachAsExpected, HasNames, HasTexts};
 ghost use Rattle.zeb_register.specs.RowExpected.{HoldsExpected, HoldsThere, IsInOrder, LacksPacked, ListsAgree};
 ghost use Rattle.zeb_register.specs.RowExpected.{tree_of};
-ghost use Rattle.zeb_register.specs.RowKeys.{AreKeyCounts, IsKeyed};
 
+use crate::belonging::belongs;
 use crate::catalog::databases_in;
 use crate::expected::{are_named, are_texts};
-use crate::key_counts::{KeyCount, key_counts};
-use crate::read_beside::{belongs, rests_agree};
+use crate::read_beside::rests_agree;
 use crate::statements::databases::listed_rows;
 use crate::statements::postings::nothing_of;
 use crate::statements::texts::all_texts;
@@ -194,19 +193,5 @@ fn database_agrees<S: Alter>(
         (state S.Store conn.old) (state S.Store conn.new) result }
     ensures honest { result ≢ Err RegFault.Damaged }
 {
-    let counts = counts_for(table, database)?;
-    rests_agree(conn, table, db.column(), database, &counts)
-}
-
-/// The keys of the expected postings, each with how many records have it, where the table is `dict`.
-fn counts_for(table: Table, database: &ExpectedDatabase) -> Result<Vec<KeyCount>, RegFault>
-    ensures ok { IfOk result (λ list. table ≡ Table.Dict → IsStrictlySortedBy key_posting_order database.now.postings.items
-        → AreKeyCounts (IsKeyed database.now.postings.items) list.items) }
-    ensures honest { result ≢ Err RegFault.Damaged }
-{
-    let alloc = *database.postings.allocator();
-    match table {
-        Table::Dict => key_counts(alloc, &database.postings),
-        _ => Ok(Vec::new(alloc)),
-    }
+    rests_agree(conn, table, db.column(), database)
 }

@@ -7,13 +7,14 @@
 #![tactic(auto)]
 
 mod agreeing;
+mod belonging;
 mod blocks;
 mod catalog;
 mod dropping;
 mod expected;
 mod faults;
 mod kept;
-mod key_counts;
+mod key_runs;
 mod lists;
 mod meta;
 mod occurring;

@@ -1,7 +1,7 @@
 //! The packed tables of a database beside what is expected of it. Each row of blocks takes its postings from the
 //! front of those that are left.
 
-ghost use Rattle.std.specs.Prelude.{◌≡◌, ◌≢◌, ◌≤◌, ◌++◌, ℕ, pos, List, true, false, length, drop, map, MatchOption};
+ghost use Rattle.std.specs.Prelude.{◌≡◌, ◌≢◌, ◌<◌, ◌≤◌, ◌++◌, ℕ, pos, List, true, false, length, drop, map, IfSome, MatchOption};
 ghost use Rattle.sqlite.specs.Held.{state};
 ghost use Rattle.sqlite.specs.State.{IsUnchanged};
 ghost use Rattle.sqlite.specs.declared.types.Value.TheVariants.{Int};
@@ -12,8 +12,8 @@ ghost use Rattle.zeb_register.specs.Clauses.{TellsWhether};
 ghost use Rattle.zeb_register.specs.RowExpected.{AreInOrder, HoldsExpected, HoldsKeysAlone, IsBlockBefore, with_key};
 
 use crate::agreeing::{Table, table_agrees};
+use crate::belonging::belongs;
 use crate::expected::is_key;
-use crate::read_beside::belongs;
 use crate::{ExpectedDatabase, KeyPosting, ListedDatabase, RegFault};
 use sqlite::types::ValueRef;
 use sqlite::{Alter, Connection, Row};
@@ -59,8 +59,9 @@ fn keys_alone<S: Alter>(
 /// Where the postings end that the row spells from a place on, if it spells those that stand there.
 pub(crate) fn block_end(row: &Row, postings: &[KeyPosting], at: usize) -> Option<usize>
     requires { at ≤ length postings.now }
-    ensures { MatchOption result ((rest : List KeyPosting) → ¬ IsBlockBefore row.now (drop at postings.now) rest)
-        (λ end. (end ≤ length postings.now) × IsBlockBefore row.now (drop at postings.now) (drop end postings.now)) }
+    ensures further { IfSome result (λ end. (at < end) × (end ≤ length postings.now)) }
+    ensures fits { MatchOption result ((rest : List KeyPosting) → ¬ IsBlockBefore row.now (drop at postings.now) rest)
+        (λ end. IsBlockBefore row.now (drop at postings.now) (drop end postings.now)) }
 {
     let first = postings.get(at)?;
     if row.column_count() != 5 || !is_key(row, &first.key) {

@@ -1,90 +1,46 @@
 //! The rows of a table, read one at a time beside what is expected of them.
 
-ghost use Rattle.std.specs.Prelude.{◌≡◌, ◌≢◌, ◌≤◌, ◌↔◌, List, ◌∷◌, true, false, length, drop, map, IsTrue, MatchOption};
+ghost use Rattle.std.specs.Prelude.{◌≡◌, ◌≢◌, ◌<◌, ◌≤◌, ◌↔◌, List, ◌∷◌, length, drop, map, IfSome, MatchOption};
 ghost use Rattle.sqlite.specs.Held.{state};
-ghost use Rattle.sqlite.specs.State.{IsUnchanged};
-ghost use Rattle.sqlite.specs.declared.types.Value.TheVariants.{Int};
-ghost use Rattle.sqlite.specs.Order.{Row, column};
+ghost use Rattle.sqlite.specs.Order.{Row};
 ghost use Rattle.zeb_register.specs.Calls.{Reading};
-ghost use Rattle.zeb_register.specs.Clauses.{Tells};
 ghost use Rattle.zeb_register.specs.Kept.{record_shown};
-ghost use Rattle.zeb_register.specs.RowExpected.{BelongsTo, IsOwnedBy, posting_shown, tree_of};
-ghost use Rattle.zeb_register.specs.RowKeys.{count_shown};
-ghost use Rattle.zeb_register.specs.RowReads.{Fits, ReadsRests, owners_text, rests_text, size_of};
+ghost use Rattle.zeb_register.specs.RowExpected.{IsInOrder, posting_shown};
+ghost use Rattle.zeb_register.specs.RowReads.{Fits, ReadsRests, rests_text, size_of};
 
 use crate::agreeing::Table;
 use crate::expected::{is_posting, is_record};
-use crate::key_counts::{KeyCount, is_count};
+use crate::key_runs::run_end;
 use crate::packed_agreeing::block_end;
-use crate::{DatabaseId, ExpectedDatabase, KeyPosting, ListedDatabase, Record, RegFault};
-use sqlite::types::ValueRef;
+use crate::{ExpectedDatabase, KeyPosting, Record, RegFault};
 use sqlite::{Alter, Connection, Row, params};
 
-/// Whether the rows of a table under this id are just the expected ones. One row is held at a time. `counts` are the keys of the
-/// expected postings, where the table is `dict`.
+/// Whether the rows of a table under this id are just the expected ones. One row is held at a time.
 pub(crate) fn rests_agree<S: Alter>(
     conn: &mut Connection<S>,
     table: Table,
     db: i64,
     database: &ExpectedDatabase,
-    counts: &[KeyCount],
 ) -> Result<bool, RegFault>
-    ensures call { Reading (state S.Store conn.old) (state S.Store conn.new) result (ReadsRests table db database.now counts.now) }
+    ensures call { Reading (state S.Store conn.old) (state S.Store conn.new) result (ReadsRests table db database.now) }
     ensures honest { result ≢ Err RegFault.Damaged }
 {
     // What is seen outside a transaction is what was committed.
     let _idle = conn.is_autocommit();
+    let size = size_of(table, database);
     let mut at = 0;
     let mut rows = conn.query(rests_text(table), params![db])?;
-    'rows: for _ in 0..u64::MAX {
+    // Each row that is the next moves the place on, so that there are no more of them than the list is long.
+    'rows: for _turn in 0..=size {
         let Some(row) = rows.next()? else {
-            return Ok(at == size_of(table, database, counts));
+            return Ok(at == size);
         };
-        let Some(end) = row_end(table, row, database, counts, at) else {
+        let Some(end) = row_end(table, row, database, at) else {
             return Ok(false);
         };
         at = end;
     }
-    // No table has so many rows.
-    Err(RegFault::Store)
-}
-
-/// Whether each row of a table belongs to one of these databases. One row is held at a time.
-pub(crate) fn belongs<S: Alter>(
-    conn: &mut Connection<S>,
-    table: Table,
-    listed: &[ListedDatabase],
-) -> Result<bool, RegFault>
-    ensures call { Reading (state S.Store conn.old) (state S.Store conn.new) result (λ _. IsUnchanged) }
-    ensures value { Tells (state S.Store conn.old) (state S.Store conn.new) result
-        (λ trees agree. IsTrue agree ↔ BelongsTo (tree_of table) listed.now trees) }
-    ensures honest { result ≢ Err RegFault.Damaged }
-{
-    // What is seen outside a transaction is what was committed.
-    let _idle = conn.is_autocommit();
-    let mut rows = conn.query(owners_text(table), &[])?;
-    'rows: for _ in 0..u64::MAX {
-        let Some(row) = rows.next()? else {
-            return Ok(true);
-        };
-        if !is_owned(row, listed) {
-            return Ok(false);
-        }
-    }
-    // No table has so many rows.
-    Err(RegFault::Store)
-}
-
-/// The query for the id of its database of each row of a table.
-fn owners_text(table: Table) -> &'static str
-    ensures { result.now ≡ owners_text table }
-{
-    match table {
-        Table::Records => "SELECT db FROM records",
-        Table::Postings => "SELECT db FROM postings",
-        Table::Blocks => "SELECT db FROM blocks",
-        Table::Dict => "SELECT db FROM dict",
-    }
+    Ok(false)
 }
 
 /// The query for the rows of a table under the id of a database, in the order of the table's key.
@@ -106,42 +62,35 @@ fn rests_text(table: Table) -> &'static str
 }
 
 /// How long the list is that the table's rows are compared with.
-fn size_of(table: Table, database: &ExpectedDatabase, counts: &[KeyCount]) -> usize
-    ensures { result ≡ size_of table database.now counts.now }
+fn size_of(table: Table, database: &ExpectedDatabase) -> usize
+    ensures { result ≡ size_of table database.now }
 {
     match table {
         Table::Records => database.records.len(),
-        Table::Postings | Table::Blocks => database.postings.len(),
-        Table::Dict => counts.len(),
+        Table::Postings | Table::Blocks | Table::Dict => database.postings.len(),
     }
 }
 
 /// Where the list goes on behind this row, if it is the row that is expected from a place on.
-fn row_end(
-    table: Table,
-    row: &Row,
-    database: &ExpectedDatabase,
-    counts: &[KeyCount],
-    at: usize,
-) -> Option<usize>
-    requires { at ≤ size_of table database.now counts.now }
-    ensures { MatchOption result ((more : List Row) → ¬ Fits table database.now counts.now (row.now ∷ more) at)
-        (λ end. (end ≤ size_of table database.now counts.now) × ((more : List Row)
-        → Fits table database.now counts.now (row.now ∷ more) at ↔ Fits table database.now counts.now more end)) }
+fn row_end(table: Table, row: &Row, database: &ExpectedDatabase, at: usize) -> Option<usize>
+    requires { at ≤ size_of table database.now }
+    ensures further { IfSome result (λ end. (at < end) × (end ≤ size_of table database.now)) }
+    ensures fits { IsInOrder database.now → MatchOption result ((more : List Row) → ¬ Fits table database.now (row.now ∷ more) at)
+        (λ end. (more : List Row) → Fits table database.now (row.now ∷ more) at ↔ Fits table database.now more end) }
 {
     match table {
         Table::Records => record_end(row, &database.records, at),
         Table::Postings => posting_end(row, &database.postings, at),
         Table::Blocks => block_end(row, &database.postings, at),
-        Table::Dict => count_end(row, counts, at),
+        Table::Dict => run_end(row, &database.postings, at),
     }
 }
 
 /// Where the records go on behind the one at this place, if the row shows it.
 fn record_end(row: &Row, records: &[Record], at: usize) -> Option<usize>
-    ensures { MatchOption result ((more : List Row) → row.now ∷ more ≢ map record_shown (drop at records.now))
-        (λ end. (end ≤ length records.now) × ((more : List Row)
-        → (row.now ∷ more ≡ map record_shown (drop at records.now)) ↔ (more ≡ map record_shown (drop end records.now)))) }
+    ensures further { IfSome result (λ end. (at < end) × (end ≤ length records.now)) }
+    ensures fits { MatchOption result ((more : List Row) → row.now ∷ more ≢ map record_shown (drop at records.now))
+        (λ end. (more : List Row) → (row.now ∷ more ≡ map record_shown (drop at records.now)) ↔ (more ≡ map record_shown (drop end records.now))) }
 {
     let kept = records.get(at)?;
     if is_record(row, kept) {
@@ -153,52 +102,14 @@ fn record_end(row: &Row, records: &[Record], at: usize) -> Option<usize>
 
 /// Where the postings go on behind the one at this place, if the row shows it.
 fn posting_end(row: &Row, postings: &[KeyPosting], at: usize) -> Option<usize>
-    ensures { MatchOption result ((more : List Row) → row.now ∷ more ≢ map posting_shown (drop at postings.now))
-        (λ end. (end ≤ length postings.now) × ((more : List Row)
-        → (row.now ∷ more ≡ map posting_shown (drop at postings.now)) ↔ (more ≡ map posting_shown (drop end postings.now)))) }
+    ensures further { IfSome result (λ end. (at < end) × (end ≤ length postings.now)) }
+    ensures fits { MatchOption result ((more : List Row) → row.now ∷ more ≢ map posting_shown (drop at postings.now))
+        (λ end. (more : List Row) → (row.now ∷ more ≡ map posting_shown (drop at postings.now)) ↔ (more ≡ map posting_shown (drop end postings.now))) }
 {
     let posting = postings.get(at)?;
     if is_posting(row, posting) {
         Some(at + 1)
     } else {
         None
-    }
-}
-
-/// Where the counts go on behind the one at this place, if the row shows it.
-fn count_end(row: &Row, counts: &[KeyCount], at: usize) -> Option<usize>
-    ensures { MatchOption result ((more : List Row) → row.now ∷ more ≢ map count_shown (drop at counts.now))
-        (λ end. (end ≤ length counts.now) × ((more : List Row)
-        → (row.now ∷ more ≡ map count_shown (drop at counts.now)) ↔ (more ≡ map count_shown (drop end counts.now)))) }
-{
-    let count = counts.get(at)?;
-    if is_count(row, count) {
-        Some(at + 1)
-    } else {
-        None
-    }
-}
-
-/// Whether the row shows the id of one of these databases.
-fn is_owned(row: &Row, listed: &[ListedDatabase]) -> bool
-    ensures same { result ≡ true → IsOwnedBy listed.now row.now }
-    ensures other { result ≡ false → ¬ IsOwnedBy listed.now row.now }
-{
-    for database in listed {
-        if is_id(row, database.id) {
-            return true;
-        }
-    }
-    false
-}
-
-/// Whether the row shows this id.
-fn is_id(row: &Row, id: DatabaseId) -> bool
-    ensures same { result ≡ true → column row.now 0 ≡ Int id.0 }
-    ensures other { result ≡ false → column row.now 0 ≢ Int id.0 }
-{
-    match row.get_ref(0) {
-        Ok(ValueRef::Int(value)) => value == id.column(),
-        _ => false,
     }
 }

@@ -3,6 +3,7 @@
 pub(crate) mod databases;
 pub(crate) mod inside;
 pub(crate) mod keys;
+pub(crate) mod owners;
 pub(crate) mod packed;
 pub(crate) mod packed_changes;
 pub(crate) mod postings;

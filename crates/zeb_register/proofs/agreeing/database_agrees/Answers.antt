@@ -1,10 +1,9 @@
-use Rattle.std.proofs.Common.{◌≡◌, ◌∙◌, [], ◌∷◌, sym, subst, w64, to_z, of_z}
+use Rattle.std.proofs.Common.{◌≡◌, ◌∙◌, [], ◌∷◌, subst, w64, to_z, of_z}
 use Rattle.std.proofs.Math.Facts.{to_z-of_z}
 use Rattle.std.proofs.lemmas.Result.{IfOk-weaker}
 use Rattle.sqlite.specs.Held.{state}
 use Rattle.sqlite.specs.declared.types.Value.TheVariants.{Int}
 use Rattle.zeb_register.specs.RowExpected.{AsExpected, tree_of}
-use Rattle.zeb_register.specs.RowKeys.{AreKeyCounts, IsKeyed}
 use Rattle.zeb_register.specs.RowReads.{Fits}
 use Rattle.zeb_register.specs.Sql.{IsListOf}
 use Rattle.zeb_register.specs.Store.{IsRest}
@@ -17,13 +16,11 @@ returns-clause-value g c clean store order =
     let s = state g.S.Store c.args.conn.now in
     let t = c.args.table in
     let d = c.args.database.now in
-    let list = c.deref.result.now in
     let known : to_z w64 (of_z w64 c.column.result) ≡ c.args.db.0 = to_z-of_z {w = w64} {z = c.column.result} c.column.ensures.fits ∙ c.column.ensures.value in
     IfOk-weaker c.rests_agree.result _ _ (λ b it.
     let read = it.1 store in
     let are = subst (λ i. IsListOf (IsRest (tree_of t) (Int i ∷ []) s.now.trees) read.0) known read.1 in
-    told_so (Fits t d list read.0 0) (AsExpected t c.args.db.0 d s.now.trees) b
-    (fits_expected t s store c.args.db.0 d list order (λ is up. subst (AreKeyCounts (IsKeyed d.postings.items)) (sym c.deref.ensures.value) (c.in_ok-counts.ensures.ok is up)) read.0 are) read.2) (c.rests_agree.ensures.call.ok clean)
+    told_so (Fits t d read.0 0) (AsExpected t c.args.db.0 d s.now.trees) b (fits_expected t s store c.args.db.0 d order read.0 are) (read.2 order)) (c.rests_agree.ensures.call.ok clean)
 
 pub returns-clause-call : goal.returns-clause-call
 returns-clause-call g c = record {

@@ -3,16 +3,16 @@ use Rattle.sqlite_value.specs.Value.{owned}
 use Rattle.zeb_blocks.specs.Blocks.{BlockSpells}
 use Rattle.zeb_extract.specs.declared.keys.Key.{Key}
 use Rattle.zeb_register.specs.RowExpected.{IsBlockBefore, with_key}
-use Rattle.zeb_register.proofs.PackedBeside.{drop_got, drop_over, key_before, none_before, rest_is, same_rest}
-use Rattle.zeb_register.proofs.Told.{match_so}
+use Rattle.zeb_register.proofs.PackedBeside.{drop_got, drop_over, key_before, map_none, moved_on, none_before, rest_is, same_rest}
+use Rattle.zeb_register.proofs.Told.{match_so, some_so}
 use Rattle.zeb_register.proofs.packed_agreeing.block_end.Goals as goal
 use Rattle.zeb_register.proofs.packed_agreeing.block_end.Goals.{then-column_count-ne5-via-then-column_count-ne5, then-column_count-ne5-via-else-column_count-ne5+then-not-is_key}
 
-pub returns-in_err-first : goal.returns-in_err-first
-returns-in_err-first c = rw c.from_residual.ensures (λ rest. none_before c.args.row.now (drop c.args.at c.args.postings.now) rest (drop_over c.args.postings.now c.args.at (let e = c.in_err-first.ensures.lookup in omega (arith, e.3))))
+pub returns-in_err-first-clause-fits : goal.returns-in_err-first-clause-fits
+returns-in_err-first-clause-fits c = rw c.from_residual.ensures (λ rest. none_before c.args.row.now (drop c.args.at c.args.postings.now) rest (drop_over c.args.postings.now c.args.at (let e = c.in_err-first.ensures.lookup in omega (arith, e.3))))
 
-pub returns-then-column_count-ne5 : goal.returns-then-column_count-ne5
-returns-then-column_count-ne5 c rest it =
+pub returns-then-column_count-ne5-clause-fits : goal.returns-then-column_count-ne5-clause-fits
+returns-then-column_count-ne5-clause-fits c rest it =
     let first = c.in_ok-first.first.now in
     let found = c.in_ok-first.ensures.lookup in
     let front = drop_got c.args.postings.now c.args.at first (omega (arith, found.3)) found.1 in
@@ -22,8 +22,11 @@ returns-then-column_count-ne5 c rest it =
           w.is_key.ensures.other w.if-not-is_key.true (key_before c.args.row.now first (drop (c.args.at + 1) c.args.postings.now) rest (subst (λ l. IsBlockBefore c.args.row.now l rest) front it))
     ]
 
-pub returns-in-Ok-Blob : goal.returns-in-Ok-Blob
-returns-in-Ok-Blob c =
+pub returns-in-Ok-Blob-clause-further : goal.returns-in-Ok-Blob-clause-further
+returns-in-Ok-Blob-clause-further c = some_so _ _ _ c.spelled_end.result (λ end it. (moved_on c.args.postings.now _ c.args.at end it.1.2 (λ none. it.1.1.some (map_none _ it.1.0 none)), it.0)) c.spelled_end.ensures
+
+pub returns-in-Ok-Blob-clause-fits : goal.returns-in-Ok-Blob-clause-fits
+returns-in-Ok-Blob-clause-fits c =
     let first = c.in_ok-first.first.now in
     let key = first.key in
     let block = c.in_ok-block.block in
@@ -35,5 +38,5 @@ returns-in-Ok-Blob c =
     let told = same_rest it.0 key it.1 block it.2 bytes (sym it.4 ∙ row) in
     let spells : BlockSpells block it.3 bytes = subst (λ (d : List ℕ). BlockSpells block it.3 d) told.2 (subst (λ (b : ℕ). BlockSpells b it.3 it.2) told.1 it.5) in
     none it.3 rest spells (it.6 ∙ ap (λ (k : Key). map (with_key k) it.3 ++ rest) told.0))
-    (λ end it. (it.0, (key, block, bytes, it.1.0, row, it.1.1, it.1.2)))
+    (λ end it. (key, block, bytes, it.1.0, row, it.1.1, it.1.2))
     c.spelled_end.ensures

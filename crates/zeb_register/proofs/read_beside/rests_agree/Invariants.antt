@@ -4,6 +4,7 @@ use Rattle.sqlite.specs.Held.{state}
 use Rattle.sqlite.specs.Order.{Row}
 use Rattle.sqlite.specs.State.{HasCleanDisk, IsUnchanged, Survives}
 use Rattle.sqlite.specs.declared.types.Value.TheVariants.{Int}
+use Rattle.zeb_register.specs.RowExpected.{IsInOrder}
 use Rattle.zeb_register.specs.RowReads.{Fits, rests_text, size_of}
 use Rattle.zeb_register.proofs.read_beside.rests_agree.Given as goal
 
@@ -15,7 +16,8 @@ invariant-rows g l =
       name : l.rows.conn.ghost_name ≡ l.initial.rows.conn.ghost_name;
       idle : l.fn.conn.in_transaction ≡ false → l.rows.conn.now.in_transaction ≡ false;
       crash : Survives old now (λ _. ⊥);
-      within : l.at ≤ size_of l.table l.database l.counts;
+      within : l.at ≤ size_of l.table l.database;
+      turns : l._turn ≤ l.at;
       given : HasCleanDisk now → IsUnchanged old now × ((given : List Row) × HasGiven g.S.Store (rests_text l.table) (Int l.db ∷ []) l.rows.conn.now given
-          × ((more : List Row) → Fits l.table l.database l.counts (given ++ more) 0 ↔ Fits l.table l.database l.counts more l.at));
+          × (IsInOrder l.database → (more : List Row) → Fits l.table l.database (given ++ more) 0 ↔ Fits l.table l.database more l.at));
     }

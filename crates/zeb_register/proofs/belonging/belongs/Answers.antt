@@ -1,0 +1,167 @@
+use Rattle.std.proofs.Common.{rules, ◌≡◌, ◌∙◌, ◌≤◌, ◌≤ℤ◌, ◌+ℤ◌, pos, ℤ, true, false, Bool, Ok, Err, ◌+◌, ap, None, Some, FitsSigned, w64, to_z, of_z, length, sym, subst, arith}
+use Rattle.std.proofs.lemmas.Int.{ints}
+use Rattle.std.proofs.lemmas.Result.{err_from_is_err_and}
+use Rattle.std.proofs.Math.Facts.{to_z-of_z}
+use Rattle.sqlite.specs.Effect.{Database}
+use Rattle.sqlite.specs.Held.{state}
+use Rattle.sqlite.specs.State.{HasCleanDisk, IsUnchanged}
+use Rattle.sqlite.proofs.Callers.{unchanged_then}
+use Rattle.zeb_register.specs.declared.faults.RegFault.{RegFault}
+use Rattle.zeb_register.specs.Calls.{Reading}
+use Rattle.zeb_register.specs.RowExpected.{BelongsTo, Owns, tree_of}
+use Rattle.zeb_register.proofs.Calls.{nothing_then, store_same}
+use Rattle.zeb_register.proofs.CallsInTurn.{quiet_then}
+use Rattle.zeb_register.proofs.OwnersListed.{IsFirst, IsReached, all_reached, below_few, first_reached, first_seen, next_seen, none_missing, none_seen}
+use Rattle.zeb_register.proofs.Reasons.{reasoned_after}
+use Rattle.zeb_register.proofs.belonging.belongs.Goals as goal
+
+abbrev Least : ℤ → ℤ → Type 0
+Least id other = id ≤ℤ other
+
+pub returns-in_default-clause-value : goal.returns-in_default-clause-value
+returns-in_default-clause-value g c clean store =
+    let none = rw c.in_default.is at (c.in_ok-ends.ensures.value clean store) in
+    (λ _ id owns. absurd (none id owns), λ _. search rules)
+
+pub ids-init : goal.ids-init
+ids-init g c = record {
+  idle = c.ends_of.ensures.call.idle;
+  ok = c.in_ok-ends.ensures.call.ok;
+  same = c.ends_of.ensures.call.same;
+  crash = c.ends_of.ensures.call.crash;
+  reached = λ clean store.
+      let trees = (state g.S.Store c.args.conn.now).now.trees in
+      let fits : FitsSigned w64 c.in-Some.ends.first = search rules in
+      subst (λ i. IsReached (tree_of c.args.table) trees c.args.listed.now c.in-Some.ends.last i 0) (sym (to_z-of_z {w = w64} {z = c.in-Some.ends.first} fits))
+      (first_reached (tree_of c.args.table) trees c.args.listed.now c.in-Some.ends (rw c.in-Some.is at (c.in_ok-ends.ensures.value clean store)));
+}
+
+pub returns-then-not-is_listed-clause-call : goal.returns-then-not-is_listed-clause-call
+returns-then-not-is_listed-clause-call g c =
+    let inv = c.ids.invariant in record { idle = inv.idle; ok = inv.ok; same = inv.same; crash = inv.crash }
+
+pub returns-then-not-is_listed-clause-value : goal.returns-then-not-is_listed-clause-value
+returns-then-not-is_listed-clause-value g c clean store =
+    let trees = (state g.S.Store c.args.conn.now).now.trees in
+    let id = to_z w64 c.ids.id-bits in
+    let at = c.ids.invariant.reached clean store in (
+      λ h. absurd (let e : false ≡ true = h in cc),
+      λ belongs. absurd (none_missing (tree_of c.args.table) trees c.args.listed.now c.in-Some.ends.last id c.ids._turn at (c.is_listed.ensures.other c.if-not-is_listed.true) belongs),
+    )
+
+pub returns-then-id-ends-clause-call : goal.returns-then-id-ends-clause-call
+returns-then-id-ends-clause-call g c =
+    let inv = c.ids.invariant in record { idle = inv.idle; ok = inv.ok; same = inv.same; crash = inv.crash }
+
+pub returns-then-id-ends-clause-value : goal.returns-then-id-ends-clause-value
+returns-then-id-ends-clause-value g c clean store =
+    let trees = (state g.S.Store c.args.conn.now).now.trees in
+    let id = to_z w64 c.ids.id-bits in
+    let at = c.ids.invariant.reached clean store in
+    (λ _. all_reached (tree_of c.args.table) trees c.args.listed.now c.in-Some.ends.last id c.ids._turn at (c.is_listed.ensures.same c.if-not-is_listed.false) (omega (arith, ints, c.if-id-ends.true, c.ids.id-is)), λ _. search rules)
+
+pub returns-in_err-rows-clause-call : goal.returns-in_err-rows-clause-call
+returns-in_err-rows-clause-call g c =
+    let inv = c.ids.invariant in
+    let s0 = state g.S.Store c.args.conn.now in
+    let s1 = state g.S.Store c.ids.conn in
+    let s2 = state g.S.Store c.next_rows.new.conn in
+    let it : Reading s0 s2 c.from_residual-in_err-rows.result (λ _. IsUnchanged) = record {
+      idle = λ i. c.next_rows.ensures.call.idle (inv.idle i);
+      ok = λ clean. search rules;
+      same = λ clean i. nothing_then s0 s1 s2 (inv.same (omega (arith, c.next_rows.ensures.call.crash.clean)) i) (c.next_rows.ensures.call.same clean (inv.idle i));
+      crash = quiet_then s0 s1 s2 inv.crash c.next_rows.ensures.call.crash;
+    } in
+    it
+
+pub returns-in_err-rows-clause-refused : goal.returns-in_err-rows-clause-refused
+returns-in_err-rows-clause-refused g c =
+    let inv = c.ids.invariant in
+    let s0 = state g.S.Store c.args.conn.now in
+    let s1 = state g.S.Store c.ids.conn in
+    let s2 = state g.S.Store c.next_rows.new.conn in
+    let is = err_from_is_err_and c.from_residual-in_err-rows.result c.from_residual-in_err-rows.ensures.1 in
+    reasoned_after s0 s1 s2 c.from_residual-in_err-rows.result inv.ok inv.crash c.next_rows.ensures.call.crash
+    (rw (is.1, is.2) (λ clean store told. c.in_err-rows.ensures.err clean store (search rules)))
+
+pub returns-in_default-id_of-clause-call : goal.returns-in_default-id_of-clause-call
+returns-in_default-id_of-clause-call g c =
+    let inv = c.ids.invariant in
+    let s0 = state g.S.Store c.args.conn.now in
+    let s1 = state g.S.Store c.ids.conn in
+    let s2 = state g.S.Store c.next_rows.new.conn in
+    record {
+      idle = λ i. c.next_rows.ensures.call.idle (inv.idle i);
+      ok = λ clean. unchanged_then s0 s1 s2 (inv.ok (omega (arith, c.next_rows.ensures.call.crash.clean))) (c.in_ok-rows.ensures.call.ok clean).0;
+      same = λ clean i. nothing_then s0 s1 s2 (inv.same (omega (arith, c.next_rows.ensures.call.crash.clean)) i) (c.next_rows.ensures.call.same clean (inv.idle i));
+      crash = quiet_then s0 s1 s2 inv.crash c.next_rows.ensures.call.crash;
+    }
+
+pub returns-in_default-id_of-clause-value : goal.returns-in_default-id_of-clause-value
+returns-in_default-id_of-clause-value g c clean store =
+    let s0 = state g.S.Store c.args.conn.now in
+    let s1 = state g.S.Store c.ids.conn in
+    let clean1 : HasCleanDisk s1 = omega (arith, c.next_rows.ensures.call.crash.clean) in
+    let now_is = (c.ids.invariant.ok clean1).0.now_is in
+    let trees = s0.now.trees in
+    let id = to_z w64 c.ids.id-bits in
+    let at = c.ids.invariant.reached clean1 store in
+    let here = c.is_listed.ensures.same c.if-not-is_listed.false in
+    let fits : FitsSigned w64 c.in-Some.ends.last = search rules in
+    let it = first_seen Least _ c.in_ok-rows.rows.items c.deref.result.now c.id_of.result ((c.in_ok-rows.ensures.call.ok clean).1 (store_same s0 s1 now_is store)) c.deref.ensures.value (c.id_of.ensures.none, c.id_of.ensures.some) in
+    (λ _. none_seen (tree_of c.args.table) trees c.args.listed.now c.in-Some.ends.last id c.ids._turn at here (ap (λ (d : Database). d.trees) now_is) (rw c.in_default-id_of.is at it) (omega (arith, ints, c.ids.id-is, c.if-id-ends.false, fits)), λ _. search rules)
+
+pub ids-preserved : goal.ids-preserved
+ids-preserved g c =
+    let inv = c.ids.invariant in
+    let s0 = state g.S.Store c.args.conn.now in
+    let s1 = state g.S.Store c.ids.conn in
+    let s2 = state g.S.Store c.next_rows.new.conn in
+    record {
+      idle = λ i. c.next_rows.ensures.call.idle (inv.idle i);
+      ok = λ clean. unchanged_then s0 s1 s2 (inv.ok (omega (arith, c.next_rows.ensures.call.crash.clean))) (c.in_ok-rows.ensures.call.ok clean).0;
+      same = λ clean i. nothing_then s0 s1 s2 (inv.same (omega (arith, c.next_rows.ensures.call.crash.clean)) i) (c.next_rows.ensures.call.same clean (inv.idle i));
+      crash = quiet_then s0 s1 s2 inv.crash c.next_rows.ensures.call.crash;
+      reached = λ clean store.
+          let s0 = state g.S.Store c.args.conn.now in
+          let s1 = state g.S.Store c.ids.conn in
+          let clean1 : HasCleanDisk s1 = omega (arith, c.next_rows.ensures.call.crash.clean) in
+          let now_is = (c.ids.invariant.ok clean1).0.now_is in
+          let trees = s0.now.trees in
+          let id = to_z w64 c.ids.id-bits in
+          let at = c.ids.invariant.reached clean1 store in
+          let here = c.is_listed.ensures.same c.if-not-is_listed.false in
+          let fits : FitsSigned w64 c.in-Some.ends.last = search rules in
+          let it = first_seen Least _ c.in_ok-rows.rows.items c.deref.result.now c.id_of.result ((c.in_ok-rows.ensures.call.ok clean).1 (store_same s0 s1 now_is store)) c.deref.ensures.value (c.id_of.ensures.none, c.id_of.ensures.some) in
+          let next_fits : FitsSigned w64 c.in-Some-id_of.next = search rules in
+          subst (λ i. IsReached (tree_of c.args.table) trees c.args.listed.now c.in-Some.ends.last i (c.ids._turn + 1)) (sym (to_z-of_z {w = w64} {z = c.in-Some-id_of.next} next_fits))
+          (next_seen (tree_of c.args.table) trees c.args.listed.now c.in-Some.ends.last id c.ids._turn at c.in-Some-id_of.next here (ap (λ (d : Database). d.trees) now_is) (rw c.in-Some-id_of.is at it) (omega (arith, ints, c.ids.id-is, c.if-id-ends.false, fits)));
+    }
+
+pub returns-in-Some-id_of-clause-call : goal.returns-in-Some-id_of-clause-call
+returns-in-Some-id_of-clause-call g c =
+    let inv = c.ids.invariant in
+    let s0 = state g.S.Store c.args.conn.now in
+    let s1 = state g.S.Store c.ids.conn in
+    let s2 = state g.S.Store c.next_rows.new.conn in
+    record {
+      idle = λ i. c.next_rows.ensures.call.idle (inv.idle i);
+      ok = λ clean. unchanged_then s0 s1 s2 (inv.ok (omega (arith, c.next_rows.ensures.call.crash.clean))) (c.in_ok-rows.ensures.call.ok clean).0;
+      same = λ clean i. nothing_then s0 s1 s2 (inv.same (omega (arith, c.next_rows.ensures.call.crash.clean)) i) (c.next_rows.ensures.call.same clean (inv.idle i));
+      crash = quiet_then s0 s1 s2 inv.crash c.next_rows.ensures.call.crash;
+    }
+
+pub returns-in-Some-id_of-clause-value : goal.returns-in-Some-id_of-clause-value
+returns-in-Some-id_of-clause-value g c clean store =
+    let s0 = state g.S.Store c.args.conn.now in
+    let s1 = state g.S.Store c.ids.conn in
+    let clean1 : HasCleanDisk s1 = omega (arith, c.next_rows.ensures.call.crash.clean) in
+    let now_is = (c.ids.invariant.ok clean1).0.now_is in
+    let trees = s0.now.trees in
+    let id = to_z w64 c.ids.id-bits in
+    let at = c.ids.invariant.reached clean1 store in
+    let here = c.is_listed.ensures.same c.if-not-is_listed.false in
+    let fits : FitsSigned w64 c.in-Some.ends.last = search rules in
+    let it = first_seen Least _ c.in_ok-rows.rows.items c.deref.result.now c.id_of.result ((c.in_ok-rows.ensures.call.ok clean).1 (store_same s0 s1 now_is store)) c.deref.ensures.value (c.id_of.ensures.none, c.id_of.ensures.some) in
+    let next = next_seen (tree_of c.args.table) trees c.args.listed.now c.in-Some.ends.last id c.ids._turn at c.in-Some-id_of.next here (ap (λ (d : Database). d.trees) now_is) (rw c.in-Some-id_of.is at it) (omega (arith, ints, c.ids.id-is, c.if-id-ends.false, fits)) in
+    absurd (omega (arith, next.turns, below_few c.args.listed.now c.in-Some-id_of.next, c.if-turn-turn-end.false))

@@ -1,0 +1,20 @@
+use Rattle.std.proofs.Common.{◌≡◌, false}
+use Rattle.sqlite.specs.Held.{state}
+use Rattle.sqlite.specs.State.{HasCleanDisk, IsUnchanged, Survives}
+use Rattle.zeb_register.specs.Calls.{ChangesNothing}
+use Rattle.zeb_register.specs.RowExpected.{tree_of}
+use Rattle.zeb_register.specs.Store.{IsStore}
+use Rattle.zeb_register.proofs.OwnersListed.{IsReached}
+use Rattle.zeb_register.proofs.belonging.belongs.Given as goal
+
+abbrev pub invariant-ids : goal.invariant-ids
+invariant-ids g l =
+    let old = state g.S.Store l.fn.conn in
+    let now = state g.S.Store l.conn in
+    record {
+      idle : l.fn.conn.in_transaction ≡ false → l.conn.in_transaction ≡ false;
+      ok : HasCleanDisk now → IsUnchanged old now;
+      same : HasCleanDisk now → l.fn.conn.in_transaction ≡ false → ChangesNothing old now;
+      crash : Survives old now (λ _. ⊥);
+      reached : HasCleanDisk now → IsStore old → IsReached (tree_of l.table) old.now.trees l.listed l.ends.last l.id l._turn;
+    }

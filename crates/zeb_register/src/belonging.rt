@@ -1,0 +1,100 @@
+//! Whether each row of a table belongs to a database that is listed, by the ids with which rows begin: one look-up for each id that
+//! occurs, and two for the least and the greatest.
+
+ghost use Rattle.std.specs.Prelude.{◌≡◌, ◌≢◌, ◌↔◌, ◌∷◌, [], List, true, false, IsTrue, None, Some};
+ghost use Rattle.sqlite.specs.Held.{state};
+ghost use Rattle.sqlite.specs.Order.{Row as Columns};
+ghost use Rattle.sqlite.specs.State.{IsUnchanged};
+ghost use Rattle.sqlite.specs.declared.types.Value.TheVariants.{Int};
+ghost use Rattle.zeb_register.specs.Calls.{Reading};
+ghost use Rattle.zeb_register.specs.Clauses.{IsReasoned, Tells};
+ghost use Rattle.zeb_register.specs.RowExpected.{BelongsTo, IsListedId, tree_of};
+ghost use Rattle.zeb_register.specs.RowReads.{AreEnds};
+
+use crate::agreeing::Table;
+use crate::statements::owners::{greatest_rows, least_rows, next_rows};
+use crate::{ListedDatabase, RegFault};
+use sqlite::types::ValueRef;
+use sqlite::{Alter, Connection, Row};
+
+/// The least and the greatest id with which a row of a table begins.
+#[derive(Clone, Copy, Debug)]
+pub(crate) struct Ends {
+    pub(crate) first: i64,
+    pub(crate) last: i64,
+}
+
+/// Whether each row of a table belongs to one of these databases.
+pub(crate) fn belongs<S: Alter>(
+    conn: &mut Connection<S>,
+    table: Table,
+    listed: &[ListedDatabase],
+) -> Result<bool, RegFault>
+    ensures call { Reading (state S.Store conn.old) (state S.Store conn.new) result (λ _. IsUnchanged) }
+    ensures value { Tells (state S.Store conn.old) (state S.Store conn.new) result
+        (λ trees agree. IsTrue agree ↔ BelongsTo (tree_of table) listed.now trees) }
+    ensures honest { result ≢ Err RegFault.Damaged }
+    ensures refused { IsReasoned (state S.Store conn.old) (state S.Store conn.new) result }
+{
+    let Some(ends) = ends_of(conn, table)? else {
+        return Ok(true);
+    };
+    let mut id = ends.first;
+    // The ids rise, and each is one of the databases, so that there are no more of them than databases.
+    'ids: for _turn in 0..=listed.len() {
+        if !is_listed(listed, id) {
+            return Ok(false);
+        }
+        if id >= ends.last {
+            return Ok(true);
+        }
+        let rows = next_rows(conn, table, id + 1)?;
+        let Some(next) = id_of(&rows) else {
+            return Ok(true);
+        };
+        id = next;
+    }
+    Ok(false)
+}
+
+/// The least and the greatest id, or none where the table has no row.
+fn ends_of<S: Alter>(conn: &mut Connection<S>, table: Table) -> Result<Option<Ends>, RegFault>
+    ensures call { Reading (state S.Store conn.old) (state S.Store conn.new) result (λ _. IsUnchanged) }
+    ensures value { Tells (state S.Store conn.old) (state S.Store conn.new) result (AreEnds (tree_of table)) }
+    ensures honest { result ≢ Err RegFault.Damaged }
+    ensures refused { IsReasoned (state S.Store conn.old) (state S.Store conn.new) result }
+{
+    let rows = least_rows(conn, table)?;
+    let Some(first) = id_of(&rows) else {
+        return Ok(None);
+    };
+    let rows = greatest_rows(conn, table)?;
+    let Some(last) = id_of(&rows) else {
+        return Ok(None);
+    };
+    Ok(Some(Ends { first, last }))
+}
+
+/// The id that the first row shows.
+fn id_of(rows: &[Row]) -> Option<i64>
+    ensures none { rows.now ≡ [] → result ≡ None }
+    ensures some { (id : _) (more : List Columns) → rows.now ≡ (Int id ∷ []) ∷ more → result ≡ Some id }
+{
+    match rows.first()?.get_ref(0) {
+        Ok(ValueRef::Int(id)) => Some(id),
+        _ => None,
+    }
+}
+
+/// Whether one of these databases has the id.
+fn is_listed(listed: &[ListedDatabase], id: i64) -> bool
+    ensures same { result ≡ true → IsListedId listed.now id }
+    ensures other { result ≡ false → ¬ IsListedId listed.now id }
+{
+    for database in listed {
+        if database.id.column() == id {
+            return true;
+        }
+    }
+    false
+}
