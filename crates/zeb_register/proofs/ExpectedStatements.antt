@@ -1,16 +1,20 @@
 -- The statements that list whole tables, or all rows of a database, each with what it is compiled to.
-use Rattle.std.proofs.Common.{◌≡◌, ◌∙◌, ℕ, ℤ, false, List, [], ◌∷◌, map, codes, refl, sym, ap, ap₂, subst, Ordering, Less, Equal, Greater}
+use Rattle.std.proofs.Common.{◌≡◌, ◌∙◌, ℕ, ℤ, false, List, [], ◌∷◌, map, codes, refl, sym, ap, ap₂, subst, true, arith, Ordering, Less, Equal, Greater}
 use Rattle.std.specs.Ordering.{ordering_then}
+use Rattle.sqlite.specs.declared.error.Error.{Error}
 use Rattle.sqlite.specs.declared.types.Value.TheVariants.{Int}
 use Rattle.sqlite.specs.Command.TheVariants.{Select}
 use Rattle.sqlite.specs.Listing.{understood, reads_listing}
 use Rattle.sqlite.specs.Order.{Row, column, value_cmp}
-use Rattle.sqlite.specs.State.{State, Shown}
+use Rattle.sqlite.specs.State.{FailsToQuery, State, Shown}
 use Rattle.sqlite.specs.Table.{Table}
 use Rattle.sqlite.proofs.Callers.{IsPlain, command_of, reads_as}
 use Rattle.sqlite_rules.specs.Lists.{Has}
 use Rattle.sqlite_tied.specs.Compute.{everything}
 use Rattle.zeb_register.specs.declared.agreeing.Table.TheVariants.{Records, Postings, Blocks, Dict}
+use Rattle.zeb_register.specs.declared.faults.RegFault.TheVariants.{Store}
+use Rattle.zeb_register.specs.Calls.{MayRefuse}
+use Rattle.zeb_register.specs.Faults.{fault_of}
 use Rattle.zeb_register.specs.RowReads.{rests_text}
 use Rattle.zeb_register.specs.Sql.{HasRow, IsListOf}
 use Rattle.zeb_register.specs.Store.{IsStore, IsRest, blocks_tree, dict_tree, meta_tree, postings_tree, records_tree}
@@ -21,6 +25,7 @@ use Rattle.zeb_register.proofs.PostingStatements.{blocks, blocks_static, dict, d
 use Rattle.zeb_register.proofs.PackedStatements.{blocks_keys, dict_keys}
 use Rattle.zeb_register.proofs.Prefix.{IsAfter, lists_after}
 use Rattle.zeb_register.proofs.RecordStatements.{records, records_static}
+use Rattle.zeb_register.proofs.Refusals.{IsFit, IsWhole, why_refused}
 use Rattle.zeb_register.proofs.RowLemmas.{int_of}
 use Rattle.zeb_register.proofs.Scans.{reads, shows_each}
 use Rattle.zeb_register.proofs.Selects.{list_so}
@@ -169,3 +174,52 @@ module _ (at : ℕ) (table : Table) (static : IsPlainTable store_schema at table
   -- a row of the table begins with the id of a database
   pub owner_row : (s : State) (r : Row) → IsStore s → Has (s.now.trees table.tree) r → (i : ℤ) × (id : ℤ) × (rest : Row) × (r ≡ Int i ∷ Int id ∷ rest)
   owner_row s r store here = two_first r more (codes_there store_schema at table static s r store here ∙ codes_are)
+
+-- ---- why they are refused
+
+texts_whole : IsWhole texts_text 0 (understood store_schema texts_text)
+unfolding understood everything
+texts_whole = (omega arith, refl)
+
+texts_fit : IsFit (alone (reading 0 [] (shows (1 ∷ 2 ∷ [])) (1 ∷ []) no_limit)) []
+unfolding everything
+texts_fit trees mistyped = absurd (let e : true ≡ false = mistyped in cc)
+
+pub texts_refused : (old new : State) (e : Error) → IsStore old → fault_of e ≡ Store → FailsToQuery texts_text [] old new e → MayRefuse old new
+texts_refused old new e store told failed = why_refused texts_text [] 0 [] (shows (1 ∷ 2 ∷ [])) (rising (1 ∷ [])) no_limit texts_names texts_is texts_plain.0 texts_plain.1 texts_whole texts_fit old new store e told failed
+
+postings_whole : IsWhole postings_text 1 (understood store_schema postings_text)
+unfolding understood everything
+postings_whole = (omega arith, refl)
+
+postings_fit : (db : ℤ) → IsFit (alone (reading 7 (keyed_from 1 0 1) (shows posting_columns) posting_columns no_limit)) (Int db ∷ [])
+unfolding everything
+postings_fit db trees mistyped = absurd (let e : true ≡ false = mistyped in cc)
+
+pub postings_refused : (db : ℤ) (old new : State) (e : Error) → IsStore old → fault_of e ≡ Store → FailsToQuery postings_text (Int db ∷ []) old new e → MayRefuse old new
+postings_refused db old new e store told failed =
+    why_refused postings_text (Int db ∷ []) 7 (keyed_from 1 0 1) (shows posting_columns) (rising posting_columns) no_limit posting_names postings_is postings_plain.0 postings_plain.1 postings_whole (postings_fit db) old new store e told failed
+
+blocks_whole : IsWhole blocks_text 1 (understood store_schema blocks_text)
+unfolding understood everything
+blocks_whole = (omega arith, refl)
+
+blocks_fit : (db : ℤ) → IsFit (alone (reading 9 (keyed_from 1 0 1) (shows block_columns) (2 ∷ 3 ∷ 4 ∷ 5 ∷ []) no_limit)) (Int db ∷ [])
+unfolding everything
+blocks_fit db trees mistyped = absurd (let e : true ≡ false = mistyped in cc)
+
+pub blocks_refused : (db : ℤ) (old new : State) (e : Error) → IsStore old → fault_of e ≡ Store → FailsToQuery blocks_text (Int db ∷ []) old new e → MayRefuse old new
+blocks_refused db old new e store told failed =
+    why_refused blocks_text (Int db ∷ []) 9 (keyed_from 1 0 1) (shows block_columns) (rising (2 ∷ 3 ∷ 4 ∷ 5 ∷ [])) no_limit block_names blocks_is blocks_plain.0 blocks_plain.1 blocks_whole (blocks_fit db) old new store e told failed
+
+keys_whole : IsWhole keys_text 1 (understood store_schema keys_text)
+unfolding understood everything
+keys_whole = (omega arith, refl)
+
+keys_fit : (db : ℤ) → IsFit (alone (reading 11 (keyed_from 1 0 1) (shows key_columns) (2 ∷ 3 ∷ 4 ∷ []) no_limit)) (Int db ∷ [])
+unfolding everything
+keys_fit db trees mistyped = absurd (let e : true ≡ false = mistyped in cc)
+
+pub keys_refused : (db : ℤ) (old new : State) (e : Error) → IsStore old → fault_of e ≡ Store → FailsToQuery keys_text (Int db ∷ []) old new e → MayRefuse old new
+keys_refused db old new e store told failed =
+    why_refused keys_text (Int db ∷ []) 11 (keyed_from 1 0 1) (shows key_columns) (rising (2 ∷ 3 ∷ 4 ∷ [])) no_limit key_names keys_is keys_plain.0 keys_plain.1 keys_whole (keys_fit db) old new store e told failed

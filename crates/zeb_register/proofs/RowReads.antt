@@ -10,7 +10,7 @@ use Rattle.sqlite.specs.Held.{Held, state}
 use Rattle.sqlite.specs.Listing.{understood, reads_listing, IsSourceOf}
 use Rattle.sqlite.specs.Order.{Row}
 use Rattle.sqlite.specs.Query.{Query}
-use Rattle.sqlite.specs.State.{State, Fails, IsStatement, IsUnchanged, Shown}
+use Rattle.sqlite.specs.State.{State, Fails, FailsToQuery, IsStatement, IsUnchanged, Shown}
 use Rattle.sqlite.specs.declared.error.Error.{Error}
 use Rattle.sqlite.specs.declared.types.Value.TheVariants.{Int}
 use Rattle.sqlite.proofs.Callers.{EndsIn, begins_shown, command_of, given_begin, unchanged_then}
@@ -24,7 +24,9 @@ use Rattle.zeb_register.specs.declared.agreeing.Table.TheVariants.{Records, Post
 use Rattle.zeb_register.specs.declared.catalog.ListedDatabase.{ListedDatabase}
 use Rattle.zeb_register.specs.declared.expected.ExpectedDatabase.{ExpectedDatabase}
 use Rattle.zeb_register.specs.declared.expected.KeyPosting.{KeyPosting}
-use Rattle.zeb_register.specs.Calls.{ChangesNothing}
+use Rattle.zeb_register.specs.declared.faults.RegFault.TheVariants.{Store}
+use Rattle.zeb_register.specs.Calls.{ChangesNothing, MayRefuse}
+use Rattle.zeb_register.specs.Faults.{fault_of}
 use Rattle.zeb_register.specs.Expected.{key_posting_order}
 use Rattle.zeb_register.specs.Kept.{record_shown}
 use Rattle.zeb_register.specs.RowExpected.{AsExpected, IsBlockBefore, IsInOrder, posting_shown, tree_of, TakeAll}
@@ -35,10 +37,10 @@ use Rattle.zeb_register.specs.Store.{IsRest, IsStore, postings_tree, records_tre
 use Rattle.zeb_register.specs.Tables.{store_schema}
 use Rattle.zeb_register.proofs.Calls.{IsSilent, never_returns, store_same}
 use Rattle.zeb_register.proofs.ExpectedLists.{postings_rise, records_rise, rows_under, under_rows}
-use Rattle.zeb_register.proofs.ExpectedStatements.{blocks_is, blocks_silent, keys_is, keys_silent, lists_blocks, lists_keys, lists_postings, postings_is, postings_silent}
+use Rattle.zeb_register.proofs.ExpectedStatements.{blocks_is, blocks_refused, blocks_silent, keys_is, keys_refused, keys_silent, lists_blocks, lists_keys, lists_postings, postings_is, postings_refused, postings_silent}
 use Rattle.zeb_register.proofs.KeyRuns.{one_run, runs_all, runs_rest}
 use Rattle.zeb_register.proofs.PackedBeside.{all_numbered, blocks_all, blocks_rest, drop_none, drop_over, map_none, one_before}
-use Rattle.zeb_register.proofs.RecordStatements.{all_is, all_silent, lists_all}
+use Rattle.zeb_register.proofs.RecordStatements.{all_is, all_refused, all_silent, lists_all}
 use Rattle.zeb_register.proofs.RisingLists.{same_list}
 use Rattle.zeb_register.proofs.StatementForms.{alone}
 use Rattle.zeb_register.proofs.Told.{told_so}
@@ -97,6 +99,12 @@ lists_rests Records = lists_all
 lists_rests Postings = lists_postings
 lists_rests Blocks = lists_blocks
 lists_rests Dict = lists_keys
+
+pub rests_refused : (t : Table) (id : ℤ) (old new : State) (e : Error) → IsStore old → fault_of e ≡ Store → FailsToQuery (rests_text t) (Int id ∷ []) old new e → MayRefuse old new
+rests_refused Records = all_refused
+rests_refused Postings = postings_refused
+rests_refused Blocks = blocks_refused
+rests_refused Dict = keys_refused
 
 -- ---- one row more
 

@@ -5,7 +5,7 @@ ghost use Rattle.sqlite.specs.Held.{state};
 ghost use Rattle.sqlite.specs.State.{IsUnchanged};
 ghost use Rattle.std.specs.List.Sorted.{IsStrictlySortedBy};
 ghost use Rattle.zeb_register.specs.Calls.{Reading};
-ghost use Rattle.zeb_register.specs.Clauses.{OnStore, Tells, TellsWhether};
+ghost use Rattle.zeb_register.specs.Clauses.{IsReasoned, OnStore, Tells, TellsWhether};
 ghost use Rattle.zeb_register.specs.Expected.{IsOrdered, name_order};
 ghost use Rattle.zeb_register.specs.RowExpected.{AreBeside, AreInOrder, AsExpected, BelongsTo, EachAsExpected, HasNames, HasTexts};
 ghost use Rattle.zeb_register.specs.RowExpected.{HoldsExpected, HoldsThere, IsInOrder, LacksPacked, ListsAgree};
@@ -43,6 +43,7 @@ pub(crate) fn lists_beside<S: Alter>(
         × ListsAgree trees expected.now))) }
     ensures long { IfOk result (λ found. IfSome found (λ listed. length listed.items ≡ length expected.now.databases.items)) }
     ensures honest { result ≢ Err RegFault.Damaged }
+    ensures refused { IsReasoned (state S.Store conn.old) (state S.Store conn.new) result }
 {
     if !texts_agree(conn, expected)? {
         return Ok(None);
@@ -63,6 +64,7 @@ fn records_beside<S: Alter>(
         × HoldsThere Table.Records expected.now trees))) }
     ensures long { IfOk result (λ found. IfSome found (λ listed. length listed.items ≡ length expected.now)) }
     ensures honest { result ≢ Err RegFault.Damaged }
+    ensures refused { IsReasoned (state S.Store conn.old) (state S.Store conn.new) result }
 {
     let Some(listed) = databases_beside(alloc, conn, expected)? else {
         return Ok(None);
@@ -82,6 +84,7 @@ pub(crate) fn rows_agree<S: Alter>(
     ensures value { TellsWhether (λ trees. HoldsExpected Table.Postings listed.now expected.now trees × LacksPacked trees)
         (AreInOrder expected.now) (state S.Store conn.old) (state S.Store conn.new) result }
     ensures honest { result ≢ Err RegFault.Damaged }
+    ensures refused { IsReasoned (state S.Store conn.old) (state S.Store conn.new) result }
 {
     if !table_agrees(conn, Table::Postings, listed, expected)? {
         return Ok(false);
@@ -94,6 +97,7 @@ fn lacks_packed<S: Alter>(conn: &mut Connection<S>) -> Result<bool, RegFault>
     ensures call { Reading (state S.Store conn.old) (state S.Store conn.new) result (λ _. IsUnchanged) }
     ensures value { Tells (state S.Store conn.old) (state S.Store conn.new) result (λ trees agree. IsTrue agree ↔ LacksPacked trees) }
     ensures honest { result ≢ Err RegFault.Damaged }
+    ensures refused { IsReasoned (state S.Store conn.old) (state S.Store conn.new) result }
 {
     if !belongs(conn, Table::Blocks, &[])? {
         return Ok(false);
@@ -107,6 +111,7 @@ fn texts_agree<S: Alter>(conn: &mut Connection<S>, expected: &Expected) -> Resul
     ensures value { Tells (state S.Store conn.old) (state S.Store conn.new) result
         (λ trees agree. IsTrue agree ↔ HasTexts trees expected.now) }
     ensures honest { result ≢ Err RegFault.Damaged }
+    ensures refused { IsReasoned (state S.Store conn.old) (state S.Store conn.new) result }
 {
     let rows = all_texts(conn)?;
     Ok(are_texts(&rows, expected))
@@ -123,6 +128,7 @@ fn databases_beside<S: Alter>(
         → IfOk result (λ found. MatchOption found (¬ HasNames trees expected.now) (λ listed. AreBeside listed.items expected.now trees))) }
     ensures long { IfOk result (λ found. IfSome found (λ listed. length listed.items ≡ length expected.now)) }
     ensures honest { result ≢ Err RegFault.Damaged }
+    ensures refused { IsReasoned (state S.Store conn.old) (state S.Store conn.new) result }
 {
     let rows = listed_rows(conn)?;
     match databases_in(alloc, &rows) {
@@ -151,6 +157,7 @@ pub(crate) fn table_agrees<S: Alter>(
     ensures value { TellsWhether (HoldsExpected table listed.now expected.now) (AreInOrder expected.now)
         (state S.Store conn.old) (state S.Store conn.new) result }
     ensures honest { result ≢ Err RegFault.Damaged }
+    ensures refused { IsReasoned (state S.Store conn.old) (state S.Store conn.new) result }
 {
     if !each_agrees(conn, table, listed, expected)? {
         return Ok(false);
@@ -170,6 +177,7 @@ fn each_agrees<S: Alter>(
     ensures value { TellsWhether (EachAsExpected table listed.now expected.now) (AreInOrder expected.now)
         (state S.Store conn.old) (state S.Store conn.new) result }
     ensures honest { result ≢ Err RegFault.Damaged }
+    ensures refused { IsReasoned (state S.Store conn.old) (state S.Store conn.new) result }
 {
     // A closed connection is refused also where no database is expected.
     nothing_of(conn)?;
@@ -192,6 +200,7 @@ fn database_agrees<S: Alter>(
     ensures value { TellsWhether (AsExpected table db.0 database.now) (IsInOrder database.now)
         (state S.Store conn.old) (state S.Store conn.new) result }
     ensures honest { result ≢ Err RegFault.Damaged }
+    ensures refused { IsReasoned (state S.Store conn.old) (state S.Store conn.new) result }
 {
     rests_agree(conn, table, db.column(), database)
 }

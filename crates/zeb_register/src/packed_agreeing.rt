@@ -8,7 +8,7 @@ ghost use Rattle.sqlite.specs.declared.types.Value.TheVariants.{Int};
 ghost use Rattle.sqlite.specs.Order.{column};
 ghost use Rattle.zeb_blocks.specs.Blocks.{BlockSpells};
 ghost use Rattle.zeb_register.specs.Calls.{Reading};
-ghost use Rattle.zeb_register.specs.Clauses.{TellsWhether};
+ghost use Rattle.zeb_register.specs.Clauses.{IsReasoned, TellsWhether};
 ghost use Rattle.zeb_register.specs.RowExpected.{AreInOrder, HoldsExpected, HoldsKeysAlone, IsBlockBefore, with_key};
 
 use crate::agreeing::{Table, table_agrees};
@@ -31,6 +31,7 @@ pub(crate) fn packed_agree<S: Alter>(
     ensures value { TellsWhether (λ trees. HoldsExpected Table.Blocks listed.now expected.now trees
         × HoldsKeysAlone listed.now expected.now trees) (AreInOrder expected.now) (state S.Store conn.old) (state S.Store conn.new) result }
     ensures honest { result ≢ Err RegFault.Damaged }
+    ensures refused { IsReasoned (state S.Store conn.old) (state S.Store conn.new) result }
 {
     if !table_agrees(conn, Table::Blocks, listed, expected)? {
         return Ok(false);
@@ -49,6 +50,7 @@ fn keys_alone<S: Alter>(
     ensures value { TellsWhether (HoldsKeysAlone listed.now expected.now) (AreInOrder expected.now)
         (state S.Store conn.old) (state S.Store conn.new) result }
     ensures honest { result ≢ Err RegFault.Damaged }
+    ensures refused { IsReasoned (state S.Store conn.old) (state S.Store conn.new) result }
 {
     if !table_agrees(conn, Table::Dict, listed, expected)? {
         return Ok(false);

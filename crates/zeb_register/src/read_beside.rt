@@ -4,6 +4,7 @@ ghost use Rattle.std.specs.Prelude.{◌≡◌, ◌≢◌, ◌<◌, ◌≤◌, �
 ghost use Rattle.sqlite.specs.Held.{state};
 ghost use Rattle.sqlite.specs.Order.{Row};
 ghost use Rattle.zeb_register.specs.Calls.{Reading};
+ghost use Rattle.zeb_register.specs.Clauses.{IsReasoned};
 ghost use Rattle.zeb_register.specs.Kept.{record_shown};
 ghost use Rattle.zeb_register.specs.RowExpected.{IsInOrder, posting_shown};
 ghost use Rattle.zeb_register.specs.RowReads.{Fits, ReadsRests, rests_text, size_of};
@@ -24,6 +25,7 @@ pub(crate) fn rests_agree<S: Alter>(
 ) -> Result<bool, RegFault>
     ensures call { Reading (state S.Store conn.old) (state S.Store conn.new) result (ReadsRests table db database.now) }
     ensures honest { result ≢ Err RegFault.Damaged }
+    ensures refused { IsReasoned (state S.Store conn.old) (state S.Store conn.new) result }
 {
     // What is seen outside a transaction is what was committed.
     let _idle = conn.is_autocommit();

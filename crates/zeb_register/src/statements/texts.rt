@@ -41,6 +41,7 @@ pub(crate) fn text_rows<S: Alter>(conn: &mut Connection<S>, name: &str) -> Resul
 pub(crate) fn all_texts<S: Alter>(conn: &mut Connection<S>) -> Result<Vec<Row>, Error>
     ensures call { Reading (state S.Store conn.old) (state S.Store conn.new) result
         (λ rows a b. Lists (λ trees. HasRow trees meta_tree) a b rows.items) }
+    ensures err { IsReasonedError (state S.Store conn.old) (state S.Store conn.new) result }
 {
     // What is seen outside a transaction is what was committed.
     let _idle = conn.is_autocommit();

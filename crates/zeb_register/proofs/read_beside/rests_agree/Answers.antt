@@ -8,13 +8,16 @@ use Rattle.sqlite.specs.declared.types.Value.TheVariants.{Int}
 use Rattle.sqlite.proofs.Callers.{unchanged_then}
 use Rattle.zeb_register.specs.declared.faults.RegFault.{RegFault}
 use Rattle.zeb_register.specs.Calls.{Reading}
+use Rattle.zeb_register.specs.Clauses.{IsReasoned}
 use Rattle.zeb_register.specs.RowExpected.{IsInOrder}
 use Rattle.zeb_register.specs.RowReads.{Fits, ReadsRests, rests_text, size_of}
-use Rattle.zeb_register.proofs.Calls.{IsSilent, nothing, quiet}
+use Rattle.zeb_register.proofs.Calls.{IsSilent, nothing, quiet, store_same}
+use Rattle.zeb_register.proofs.Causes.{may_after}
 use Rattle.zeb_register.proofs.CallsInTurn.{quiet_then}
-use Rattle.zeb_register.proofs.RowReads.{begun_silent, failed_nothing, fits_none, rests_silent, same_nothing, tells_broken, tells_whole, one_further}
+use Rattle.zeb_register.proofs.RowReads.{begun_silent, failed_nothing, fits_none, rests_refused, rests_silent, same_nothing, tells_broken, tells_whole, one_further}
 use Rattle.zeb_register.proofs.Told.{told_so}
 use Rattle.std.proofs.lemmas.Bool.Decides.{Decides-eqb}
+use Rattle.std.proofs.lemmas.Result.{err_from_is_err_and}
 use Rattle.zeb_register.proofs.read_beside.rests_agree.Goals as goal
 use Rattle.zeb_register.proofs.read_beside.rests_agree.Goals.{else-rows-test, then-rows-test+in_ok-row+in-Some+in-Some-row_end+else-turn-size}
 
@@ -142,3 +145,26 @@ returns-clause-call g c = elim c.rows-test.branch [
       let further : (c.rows.at < w.in-Some-row_end.end) × (w.in-Some-row_end.end ≤ size_of c.args.table c.args.database.now) = rw w.in-Some-row_end.is at w.row_end.ensures.further in
       absurd (omega (arith, c.rows.invariant.turns, further.0, further.1, c.size_of-size.ensures, w.if-turn-size.false))
 ]
+
+pub returns-in_err-rows-clause-refused : goal.returns-in_err-rows-clause-refused
+returns-in_err-rows-clause-refused g c =
+    let old = state g.S.Store c.args.conn.now in
+    let new = state g.S.Store c.query.follows.lender-at-none in
+    let held = rw c.in_err-rows.was at c.query.follows.holds-at-none in
+    let is = err_from_is_err_and c.from_residual.result c.from_residual.ensures.1 in
+    let it : IsReasoned old new c.from_residual.result = rw (is.1, is.2) (λ clean store told. rests_refused c.args.table c.args.db old new c.in_err-rows.field-0.0 store (search rules) (simp (c.rests_text.ensures, c.params-to_sql.ensures, to_z-of_z, c.ranges.db) at (held.err clean))) in
+    it
+
+pub returns-in_err-row-clause-refused : goal.returns-in_err-row-clause-refused
+returns-in_err-row-clause-refused g c =
+    let old = state g.S.Store c.args.conn.now in
+    let mid = state g.S.Store c.rows.rows.conn.now in
+    let now = state g.S.Store c.next.follows.lender-at-none.conn.now in
+    let inv = c.rows.invariant in
+    let moved = c.next.follows.holds-at-none in
+    let is = err_from_is_err_and c.from_residual-in_err-row.result c.from_residual-in_err-row.ensures.1 in
+    let it : IsReasoned old now c.from_residual-in_err-row.result = rw (is.1, is.2) (λ clean store told.
+    let first = inv.given (omega (arith, moved.survives.clean)) in
+    let failed = (rw c.in_err-row.was at (moved.err clean)) (rests_text c.args.table) (Int (to_z w64 (of_z w64 c.args.db)) ∷ []) first.1.0 first.1.1 in
+    may_after old mid now inv.crash (λ _. first.0.0.is_open) (λ _. rests_refused c.args.table (to_z w64 (of_z w64 c.args.db)) mid now c.in_err-row.field-0.0 (store_same old mid first.0.0.now_is store) (search rules) failed)) in
+    search rules
