@@ -1,5 +1,5 @@
-//! Whether each row of a table belongs to a database that is listed, by the ids with which rows begin: one look-up for each id that
-//! occurs, and two for the least and the greatest.
+//! Whether each row of a table belongs to a database that is listed, by the ids with which rows begin: the least and the greatest
+//! are looked up, and from one on the next.
 
 ghost use Rattle.std.specs.Prelude.{◌≡◌, ◌≢◌, ◌↔◌, ◌∷◌, [], List, true, false, IsTrue, None, Some};
 ghost use Rattle.sqlite.specs.Held.{state};
