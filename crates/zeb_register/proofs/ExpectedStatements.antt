@@ -8,26 +8,24 @@ use Rattle.sqlite.specs.Listing.{understood, reads_listing}
 use Rattle.sqlite.specs.Order.{Row, column, value_cmp}
 use Rattle.sqlite.specs.State.{FailsToQuery, State, Shown}
 use Rattle.sqlite.specs.Table.{Table}
-use Rattle.sqlite.proofs.Callers.{IsPlain, command_of, reads_as}
+use Rattle.sqlite.proofs.Callers.{IsPlain, command_of}
 use Rattle.sqlite_rules.specs.Lists.{Has}
 use Rattle.sqlite_tied.specs.Compute.{everything}
-use Rattle.zeb_register.specs.declared.agreeing.Table.TheVariants.{Records, Postings, Blocks, Dict}
+use Rattle.zeb_register.specs.declared.agreeing.Table.TheVariants.{Postings, Blocks, Dict}
 use Rattle.zeb_register.specs.declared.faults.RegFault.TheVariants.{Store}
 use Rattle.zeb_register.specs.Calls.{MayRefuse}
 use Rattle.zeb_register.specs.Faults.{fault_of}
 use Rattle.zeb_register.specs.RowReads.{rests_text}
 use Rattle.zeb_register.specs.Sql.{HasRow, IsListOf}
-use Rattle.zeb_register.specs.Store.{IsStore, IsRest, blocks_tree, dict_tree, meta_tree, postings_tree, records_tree}
+use Rattle.zeb_register.specs.Store.{IsStore, IsRest, blocks_tree, dict_tree, meta_tree, postings_tree}
 use Rattle.zeb_register.specs.Tables.{store_schema, meta_table}
 use Rattle.zeb_register.proofs.Calls.{IsSilent}
 use Rattle.zeb_register.proofs.Falling.{alone_first}
 use Rattle.zeb_register.proofs.PostingStatements.{blocks, blocks_static, dict, dict_static, postings, postings_keys, postings_static}
 use Rattle.zeb_register.proofs.PackedStatements.{blocks_keys, dict_keys}
 use Rattle.zeb_register.proofs.Prefix.{IsAfter, lists_after}
-use Rattle.zeb_register.proofs.RecordStatements.{records, records_static}
 use Rattle.zeb_register.proofs.Refusals.{IsFit, IsWhole, why_refused}
 use Rattle.zeb_register.proofs.RowLemmas.{int_of}
-use Rattle.zeb_register.proofs.Scans.{reads, shows_each}
 use Rattle.zeb_register.proofs.Selects.{list_so}
 use Rattle.zeb_register.proofs.StatementForms.{alone, keyed_from, no_limit, reading, rising, shows}
 use Rattle.zeb_register.proofs.TextStatements.{meta_keys, meta_static}

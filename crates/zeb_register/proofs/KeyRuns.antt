@@ -1,6 +1,5 @@
 -- The rows of `dict` of a database beside the postings that are expected of it: each row beside the run of its key.
-use Rattle.std.proofs.Common.{◌≡◌, ◌≢◌, ◌↔◌, ◌⊎◌, ◌∙◌, ◌<◌, ◌≤◌, ◌+◌, ℕ, pos, List, [], ◌∷◌, ◌++◌, map, take, drop, length, get_or, Option, Some, None, MatchOption, refl, sym, ap, ap₂, subst, inl, inr, Ordering, Less, Equal, Greater, nat_cmp, arith}
-use Rattle.std.specs.Cmp.{IsTotalOrder, nat_cmp_total}
+use Rattle.std.proofs.Common.{◌≡◌, ◌≢◌, ◌↔◌, ◌⊎◌, ◌∙◌, ◌<◌, ◌≤◌, ◌+◌, ℕ, pos, List, [], ◌∷◌, ◌++◌, map, take, drop, length, get_or, refl, sym, ap, ap₂, subst, inl, inr, Ordering, Less, Equal, Greater, nat_cmp, arith}
 use Rattle.std.specs.Cmp.Lexicographic.{slice_cmp}
 use Rattle.std.specs.List.{AllByRecursion}
 use Rattle.std.specs.List.Sorted.{IsStrictlySortedBy}
@@ -32,7 +31,7 @@ use Rattle.zeb_register.proofs.CountLemmas.{IsNewest, above_newest, count_more, 
 use Rattle.zeb_register.proofs.Expecting.{key_posting_total, under_has, under_rises}
 use Rattle.zeb_register.proofs.PackedBeside.{drop_got, drop_over}
 use Rattle.zeb_register.proofs.PackedLemmas.{not_empty}
-use Rattle.zeb_register.proofs.RisingLists.{never_itself, same_list}
+use Rattle.zeb_register.proofs.RisingLists.{same_list}
 use Rattle.zeb_register.proofs.TermRows.{taken_below, taken_more, up_to}
 
 -- keys that are not in order are not the same

@@ -61,5 +61,4 @@ pub mod ExpectingBlocks
 pub mod KeyRuns
 pub mod RowReads
 pub mod OwnerStatements
-pub mod Reasons
 pub mod OwnersListed

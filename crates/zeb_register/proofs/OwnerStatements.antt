@@ -1,9 +1,9 @@
 -- The statements that find the ids of databases with which rows of a table begin, one after the other, each with what it is compiled to.
-use Rattle.std.proofs.Common.{◌≡◌, ◌↔◌, ◌∙◌, ◌≤ℤ◌, ◌<ℤ◌, ℕ, ℤ, pos, true, false, Bool, List, [], ◌∷◌, map, codes, refl, sym, ap, subst, inl, inr, Ordering, Less, Equal, Greater, arith}
+use Rattle.std.proofs.Common.{◌≡◌, ◌↔◌, ◌∙◌, ◌≤ℤ◌, ◌<ℤ◌, ℕ, ℤ, true, false, List, [], ◌∷◌, codes, refl, sym, ap, subst, inl, inr, Ordering, Less, Equal, Greater, arith}
 use Rattle.std.specs.Ordering.{int_cmp, is_lt, ordering_then}
 use Rattle.std.proofs.lemmas.Cmp.{int_ranked}
 use Rattle.std.proofs.lemmas.Int.{ints}
-use Rattle.std.specs.Cmp.{int_cmp_is, int_ranks}
+use Rattle.std.specs.Cmp.{int_cmp_is}
 use Rattle.sqlite.specs.declared.error.Error.{Error}
 use Rattle.sqlite.specs.declared.types.Value.TheVariants.{Int}
 use Rattle.sqlite.specs.Order.{Row, column, value_cmp}

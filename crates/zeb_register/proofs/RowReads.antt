@@ -1,6 +1,5 @@
 -- Rows that are read one at a time, beside what is expected of them.
 use Rattle.std.proofs.Common.{◌≡◌, ◌↔◌, ◌⊎◌, ◌∙◌, ◌≤◌, ℕ, ℤ, Bool, true, false, IsTrue, IsSome, List, [], ◌∷◌, ◌++◌, length, map, drop, Option, Some, None, Result, Ok, Err, MatchOption, inl, inr, refl, sym, ap, subst, append_assoc, append-nil, arith}
-use Rattle.std.specs.List.Sorted.{IsStrictlySortedBy}
 use Rattle.sqlite_trees.specs.declared.store.Store as store
 use Rattle.sqlite.specs.Clock.{timed}
 use Rattle.sqlite.specs.Command.TheVariants.{Select}
@@ -16,18 +15,13 @@ use Rattle.sqlite.specs.declared.types.Value.TheVariants.{Int}
 use Rattle.sqlite.proofs.Callers.{EndsIn, begins_shown, command_of, given_begin, unchanged_then}
 use Rattle.sqlite_resolve.specs.declared.compiled.Compiled.{Compiled}
 use Rattle.sqlite_resolve.specs.declared.error.CompileError.{CompileError}
-use Rattle.sqlite_rules.specs.Lists.{Has}
-use Rattle.sqlite_rules.proofs.ListLemmas.{has_either, has_left, has_right}
-use Rattle.sqlite_value.proofs.OrderLemmas.{row_cmp_total}
 use Rattle.zeb_register.specs.declared.agreeing.Table.{Table}
 use Rattle.zeb_register.specs.declared.agreeing.Table.TheVariants.{Records, Postings, Blocks, Dict}
-use Rattle.zeb_register.specs.declared.catalog.ListedDatabase.{ListedDatabase}
 use Rattle.zeb_register.specs.declared.expected.ExpectedDatabase.{ExpectedDatabase}
 use Rattle.zeb_register.specs.declared.expected.KeyPosting.{KeyPosting}
 use Rattle.zeb_register.specs.declared.faults.RegFault.TheVariants.{Store}
 use Rattle.zeb_register.specs.Calls.{ChangesNothing, MayRefuse}
 use Rattle.zeb_register.specs.Faults.{fault_of}
-use Rattle.zeb_register.specs.Expected.{key_posting_order}
 use Rattle.zeb_register.specs.Kept.{record_shown}
 use Rattle.zeb_register.specs.RowExpected.{AsExpected, IsBlockBefore, IsInOrder, posting_shown, tree_of, TakeAll}
 use Rattle.zeb_register.specs.RowKeys.{IsRunBefore}
@@ -41,7 +35,6 @@ use Rattle.zeb_register.proofs.ExpectedStatements.{blocks_is, blocks_refused, bl
 use Rattle.zeb_register.proofs.KeyRuns.{one_run, runs_all, runs_rest}
 use Rattle.zeb_register.proofs.PackedBeside.{all_numbered, blocks_all, blocks_rest, drop_none, drop_over, map_none, one_before}
 use Rattle.zeb_register.proofs.RecordStatements.{all_is, all_refused, all_silent, lists_all}
-use Rattle.zeb_register.proofs.RisingLists.{same_list}
 use Rattle.zeb_register.proofs.StatementForms.{alone}
 use Rattle.zeb_register.proofs.Told.{told_so}
 

@@ -1,4 +1,4 @@
-use Rattle.std.proofs.Common.{rules, ◌≡◌, ◌∙◌, ◌≤◌, ◌≤ℤ◌, ◌+ℤ◌, pos, ℤ, true, false, Bool, Ok, Err, ◌+◌, ap, None, Some, FitsSigned, w64, to_z, of_z, length, sym, subst, arith}
+use Rattle.std.proofs.Common.{rules, ◌≡◌, ◌≤ℤ◌, ℤ, true, false, ◌+◌, ap, FitsSigned, w64, to_z, sym, subst, arith}
 use Rattle.std.proofs.lemmas.Int.{ints}
 use Rattle.std.proofs.lemmas.Result.{err_from_is_err_and}
 use Rattle.std.proofs.Math.Facts.{to_z-of_z}
@@ -6,13 +6,12 @@ use Rattle.sqlite.specs.Effect.{Database}
 use Rattle.sqlite.specs.Held.{state}
 use Rattle.sqlite.specs.State.{HasCleanDisk, IsUnchanged}
 use Rattle.sqlite.proofs.Callers.{unchanged_then}
-use Rattle.zeb_register.specs.declared.faults.RegFault.{RegFault}
 use Rattle.zeb_register.specs.Calls.{Reading}
-use Rattle.zeb_register.specs.RowExpected.{BelongsTo, Owns, tree_of}
+use Rattle.zeb_register.specs.RowExpected.{tree_of}
 use Rattle.zeb_register.proofs.Calls.{nothing_then, store_same}
 use Rattle.zeb_register.proofs.CallsInTurn.{quiet_then}
-use Rattle.zeb_register.proofs.OwnersListed.{IsFirst, IsReached, all_reached, below_few, first_reached, first_seen, next_seen, none_missing, none_seen}
-use Rattle.zeb_register.proofs.Reasons.{reasoned_after}
+use Rattle.zeb_register.proofs.OwnersListed.{IsReached, all_reached, below_few, first_reached, first_seen, next_seen, none_missing, none_seen}
+use Rattle.zeb_register.proofs.Causes.{reasoned_after}
 use Rattle.zeb_register.proofs.belonging.belongs.Goals as goal
 
 abbrev Least : ℤ → ℤ → Type 0
@@ -81,8 +80,8 @@ returns-in_err-rows-clause-refused g c =
     let s1 = state g.S.Store c.ids.conn in
     let s2 = state g.S.Store c.next_rows.new.conn in
     let is = err_from_is_err_and c.from_residual-in_err-rows.result c.from_residual-in_err-rows.ensures.1 in
-    reasoned_after s0 s1 s2 c.from_residual-in_err-rows.result inv.ok inv.crash c.next_rows.ensures.call.crash
-    (rw (is.1, is.2) (λ clean store told. c.in_err-rows.ensures.err clean store (search rules)))
+    λ clean store told. reasoned_after s0 s1 s2 c.from_residual-in_err-rows.result inv.crash inv.ok c.next_rows.ensures.call.crash
+    (rw (is.1, is.2) (λ clean store told. c.in_err-rows.ensures.err clean store (search rules))) told clean store
 
 pub returns-in_default-id_of-clause-call : goal.returns-in_default-id_of-clause-call
 returns-in_default-id_of-clause-call g c =

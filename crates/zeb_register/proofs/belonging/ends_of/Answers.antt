@@ -1,4 +1,4 @@
-use Rattle.std.proofs.Common.{rules, ◌≡◌, ◌≤ℤ◌, ℤ, None, Some, FitsSigned, w64, sym, subst, subst₂, arith}
+use Rattle.std.proofs.Common.{rules, ◌≤ℤ◌, ℤ, None, Some, FitsSigned, w64, sym, subst, subst₂, arith}
 use Rattle.std.proofs.Math.Facts.{to_z-of_z}
 use Rattle.sqlite.specs.Effect.{Database}
 use Rattle.sqlite.specs.Held.{state}
