@@ -44,8 +44,41 @@ pub enum Step<'a> {
 /// A step and its answer, a fault by its name.
 pub type Row<'a> = (Step<'a>, &'a str);
 
-/// Rows of steps, each list after the one before.
-pub type Script = &'static [&'static [Row<'static>]];
+/// Rows of a script: those that several scripts have, by their name, or a script's own.
+pub enum Part {
+    /// The tables.
+    Made,
+    /// The tables and the texts that the store keeps of itself.
+    Begun,
+    /// A database without records.
+    Default,
+    /// Two records, and what they are found by.
+    Filled,
+    /// What is read where they are.
+    Answers,
+    /// Terms of three lists.
+    Terms,
+    Rows(&'static [Row<'static>]),
+}
+
+/// Parts, each after the one before.
+pub type Script = &'static [Part];
+
+static MADE: &[Row<'static>] = &[(Step::Commit(Call::Tables), "")];
+
+/// The rows of a part. The rows that several scripts have are named here alone, since the proof of a function
+/// goes through each copy of a constant.
+fn rows_of(part: &Part) -> &'static [Row<'static>] {
+    match part {
+        Part::Made => MADE,
+        Part::Begun => moby_dick::BEGUN,
+        Part::Default => moby_dick::DEFAULT,
+        Part::Filled => moby_dick::FILLED,
+        Part::Answers => moby_dick::ANSWERS,
+        Part::Terms => scanning::TERMS,
+        Part::Rows(rows) => rows,
+    }
+}
 
 /// What stands in the tables after calls that write.
 const PUT: [Script; 9] = [
@@ -114,8 +147,8 @@ fn run<S: Alter>(
     script: Script,
 ) -> Result<(), Fail> {
     let mut db = None;
-    for rows in script {
-        answers(rt, conn, &mut db, rows)?;
+    for part in script {
+        answers(rt, conn, &mut db, rows_of(part))?;
     }
     Ok(())
 }

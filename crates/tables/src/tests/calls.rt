@@ -62,13 +62,14 @@ fn change_places<S: Alter>(
     alloc: Global,
     tx: &mut Transaction<'_, S>,
     db: DatabaseId,
-    key: &Key,
+    under: &Under<'_>,
     sysno: u64,
     lists: (&[At], &[At]),
 ) -> Result<(), RegFault> {
+    let key = key(alloc, under)?;
     let old = places(alloc, lists.0)?;
     let new = places(alloc, lists.1)?;
-    Rows::key_change(tx, &mut Work::default(), db, key, sysno, &old, &new)
+    Rows::key_change(tx, &mut Work::default(), db, &key, sysno, &old, &new)
 }
 
 fn put_database<S: Alter>(
@@ -109,6 +110,28 @@ pub fn known(db: &Option<DatabaseId>) -> Result<DatabaseId, RegFault> {
     db.ok_or(RegFault::Memory)
 }
 
+/// Makes a call on a database, and adds its answer to the text.
+fn carry_out_on<S: Alter>(
+    alloc: Global,
+    tx: &mut Transaction<'_, S>,
+    db: DatabaseId,
+    call: &Call<'_>,
+    text: &mut String,
+) -> Result<(), RegFault> {
+    match call {
+        Call::IsSame(name, last) => is_same(tx, db, name, *last, text),
+        Call::DatabaseOut => Rows::database_take(tx, db),
+        Call::Record(sysno, ident, bytes) => record_put(tx, db, *sysno, ident, bytes),
+        Call::RecordOut(sysno) => record_take(tx, db, *sysno),
+        Call::Elder(ident) => elder(tx, db, ident, text),
+        Call::Places(under, sysno, old, new) => {
+            change_places(alloc, tx, db, under, *sysno, (old, new))
+        }
+        // The others are on no database.
+        _ => Err(RegFault::Store),
+    }
+}
+
 /// Makes a call, and adds its answer to the text.
 pub fn carry_out<S: Alter>(
     alloc: Global,
@@ -126,21 +149,7 @@ pub fn carry_out<S: Alter>(
             *db = Some(put_database(tx, name, *last)?);
             Ok(())
         }
-        Call::IsSame(name, last) => is_same(tx, known(db)?, name, *last, text),
-        Call::DatabaseOut => Rows::database_take(tx, known(db)?),
-        Call::Record(sysno, ident, bytes) => record_put(tx, known(db)?, *sysno, ident, bytes),
-        Call::RecordOut(sysno) => record_take(tx, known(db)?, *sysno),
-        Call::Elder(ident) => elder(tx, known(db)?, ident, text),
-        Call::Places(under, sysno, old, new) => {
-            change_places(
-                alloc,
-                tx,
-                known(db)?,
-                &key(alloc, under)?,
-                *sysno,
-                (old, new),
-            )
-        }
+        _ => carry_out_on(alloc, tx, known(db)?, call, text),
     }
 }
 

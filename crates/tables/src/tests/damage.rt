@@ -1,9 +1,8 @@
 //! Rows that no call writes: the calls that read them answer so, and the others as before.
 
 use super::calls::{Call, Under};
-use super::moby_dick::{BEGUN, DEFAULT, FILLED};
 use super::readings::{In, Read};
-use super::{Script, Step};
+use super::{Part, Script, Step};
 use zeb_profile::Register;
 
 const TITLES: In = (0, Register::Word);
@@ -11,38 +10,38 @@ const TITLES: In = (0, Register::Word);
 const MOBY: Under<'static> = (0, Register::Word, "moby");
 
 /// Each damages the rows of the two records.
-pub const SCRIPTS: [Script; 7] = [TEXT, LAST, IDENT, NUMBER, POSTING, TERM, PLACE];
+pub static SCRIPTS: [Script; 7] = [TEXT, LAST, IDENT, NUMBER, POSTING, TERM, PLACE];
 
 const TEXT: Script = &[
-    BEGUN,
-    DEFAULT,
-    FILLED,
-    &[
+    Part::Begun,
+    Part::Default,
+    Part::Filled,
+    Part::Rows(&[
         (
             Step::Execute("UPDATE meta SET value = CAST(x'ff' AS TEXT) WHERE name = 'profile'"),
             "1",
         ),
         (Step::Read(Read::Text("profile")), "Damaged"),
         (Step::Read(Read::Text("version")), "1"),
-    ],
+    ]),
 ];
 
 const LAST: Script = &[
-    BEGUN,
-    DEFAULT,
-    FILLED,
-    &[
+    Part::Begun,
+    Part::Default,
+    Part::Filled,
+    Part::Rows(&[
         (Step::Execute("UPDATE databases SET last = -1"), "1"),
         (Step::Read(Read::Last("Default")), "Damaged"),
         (Step::Read(Read::Last("Other")), "none"),
-    ],
+    ]),
 ];
 
 const IDENT: Script = &[
-    BEGUN,
-    DEFAULT,
-    FILLED,
-    &[
+    Part::Begun,
+    Part::Default,
+    Part::Filled,
+    Part::Rows(&[
         (
             Step::Execute("UPDATE records SET ident = CAST(x'ff' AS TEXT) WHERE sysno = 1"),
             "1",
@@ -55,14 +54,14 @@ const IDENT: Script = &[
         (Step::Read(Read::Count), "2"),
         (Step::Read(Read::Ident(2)), "b2"),
         (Step::Commit(Call::Elder("b2")), "2 64"),
-    ],
+    ]),
 ];
 
 const NUMBER: Script = &[
-    BEGUN,
-    DEFAULT,
-    FILLED,
-    &[
+    Part::Begun,
+    Part::Default,
+    Part::Filled,
+    Part::Rows(&[
         (
             Step::Execute("UPDATE records SET sysno = -1 WHERE sysno = 1"),
             "1",
@@ -74,14 +73,14 @@ const NUMBER: Script = &[
         (Step::Read(Read::Count), "2"),
         (Step::Read(Read::Ident(2)), "b2"),
         (Step::Commit(Call::Elder("b2")), "2 64"),
-    ],
+    ]),
 ];
 
 const POSTING: Script = &[
-    BEGUN,
-    DEFAULT,
-    FILLED,
-    &[
+    Part::Begun,
+    Part::Default,
+    Part::Filled,
+    Part::Rows(&[
         (
             Step::Execute("UPDATE postings SET sysno = -1 WHERE idx = 0 AND term = 'moby'"),
             "1",
@@ -101,14 +100,14 @@ const POSTING: Script = &[
             "cafe 1,dick 1,",
         ),
         (Step::Read(Read::Totals((2, Register::Word))), "7 7"),
-    ],
+    ]),
 ];
 
 const TERM: Script = &[
-    BEGUN,
-    DEFAULT,
-    FILLED,
-    &[
+    Part::Begun,
+    Part::Default,
+    Part::Filled,
+    Part::Rows(&[
         (
             Step::Execute(
                 "UPDATE postings SET term = CAST(x'ff' AS TEXT) WHERE idx = 0 AND term = 'whale'",
@@ -121,15 +120,15 @@ const TERM: Script = &[
         (Step::Read(Read::List(MOBY)), "1:2.1,"),
         (Step::Read(Read::From(TITLES, "the", 1)), "the 1,"),
         (Step::Read(Read::Before(TITLES, "the", 1)), "or 1,"),
-    ],
+    ]),
 ];
 
 /// A damaged place is not replaced.
 const PLACE: Script = &[
-    BEGUN,
-    DEFAULT,
-    FILLED,
-    &[
+    Part::Begun,
+    Part::Default,
+    Part::Filled,
+    Part::Rows(&[
         (
             Step::Execute("UPDATE postings SET pos = -1 WHERE idx = 0 AND term = 'moby'"),
             "1",
@@ -145,5 +144,5 @@ const PLACE: Script = &[
             Step::Read(Read::List((2, Register::Word, "moby"))),
             "1:2.1,",
         ),
-    ],
+    ]),
 ];

@@ -1,9 +1,9 @@
 //! Tables that one run makes in files and the next run finds there.
 
 use super::calls::{Call, Under};
-use super::moby_dick::{ANSWERS, BEGUN, DEFAULT, FILLED, ROWS};
+use super::moby_dick::ROWS;
 use super::readings::Read;
-use super::{Script, Step, run};
+use super::{Part, Script, Step, run};
 use crate::disks::connected;
 use crate::queries::POSTINGS;
 use sqlite::{Alter, Connection, Error, File, FileStore, Files};
@@ -20,30 +20,32 @@ const WHALE: Under<'static> = (0, Register::Word, "whale");
 
 /// The first run fills the tables. The second finds what it left, and changes a list: once for good, once in a transaction
 /// that is given up. The third finds the list that the second left, and all else as before.
-const RUNS: [Script; 3] = [
-    &[BEGUN, DEFAULT, FILLED],
-    &[
-        &[
-            (Step::Commit(Call::Tables), ""),
-            (Step::Use("Default"), ""),
-            (Step::Rows(POSTINGS), ROWS),
-        ],
-        ANSWERS,
-        &[
-            (Step::Commit(Call::Places(WHALE, 2, &[], &[(2, 7)])), ""),
-            (
-                Step::GiveUp(Call::Places(WHALE, 1, &[(3, 3)], &[(9, 9)])),
-                "",
-            ),
-        ],
-    ],
-    &[&[
+static RUNS: [Script; 3] = [FIRST, SECOND, THIRD];
+
+const FIRST: Script = &[Part::Begun, Part::Default, Part::Filled];
+
+const SECOND: Script = &[
+    Part::Rows(&[
+        (Step::Commit(Call::Tables), ""),
         (Step::Use("Default"), ""),
-        (Step::Read(Read::List(WHALE)), "1:3.3,2:2.7,"),
-        (Step::Commit(Call::Places(WHALE, 2, &[(2, 7)], &[])), ""),
         (Step::Rows(POSTINGS), ROWS),
-    ]],
+    ]),
+    Part::Answers,
+    Part::Rows(&[
+        (Step::Commit(Call::Places(WHALE, 2, &[], &[(2, 7)])), ""),
+        (
+            Step::GiveUp(Call::Places(WHALE, 1, &[(3, 3)], &[(9, 9)])),
+            "",
+        ),
+    ]),
 ];
+
+const THIRD: Script = &[Part::Rows(&[
+    (Step::Use("Default"), ""),
+    (Step::Read(Read::List(WHALE)), "1:3.3,2:2.7,"),
+    (Step::Commit(Call::Places(WHALE, 2, &[(2, 7)], &[])), ""),
+    (Step::Rows(POSTINGS), ROWS),
+])];
 
 /// Runs a script over a connection, which is given back.
 fn run_over<S: Alter + Drop>(
@@ -75,7 +77,7 @@ fn the_next_run_finds_the_tables_in_files_in_memory(rt: HostRuntime) -> Result<(
         log: Memory::new(rt.alloc()),
         db: Memory::new(rt.alloc()),
     };
-    for script in RUNS {
+    for script in &RUNS {
         files = closed(run_over(&rt, opened(rt.alloc(), files)?, script)?)?;
     }
     Ok(())
@@ -99,15 +101,30 @@ fn new_folder(rt: &HostRuntime) -> Result<PathBuf, Fail> {
     Ok(folder)
 }
 
-/// The second run leaves the file open: what it committed is there all the same.
+/// One run, which may leave the file open.
 fn run_in_file(
     host: &HostRuntime,
     rt: &(impl Abort + AllocGlobal),
     path: &str,
+    script: Script,
+    is_closed: bool,
 ) -> Result<(), Fail> {
-    close_file(run_over(rt, open_file(host, path)?, RUNS[0])?)?;
-    run_over(rt, open_file(host, path)?, RUNS[1])?;
-    run_over(rt, open_file(host, path)?, RUNS[2])?;
+    let conn = run_over(rt, open_file(host, path)?, script)?;
+    if is_closed {
+        close_file(conn)?;
+    }
+    Ok(())
+}
+
+/// The second run leaves the file open: what it committed is there all the same.
+fn run_all_in_file(
+    host: &HostRuntime,
+    rt: &(impl Abort + AllocGlobal),
+    path: &str,
+) -> Result<(), Fail> {
+    for (place, script) in RUNS.iter().enumerate() {
+        run_in_file(host, rt, path, script, place == 0)?;
+    }
     Ok(())
 }
 
@@ -115,7 +132,7 @@ fn run_in_file(
 fn the_next_run_finds_the_tables_in_a_file(rt: HostRuntime) -> Result<(), Fail> {
     let folder = new_folder(&rt)?;
     let path = format!(in rt.alloc(); "{}/books.db", folder.display())?;
-    run_in_file(&rt, &rt, &path)?;
+    run_all_in_file(&rt, &rt, &path)?;
     fs::remove_dir_all(&rt, &folder)?;
     Ok(())
 }

@@ -82,7 +82,7 @@ const BEGUN: [Step<'static>; 2] = [
 ];
 
 /// Calls that write, and between them calls that read what is then there.
-const STEPS: &[Row<'static>] = &[
+static STEPS: &[Row<'static>] = &[
     (Step::Commit(Call::Tables), ""),
     (Step::Commit(Call::Text("version", "1")), ""),
     (Step::Read(Read::Text("version")), "1"),

@@ -2,7 +2,7 @@
 
 use super::calls::Call;
 use super::readings::Read;
-use super::{Row, Script, Step};
+use super::{Part, Row, Script, Step};
 use crate::queries::POSTINGS;
 use crate::samples::{CAFE, MOBY};
 use zeb_profile::Register;
@@ -12,7 +12,7 @@ const PROFILE: &str =
     "identifier 001\natt 4 Title\natt 31 Date\natt 1016 Any\nmelm 245$a Title:w,Title:p\nmelm 245 Title:w\nmelm 260$c Date:n\nall Any:w\n";
 
 /// The tables, and the texts that the store keeps of itself under the profile.
-pub const BEGUN: &[Row<'static>] = &[
+pub static BEGUN: &[Row<'static>] = &[
     (Step::Commit(Call::Tables), ""),
     (Step::Commit(Call::Version), ""),
     (Step::Commit(Call::Text("profile", PROFILE)), ""),
@@ -20,11 +20,11 @@ pub const BEGUN: &[Row<'static>] = &[
 ];
 
 /// A database without records, numbered from 3 on.
-pub const DEFAULT: &[Row<'static>] = &[(Step::Commit(Call::Database("Default", 2)), "")];
+pub static DEFAULT: &[Row<'static>] = &[(Step::Commit(Call::Database("Default", 2)), "")];
 
 /// The two records, and what they are found by. Unit 1 is their field 001, unit 2 is 245$a, and in the first record unit 3 is
 /// 245$b and unit 4 is 260$c.
-pub const FILLED: &[Row<'static>] = &[
+pub static FILLED: &[Row<'static>] = &[
     (Step::Commit(Call::Record(1, "a1", MOBY)), ""),
     (Step::Commit(Call::Record(2, "b2", CAFE)), ""),
     (
@@ -140,7 +140,7 @@ const TABLES: &[Row<'static>] = &[
 ];
 
 /// What is read where the two records are.
-pub const ANSWERS: &[Row<'static>] = &[
+pub static ANSWERS: &[Row<'static>] = &[
     (Step::Read(Read::Text("version")), "1"),
     (Step::Read(Read::Text("profile")), PROFILE),
     (Step::Read(Read::Text("identifier")), "001"),
@@ -218,18 +218,24 @@ pub const ANSWERS: &[Row<'static>] = &[
 ];
 
 /// Each call reads what the tables hold.
-pub const HELD: Script = &[BEGUN, DEFAULT, FILLED, TABLES, ANSWERS];
+pub const HELD: Script = &[
+    Part::Begun,
+    Part::Default,
+    Part::Filled,
+    Part::Rows(TABLES),
+    Part::Answers,
+];
 
 /// A name keeps its database.
 pub const NAMED: Script = &[
-    BEGUN,
-    DEFAULT,
-    FILLED,
-    &[
+    Part::Begun,
+    Part::Default,
+    Part::Filled,
+    Part::Rows(&[
         (Step::Commit(Call::IsSame("Default", 7)), "true"),
         (Step::Commit(Call::IsSame("default", 0)), "false"),
         (Step::Read(Read::Last("Default")), "7"),
         (Step::Read(Read::Last("default")), "0"),
         (Step::Read(Read::Ident(2)), "b2"),
-    ],
+    ]),
 ];

@@ -2,7 +2,7 @@
 
 use super::calls::{At, Call, Under};
 use super::readings::Read;
-use super::{Script, Step};
+use super::{Part, Script, Step};
 use crate::queries::POSTINGS;
 use zeb_profile::Register;
 
@@ -20,7 +20,7 @@ const LIST: &str =
     "999999999:1.9223372036854775807,999999999:9223372036854775807.1,999999999:9223372036854775807.9223372036854775807,";
 
 /// The greatest numbers are kept.
-pub const GREATEST: Script = &[&[
+pub const GREATEST: Script = &[Part::Rows(&[
     (Step::Commit(Call::Tables), ""),
     (Step::Commit(Call::Database("Default", MOST)), ""),
     (Step::Commit(Call::Record(999_999_999, "a1", b"")), ""),
@@ -49,10 +49,10 @@ pub const GREATEST: Script = &[&[
         "",
     ),
     (Step::Rows(POSTINGS), ""),
-]];
+])];
 
 /// A number that no column stores is refused: as the database's last number, the record's to be put or taken, the unit's or the word's.
-pub const TOO_GREAT: Script = &[&[
+pub const TOO_GREAT: Script = &[Part::Rows(&[
     (Step::Commit(Call::Tables), ""),
     (Step::Commit(Call::Database("Default", 1)), ""),
     (Step::Commit(Call::Database("Default", OVER)), "Store"),
@@ -77,4 +77,4 @@ pub const TOO_GREAT: Script = &[&[
         "Default|1\n",
     ),
     (Step::Rows("SELECT sysno FROM records"), ""),
-]];
+])];

@@ -1,7 +1,7 @@
 //! Walks over paths in memory, and the paths of the file system.
 
 use sqlite::MemStore;
-use std::alloc::{AllocGlobal, Global};
+use std::alloc::{AllocError, AllocGlobal, Global};
 use std::process::Abort;
 use std::test::Fail;
 use std::{env, fs};
@@ -109,44 +109,100 @@ where
     Err(Fail::new("too many bytes"))
 }
 
+/// Files below a folder, and their texts.
+static FILES: [(&str, &str); 3] = [("a", "12345"), ("b/c", ""), ("B", "678")];
+
+/// The same files as they are read, and what isn't read.
+static READ: [(&str, Option<&str>); 4] = [
+    ("a", Some("12345")),
+    ("b/c", Some("")),
+    ("d", None),
+    ("b", None),
+];
+
+fn below(alloc: Global, root: &str, name: &str) -> Result<String, AllocError> {
+    [root, "/", name].concat(alloc)
+}
+
+fn write_file(rt: &HostRuntime, path: &str, text: &str) -> Result<(), Fail> {
+    fs::write(rt, path, text)?;
+    Ok(())
+}
+
+fn write_files(rt: &HostRuntime, root: &str) -> Result<(), Fail> {
+    fs::create_dir_all(rt, below(rt.alloc(), root, "b")?.as_str())?;
+    for (name, text) in &FILES {
+        write_file(rt, below(rt.alloc(), root, name)?.as_str(), text)?;
+    }
+    Ok(())
+}
+
+/// A file is read as this text, or can't be read.
+fn is_read<P: Paths>(
+    rt: &(impl Abort + AllocGlobal),
+    paths: &P,
+    root: &str,
+    name: &str,
+    wanted: Option<&str>,
+) -> Result<(), Fail> {
+    let found = read_all(rt.alloc(), paths.reader(below(rt.alloc(), root, name)?))?;
+    assert_eq!(rt;
+        found.as_ref().map(|bytes| bytes.as_slice()),
+        wanted.map(|text| text.as_bytes()),
+        "of {name}"
+    );
+    Ok(())
+}
+
+fn are_read<P: Paths>(rt: &(impl Abort + AllocGlobal), paths: &P, root: &str) -> Result<(), Fail> {
+    for (name, wanted) in &READ {
+        is_read(rt, paths, root, name, *wanted)?;
+    }
+    Ok(())
+}
+
+/// The files of a folder are walked in the order of their names.
+fn are_walked<P: Paths>(
+    rt: &(impl Abort + AllocGlobal),
+    paths: &P,
+    root: &str,
+) -> Result<(), Fail> {
+    let found = walked(rt.alloc(), paths, root)?;
+    let wanted = format!(in rt.alloc(); "{root}/B {root}/a {root}/b/c ")?;
+    assert_eq!(rt; found.as_str(), wanted.as_str());
+    Ok(())
+}
+
+/// A folder is told from what isn't there and from what is neither.
+fn have_kinds<P: Paths>(
+    rt: &(impl Abort + AllocGlobal),
+    paths: &P,
+    root: &str,
+) -> Result<(), Fail> {
+    let missing = below(rt.alloc(), root, "d")?;
+    assert_eq!(rt; paths.kind(missing.as_str()), None);
+    assert!(rt; paths.names(rt.alloc(), missing.as_str()).is_err());
+    let inner = below(rt.alloc(), root, "b")?;
+    assert_eq!(rt; paths.kind(inner.as_str()), Some(PathKind::Folder));
+    assert_eq!(rt; paths.kind("/dev/null"), None);
+    Ok(())
+}
+
+/// A path of this process's own.
+fn own_path(rt: &HostRuntime) -> Result<String, Fail> {
+    let temporary = env::temp_dir(rt)?;
+    let process = std::process::id(rt.process());
+    Ok(format!(in rt.alloc(); "{}/paths-{process}", temporary.as_str())?)
+}
+
 #[test]
 fn reads_the_file_system(rt: HostRuntime) -> Result<(), Fail> {
-    let alloc = rt.alloc();
-    let temporary = env::temp_dir(&rt)?;
-    let root = format!(in alloc;
-        "{}/paths-{}",
-        temporary.as_str(),
-        std::process::id(rt.process())
-    )?;
-    let inner = format!(in alloc; "{}/b", root.as_str())?;
-    fs::create_dir_all(&rt, inner.as_str())?;
-    for (name, text) in [("a", "12345"), ("b/c", ""), ("B", "678")] {
-        let path = format!(in alloc; "{}/{name}", root.as_str())?;
-        fs::write(&rt, path.as_str(), text)?;
-    }
+    let root = own_path(&rt)?;
+    write_files(&rt, root.as_str())?;
     let disk = Disk::new(&rt);
-    let found = walked(alloc, &disk, root.as_str())?;
-    let wanted = format!(in alloc; "{root}/B {root}/a {root}/b/c ")?;
-    assert_eq!(rt; found.as_str(), wanted.as_str());
-    for (name, wanted) in [
-        ("a", Some("12345")),
-        ("b/c", Some("")),
-        ("d", None),
-        ("b", None),
-    ] {
-        let path = format!(in alloc; "{}/{name}", root.as_str())?;
-        let found = read_all(alloc, disk.reader(path))?;
-        assert_eq!(rt;
-            found.as_ref().map(|bytes| bytes.as_slice()),
-            wanted.map(|text| text.as_bytes()),
-            "of {name}"
-        );
-    }
-    let missing = format!(in alloc; "{}/d", root.as_str())?;
-    assert_eq!(rt; disk.kind(missing.as_str()), None);
-    assert_eq!(rt; disk.kind(inner.as_str()), Some(PathKind::Folder));
-    assert_eq!(rt; disk.kind("/dev/null"), None);
-    assert!(rt; disk.names(alloc, missing.as_str()).is_err());
+    are_walked(&rt, &disk, root.as_str())?;
+    are_read(&rt, &disk, root.as_str())?;
+    have_kinds(&rt, &disk, root.as_str())?;
     fs::remove_dir_all(&rt, root.as_str())?;
     Ok(())
 }

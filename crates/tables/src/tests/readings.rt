@@ -4,7 +4,6 @@ use super::calls::{Under, key};
 use sqlite::{Alter, Connection};
 use std::alloc::Global;
 use std::fmt::Write;
-use zeb_extract::Key;
 use zeb_profile::Register;
 use zeb_register::{
     DatabaseId, Layout, RegFault, Rows, TermCount, Work, database_of, ident_of, meta_of,
@@ -44,6 +43,23 @@ fn show(found: Option<String>, text: &mut String) -> Result<(), RegFault> {
         None => text.push_str("none")?,
     }
     Ok(())
+}
+
+fn kept_text<S: Alter>(
+    conn: &mut Connection<S>,
+    name: &str,
+    text: &mut String,
+) -> Result<(), RegFault> {
+    show(meta_of(conn, name)?, text)
+}
+
+fn ident<S: Alter>(
+    conn: &mut Connection<S>,
+    db: DatabaseId,
+    sysno: u64,
+    text: &mut String,
+) -> Result<(), RegFault> {
+    show(ident_of(conn, db, sysno)?, text)
 }
 
 fn last<S: Alter>(conn: &mut Connection<S>, name: &str, text: &mut String) -> Result<(), RegFault> {
@@ -122,10 +138,11 @@ fn list<S: Alter>(
     alloc: Global,
     conn: &mut Connection<S>,
     db: DatabaseId,
-    key: &Key,
+    under: &Under<'_>,
     text: &mut String,
 ) -> Result<(), RegFault> {
-    for posting in Rows::key_list(alloc, conn, &mut Work::default(), db, key)? {
+    let key = key(alloc, under)?;
+    for posting in Rows::key_list(alloc, conn, &mut Work::default(), db, &key)? {
         write!(text, "{}:{}.{},", posting.sysno, posting.seq, posting.pos)?;
     }
     Ok(())
@@ -143,8 +160,13 @@ fn terms_of<S: Alter>(
     conn: &mut Connection<S>,
     db: DatabaseId,
     (index, register): In,
-) -> Result<Vec<TermCount>, RegFault> {
-    Rows::terms_of(alloc, conn, &mut Work::default(), db, index, register)
+    text: &mut String,
+) -> Result<(), RegFault> {
+    let work = &mut Work::default();
+    counts(
+        Rows::terms_of(alloc, conn, work, db, index, register)?,
+        text,
+    )
 }
 
 fn terms_from<S: Alter>(
@@ -152,11 +174,12 @@ fn terms_from<S: Alter>(
     conn: &mut Connection<S>,
     db: DatabaseId,
     (index, register): In,
-    start: &str,
-    n: u64,
-) -> Result<Vec<TermCount>, RegFault> {
+    (start, n): (&str, u64),
+    text: &mut String,
+) -> Result<(), RegFault> {
     let work = &mut Work::default();
-    Rows::terms_from(alloc, conn, work, db, index, register, start, n)
+    let all = Rows::terms_from(alloc, conn, work, db, index, register, start, n)?;
+    counts(all, text)
 }
 
 fn terms_before<S: Alter>(
@@ -164,11 +187,12 @@ fn terms_before<S: Alter>(
     conn: &mut Connection<S>,
     db: DatabaseId,
     (index, register): In,
-    start: &str,
-    n: u64,
-) -> Result<Vec<TermCount>, RegFault> {
+    (start, n): (&str, u64),
+    text: &mut String,
+) -> Result<(), RegFault> {
     let work = &mut Work::default();
-    Rows::terms_before(alloc, conn, work, db, index, register, start, n)
+    let all = Rows::terms_before(alloc, conn, work, db, index, register, start, n)?;
+    counts(all, text)
 }
 
 fn totals<S: Alter>(
@@ -192,20 +216,20 @@ pub fn tell<S: Alter>(
     text: &mut String,
 ) -> Result<(), RegFault> {
     match call {
-        Read::Text(name) => show(meta_of(conn, name)?, text),
+        Read::Text(name) => kept_text(conn, name, text),
         Read::Last(name) => last(conn, name, text),
-        Read::Ident(sysno) => show(ident_of(conn, db, *sysno)?, text),
+        Read::Ident(sysno) => ident(conn, db, *sysno, text),
         Read::Records => all_records(alloc, conn, db, text),
         Read::Count => count(conn, db, text),
         Read::FirstFrom(start) => first_from(conn, db, *start, text),
         Read::Bytes(place, bytes) => has_bytes(alloc, conn, db, *place, bytes, text),
-        Read::List(under) => list(alloc, conn, db, &key(alloc, under)?, text),
-        Read::Terms(register) => counts(terms_of(alloc, conn, db, *register)?, text),
+        Read::List(under) => list(alloc, conn, db, under, text),
+        Read::Terms(register) => terms_of(alloc, conn, db, *register, text),
         Read::From(register, start, n) => {
-            counts(terms_from(alloc, conn, db, *register, start, *n)?, text)
+            terms_from(alloc, conn, db, *register, (start, *n), text)
         }
         Read::Before(register, start, n) => {
-            counts(terms_before(alloc, conn, db, *register, start, *n)?, text)
+            terms_before(alloc, conn, db, *register, (start, *n), text)
         }
         Read::Totals(register) => totals(alloc, conn, db, *register, text),
     }

@@ -1,13 +1,13 @@
 //! Records that take one another's place.
 
 use super::calls::Call;
-use super::{Script, Step};
+use super::{Part, Script, Step};
 
 const RECORDS: &str =
     "SELECT name, sysno, ident, bytes FROM records JOIN databases ON id = db ORDER BY name, sysno";
 
 /// A record takes the place of those it clashes with.
-pub const CLASHING: Script = &[&[
+pub const CLASHING: Script = &[Part::Rows(&[
     (Step::Commit(Call::Tables), ""),
     (Step::Commit(Call::Database("Other", 0)), ""),
     (Step::Commit(Call::Record(1, "a1", b"o")), ""),
@@ -40,4 +40,4 @@ pub const CLASHING: Script = &[&[
     (Step::Rows(RECORDS), "Other|1|a1|6f\n"),
     (Step::Commit(Call::RecordOut(1)), ""),
     (Step::Rows(RECORDS), "Other|1|a1|6f\n"),
-]];
+])];

@@ -2,14 +2,14 @@
 
 use super::calls::{At, Call, Under};
 use super::readings::{In, Read};
-use super::{Row, Script, Step};
+use super::{Part, Row, Script, Step};
 use zeb_profile::Register;
 
 const WORDS: In = (0, Register::Word);
 
 /// Terms as words of index 0, put in the order of their bytes, and another term in another database, register and index. The
 /// last is the greatest character, in UTF-8 `f4 8f bf bf`.
-const FILLED: &[Row<'static>] = &[
+pub static TERMS: &[Row<'static>] = &[
     (Step::Commit(Call::Tables), ""),
     (Step::Commit(Call::Database("Other", 0)), ""),
     (
@@ -68,8 +68,8 @@ const ALL: &str = "% 1,' 1,a 1,a\0 1,a\0b 1,ab 1,b 1,caf\u{e9} 1,\u{10ffff} 1,";
 
 /// Terms come in the order of their bytes.
 const ORDERED: Script = &[
-    FILLED,
-    &[
+    Part::Terms,
+    Part::Rows(&[
         // All terms, also where more are asked for.
         (Step::Read(Read::Terms(WORDS)), ALL),
         (Step::Read(Read::From(WORDS, "", 9)), ALL),
@@ -137,7 +137,7 @@ const ORDERED: Script = &[
             Step::Read(Read::List((0, Register::Word, "\u{10ffff}"))),
             "1:1.1,",
         ),
-    ],
+    ]),
 ];
 
 const AB: Under<'static> = (0, Register::Word, "ab");
@@ -146,8 +146,8 @@ const PLACES: &[At] = &[(1, 1), (1, 2), (2, 1)];
 
 /// A term has the number of its records.
 const COUNTED: Script = &[
-    FILLED,
-    &[
+    Part::Terms,
+    Part::Rows(&[
         (Step::Commit(Call::Places(AB, 5, &[], PLACES)), ""),
         (Step::Commit(Call::Places(AB, 3, &[], PLACES)), ""),
         (Step::Commit(Call::Places(AB, 999_999_999, &[], PLACES)), ""),
@@ -158,13 +158,13 @@ const COUNTED: Script = &[
             "% 1,' 1,a 1,a\0 1,a\0b 1,ab 4,b 1,caf\u{e9} 1,\u{10ffff} 1,",
         ),
         (Step::Read(Read::Totals(WORDS)), "9 18"),
-    ],
+    ]),
 ];
 
 /// A term without postings is gone.
 const EMPTIED: Script = &[
-    FILLED,
-    &[
+    Part::Terms,
+    Part::Rows(&[
         (
             Step::Commit(Call::Places((0, Register::Word, "a"), 1, &[(1, 1)], &[])),
             "",
@@ -188,7 +188,7 @@ const EMPTIED: Script = &[
             "caf\u{e9} 1,",
         ),
         (Step::Read(Read::Totals(WORDS)), "6 6"),
-    ],
+    ]),
 ];
 
-pub const SCRIPTS: [Script; 3] = [ORDERED, COUNTED, EMPTIED];
+pub static SCRIPTS: [Script; 3] = [ORDERED, COUNTED, EMPTIED];

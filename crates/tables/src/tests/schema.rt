@@ -1,8 +1,8 @@
 //! The tables themselves: their columns, their keys, and what takes every row out.
 
 use super::calls::Call;
-use super::moby_dick::{DEFAULT, FILLED, ROWS};
-use super::{Row, Script, Step};
+use super::moby_dick::ROWS;
+use super::{Part, Row, Script, Step};
 use crate::queries::POSTINGS;
 
 const META: &str = "INSERT INTO meta (name, value) VALUES ('version', '1')";
@@ -18,8 +18,6 @@ const BLOCKS: &str =
     "INSERT INTO blocks (db, idx, reg, term, block, data) VALUES (1, 0, 0, 'a', 0, x'01')";
 
 const DICT: &str = "INSERT INTO dict (db, idx, reg, term, records) VALUES (1, 0, 0, 'a', 1)";
-
-const MADE: &[Row<'static>] = &[(Step::Commit(Call::Tables), "")];
 
 /// Rows that each table takes once.
 const ONCE: &[Row<'static>] = &[
@@ -134,7 +132,12 @@ const BESIDE: &[Row<'static>] = &[
 ];
 
 /// The tables have their columns and keys.
-const REFUSING: Script = &[MADE, ONCE, REFUSED, BESIDE];
+const REFUSING: Script = &[
+    Part::Made,
+    Part::Rows(ONCE),
+    Part::Rows(REFUSED),
+    Part::Rows(BESIDE),
+];
 
 /// How many rows each table has.
 const COUNTS: &str =
@@ -142,29 +145,29 @@ const COUNTS: &str =
 
 /// Tables that are there keep their rows.
 const KEPT: Script = &[
-    MADE,
-    DEFAULT,
-    FILLED,
-    MADE,
-    &[
+    Part::Made,
+    Part::Default,
+    Part::Filled,
+    Part::Made,
+    Part::Rows(&[
         (Step::Rows(POSTINGS), ROWS),
         (Step::Rows(COUNTS), "0|1|2|16|0|0\n"),
-    ],
+    ]),
 ];
 
 /// A wipe takes every row.
 const WIPED: Script = &[
-    MADE,
-    ONCE,
-    BESIDE,
-    &[
+    Part::Made,
+    Part::Rows(ONCE),
+    Part::Rows(BESIDE),
+    Part::Rows(&[
         (Step::Rows(COUNTS), "1|2|2|3|2|2\n"),
         (Step::Commit(Call::Wipe), ""),
         (Step::Rows(COUNTS), "0|0|0|0|0|0\n"),
-    ],
-    DEFAULT,
-    FILLED,
-    &[(Step::Rows(POSTINGS), ROWS)],
+    ]),
+    Part::Default,
+    Part::Filled,
+    Part::Rows(&[(Step::Rows(POSTINGS), ROWS)]),
 ];
 
-pub const SCRIPTS: [Script; 3] = [REFUSING, KEPT, WIPED];
+pub static SCRIPTS: [Script; 3] = [REFUSING, KEPT, WIPED];

@@ -65,7 +65,7 @@ const CHANGED: Under<'static> = (0, Register::Word, "w0007");
 const LOST: Under<'static> = (0, Register::Word, "w0009");
 
 /// Whole tables need as many steps as they have rows, and calls on one record or one key pass under the limit.
-const LIMITED: &[Row<'static>] = &[
+static LIMITED: &[Row<'static>] = &[
     (Step::Limit(Some(RECORDS - 1)), ""),
     (Step::Rows("SELECT count(*) FROM postings"), "Store"),
     (Step::Rows("SELECT count(*) FROM records"), "Store"),
