@@ -1,22 +1,11 @@
 //! Files whose analysis is known from outside.
+use crate::samples::PROFILE;
 use std::alloc::{AllocError, Global};
 use std::test::Fail;
 use zeb_analysis::{AnalysisFault, analyse, analysis_lines};
 use zeb_extract::IdentFault;
 use zeb_marc::MarcFault;
 use zeb_profile::Profile;
-
-/// Title words and phrases, numbers of the date, and any word of a data field.
-const PROFILE: &str = "store books.db
-identifier 001
-att 4 Title
-att 31 Date
-att 1016 Any
-melm 245$a Title:w,Title:p
-melm 245 Title:w
-melm 260$c Date:n
-all Any
-";
 
 /// `a1`, titled `Moby Dick : or, the whale /`, of 1851.
 const MOBY: &str = "\

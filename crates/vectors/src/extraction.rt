@@ -1,21 +1,10 @@
 //! Records and profiles whose analysis and identifiers are known from outside.
+use crate::samples::PROFILE;
 use std::alloc::{AllocError, Global};
 use std::test::Fail;
 use zeb_extract::{IdentFault, Key, Occurrence, Term, identifier, occurrences};
 use zeb_marc::Marc;
 use zeb_profile::{Profile, Register};
-
-/// Title words and phrases, numbers of the date, and any word of a data field.
-const PROFILE: &str = "store books.db
-identifier 001
-att 4 Title
-att 31 Date
-att 1016 Any
-melm 245$a Title:w,Title:p
-melm 245 Title:w
-melm 260$c Date:n
-all Any
-";
 
 const MOBY_DICK: &[u8] = b"00109nam a2200061 a 4500001000300000245003300003260001100036\x1ea1\x1e\
 10\x1faMoby Dick :\x1fbor, the whale /\x1e  \x1fcc1851.\x1e\x1d";

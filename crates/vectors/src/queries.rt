@@ -1,5 +1,6 @@
 //! Queries, scans and their faults, from the table of attributes that are kept and worked by hand.
 
+use crate::samples::PROFILE;
 use std::alloc::{AllocError, Global};
 use std::test::Fail;
 use zeb_profile::Profile;
@@ -14,11 +15,7 @@ mod plans;
 mod scans;
 mod texts;
 
-/// A profile with an index of each register.
-const PROFILE: &str = "store books.db\nidentifier 001\natt 4 Title\natt 31 Date\natt 1016 Any\n\
-    melm 245$a Title:w,Title:p\nmelm 245 Title:w\nmelm 260$c Date:n\nall Any\n";
-
-/// The same without an index for the use attribute that holds where none is given.
+/// The sample profile without an index for the use attribute that holds where none is given.
 const WITHOUT_ANY: &str = "store books.db\nidentifier 001\natt 4 Title\nmelm 245 Title\n";
 
 /// A profile whose one index has all registers.

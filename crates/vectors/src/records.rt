@@ -110,59 +110,63 @@ fn with_bytes_at(rt: &impl Abort, record: &[u8; 109], place: usize, bytes: &[u8]
     record
 }
 
+/// Other bytes at a place.
+type Change = (usize, &'static [u8]);
+
+/// A change of the first record, and the fault that it makes.
+static FAULTS: [(Change, MarcFault); 16] = [
+    ((0, b"0010x"), MarcFault::LengthDigits),
+    ((0, b"00025"), MarcFault::LengthRange),
+    ((0, b"00110"), MarcFault::Truncated),
+    ((0, b"00108"), MarcFault::LengthRange),
+    ((108, b"\x1e"), MarcFault::NoTerminator),
+    ((10, b"3"), MarcFault::LeaderCounts),
+    ((22, b"5"), MarcFault::LeaderCounts),
+    ((12, b"0006x"), MarcFault::BaseAddress),
+    ((12, b"00024"), MarcFault::BaseAddress),
+    ((60, b" "), MarcFault::BaseAddress),
+    ((12, b"00064"), MarcFault::DirectoryLength),
+    ((27, b"x003"), MarcFault::EntryDigits),
+    ((36, b"2 5"), MarcFault::EntryTag),
+    ((48, b"260001200036"), MarcFault::EntryRange),
+    ((48, b"260000000036"), MarcFault::EntryRange),
+    ((63, b" "), MarcFault::FieldEnd),
+];
+
 #[test]
 fn each_fault_has_its_name(rt: HostRuntime) {
-    let cases: [(usize, &[u8], MarcFault); 16] = [
-        (0, b"0010x", MarcFault::LengthDigits),
-        (0, b"00025", MarcFault::LengthRange),
-        (0, b"00110", MarcFault::Truncated),
-        (0, b"00108", MarcFault::LengthRange),
-        (108, b"\x1e", MarcFault::NoTerminator),
-        (10, b"3", MarcFault::LeaderCounts),
-        (22, b"5", MarcFault::LeaderCounts),
-        (12, b"0006x", MarcFault::BaseAddress),
-        (12, b"00024", MarcFault::BaseAddress),
-        (60, b" ", MarcFault::BaseAddress),
-        (12, b"00064", MarcFault::DirectoryLength),
-        (27, b"x003", MarcFault::EntryDigits),
-        (36, b"2 5", MarcFault::EntryTag),
-        (48, b"260001200036", MarcFault::EntryRange),
-        (48, b"260000000036", MarcFault::EntryRange),
-        (63, b" ", MarcFault::FieldEnd),
-    ];
-    for (place, bytes, fault) in cases {
-        let record = with_bytes_at(&rt, RECORD_A, place, bytes);
+    for ((place, bytes), fault) in &FAULTS {
+        let record = with_bytes_at(&rt, RECORD_A, *place, bytes);
         assert!(rt;
-            Marc::read(&record).err() == Some(fault),
+            Marc::read(&record).err() == Some(*fault),
             "at {place}: {fault}"
         );
     }
 }
 
-/// Other bytes at a place.
-type Change = (usize, &'static [u8]);
+/// Two changes, and the fault of the two that is answered.
+static TWO_FAULTS: [(Change, Change, MarcFault); 11] = [
+    ((0, b"0002x"), (108, b"\x1e"), MarcFault::LengthDigits),
+    ((0, b"00110"), (108, b"\x1e"), MarcFault::Truncated),
+    ((0, b"00108"), (108, b"\x1e"), MarcFault::LengthRange),
+    ((10, b"3"), (108, b"\x1e"), MarcFault::NoTerminator),
+    ((10, b"3"), (12, b"x"), MarcFault::LeaderCounts),
+    ((12, b"00064"), (63, b" "), MarcFault::BaseAddress),
+    ((12, b"00064"), (27, b"x"), MarcFault::DirectoryLength),
+    ((24, b"0 1"), (27, b"x"), MarcFault::EntryDigits),
+    ((24, b"0 1"), (27, b"0000"), MarcFault::EntryTag),
+    // The first entry's fault comes before that of the second.
+    ((27, b"0000"), (39, b"x"), MarcFault::EntryRange),
+    ((63, b" "), (36, b"2 5"), MarcFault::FieldEnd),
+];
 
 #[test]
 fn of_two_faults_the_earlier_check_counts(rt: HostRuntime) {
-    let cases: [(Change, Change, MarcFault); 11] = [
-        ((0, b"0002x"), (108, b"\x1e"), MarcFault::LengthDigits),
-        ((0, b"00110"), (108, b"\x1e"), MarcFault::Truncated),
-        ((0, b"00108"), (108, b"\x1e"), MarcFault::LengthRange),
-        ((10, b"3"), (108, b"\x1e"), MarcFault::NoTerminator),
-        ((10, b"3"), (12, b"x"), MarcFault::LeaderCounts),
-        ((12, b"00064"), (63, b" "), MarcFault::BaseAddress),
-        ((12, b"00064"), (27, b"x"), MarcFault::DirectoryLength),
-        ((24, b"0 1"), (27, b"x"), MarcFault::EntryDigits),
-        ((24, b"0 1"), (27, b"0000"), MarcFault::EntryTag),
-        // The first entry's fault comes before that of the second.
-        ((27, b"0000"), (39, b"x"), MarcFault::EntryRange),
-        ((63, b" "), (36, b"2 5"), MarcFault::FieldEnd),
-    ];
-    for ((place, bytes), (other_place, other_bytes), fault) in cases {
-        let once = with_bytes_at(&rt, RECORD_A, place, bytes);
-        let record = with_bytes_at(&rt, &once, other_place, other_bytes);
+    for ((place, bytes), (other_place, other_bytes), fault) in &TWO_FAULTS {
+        let once = with_bytes_at(&rt, RECORD_A, *place, bytes);
+        let record = with_bytes_at(&rt, &once, *other_place, other_bytes);
         assert!(rt;
-            Marc::read(&record).err() == Some(fault),
+            Marc::read(&record).err() == Some(*fault),
             "at {place} and {other_place}: {fault}"
         );
     }

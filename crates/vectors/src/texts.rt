@@ -1,6 +1,7 @@
 //! Vectors of the definitions: worked answers of each call, and texts read by another program's Unicode tables.
 use self::samples::{Row, TEXTS};
 use std::alloc::{AllocError, Global};
+use std::process::Abort;
 use std::test::Fail;
 use zeb_text::{
     Cut, Pattern, Spread, fold, join, join_patterns, key_of_number, number_of_key, numbers,
@@ -36,7 +37,7 @@ use Spread::{Each, Ends};
 /// What is asked, of which text, and the answer.
 type Vector = (Ask, &'static str, &'static str);
 
-const ANSWERS: [Vector; 36] = [
+static ANSWERS: [Vector; 36] = [
     (Fold, "CAF\u{c9}", "cafe"),
     (Fold, "Stra\u{df}e", "strasse"),
     (Fold, "\u{130}", "i"),
@@ -84,7 +85,7 @@ const ANSWERS: [Vector; 36] = [
 /// Whether the patterns of a term, joined, match a text.
 type Match = (Cut, Spread, &'static str, &'static str, bool);
 
-const MATCHES: [Match; 28] = [
+static MATCHES: [Match; 28] = [
     (Right, Ends, "Moby d", "moby dick", true),
     (Right, Ends, "Moby d", "mob dick", false),
     (Right, Ends, "Mo d", "moby dick", false),
@@ -214,26 +215,34 @@ fn readings(row: &Row) -> [Vector; 3] {
     ]
 }
 
-#[test]
-fn vectors_are_answered(rt: HostRuntime) -> Result<(), Fail> {
-    for (ask, text, wanted) in ANSWERS {
-        let found = answer(rt.alloc(), ask, text)?;
-        assert_eq!(rt; found.as_str(), wanted, "at {text}");
+/// Each text gets its answer.
+fn are_answered(rt: &(impl Abort + AllocGlobal), vectors: &[Vector]) -> Result<(), Fail> {
+    for (ask, text, wanted) in vectors {
+        let found = answer(rt.alloc(), *ask, text)?;
+        assert_eq!(rt; found.as_str(), *wanted, "at {text}");
     }
-    for (cut, spread, term, text, wanted) in MATCHES {
-        let pattern = one_pattern(rt.alloc(), term, cut, spread)?;
-        assert_eq!(rt; pattern.matches(text), wanted, "{term} at {text}");
+    Ok(())
+}
+
+/// Each text is matched, or isn't, as its row says.
+fn are_matched(rt: &(impl Abort + AllocGlobal), rows: &[Match]) -> Result<(), Fail> {
+    for (cut, spread, term, text, wanted) in rows {
+        let pattern = one_pattern(rt.alloc(), term, *cut, *spread)?;
+        assert_eq!(rt; pattern.matches(text), *wanted, "{term} at {text}");
     }
     Ok(())
 }
 
 #[test]
+fn vectors_are_answered(rt: HostRuntime) -> Result<(), Fail> {
+    are_answered(&rt, &ANSWERS)?;
+    are_matched(&rt, &MATCHES)
+}
+
+#[test]
 fn texts_are_read(rt: HostRuntime) -> Result<(), Fail> {
     for row in &TEXTS {
-        for (ask, text, wanted) in readings(row) {
-            let found = answer(rt.alloc(), ask, text)?;
-            assert_eq!(rt; found.as_str(), wanted, "at {text}");
-        }
+        are_answered(&rt, &readings(row))?;
     }
     Ok(())
 }
@@ -255,25 +264,40 @@ fn is_match_refused(alloc: Global, row: Match) -> Option<bool> {
     }
 }
 
+/// How many of these calls were refused, where the others give their answers.
+fn refused_calls(alloc: Global, vectors: &[Vector]) -> Result<u64, Fail> {
+    let mut refused = 0_u64;
+    for vector in vectors {
+        let is_refused = is_refused(alloc, *vector).ok_or("another answer")?;
+        refused = refused.saturating_add(u64::from(is_refused));
+    }
+    Ok(refused)
+}
+
+fn refused_matches(alloc: Global) -> Result<u64, Fail> {
+    let mut refused = 0_u64;
+    for row in &MATCHES {
+        let is_refused = is_match_refused(alloc, *row).ok_or("another answer")?;
+        refused = refused.saturating_add(u64::from(is_refused));
+    }
+    Ok(refused)
+}
+
+fn refused_readings(alloc: Global) -> Result<u64, Fail> {
+    let mut refused = 0_u64;
+    for row in &TEXTS {
+        refused = refused.saturating_add(refused_calls(alloc, &readings(row))?);
+    }
+    Ok(refused)
+}
+
 /// Whichever allocation is refused (tests/each_allocation.py), the call that asked for it is refused, and each other
 /// call gives its answer.
 #[test]
 fn one_refused_allocation_refuses_one_call(rt: HostRuntime) -> Result<(), Fail> {
-    let mut refused = 0_u64;
-    for vector in ANSWERS {
-        let is_refused = is_refused(rt.alloc(), vector).ok_or("another answer")?;
-        refused = refused.saturating_add(u64::from(is_refused));
-    }
-    for row in MATCHES {
-        let is_refused = is_match_refused(rt.alloc(), row).ok_or("another answer")?;
-        refused = refused.saturating_add(u64::from(is_refused));
-    }
-    for row in &TEXTS {
-        for vector in readings(row) {
-            let is_refused = is_refused(rt.alloc(), vector).ok_or("another answer")?;
-            refused = refused.saturating_add(u64::from(is_refused));
-        }
-    }
+    let refused = refused_calls(rt.alloc(), &ANSWERS)?
+        .saturating_add(refused_matches(rt.alloc())?)
+        .saturating_add(refused_readings(rt.alloc())?);
     assert!(rt; refused <= 1);
     Ok(())
 }

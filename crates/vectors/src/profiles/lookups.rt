@@ -1,26 +1,15 @@
 //! What profiles say of indexes and units, and the texts that they print.
 
 use super::read;
+use crate::samples::PROFILE;
 use std::process::Abort;
 use std::test::Fail;
 use zeb_profile::Register::{Number, Phrase, Word};
 use zeb_profile::{Profile, ProfileFault, ProfileFaultKind, Register, UnitPattern};
 
-/// The profile of a library's catalogue in small.
-const BOOKS: &str = "store books.db
-identifier 001
-att 4 Title
-att 31 Date
-att 1016 Any
-melm 245$a Title:w,Title:p
-melm 245 Title:w
-melm 260$c Date:n
-all Any
-";
-
 #[test]
 fn indexes(rt: HostRuntime) -> Result<(), Fail> {
-    let profile = read(&rt, BOOKS)?;
+    let profile = read(&rt, PROFILE)?;
     assert_eq!(rt; profile.store_path(), "books.db");
     let rule = profile.identifier_rule();
     assert!(rt; rule.tag == *b"001" && rule.code.is_none());
@@ -73,11 +62,11 @@ fn targets_of(
 #[test]
 fn targets(rt: HostRuntime) -> Result<(), Fail> {
     let title = [(0, Word), (0, Phrase), (2, Word)];
-    targets_of(&rt, BOOKS, b"245", Some(b'a'), &title)?;
-    targets_of(&rt, BOOKS, b"245", Some(b'b'), &[(0, Word), (2, Word)])?;
-    targets_of(&rt, BOOKS, b"260", Some(b'c'), &[(1, Number), (2, Word)])?;
-    targets_of(&rt, BOOKS, b"500", Some(b'a'), &[(2, Word)])?;
-    targets_of(&rt, BOOKS, b"001", None, &[])?;
+    targets_of(&rt, PROFILE, b"245", Some(b'a'), &title)?;
+    targets_of(&rt, PROFILE, b"245", Some(b'b'), &[(0, Word), (2, Word)])?;
+    targets_of(&rt, PROFILE, b"260", Some(b'c'), &[(1, Number), (2, Word)])?;
+    targets_of(&rt, PROFILE, b"500", Some(b'a'), &[(2, Word)])?;
+    targets_of(&rt, PROFILE, b"001", None, &[])?;
     Ok(())
 }
 
@@ -99,7 +88,7 @@ fn first_line_and_each_pair_once(rt: HostRuntime) -> Result<(), Fail> {
 fn canonical_texts(rt: HostRuntime) -> Result<(), Fail> {
     let text =
         "identifier 001\natt 4 Title\natt 31 Date\natt 1016 Any\nmelm 245$a Title:w,Title:p\nmelm 245 Title:w\nmelm 260$c Date:n\nall Any:w\n";
-    assert_eq!(rt; read(&rt, BOOKS)?.text(), text);
+    assert_eq!(rt; read(&rt, PROFILE)?.text(), text);
     let moved = read(
         &rt,
         "# moved\n\tstore  other books.db \r\nidentifier\t001\natt 004 Title\natt 31 Date\natt 1016 Any\nmelm 245$a Title,Title:p\nmelm 245 Title\nmelm 260$c  Date:n\nall Any:w",
@@ -122,29 +111,33 @@ fn first_spelling(rt: HostRuntime) -> Result<(), Fail> {
 }
 
 /// The text of a fault for each kind.
+static PRINTED: [(ProfileFaultKind, &str); 13] = [
+    (ProfileFaultKind::Directive, "line 7: Directive"),
+    (ProfileFaultKind::Name, "line 7: Name"),
+    (ProfileFaultKind::Register, "line 7: Register"),
+    (ProfileFaultKind::Pattern, "line 7: Pattern"),
+    (ProfileFaultKind::DuplicateTarget, "line 7: DuplicateTarget"),
+    (ProfileFaultKind::DuplicateUse, "line 7: DuplicateUse"),
+    (ProfileFaultKind::UnknownIndex, "line 7: UnknownIndex"),
+    (ProfileFaultKind::NoIdentifier, "line 7: NoIdentifier"),
+    (ProfileFaultKind::TwoIdentifiers, "line 7: TwoIdentifiers"),
+    (ProfileFaultKind::TwoAlls, "line 7: TwoAlls"),
+    (ProfileFaultKind::TwoStores, "line 7: TwoStores"),
+    (ProfileFaultKind::NoStore, "line 7: NoStore"),
+    (ProfileFaultKind::Memory, "line 7: Memory"),
+];
+
 #[test]
 fn printed_faults(rt: HostRuntime) -> Result<(), Fail> {
-    let kinds = [
-        (ProfileFaultKind::Directive, "line 7: Directive"),
-        (ProfileFaultKind::Name, "line 7: Name"),
-        (ProfileFaultKind::Register, "line 7: Register"),
-        (ProfileFaultKind::Pattern, "line 7: Pattern"),
-        (ProfileFaultKind::DuplicateTarget, "line 7: DuplicateTarget"),
-        (ProfileFaultKind::DuplicateUse, "line 7: DuplicateUse"),
-        (ProfileFaultKind::UnknownIndex, "line 7: UnknownIndex"),
-        (ProfileFaultKind::NoIdentifier, "line 7: NoIdentifier"),
-        (ProfileFaultKind::TwoIdentifiers, "line 7: TwoIdentifiers"),
-        (ProfileFaultKind::TwoAlls, "line 7: TwoAlls"),
-        (ProfileFaultKind::TwoStores, "line 7: TwoStores"),
-        (ProfileFaultKind::NoStore, "line 7: NoStore"),
-        (ProfileFaultKind::Memory, "line 7: Memory"),
-    ];
-    for (kind, expected) in kinds {
-        let fault = ProfileFault { line: 7, kind };
+    for (kind, expected) in &PRINTED {
+        let fault = ProfileFault {
+            line: 7,
+            kind: *kind,
+        };
         let text = fault
             .to_string(rt.alloc())
             .or_else(|_| fault.to_string(rt.alloc()))?;
-        assert_eq!(rt; text.as_str(), expected);
+        assert_eq!(rt; text.as_str(), *expected);
     }
     Ok(())
 }

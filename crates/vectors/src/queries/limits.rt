@@ -16,7 +16,7 @@ type LongRow = (
     &'static str,
 );
 
-const ROWS: &[LongRow] = &[
+static ROWS: &[LongRow] = &[
     // operators
     (Asked::Reading, "", "@and ", 100, "", "108 at 500"),
     (Asked::Reading, "", "@and ", 101, "", "6 at 500"),

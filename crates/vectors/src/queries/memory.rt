@@ -9,7 +9,7 @@ use std::alloc::Global;
 use std::test::Fail;
 use zeb_profile::Profile;
 
-const TABLES: &[&Table] = &[
+static TABLES: &[&Table] = &[
     BLANKS,
     WORDS,
     KEYWORDS_USED,

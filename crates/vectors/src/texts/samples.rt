@@ -3,7 +3,7 @@
 /// A text, what it folds to, its words with a comma after each, and its numbers with a comma after each.
 pub type Row = (&'static str, &'static str, &'static str, &'static str);
 
-pub const TEXTS: [Row; 48] = [
+pub static TEXTS: [Row; 48] = [
     ("CAF\u{c9}", "cafe", "cafe,", ""),
     ("cafe\u{301}", "cafe", "cafe,", ""),
     (
