@@ -21,7 +21,7 @@ invariant-loop-pattern g l =
     record {
       read : IsRead old now;
       found : HasCleanDisk now → IsStore old → (content : Content) → holds_in g.L.Layout.format old.now.trees content
-          → AreNumbers (λ n. (pattern : List Symbol) × Has (take l.pattern-index l.patterns) pattern × HasMatch (posted content l.fn.database.0) l.index pattern n) l.hits.items;
-      counted : Counted g.L.Layout.format (λ content. WordDict g.L.Layout.row_work content l.fn.database.0 l.index (take l.pattern-index l.patterns)) (λ content. WordRows g.L.Layout.block_rows content l.fn.database.0 l.index (take l.pattern-index l.patterns)) old now l.fn.work l.work;
+          → AreNumbers (λ n. (pattern : List Symbol) × Has (take l.pattern-index l.patterns) pattern × HasMatch (posted content l.fn.of.database.0) l.of.index pattern n) l.hits.items;
+      counted : Counted g.L.Layout.format (λ content. WordDict g.L.Layout.row_work content l.fn.of.database.0 l.of.index (take l.pattern-index l.patterns)) (λ content. WordRows g.L.Layout.block_rows content l.fn.of.database.0 l.of.index (take l.pattern-index l.patterns)) old now l.fn.work l.work;
       no_work : g.L.Layout.row_work ≡ 0 → l.work ≡ l.fn.work;
     }

@@ -9,8 +9,8 @@ use Rattle.zeb_search.proofs.words.phrase_hits.Goals as goal
 
 pub returns-then-first-clause-value : goal.returns-then-first-clause-value
 returns-then-first-clause-value g c clean store content has =
-    let O = posted content c.args.database.0 in
-    let index = c.args.index in
+    let O = posted content c.args.of.database.0 in
+    let index = c.args.of.index in
     let patterns = c.args.patterns.now in
     let places = c.in_ok-places.places.items in
     let hits = c.in_ok-numbers_of.field-0.items in
@@ -24,8 +24,8 @@ returns-then-first-clause-value g c clean store content has =
 
 pub returns-clause-value : goal.returns-clause-value
 returns-clause-value g c clean store content has =
-    let O = posted content c.args.database.0 in
-    let index = c.args.index in
+    let O = posted content c.args.of.database.0 in
+    let index = c.args.of.index in
     let patterns = c.args.patterns.now in
     let places = c.in_ok-places.places.items in
     let hits = c.in_ok-numbers_of-2.field-0.items in
