@@ -8,7 +8,7 @@ ghost use Rattle.zeb_register.specs.Content.{posted};
 ghost use Rattle.zeb_register.specs.Formats.{holds_in};
 ghost use Rattle.zeb_search.specs.Counted.{Counted, NoRows};
 ghost use Rattle.zeb_search.specs.DictRows.{EntryDict};
-ghost use Rattle.zeb_search.specs.Holds.{HasEntry, HasMatch, HasWord};
+ghost use Rattle.zeb_search.specs.Holds.{HasEntry, HasWord};
 ghost use Rattle.zeb_search.specs.ListRows.{EntryRows, rows_under};
 ghost use Rattle.zeb_search.specs.Lists.{AreNumbers, ArePostings};
 ghost use Rattle.zeb_search.specs.PrivateCounts.{CountedMatches};
@@ -73,31 +73,6 @@ pub(crate) fn numbers_wanted<S: Alter, L: Layout>(
     let keys = keys_wanted::<S, L>(alloc, connection, work, of, wanted)?;
     let postings = postings_of::<S, L>(alloc, connection, work, of.database, &keys)?;
     Ok(numbers_of(alloc, &postings)?)
-}
-
-/// The numbers of the records in which the pattern matches some word of an index.
-pub(crate) fn word_hits<S: Alter, L: Layout>(
-    alloc: Global,
-    connection: &mut Connection<S>,
-    work: &mut Work,
-    of: IndexOf,
-    pattern: &Pattern,
-) -> Result<Vec<u64>, RegFault>
-    ensures call { Reading (state S.Store connection.old) (state S.Store connection.new) result (λ _. IsUntouched) }
-    ensures value { TellsHeld (holds_in L.format) (state S.Store connection.old) (state S.Store connection.new) result
-        (λ content hits. AreNumbers (HasMatch (posted content of.database.0) of.index pattern.now) hits.items) }
-    ensures honest { IsHonestStorable (holds_in L.format) (state S.Store connection.old) (state S.Store connection.new) result }
-    ensures refused { IsReasoned (state S.Store connection.old) (state S.Store connection.new) result }
-    ensures work { OnOk result (CountedMatches L.format L.row_work L.block_rows of.database.0 of.index pattern.now
-        (state S.Store connection.old) (state S.Store connection.new) work.old work.new) }
-    ensures no_work { L.row_work ≡ 0 → work.new ≡ work.old }
-{
-    let words = RegisterOf {
-        database: of.database,
-        index: of.index,
-        register: Register::Word,
-    };
-    numbers_wanted::<S, L>(alloc, connection, work, words, Wanted::Matching(pattern))
 }
 
 /// The places of the words of an index that a pattern matches.

@@ -7,20 +7,41 @@ ghost use Rattle.zeb_register.specs.Calls.{Reading};
 ghost use Rattle.zeb_register.specs.Clauses.{IsHonestStorable, IsReasoned, TellsHeld};
 ghost use Rattle.zeb_register.specs.Content.{posted};
 ghost use Rattle.zeb_register.specs.Formats.{holds_in};
-ghost use Rattle.zeb_search.specs.Holds.{HasWords};
+ghost use Rattle.zeb_search.specs.Holds.{HasMatch, HasWords};
 ghost use Rattle.zeb_search.specs.Lists.{AreNumbers, ArePostings};
-ghost use Rattle.zeb_search.specs.PrivateCounts.{CountedWords};
+ghost use Rattle.zeb_search.specs.PrivateCounts.{CountedMatches, CountedWords};
 ghost use Rattle.zeb_search.specs.Registers.{HoldsIn};
 ghost use Rattle.zeb_search.specs.Untouched.{IsUntouched};
 
 use crate::lists::{joined, numbers_of, with_one_behind};
-use crate::postings::{places_of_words, word_hits};
+use crate::postings::places_of_words;
 use crate::registers::IndexOf;
 use sqlite::{Alter, Connection};
 use std::alloc::{AllocError, Global};
 use zeb_query::Operator;
 use zeb_register::{Layout, Posting, RegFault, Work};
 use zeb_text::Pattern;
+
+/// The records in which the pattern matches some word.
+fn word_hits<S: Alter, L: Layout>(
+    alloc: Global,
+    connection: &mut Connection<S>,
+    work: &mut Work,
+    of: IndexOf,
+    pattern: &Pattern,
+) -> Result<Vec<u64>, RegFault>
+    ensures call { Reading (state S.Store connection.old) (state S.Store connection.new) result (λ _. IsUntouched) }
+    ensures value { TellsHeld (holds_in L.format) (state S.Store connection.old) (state S.Store connection.new) result
+        (λ content hits. AreNumbers (HasMatch (posted content of.database.0) of.index pattern.now) hits.items) }
+    ensures honest { IsHonestStorable (holds_in L.format) (state S.Store connection.old) (state S.Store connection.new) result }
+    ensures refused { IsReasoned (state S.Store connection.old) (state S.Store connection.new) result }
+    ensures work { OnOk result (CountedMatches L.format L.row_work L.block_rows of.database.0 of.index pattern.now
+        (state S.Store connection.old) (state S.Store connection.new) work.old work.new) }
+    ensures no_work { L.row_work ≡ 0 → work.new ≡ work.old }
+{
+    let places = places_of_words::<S, L>(alloc, connection, work, of, pattern)?;
+    Ok(numbers_of(alloc, &places)?)
+}
 
 /// The records in which some pattern matches some word.
 pub(crate) fn any_word_hits<S: Alter, L: Layout>(
