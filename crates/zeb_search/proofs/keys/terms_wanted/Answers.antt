@@ -4,13 +4,12 @@ use Rattle.sqlite.specs.Held.{state}
 use Rattle.sqlite_rules.specs.Lists.{Has}
 use Rattle.zeb_register.specs.declared.registers.TermCount.{TermCount}
 use Rattle.zeb_register.specs.Content.{posted}
-use Rattle.zeb_register.specs.Formats.{holds_in}
-use Rattle.zeb_register.specs.Occurring.{AreTermsFrom, TermIn}
+use Rattle.zeb_register.specs.Occurring.{TermIn}
 use Rattle.zeb_search.specs.Counted.{NoRows}
 use Rattle.zeb_search.specs.DictRows.{RegisterDict}
 use Rattle.zeb_search.specs.PrivateTerms.{HasWanted, LeadsTo, TermsRise}
-use Rattle.zeb_search.proofs.PageLemmas.{HasUpTo, none_so_far, next_page, last_page, more_of, more_rises}
-use Rattle.zeb_search.proofs.ReadLemmas.{clean_before, one_read, read_still, read_then, still_store, still_trees}
+use Rattle.zeb_search.proofs.PageLemmas.{HasUpTo, none_so_far, next_page, last_page, more_of, more_rises, pages_told}
+use Rattle.zeb_search.proofs.ReadLemmas.{one_read, read_still, read_then}
 use Rattle.zeb_search.proofs.CountedLemmas.{counted_still, counted_within, if_ok_counted}
 use Rattle.zeb_search.proofs.TermLemmas.{all_has_wanted}
 use Rattle.zeb_search.proofs.DictCounts.{pages_counted, within_register}
@@ -43,13 +42,10 @@ pages-preserved g c =
       read = read_then old now new c.pages.invariant.read (one_read now new c.in_ok-page.page c.in_ok-page.ensures.call);
       found = λ clean store content has.
           let O = posted content c.args.of.database.0 in
-          let first = clean_before now new c.terms_from.ensures.call.crash clean in
-          let there = subst (λ t. holds_in g.L.Layout.format t content) (sym (still_trees old now c.pages.invariant.read first)) has in
-          let are : AreTermsFrom O c.args.of.index c.args.of.register start c.pages.page_terms page =
-          subst (λ s. AreTermsFrom O c.args.of.index c.args.of.register s c.pages.page_terms page) c.as_str.ensures.value (c.in_ok-page.ensures.value clean (still_store old now c.pages.invariant.read first store) content there) in
-          let before = c.pages.invariant.found first store content has in
+          let told = pages_told g.L.Layout.format c.args.of.database.0 c.args.of.index c.args.of.register c.args.wanted old now new c.pages.invariant.read c.terms_from.ensures.call.crash terms _ start c.as_str.ensures.value
+          c.pages.page_terms page c.pages.invariant.found c.in_ok-page.ensures.value clean store content has in
           subst (λ (l : List TermCount). HasUpTo O c.args.of.index c.args.of.register c.args.wanted l (string_bytes c.in-Some.next)) (sym c.in_ok-append.ensures.items)
-          (next_page O c.args.of.index c.args.of.register c.args.wanted terms start c.pages.page_terms page c.pages.invariant.some are before c.in-Some.next leads);
+          (next_page O c.args.of.index c.args.of.register c.args.wanted terms start c.pages.page_terms page c.pages.invariant.some told.0 told.1 c.in-Some.next leads);
       counted = pages_counted g.L.Layout.format g.L.Layout.row_work terms page c.append.new.self.items c.in_ok-append.ensures.items old now new c.args.work.now c.pages.work c.terms_from.new.work
           c.pages.invariant.read c.terms_from.ensures.call.crash c.pages.invariant.counted c.in_ok-page.ensures.work;
       no_work = λ none. c.terms_from.ensures.no_work none ∙ c.pages.invariant.no_work none;
@@ -72,17 +68,15 @@ returns-in-None-clause-value g c clean store content has =
     let now = state g.S.Store c.pages.connection in
     let new = state g.S.Store c.terms_from.new.conn in
     let page = c.in_ok-page.page.items in
+    let terms = c.pages.terms.items in
     let start = string_bytes c.pages.start in
     let O = posted content c.args.of.database.0 in
-    let first = clean_before now new c.terms_from.ensures.call.crash clean in
-    let there = subst (λ t. holds_in g.L.Layout.format t content) (sym (still_trees old now c.pages.invariant.read first)) has in
-    let are : AreTermsFrom O c.args.of.index c.args.of.register start c.pages.page_terms page =
-    subst (λ s. AreTermsFrom O c.args.of.index c.args.of.register s c.pages.page_terms page) c.as_str.ensures.value (c.in_ok-page.ensures.value clean (still_store old now c.pages.invariant.read first store) content there) in
-    let before = c.pages.invariant.found first store content has in
+    let told = pages_told g.L.Layout.format c.args.of.database.0 c.args.of.index c.args.of.register c.args.wanted old now new c.pages.invariant.read c.terms_from.ensures.call.crash terms _ start c.as_str.ensures.value
+    c.pages.page_terms page c.pages.invariant.found c.in_ok-page.ensures.value clean store content has in
     let ends : LeadsTo c.args.wanted page None =
     subst (LeadsTo c.args.wanted page) c.in-None.is (subst (λ (l : List TermCount). LeadsTo c.args.wanted l c.in_ok-next.next) c.deref.ensures.value c.in_ok-next.ensures) in
     subst (HasWanted O c.args.of.index c.args.of.register c.args.wanted) (sym c.in_ok-append.ensures.items)
-    (last_page O c.args.of.index c.args.of.register c.args.wanted c.pages.terms.items start c.pages.page_terms page c.pages.invariant.some are before ends)
+    (last_page O c.args.of.index c.args.of.register c.args.wanted terms start c.pages.page_terms page c.pages.invariant.some told.0 told.1 ends)
 
 pub returns-in-None-clause-work : goal.returns-in-None-clause-work
 returns-in-None-clause-work g c =
@@ -100,15 +94,12 @@ returns-in-None-clause-work g c =
     counted_within g.L.Layout.format (λ content n. n ≡ row_work * length all) (λ content. RegisterDict row_work content db index register) NoRows old new c.args.work.now c.terms_from.new.work
     (λ clean store content has n is.
     let O = posted content db in
-    let first = clean_before now new c.terms_from.ensures.call.crash clean in
-    let there = subst (λ t. holds_in g.L.Layout.format t content) (sym (still_trees old now c.pages.invariant.read first)) has in
-    let are : AreTermsFrom O index register start c.pages.page_terms page =
-    subst (λ s. AreTermsFrom O index register s c.pages.page_terms page) c.as_str.ensures.value (c.in_ok-page.ensures.value clean (still_store old now c.pages.invariant.read first store) content there) in
-    let before = c.pages.invariant.found first store content has in
-    within_register row_work content db index register all are.all n
-    (subst TermsRise (sym c.in_ok-append.ensures.items) (more_rises O index register c.args.wanted terms start c.pages.page_terms page c.pages.invariant.some are before))
-    (subst (λ (l : List TermCount). (t : TermCount) → Has l t → (m : ℕ) × TermIn O index register t.term m) (sym c.in_ok-append.ensures.items) (more_of O index register c.args.wanted terms start c.pages.page_terms page c.pages.invariant.some are before))
-    are.are is)
+    let told = pages_told g.L.Layout.format c.args.of.database.0 c.args.of.index c.args.of.register c.args.wanted old now new c.pages.invariant.read c.terms_from.ensures.call.crash terms _ start c.as_str.ensures.value
+    c.pages.page_terms page c.pages.invariant.found c.in_ok-page.ensures.value clean store content has in
+    within_register row_work content db index register all told.0.all n
+    (subst TermsRise (sym c.in_ok-append.ensures.items) (more_rises O index register c.args.wanted terms start c.pages.page_terms page c.pages.invariant.some told.0 told.1))
+    (subst (λ (l : List TermCount). (t : TermCount) → Has l t → (m : ℕ) × TermIn O index register t.term m) (sym c.in_ok-append.ensures.items) (more_of O index register c.args.wanted terms start c.pages.page_terms page c.pages.invariant.some told.0 told.1))
+    told.0.are is)
     (pages_counted g.L.Layout.format row_work terms page all c.in_ok-append.ensures.items old now new c.args.work.now c.pages.work c.terms_from.new.work
     c.pages.invariant.read c.terms_from.ensures.call.crash c.pages.invariant.counted c.in_ok-page.ensures.work)
 

@@ -1,7 +1,6 @@
 use Rattle.std.proofs.Common.{rules, ◌∷◌, [], sym, subst, ◌≡◌, Err}
 use Rattle.sqlite.specs.Held.{state}
 use Rattle.zeb_register.specs.Content.{posted}
-use Rattle.zeb_profile.specs.declared.Register.TheVariants as register
 use Rattle.zeb_search.specs.Lists.{ArePostings}
 use Rattle.zeb_search.proofs.PlanLemmas.{IsWordAt, near_hits}
 use Rattle.zeb_search.proofs.ReadLemmas.{as_read, clean_before, told_behind}

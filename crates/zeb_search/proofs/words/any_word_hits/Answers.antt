@@ -5,7 +5,6 @@ use Rattle.zeb_query.proofs.HoldingLemmas.{take_whole}
 use Rattle.zeb_query.specs.declared.plans.Operator.TheVariants as operator
 use Rattle.zeb_register.specs.Content.{posted}
 use Rattle.zeb_text.specs.Symbols.{Symbol}
-use Rattle.zeb_profile.specs.declared.Register.TheVariants as register
 use Rattle.zeb_search.specs.Holds.{HasMatch}
 use Rattle.zeb_search.specs.Lists.{AreNumbers}
 use Rattle.zeb_search.proofs.JustLemmas.{joined_numbers, just_none}
