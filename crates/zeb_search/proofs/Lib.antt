@@ -20,3 +20,4 @@ pub mod RisingTexts
 pub mod RowCounts
 pub mod SeparatedPostings
 pub mod TermLemmas
+pub mod WordCounts

@@ -1,21 +1,26 @@
 -- The terms that are asked for, read page by page.
-use Rattle.std.proofs.Common.{◌≡◌, ◌≢◌, ◌⊎◌, ◌∙◌, ◌<◌, ℕ, zero, suc, true, false, not, List, [], ◌∷◌, ◌++◌, filter, take, drop, refl, sym, ap, subst, inl, inr, Ordering, Less, Equal, Greater, arith, Some, None, String, string_bytes}
+use Rattle.std.proofs.Common.{◌≡◌, ◌≢◌, ◌⊎◌, ◌∙◌, ◌<◌, ℕ, ℤ, zero, suc, true, false, not, List, [], ◌∷◌, ◌++◌, filter, take, drop, refl, sym, ap, subst, inl, inr, Ordering, Less, Equal, Greater, arith, Some, None, String, string_bytes}
 use Rattle.std.specs.declared.alloc.Global.{Global}
 use Rattle.std.specs.Ordering.{nat_cmp, is_lt}
 use Rattle.std.specs.Cmp.Lexicographic.{slice_cmp}
 use Rattle.std.specs.List.Sorted.{IsStrictlySortedBy}
 use Rattle.std.proofs.lemmas.List.{take-append-drop}
 use Rattle.std.proofs.lemmas.List.Kept.{IsStrictlySortedBy-filter}
+use Rattle.sqlite.specs.State.{State, HasCleanDisk, Survives}
 use Rattle.sqlite_rules.specs.Lists.{Has}
 use Rattle.sqlite_rules.proofs.ListLemmas.{all_has, has_either, has_filtered, has_kept, has_left, has_right}
 use Rattle.zeb_profile.specs.declared.Register.{Register}
 use Rattle.zeb_extract.specs.declared.keys.Occurrence.{Occurrence}
 use Rattle.zeb_register.specs.declared.registers.TermCount.{TermCount}
+use Rattle.zeb_register.specs.Content.{Content, posted}
+use Rattle.zeb_register.specs.Formats.{Format, holds_in}
+use Rattle.zeb_register.specs.Store.{IsStore}
 use Rattle.zeb_register.specs.Occurring.{AreTermsFrom, TermIn, is_from, term_cmp}
 use Rattle.zeb_search.specs.Comparing.{Precedes}
 use Rattle.zeb_search.specs.declared.terms.Wanted.{Wanted}
 use Rattle.zeb_search.specs.PrivateTerms.{BeginsAt, HasWanted, IsAmong, IsWanted, LeadsTo, TermsRise}
 use Rattle.zeb_search.proofs.Comparisons.{below_next, below_others, none_between, precedes_then}
+use Rattle.zeb_search.proofs.ReadLemmas.{IsRead, clean_before, told_behind}
 use Rattle.zeb_search.proofs.RisingTexts.{before_last_text, front_rise, joined_rise, none_rises, terms_rise}
 
 -- ---- lists cut in two
@@ -173,3 +178,18 @@ module _ (O : ℕ → Occurrence → Type 0) (index : ℕ) (register : Register)
 
       pub next_page : (next : String Global) → LeadsTo wanted page (Some next) → HasUpTo (terms ++ page) (string_bytes next)
       next_page next leads = page_behind leads.0 leads.1 leads.2 (string_bytes next) leads.3
+
+-- ---- pages that are read one after the other
+
+-- The pages so far, and the next one, tell of a content that the tables held before them; `text` is the start as the call is given it.
+pub pages_told : (format : Format) (db : ℤ) (index : ℕ) (register : Register) (wanted : Wanted) (a b c : State) → IsRead a b → Survives b c (λ _. ⊥)
+    → (terms : List TermCount) (text start : List ℕ) → text ≡ start → (n : ℕ) (page : List TermCount)
+    → (HasCleanDisk b → IsStore a → (content : Content) → holds_in format a.now.trees content → HasUpTo (posted content db) index register wanted terms start)
+    → (HasCleanDisk c → IsStore b → (content : Content) → holds_in format b.now.trees content → AreTermsFrom (posted content db) index register text n page)
+    → HasCleanDisk c → IsStore a → (content : Content) → holds_in format a.now.trees content
+    → AreTermsFrom (posted content db) index register start n page × HasUpTo (posted content db) index register wanted terms start
+pages_told format db index register wanted a b c read crash terms text start same n page found told clean store content has = (
+  subst (λ (s : List ℕ). AreTermsFrom (posted content db) index register s n page) same
+      (told_behind format a b c (λ content. AreTermsFrom (posted content db) index register text n page) read crash told clean store content has),
+  found (clean_before b c crash clean) store content has,
+)

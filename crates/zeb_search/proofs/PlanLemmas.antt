@@ -8,14 +8,17 @@ use Rattle.sqlite_rules.proofs.ListLemmas.{has_filtered, has_kept}
 use Rattle.std.proofs.lemmas.List.Kept.{IsStrictlySortedBy-filter}
 use Rattle.zeb_text.specs.Symbols.{Symbol}
 use Rattle.zeb_profile.specs.declared.Register.{Register}
+use Rattle.zeb_profile.specs.declared.Register.TheVariants as register
 use Rattle.zeb_query.specs.declared.plans.Order.{Order}
 use Rattle.zeb_query.specs.declared.plans.Separation.{Separation}
 use Rattle.zeb_query.specs.declared.plans.TermPlan.{TermPlan}
 use Rattle.zeb_query.specs.declared.plans.TermPlan.TheVariants as term
 use Rattle.zeb_query.specs.Plans.{TermOf, term_plan_value}
+use Rattle.zeb_extract.specs.declared.keys.Key.{Key}
 use Rattle.zeb_extract.specs.declared.keys.Occurrence.{Occurrence}
 use Rattle.zeb_register.specs.Content.{Content, posting_cmp, Posting}
 use Rattle.zeb_register.specs.Kept.{IsIdentOf}
+use Rattle.zeb_register.specs.Occurring.{key_in}
 use Rattle.zeb_register.specs.Store.{HasRecord}
 use Rattle.zeb_search.specs.Holds.{HasMatch, HasNear, HasPhrase, HasWord, HasWords}
 use Rattle.zeb_search.specs.Lists.{AreJust, AreNumbers, ArePostings}
@@ -59,6 +62,22 @@ module _ (O : ℕ → Occurrence → Type 0) (index : ℕ) where
         let p : Posting = record { sysno = n; seq = has.0; pos = has.1 } in
         let q : Posting = record { sysno = n; seq = has.0; pos = has.2 } in
         (p, q, (first.each p).1 has.3, (second.each q).1 has.4, refl, (refl, refl), has.5),
+  ))
+
+  -- ---- words
+
+  -- the records in which a word stands that the pattern matches
+  pub word_hits : (pattern : List Symbol) (places : List Posting) (numbers : List ℕ) → ArePostings (IsWordAt pattern) places → AreNumbers (HasPosting places) numbers → AreNumbers (HasMatch O index pattern) numbers
+  word_hits pattern places numbers are = just_same (HasPosting places) (HasMatch O index pattern) numbers (λ n. (
+    λ has.
+        let p = has.0 in
+        let word = subst (λ (m : ℕ). HasWord O index pattern m p.seq p.pos) has.2 ((are.each p).0 has.1) in
+        (word.0, (record { key = key_in index register.Word word.0; seq = p.seq; pos = p.pos }, word.1, refl), word.2),
+    λ entry.
+        let o = entry.1.0 in
+        let p : Posting = record { sysno = n; seq = o.seq; pos = o.pos } in
+        let word : O n (record { key = key_in index register.Word entry.0; seq = o.seq; pos = o.pos }) = subst (λ (k : Key). O n (record { key = k; seq = o.seq; pos = o.pos })) entry.1.2 entry.1.1 in
+        (p, (are.each p).1 (entry.0, word, entry.2), refl),
   ))
 
   -- ---- words one after another

@@ -1,11 +1,12 @@
 -- What the postings of keys tell of the records that have them.
-use Rattle.std.proofs.Common.{ℕ, ℤ, List, refl, subst}
+use Rattle.std.proofs.Common.{◌≡◌, ℕ, ℤ, List, refl, subst, sym}
+use Rattle.std.specs.List.Sorted.{IsStrictlySortedBy}
 use Rattle.sqlite_rules.specs.Lists.{Has}
 use Rattle.zeb_profile.specs.declared.Register.{Register}
 use Rattle.zeb_profile.specs.declared.Register.TheVariants as register
 use Rattle.zeb_extract.specs.declared.keys.Key.{Key}
 use Rattle.zeb_text.specs.Symbols.{Symbol}
-use Rattle.zeb_register.specs.Content.{Content, posted, Posting}
+use Rattle.zeb_register.specs.Content.{Content, posted, posting_cmp, Posting}
 use Rattle.zeb_register.specs.Occurring.{key_in}
 use Rattle.zeb_search.specs.Holds.{Fits, HasEntry, HasWord}
 use Rattle.zeb_search.specs.Lists.{AreNumbers, ArePostings}
@@ -40,6 +41,12 @@ module _ (content : Content) (db : ℤ) (index : ℕ) (register : Register) (P :
           (given.each n).1 (p, (list.each p).1 (posting_of p entry.0 has entry.2), refl),
     );
   }
+
+-- the numbers of the records of postings, told of a list that is the same
+pub numbers_told : (P : Posting → Type 0) (seen postings : List Posting) (numbers : List ℕ) → seen ≡ postings → ArePostings P postings
+    → (IsStrictlySortedBy posting_cmp seen → AreNumbers (HasPosting seen) numbers) → AreNumbers (HasPosting postings) numbers
+numbers_told P seen postings numbers same are told =
+    subst (λ (l : List Posting). AreNumbers (HasPosting l) numbers) same (told (subst (IsStrictlySortedBy posting_cmp) (sym same) are.rising))
 
 -- the places of the words that a pattern matches
 pub word_places : (content : Content) (db : ℤ) (index : ℕ) (pattern : List Symbol) (keys : List Key) → AreKeysOf (posted content db) index register.Word (Fits pattern) keys → (postings : List Posting)

@@ -94,6 +94,14 @@ module _ (format : Format) where
   pub told_before : (a b : State) (P : Content → Type 0) → IsRead a b → HasCleanDisk b → Tells b.now.trees P → Tells a.now.trees P
   told_before a b P read clean told content has = told content (subst (λ t. holds_in format t content) (sym (still_trees a b read clean)) has)
 
+  -- what a later call tells of each content, of those that the tables held before the accepted ones
+  pub told_behind : (a b c : State) (P : Content → Type 0) → IsRead a b → Survives b c (λ _. ⊥)
+      → (HasCleanDisk c → IsStore b → (content : Content) → holds_in format b.now.trees content → P content)
+      → HasCleanDisk c → IsStore a → (content : Content) → holds_in format a.now.trees content → P content
+  told_behind a b c P read crash told clean store content has =
+      let first = clean_before b c crash clean in
+      told clean (still_store a b read first store) content (subst (λ t. holds_in format t content) (sym (still_trees a b read first)) has)
+
   -- the tables hold no content
   abbrev pub HoldsNone : Trees → Type 0
   HoldsNone trees = (content : Content) → IsStorable content → ¬ holds_in format trees content

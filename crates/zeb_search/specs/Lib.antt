@@ -4,6 +4,7 @@ pub mod DictRows
 pub mod Holds
 pub mod ListRows
 pub mod Lists
+pub mod PrivateCounts
 pub mod PrivateTerms
 pub mod PrivateWalks
 pub mod Registers

@@ -10,6 +10,7 @@ mod lists;
 mod plans;
 mod postings;
 mod ranges;
+mod registers;
 mod terms;
 mod words;
 

@@ -1,25 +1,25 @@
 //! The records on which a plan holds.
 
-ghost use Rattle.std.specs.Prelude.{◌≡◌, ◌<◌, ◌^◌, ℕ, ℤ, List, [], ◌∷◌, IfOk, OnOk, pos};
+ghost use Rattle.std.specs.Prelude.{◌≡◌, ◌<◌, ◌^◌, ℕ, ℤ, [], ◌∷◌, OnOk, pos};
 ghost use Rattle.sqlite.specs.Held.{state};
-ghost use Rattle.sqlite.specs.State.{HasCleanDisk};
 ghost use Rattle.zeb_query.specs.Plans.{HasSmallNumber, HasSmallNumbers, NearOf, PlanValue, TermOf, plan_value, term_plan_value};
 ghost use Rattle.zeb_register.specs.Calls.{Reading};
-ghost use Rattle.zeb_register.specs.Clauses.{IsReasoned};
+ghost use Rattle.zeb_register.specs.Clauses.{IsHonest, IsHonestStorable, IsReasoned, OnStore, Tells, TellsHeld};
 ghost use Rattle.zeb_register.specs.Content.{Content, IsStorable};
 ghost use Rattle.zeb_register.specs.Formats.{holds_in};
 ghost use Rattle.zeb_register.specs.Kept.{AreReadableIdents};
-ghost use Rattle.zeb_register.specs.Store.{IsStore};
 ghost use Rattle.zeb_search.specs.Counted.{Counted, NamesEntries};
-ghost use Rattle.zeb_search.specs.DictRows.{PlanDict, TermDict, WordDict};
-ghost use Rattle.zeb_search.specs.ListRows.{PlanRows, TermRows, WordRows};
+ghost use Rattle.zeb_search.specs.DictRows.{PlanDict, TermDict};
+ghost use Rattle.zeb_search.specs.ListRows.{PlanRows, TermRows};
 ghost use Rattle.zeb_search.specs.Lists.{AreNumbers};
+ghost use Rattle.zeb_search.specs.PrivateCounts.{CountedWords};
 ghost use Rattle.zeb_search.specs.Registers.{HoldsIn, NamesReadable, TermNamesReadable, is_kept_in};
 ghost use Rattle.zeb_search.specs.Untouched.{IsUntouched};
 
 use crate::distances::near;
 use crate::lists::joined;
 use crate::postings::{numbers_wanted, places_of_words};
+use crate::registers::{IndexOf, RegisterOf};
 use crate::terms::Wanted;
 use crate::words::{all_words_hits, any_word_hits, phrase_hits};
 use sqlite::{Alter, Connection};
@@ -42,12 +42,12 @@ pub fn hits<S: Alter, L: Layout>(
 ) -> Result<Vec<u64>, RegFault>
     requires { HasSmallNumbers (plan_value plan.now) }
     ensures call { Reading (state S.Store connection.old) (state S.Store connection.new) result (λ _. IsUntouched) }
-    ensures value { HasCleanDisk (state S.Store connection.new) → IsStore (state S.Store connection.old)
-        → IfOk result (λ hits. (content : Content) → holds_in L.format (state S.Store connection.old).now.trees content
-        → AreNumbers (HoldsIn (state S.Store connection.old).now.trees content database.0 (plan_value plan.now)) hits.items) }
-    ensures honest { HasCleanDisk (state S.Store connection.new) → IsStore (state S.Store connection.old) → result ≡ Err RegFault.Damaged
-        → NamesReadable (state S.Store connection.old).now.trees database.0 (plan_value plan.now)
-        → (content : Content) → IsStorable content → ¬ holds_in L.format (state S.Store connection.old).now.trees content }
+    ensures value { TellsHeld (holds_in L.format) (state S.Store connection.old) (state S.Store connection.new) result
+        (λ content hits. AreNumbers (HoldsIn (state S.Store connection.old).now.trees content database.0
+        (plan_value plan.now)) hits.items) }
+    ensures honest { OnStore (state S.Store connection.old) (state S.Store connection.new) (λ trees. result ≡ Err RegFault.Damaged
+        → NamesReadable trees database.0 (plan_value plan.now)
+        → (content : Content) → IsStorable content → ¬ holds_in L.format trees content) }
     ensures refused { IsReasoned (state S.Store connection.old) (state S.Store connection.new) result }
     ensures work { OnOk result (Counted L.format (λ content. PlanDict L.row_work content database.0 (plan_value plan.now))
         (λ content. PlanRows L.block_rows content database.0 (plan_value plan.now))
@@ -75,12 +75,12 @@ fn term_hits<S: Alter, L: Layout>(
 ) -> Result<Vec<u64>, RegFault>
     requires { HasSmallNumber (term_plan_value term.now) }
     ensures call { Reading (state S.Store connection.old) (state S.Store connection.new) result (λ _. IsUntouched) }
-    ensures value { HasCleanDisk (state S.Store connection.new) → IsStore (state S.Store connection.old)
-        → IfOk result (λ hits. (content : Content) → holds_in L.format (state S.Store connection.old).now.trees content
-        → AreNumbers (HoldsIn (state S.Store connection.old).now.trees content database.0 (TermOf (term_plan_value term.now))) hits.items) }
-    ensures honest { HasCleanDisk (state S.Store connection.new) → IsStore (state S.Store connection.old) → result ≡ Err RegFault.Damaged
-        → TermNamesReadable (state S.Store connection.old).now.trees database.0 (term_plan_value term.now)
-        → (content : Content) → IsStorable content → ¬ holds_in L.format (state S.Store connection.old).now.trees content }
+    ensures value { TellsHeld (holds_in L.format) (state S.Store connection.old) (state S.Store connection.new) result
+        (λ content hits. AreNumbers (HoldsIn (state S.Store connection.old).now.trees content database.0
+        (TermOf (term_plan_value term.now))) hits.items) }
+    ensures honest { OnStore (state S.Store connection.old) (state S.Store connection.new) (λ trees. result ≡ Err RegFault.Damaged
+        → TermNamesReadable trees database.0 (term_plan_value term.now)
+        → (content : Content) → IsStorable content → ¬ holds_in L.format trees content) }
     ensures refused { IsReasoned (state S.Store connection.old) (state S.Store connection.new) result }
     ensures work { OnOk result (Counted L.format (λ content. TermDict L.row_work content database.0 (term_plan_value term.now))
         (λ content. TermRows L.block_rows content database.0 (term_plan_value term.now))
@@ -90,24 +90,25 @@ fn term_hits<S: Alter, L: Layout>(
     match term {
         TermPlan::RecordNumber(number) => record_hits(alloc, connection, database, *number),
         TermPlan::Always { index, register } => {
-            let wanted = Wanted::All;
-            numbers_wanted::<S, L>(alloc, connection, work, database, *index, *register, wanted)
+            let of = RegisterOf {
+                database,
+                index: *index,
+                register: *register,
+            };
+            numbers_wanted::<S, L>(alloc, connection, work, of, Wanted::All)
         }
         TermPlan::Number {
             index,
             relation,
             number,
         } => {
-            let wanted = Wanted::Number(*relation, *number);
-            numbers_wanted::<S, L>(
-                alloc,
-                connection,
-                work,
+            let of = RegisterOf {
                 database,
-                *index,
-                Register::Number,
-                wanted,
-            )
+                index: *index,
+                register: Register::Number,
+            };
+            let wanted = Wanted::Number(*relation, *number);
+            numbers_wanted::<S, L>(alloc, connection, work, of, wanted)
         }
         TermPlan::Ordered {
             index,
@@ -116,23 +117,24 @@ fn term_hits<S: Alter, L: Layout>(
             start,
         } => match start {
             Some(start) => {
+                let of = RegisterOf {
+                    database,
+                    index: *index,
+                    register: *register,
+                };
                 let wanted = Wanted::Text(*order, start.as_str());
-                numbers_wanted::<S, L>(alloc, connection, work, database, *index, *register, wanted)
+                numbers_wanted::<S, L>(alloc, connection, work, of, wanted)
             }
             None => Ok(Vec::new(alloc)),
         },
         TermPlan::Complete { index, pattern } => match pattern {
             Some(pattern) => {
-                let wanted = Wanted::Matching(pattern);
-                numbers_wanted::<S, L>(
-                    alloc,
-                    connection,
-                    work,
+                let of = RegisterOf {
                     database,
-                    *index,
-                    Register::Phrase,
-                    wanted,
-                )
+                    index: *index,
+                    register: Register::Phrase,
+                };
+                numbers_wanted::<S, L>(alloc, connection, work, of, Wanted::Matching(pattern))
             }
             None => Ok(Vec::new(alloc)),
         },
@@ -140,34 +142,26 @@ fn term_hits<S: Alter, L: Layout>(
             index,
             patterns,
             first,
-        } => phrase_hits::<S, L>(
-            alloc,
-            connection,
-            work,
-            database,
-            *index,
-            patterns.as_slice(),
-            *first,
-        ),
-        TermPlan::AllWords { index, patterns } => {
-            all_words_hits::<S, L>(
-                alloc,
-                connection,
-                work,
+        } => {
+            let of = IndexOf {
                 database,
-                *index,
-                patterns.as_slice(),
-            )
+                index: *index,
+            };
+            phrase_hits::<S, L>(alloc, connection, work, of, patterns.as_slice(), *first)
+        }
+        TermPlan::AllWords { index, patterns } => {
+            let of = IndexOf {
+                database,
+                index: *index,
+            };
+            all_words_hits::<S, L>(alloc, connection, work, of, patterns.as_slice())
         }
         TermPlan::AnyWord { index, patterns } => {
-            any_word_hits::<S, L>(
-                alloc,
-                connection,
-                work,
+            let of = IndexOf {
                 database,
-                *index,
-                patterns.as_slice(),
-            )
+                index: *index,
+            };
+            any_word_hits::<S, L>(alloc, connection, work, of, patterns.as_slice())
         }
     }
 }
@@ -181,10 +175,10 @@ fn record_hits<S: Alter>(
 ) -> Result<Vec<u64>, RegFault>
     requires { number < 10 ^ 9 }
     ensures call { Reading (state S.Store connection.old) (state S.Store connection.new) result (λ _. IsUntouched) }
-    ensures value { HasCleanDisk (state S.Store connection.new) → IsStore (state S.Store connection.old)
-        → IfOk result (λ hits. AreNumbers (λ n. (n ≡ number) × is_kept_in (state S.Store connection.old).now.trees database.0 n) hits.items) }
-    ensures honest { HasCleanDisk (state S.Store connection.new) → IsStore (state S.Store connection.old) → result ≡ Err RegFault.Damaged
-        → ¬ AreReadableIdents (state S.Store connection.old).now.trees database.0 (pos number) }
+    ensures value { Tells (state S.Store connection.old) (state S.Store connection.new) result
+        (λ trees hits. AreNumbers (λ n. (n ≡ number) × is_kept_in trees database.0 n) hits.items) }
+    ensures honest { IsHonest (state S.Store connection.old) (state S.Store connection.new) result
+        (λ trees. AreReadableIdents trees database.0 (pos number)) }
     ensures refused { IsReasoned (state S.Store connection.old) (state S.Store connection.new) result }
 {
     let Some(_ident) = ident_of(connection, database, number)? else {
@@ -203,28 +197,21 @@ fn near_hits<S: Alter, L: Layout>(
 ) -> Result<Vec<u64>, RegFault>
     requires { plan.now.separation.distance < 10 ^ 9 }
     ensures call { Reading (state S.Store connection.old) (state S.Store connection.new) result (λ _. IsUntouched) }
-    ensures value { HasCleanDisk (state S.Store connection.new) → IsStore (state S.Store connection.old)
-        → IfOk result (λ hits. (content : Content) → holds_in L.format (state S.Store connection.old).now.trees content
-        → AreNumbers (HoldsIn (state S.Store connection.old).now.trees content database.0
+    ensures value { TellsHeld (holds_in L.format) (state S.Store connection.old) (state S.Store connection.new) result
+        (λ content hits. AreNumbers (HoldsIn (state S.Store connection.old).now.trees content database.0
         (NearOf plan.now.index plan.now.left plan.now.right plan.now.separation)) hits.items) }
-    ensures honest { HasCleanDisk (state S.Store connection.new) → IsStore (state S.Store connection.old) → result ≡ Err RegFault.Damaged
-        → (content : Content) → IsStorable content → ¬ holds_in L.format (state S.Store connection.old).now.trees content }
+    ensures honest { IsHonestStorable (holds_in L.format) (state S.Store connection.old) (state S.Store connection.new) result }
     ensures refused { IsReasoned (state S.Store connection.old) (state S.Store connection.new) result }
-    ensures work { OnOk result (Counted L.format
-        (λ content. WordDict L.row_work content database.0 plan.now.index (plan.now.left ∷ plan.now.right ∷ []))
-        (λ content. WordRows L.block_rows content database.0 plan.now.index (plan.now.left ∷ plan.now.right ∷ []))
-        (state S.Store connection.old) (state S.Store connection.new) work.old work.new) }
+    ensures work { OnOk result (CountedWords L.format L.row_work L.block_rows database.0 plan.now.index
+        (plan.now.left ∷ plan.now.right ∷ []) (state S.Store connection.old) (state S.Store connection.new) work.old work.new) }
     ensures no_work { L.row_work ≡ 0 → work.new ≡ work.old }
 {
-    let left = places_of_words::<S, L>(alloc, connection, work, database, plan.index, &plan.left)?;
-    let right = places_of_words::<S, L>(
-        alloc,
-        connection,
-        work,
+    let of = IndexOf {
         database,
-        plan.index,
-        &plan.right,
-    )?;
+        index: plan.index,
+    };
+    let left = places_of_words::<S, L>(alloc, connection, work, of, &plan.left)?;
+    let right = places_of_words::<S, L>(alloc, connection, work, of, &plan.right)?;
     Ok(near(alloc, &left, &right, &plan.separation)?)
 }
 

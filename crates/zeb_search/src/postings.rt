@@ -1,23 +1,23 @@
 //! The postings of several keys.
 
-ghost use Rattle.std.specs.Prelude.{◌≡◌, ℕ, List, IfOk, OnOk};
+ghost use Rattle.std.specs.Prelude.{◌≡◌, OnOk};
 ghost use Rattle.sqlite.specs.Held.{state};
-ghost use Rattle.sqlite.specs.State.{HasCleanDisk};
 ghost use Rattle.zeb_register.specs.Calls.{Reading};
-ghost use Rattle.zeb_register.specs.Clauses.{IsReasoned};
-ghost use Rattle.zeb_register.specs.Content.{Content, IsStorable, posted};
+ghost use Rattle.zeb_register.specs.Clauses.{IsHonestStorable, IsReasoned, TellsHeld};
+ghost use Rattle.zeb_register.specs.Content.{posted};
 ghost use Rattle.zeb_register.specs.Formats.{holds_in};
-ghost use Rattle.zeb_register.specs.Store.{IsStore};
-ghost use Rattle.zeb_search.specs.Counted.{Counted, HasNoStar, NoRows};
+ghost use Rattle.zeb_search.specs.Counted.{Counted, NoRows};
 ghost use Rattle.zeb_search.specs.DictRows.{EntryDict};
-ghost use Rattle.zeb_search.specs.Holds.{Fits, HasEntry, HasWord};
+ghost use Rattle.zeb_search.specs.Holds.{HasEntry, HasWord};
 ghost use Rattle.zeb_search.specs.ListRows.{EntryRows, rows_under};
 ghost use Rattle.zeb_search.specs.Lists.{AreNumbers, ArePostings};
+ghost use Rattle.zeb_search.specs.PrivateCounts.{CountedMatches};
 ghost use Rattle.zeb_search.specs.PrivateTerms.{IsPostingOf, IsWanted, NamesEntry};
 ghost use Rattle.zeb_search.specs.Untouched.{IsUntouched};
 
 use crate::keys::keys_wanted;
 use crate::lists::{numbers_of, postings_in_order};
+use crate::registers::{IndexOf, RegisterOf};
 use crate::terms::Wanted;
 use sqlite::{Alter, Connection};
 use std::alloc::Global;
@@ -35,11 +35,9 @@ fn postings_of<S: Alter, L: Layout>(
     keys: &[Key],
 ) -> Result<Vec<Posting>, RegFault>
     ensures call { Reading (state S.Store connection.old) (state S.Store connection.new) result (λ _. IsUntouched) }
-    ensures value { HasCleanDisk (state S.Store connection.new) → IsStore (state S.Store connection.old)
-        → IfOk result (λ list. (content : Content) → holds_in L.format (state S.Store connection.old).now.trees content
-        → ArePostings (IsPostingOf content database.0 keys.now) list.items) }
-    ensures honest { HasCleanDisk (state S.Store connection.new) → IsStore (state S.Store connection.old) → result ≡ Err RegFault.Damaged
-        → (content : Content) → IsStorable content → ¬ holds_in L.format (state S.Store connection.old).now.trees content }
+    ensures value { TellsHeld (holds_in L.format) (state S.Store connection.old) (state S.Store connection.new) result
+        (λ content list. ArePostings (IsPostingOf content database.0 keys.now) list.items) }
+    ensures honest { IsHonestStorable (holds_in L.format) (state S.Store connection.old) (state S.Store connection.new) result }
     ensures refused { IsReasoned (state S.Store connection.old) (state S.Store connection.new) result }
     ensures work { OnOk result (Counted L.format NoRows (λ content n. n ≡ rows_under L.block_rows content database.0 keys.now)
         (state S.Store connection.old) (state S.Store connection.new) work.old work.new) }
@@ -58,26 +56,22 @@ pub(crate) fn numbers_wanted<S: Alter, L: Layout>(
     alloc: Global,
     connection: &mut Connection<S>,
     work: &mut Work,
-    database: DatabaseId,
-    index: u32,
-    register: Register,
+    of: RegisterOf,
     wanted: Wanted<'_>,
 ) -> Result<Vec<u64>, RegFault>
     ensures call { Reading (state S.Store connection.old) (state S.Store connection.new) result (λ _. IsUntouched) }
-    ensures value { HasCleanDisk (state S.Store connection.new) → IsStore (state S.Store connection.old)
-        → IfOk result (λ numbers. (content : Content) → holds_in L.format (state S.Store connection.old).now.trees content
-        → AreNumbers (HasEntry (posted content database.0) index register (IsWanted wanted.entry)) numbers.items) }
-    ensures honest { HasCleanDisk (state S.Store connection.new) → IsStore (state S.Store connection.old) → result ≡ Err RegFault.Damaged
-        → (content : Content) → IsStorable content → ¬ holds_in L.format (state S.Store connection.old).now.trees content }
+    ensures value { TellsHeld (holds_in L.format) (state S.Store connection.old) (state S.Store connection.new) result
+        (λ content hits. AreNumbers (HasEntry (posted content of.database.0) of.index of.register (IsWanted wanted.entry)) hits.items) }
+    ensures honest { IsHonestStorable (holds_in L.format) (state S.Store connection.old) (state S.Store connection.new) result }
     ensures refused { IsReasoned (state S.Store connection.old) (state S.Store connection.new) result }
     ensures work { OnOk result (Counted L.format
-        (λ content. EntryDict L.row_work content database.0 (NamesEntry wanted.entry) index register)
-        (λ content. EntryRows L.block_rows content database.0 index register (IsWanted wanted.entry))
+        (λ content. EntryDict L.row_work content of.database.0 (NamesEntry wanted.entry) of.index of.register)
+        (λ content. EntryRows L.block_rows content of.database.0 of.index of.register (IsWanted wanted.entry))
         (state S.Store connection.old) (state S.Store connection.new) work.old work.new) }
     ensures no_work { L.row_work ≡ 0 → work.new ≡ work.old }
 {
-    let keys = keys_wanted::<S, L>(alloc, connection, work, database, index, register, wanted)?;
-    let postings = postings_of::<S, L>(alloc, connection, work, database, &keys)?;
+    let keys = keys_wanted::<S, L>(alloc, connection, work, of, wanted)?;
+    let postings = postings_of::<S, L>(alloc, connection, work, of.database, &keys)?;
     Ok(numbers_of(alloc, &postings)?)
 }
 
@@ -86,32 +80,23 @@ pub(crate) fn places_of_words<S: Alter, L: Layout>(
     alloc: Global,
     connection: &mut Connection<S>,
     work: &mut Work,
-    database: DatabaseId,
-    index: u32,
+    of: IndexOf,
     pattern: &Pattern,
 ) -> Result<Vec<Posting>, RegFault>
     ensures call { Reading (state S.Store connection.old) (state S.Store connection.new) result (λ _. IsUntouched) }
-    ensures value { HasCleanDisk (state S.Store connection.new) → IsStore (state S.Store connection.old)
-        → IfOk result (λ list. (content : Content) → holds_in L.format (state S.Store connection.old).now.trees content
-        → ArePostings (λ p. HasWord (posted content database.0) index pattern.now p.sysno p.seq p.pos) list.items) }
-    ensures honest { HasCleanDisk (state S.Store connection.new) → IsStore (state S.Store connection.old) → result ≡ Err RegFault.Damaged
-        → (content : Content) → IsStorable content → ¬ holds_in L.format (state S.Store connection.old).now.trees content }
+    ensures value { TellsHeld (holds_in L.format) (state S.Store connection.old) (state S.Store connection.new) result
+        (λ content list. ArePostings (λ p. HasWord (posted content of.database.0) of.index pattern.now p.sysno p.seq p.pos) list.items) }
+    ensures honest { IsHonestStorable (holds_in L.format) (state S.Store connection.old) (state S.Store connection.new) result }
     ensures refused { IsReasoned (state S.Store connection.old) (state S.Store connection.new) result }
-    ensures work { OnOk result (Counted L.format
-        (λ content. EntryDict L.row_work content database.0 (HasNoStar pattern.now) index Register.Word)
-        (λ content. EntryRows L.block_rows content database.0 index Register.Word (Fits pattern.now))
+    ensures work { OnOk result (CountedMatches L.format L.row_work L.block_rows of.database.0 of.index pattern.now
         (state S.Store connection.old) (state S.Store connection.new) work.old work.new) }
     ensures no_work { L.row_work ≡ 0 → work.new ≡ work.old }
 {
-    let wanted = Wanted::Matching(pattern);
-    let keys = keys_wanted::<S, L>(
-        alloc,
-        connection,
-        work,
-        database,
-        index,
-        Register::Word,
-        wanted,
-    )?;
-    postings_of::<S, L>(alloc, connection, work, database, &keys)
+    let words = RegisterOf {
+        database: of.database,
+        index: of.index,
+        register: Register::Word,
+    };
+    let keys = keys_wanted::<S, L>(alloc, connection, work, words, Wanted::Matching(pattern))?;
+    postings_of::<S, L>(alloc, connection, work, of.database, &keys)
 }

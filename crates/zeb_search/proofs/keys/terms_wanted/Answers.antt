@@ -1,15 +1,122 @@
+use Rattle.std.proofs.Common.{rules, ◌≡◌, ◌∙◌, ◌∷◌, ◌+◌, ◌*◌, [], ℕ, List, None, Some, ap, arith, length, length-append, refl, sym, subst, string_bytes, Err}
 use Rattle.std.proofs.lemmas.Result.{IfOk-weaker}
-use Rattle.zeb_register.specs.Content.{posted}
-use Rattle.zeb_search.proofs.TermLemmas.{all_has_wanted}
 use Rattle.sqlite.specs.Held.{state}
-use Rattle.zeb_search.proofs.CountedLemmas.{if_ok_counted}
+use Rattle.sqlite_rules.specs.Lists.{Has}
+use Rattle.zeb_register.specs.declared.registers.TermCount.{TermCount}
+use Rattle.zeb_register.specs.Content.{posted}
+use Rattle.zeb_register.specs.Occurring.{TermIn}
+use Rattle.zeb_search.specs.Counted.{NoRows}
+use Rattle.zeb_search.specs.DictRows.{RegisterDict}
+use Rattle.zeb_search.specs.PrivateTerms.{HasWanted, LeadsTo, TermsRise}
+use Rattle.zeb_search.proofs.PageLemmas.{HasUpTo, none_so_far, next_page, last_page, more_of, more_rises, pages_told}
+use Rattle.zeb_search.proofs.ReadLemmas.{one_read, read_still, read_then}
+use Rattle.zeb_search.proofs.CountedLemmas.{counted_still, counted_within, if_ok_counted}
+use Rattle.zeb_search.proofs.TermLemmas.{all_has_wanted}
+use Rattle.zeb_search.proofs.DictCounts.{pages_counted, within_register}
+use Rattle.zeb_search.proofs.Reasons.{reasoned_error}
 use Rattle.zeb_search.proofs.keys.terms_wanted.Goals as goal
+
+pub pages-init : goal.pages-init
+pages-init g c = record {
+  read = read_still (state g.S.Store c.args.connection.now);
+  found = λ clean store content has.
+      subst (λ (l : List TermCount). HasUpTo (posted content c.args.of.database.0) c.args.of.index c.args.of.register c.args.wanted l (string_bytes c.in_ok-start.start)) (sym c.new-terms.ensures.items)
+      (none_so_far (posted content c.args.of.database.0) c.args.of.index c.args.of.register c.args.wanted (string_bytes c.in_ok-start.start) c.in_ok-start.ensures);
+  counted = counted_still g.L.Layout.format (λ content n. n ≡ g.L.Layout.row_work * length c.new-terms.result.items) NoRows (state g.S.Store c.args.connection.now) c.args.work.now
+      (λ content. omega (arith, ap (λ (l : List TermCount). g.L.Layout.row_work * length l) c.new-terms.ensures.items)) (λ content. refl);
+  no_work = λ _. refl;
+  some = omega (arith);
+}
+
+pub pages-preserved : goal.pages-preserved
+pages-preserved g c =
+    let old = state g.S.Store c.args.connection.now in
+    let now = state g.S.Store c.pages.connection in
+    let new = state g.S.Store c.terms_from.new.conn in
+    let page = c.in_ok-page.page.items in
+    let terms = c.pages.terms.items in
+    let start = string_bytes c.pages.start in
+    let leads : LeadsTo c.args.wanted page (Some c.in-Some.next) =
+    subst (LeadsTo c.args.wanted page) c.in-Some.is (subst (λ (l : List TermCount). LeadsTo c.args.wanted l c.in_ok-next.next) c.deref.ensures.value c.in_ok-next.ensures) in
+    record {
+      read = read_then old now new c.pages.invariant.read (one_read now new c.in_ok-page.page c.in_ok-page.ensures.call);
+      found = λ clean store content has.
+          let O = posted content c.args.of.database.0 in
+          let told = pages_told g.L.Layout.format c.args.of.database.0 c.args.of.index c.args.of.register c.args.wanted old now new c.pages.invariant.read c.terms_from.ensures.call.crash terms _ start c.as_str.ensures.value
+          c.pages.page_terms page c.pages.invariant.found c.in_ok-page.ensures.value clean store content has in
+          subst (λ (l : List TermCount). HasUpTo O c.args.of.index c.args.of.register c.args.wanted l (string_bytes c.in-Some.next)) (sym c.in_ok-append.ensures.items)
+          (next_page O c.args.of.index c.args.of.register c.args.wanted terms start c.pages.page_terms page c.pages.invariant.some told.0 told.1 c.in-Some.next leads);
+      counted = pages_counted g.L.Layout.format g.L.Layout.row_work terms page c.append.new.self.items c.in_ok-append.ensures.items old now new c.args.work.now c.pages.work c.terms_from.new.work
+          c.pages.invariant.read c.terms_from.ensures.call.crash c.pages.invariant.counted c.in_ok-page.ensures.work;
+      no_work = λ none. c.terms_from.ensures.no_work none ∙ c.pages.invariant.no_work none;
+      some = omega (arith, c.pages.invariant.some);
+    }
+
+pub pages-smaller : goal.pages-smaller
+pages-smaller g c =
+    let page = c.in_ok-page.page.items in
+    let terms = c.pages.terms in
+    let leads : LeadsTo c.args.wanted page (Some c.in-Some.next) =
+    subst (LeadsTo c.args.wanted page) c.in-Some.is (subst (λ (l : List TermCount). LeadsTo c.args.wanted l c.in_ok-next.next) c.deref.ensures.value c.in_ok-next.ensures) in
+    let some : length page ≡ length leads.0 + 1 = ap length leads.2 ∙ length-append leads.0 (leads.1 ∷ []) in
+    let more : length c.append.new.self.items ≡ length terms.items + length page = ap length c.in_ok-append.ensures.items ∙ length-append terms.items page in
+    omega (arith, some, more, terms.ok.0, terms.ok.1, terms.small)
+
+pub returns-in-None-clause-value : goal.returns-in-None-clause-value
+returns-in-None-clause-value g c clean store content has =
+    let old = state g.S.Store c.args.connection.now in
+    let now = state g.S.Store c.pages.connection in
+    let new = state g.S.Store c.terms_from.new.conn in
+    let page = c.in_ok-page.page.items in
+    let terms = c.pages.terms.items in
+    let start = string_bytes c.pages.start in
+    let O = posted content c.args.of.database.0 in
+    let told = pages_told g.L.Layout.format c.args.of.database.0 c.args.of.index c.args.of.register c.args.wanted old now new c.pages.invariant.read c.terms_from.ensures.call.crash terms _ start c.as_str.ensures.value
+    c.pages.page_terms page c.pages.invariant.found c.in_ok-page.ensures.value clean store content has in
+    let ends : LeadsTo c.args.wanted page None =
+    subst (LeadsTo c.args.wanted page) c.in-None.is (subst (λ (l : List TermCount). LeadsTo c.args.wanted l c.in_ok-next.next) c.deref.ensures.value c.in_ok-next.ensures) in
+    subst (HasWanted O c.args.of.index c.args.of.register c.args.wanted) (sym c.in_ok-append.ensures.items)
+    (last_page O c.args.of.index c.args.of.register c.args.wanted terms start c.pages.page_terms page c.pages.invariant.some told.0 told.1 ends)
+
+pub returns-in-None-clause-work : goal.returns-in-None-clause-work
+returns-in-None-clause-work g c =
+    let old = state g.S.Store c.args.connection.now in
+    let now = state g.S.Store c.pages.connection in
+    let new = state g.S.Store c.terms_from.new.conn in
+    let page = c.in_ok-page.page.items in
+    let terms = c.pages.terms.items in
+    let all = c.append.new.self.items in
+    let start = string_bytes c.pages.start in
+    let row_work = g.L.Layout.row_work in
+    let db = c.args.of.database.0 in
+    let index = c.args.of.index in
+    let register = c.args.of.register in
+    counted_within g.L.Layout.format (λ content n. n ≡ row_work * length all) (λ content. RegisterDict row_work content db index register) NoRows old new c.args.work.now c.terms_from.new.work
+    (λ clean store content has n is.
+    let O = posted content db in
+    let told = pages_told g.L.Layout.format c.args.of.database.0 c.args.of.index c.args.of.register c.args.wanted old now new c.pages.invariant.read c.terms_from.ensures.call.crash terms _ start c.as_str.ensures.value
+    c.pages.page_terms page c.pages.invariant.found c.in_ok-page.ensures.value clean store content has in
+    within_register row_work content db index register all told.0.all n
+    (subst TermsRise (sym c.in_ok-append.ensures.items) (more_rises O index register c.args.wanted terms start c.pages.page_terms page c.pages.invariant.some told.0 told.1))
+    (subst (λ (l : List TermCount). (t : TermCount) → Has l t → (m : ℕ) × TermIn O index register t.term m) (sym c.in_ok-append.ensures.items) (more_of O index register c.args.wanted terms start c.pages.page_terms page c.pages.invariant.some told.0 told.1))
+    told.0.are is)
+    (pages_counted g.L.Layout.format row_work terms page all c.in_ok-append.ensures.items old now new c.args.work.now c.pages.work c.terms_from.new.work
+    c.pages.invariant.read c.terms_from.ensures.call.crash c.pages.invariant.counted c.in_ok-page.ensures.work)
+
+pub returns-in_err-page-clause-refused : goal.returns-in_err-page-clause-refused
+returns-in_err-page-clause-refused g c =
+    let old = state g.S.Store c.args.connection.now in
+    let now = state g.S.Store c.pages.connection in
+    let new = state g.S.Store c.terms_from.new.conn in
+    let cause = c.in_err-page.field-0.0 in
+    let told : c.from_residual-in_err-page.result ≡ Err cause = search rules in
+    reasoned_error old now new c.pages.invariant.read c.terms_from.ensures.call.crash cause c.from_residual-in_err-page.result told c.in_err-page.ensures.refused
 
 pub returns-then-spans_register-clause-value : goal.returns-then-spans_register-clause-value
 returns-then-spans_register-clause-value g c clean store =
-    IfOk-weaker c.terms_of.result _ _ (λ terms are content has. all_has_wanted (posted content c.args.database.0) c.args.index c.args.register c.args.wanted terms.items (are content has)) (c.terms_of.ensures.value clean store)
+    IfOk-weaker c.terms_of.result _ _ (λ terms are content has. all_has_wanted (posted content c.args.of.database.0) c.args.of.index c.args.of.register c.args.wanted terms.items (are content has)) (c.terms_of.ensures.value clean store)
 
 pub returns-then-spans_register-clause-work : goal.returns-then-spans_register-clause-work
 returns-then-spans_register-clause-work g c =
-    if_ok_counted c.terms_of.result g.L.Layout.format g.L.Layout.row_work c.args.database.0 c.args.index c.args.register (state g.S.Store c.args.connection.now) (state g.S.Store c.terms_of.new.conn)
+    if_ok_counted c.terms_of.result g.L.Layout.format g.L.Layout.row_work c.args.of.database.0 c.args.of.index c.args.of.register (state g.S.Store c.args.connection.now) (state g.S.Store c.terms_of.new.conn)
     c.args.work.now c.terms_of.new.work c.terms_of.ensures.value c.terms_of.ensures.work

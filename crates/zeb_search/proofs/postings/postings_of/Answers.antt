@@ -4,11 +4,10 @@ use Rattle.sqlite_rules.specs.Lists.{Has}
 use Rattle.zeb_query.proofs.HoldingLemmas.{take_whole}
 use Rattle.zeb_extract.specs.declared.keys.Key.{Key}
 use Rattle.zeb_register.specs.Content.{Posting}
-use Rattle.zeb_register.specs.Formats.{holds_in}
 use Rattle.zeb_search.specs.Counted.{Counted, NoRows}
 use Rattle.zeb_search.specs.ListRows.{rows_under}
 use Rattle.zeb_search.proofs.Gathering.{Gathers, gathers_next}
-use Rattle.zeb_search.proofs.ReadLemmas.{clean_before, one_read, read_then, still_store, still_trees}
+use Rattle.zeb_search.proofs.ReadLemmas.{clean_before, one_read, read_then, told_behind}
 use Rattle.zeb_search.proofs.CountedLemmas.{counted_then, list_counts, no_rows_then}
 use Rattle.zeb_search.proofs.RowCounts.{rows_more}
 use Rattle.zeb_search.proofs.Reasons.{reasoned_error}
@@ -26,8 +25,7 @@ loop-key-preserved g c =
       read = read_then old now new c.loop-key.invariant.read (one_read now new c.in_ok-list.list c.in_ok-list.ensures.call);
       gathered = λ clean store content has.
           let first = clean_before now new c.key_list.ensures.call.crash clean in
-          let there = subst (λ t. holds_in g.L.Layout.format t content) (sym (still_trees old now c.loop-key.invariant.read first)) has in
-          let value = c.in_ok-list.ensures.value clean (still_store old now c.loop-key.invariant.read first store) content there in
+          let value = told_behind g.L.Layout.format old now new (λ content. list ≡ content c.args.database.0 c.key-item.result) c.loop-key.invariant.read c.key_list.ensures.call.crash c.in_ok-list.ensures.value clean store content has in
           let same : list ≡ content c.args.database.0 (get_or keys index c.key-item.result) = value ∙ ap (content c.args.database.0) c.key-item.is in
           let all : c.extend_from_slice.new.self.items ≡ c.loop-key.postings.items ++ list = c.in_ok-extend_from_slice.ensures.items ∙ ap (λ l. c.loop-key.postings.items ++ l) c.deref.ensures.value in
           let R = λ (key : Key) (p : Posting). Has (content c.args.database.0 key) p in

@@ -4,63 +4,49 @@ use Rattle.sqlite.specs.Held.{state}
 use Rattle.zeb_query.proofs.HoldingLemmas.{take_whole}
 use Rattle.zeb_query.specs.declared.plans.Operator.TheVariants as operator
 use Rattle.zeb_register.specs.Content.{posted}
-use Rattle.zeb_register.specs.Formats.{holds_in}
 use Rattle.zeb_text.specs.Symbols.{Symbol}
-use Rattle.zeb_profile.specs.declared.Register.TheVariants as register
-use Rattle.zeb_search.specs.Holds.{Fits, HasMatch}
-use Rattle.zeb_search.specs.ListRows.{EntryRows, WordRows}
+use Rattle.zeb_search.specs.Holds.{HasMatch}
 use Rattle.zeb_search.specs.Lists.{AreNumbers}
 use Rattle.zeb_search.proofs.JustLemmas.{joined_numbers}
 use Rattle.zeb_search.proofs.PlanLemmas.{EachMatches, each_matches_more, each_matches_none, each_matches_whole, none_found}
-use Rattle.zeb_search.proofs.ReadLemmas.{as_read, clean_before, read_then, still_store, still_trees}
-use Rattle.zeb_search.specs.Counted.{Counted, HasNoStar}
-use Rattle.zeb_search.specs.DictRows.{EntryDict, WordDict}
-use Rattle.zeb_search.proofs.CountedLemmas.{counted_for, counted_then}
-use Rattle.zeb_search.proofs.DictCounts.{dict_behind, one_dict}
-use Rattle.zeb_search.proofs.RowCounts.{one_pattern, pattern_behind}
+use Rattle.zeb_search.proofs.ReadLemmas.{as_read, clean_before, read_then, told_behind}
 use Rattle.zeb_search.proofs.Reasons.{reasoned_error}
+use Rattle.zeb_search.proofs.WordCounts.{words_behind, one_word_counted}
+use Rattle.zeb_search.specs.PrivateCounts.{CountedWords}
 use Rattle.zeb_search.proofs.words.all_words_hits.Goals as goal
 
 pub returns-in_default-clause-value : goal.returns-in_default-clause-value
 returns-in_default-clause-value g c clean store content has =
-    none_found c.args.patterns.now (EachMatches (posted content c.args.database.0) c.args.index c.args.patterns.now) c.new.result.items c.in_default.ensures.cases c.new.ensures.items
+    none_found c.args.patterns.now (EachMatches (posted content c.args.of.database.0) c.args.of.index c.args.patterns.now) c.new.result.items c.in_default.ensures.cases c.new.ensures.items
 
 pub loop-other-init : goal.loop-other-init
 loop-other-init g c = record {
-  read = as_read (state g.S.Store c.args.connection.now) (state g.S.Store c.numbers_wanted.new.connection) c.in_ok-hits.hits c.in_ok-hits.ensures.call;
+  read = as_read (state g.S.Store c.args.connection.now) (state g.S.Store c.word_hits.new.connection) c.in_ok-hits.hits c.in_ok-hits.ensures.call;
   found = (
     c.in-Some.pattern.now,
     c.in-Some.ensures.cases.0,
     λ clean store content has.
-        each_matches_none (posted content c.args.database.0) c.args.index c.in-Some.pattern.now c.in_ok-hits.hits.items (c.in_ok-hits.ensures.value clean store content has),
+        each_matches_none (posted content c.args.of.database.0) c.args.of.index c.in-Some.pattern.now c.in_ok-hits.hits.items (c.in_ok-hits.ensures.value clean store content has),
   );
   counted = λ first is.
       let pattern = c.in-Some.pattern.now in
       let same : pattern ≡ first = (let e : pattern ∷ c.in-Some.others.now ≡ first ∷ c.in-Some.others.now = sym c.in-Some.ensures.cases.0 ∙ is in cc) in
-      let rows = g.L.Layout.block_rows in
-      let row_work = g.L.Layout.row_work in
-      counted_for g.L.Layout.format (λ content. EntryDict row_work content c.args.database.0 (HasNoStar pattern) c.args.index register.Word)
-      (λ content. WordDict row_work content c.args.database.0 c.args.index (first ∷ [])) (λ content. EntryRows rows content c.args.database.0 c.args.index register.Word (Fits pattern))
-      (λ content. WordRows rows content c.args.database.0 c.args.index (first ∷ [])) (state g.S.Store c.args.connection.now) (state g.S.Store c.numbers_wanted.new.connection) c.args.work.now c.numbers_wanted.new.work
-      (λ content n terms.
-      subst (λ (p : List Symbol). WordDict row_work content c.args.database.0 c.args.index (p ∷ []) n) same (one_dict row_work content c.args.database.0 c.args.index pattern n terms))
-      (λ content n entries.
-      subst (λ (p : List Symbol). WordRows rows content c.args.database.0 c.args.index (p ∷ []) n) same (one_pattern rows content c.args.database.0 c.args.index pattern n entries)) c.in_ok-hits.ensures.work;
-  no_work = c.numbers_wanted.ensures.no_work;
+      let old = state g.S.Store c.args.connection.now in
+      let new = state g.S.Store c.word_hits.new.connection in
+      subst (λ (p : List Symbol). CountedWords g.L.Layout.format g.L.Layout.row_work g.L.Layout.block_rows c.args.of.database.0 c.args.of.index (p ∷ []) old new c.args.work.now c.word_hits.new.work) same
+      (one_word_counted g.L.Layout.format g.L.Layout.row_work g.L.Layout.block_rows c.args.of.database.0 c.args.of.index pattern old new c.args.work.now c.word_hits.new.work c.in_ok-hits.ensures.work);
+  no_work = c.word_hits.ensures.no_work;
 }
 
 pub loop-other-preserved : goal.loop-other-preserved
 loop-other-preserved g c =
     let old = state g.S.Store c.args.connection.now in
     let now = state g.S.Store c.loop-other.connection in
-    let new = state g.S.Store c.numbers_wanted-in-loop-other.new.connection in
+    let new = state g.S.Store c.word_hits-in-loop-other.new.connection in
     let others = c.in-Some.others.now in
     let index = c.loop-other.other-index in
     let pattern = c.other-item.result in
     let first = c.loop-other.invariant.found.0 in
-    let rows = g.L.Layout.block_rows in
-    let row_work = g.L.Layout.row_work in
-    let db = c.args.database.0 in
     let more : take (index + 1) others ≡ take index others ++ pattern ∷ [] =
     take_more others index pattern c.loop-other-test.true ∙ ap (λ p. take index others ++ p ∷ []) (sym c.other-item.is) in
     record {
@@ -69,36 +55,30 @@ loop-other-preserved g c =
         first,
         c.loop-other.invariant.found.1,
         λ clean store content has.
-            let O = posted content c.args.database.0 in
-            let clean1 = clean_before now new c.numbers_wanted-in-loop-other.ensures.call.crash clean in
-            let there = subst (λ t. holds_in g.L.Layout.format t content) (sym (still_trees old now c.loop-other.invariant.read clean1)) has in
-            let here = c.in_ok-found.ensures.value clean (still_store old now c.loop-other.invariant.read clean1 store) content there in
+            let O = posted content c.args.of.database.0 in
+            let clean1 = clean_before now new c.word_hits-in-loop-other.ensures.call.crash clean in
+            let here = told_behind g.L.Layout.format old now new (λ content. AreNumbers (HasMatch (posted content c.args.of.database.0) c.args.of.index pattern) c.in_ok-found.found.items) c.loop-other.invariant.read
+            c.word_hits-in-loop-other.ensures.call.crash c.in_ok-found.ensures.value clean store content has in
             let before = c.loop-other.invariant.found.2 clean1 store content has in
-            each_matches_more O c.args.index others index pattern c.loop-other-test.true c.other-item.is c.in_ok-hits-2.hits.items first
-            (joined_numbers operator.And (λ n. EachMatches O c.args.index (take index others) n × HasMatch O c.args.index first n) (HasMatch O c.args.index pattern) c.loop-other.hits.items c.in_ok-found.found.items
+            each_matches_more O c.args.of.index others index pattern c.loop-other-test.true c.other-item.is c.in_ok-hits-2.hits.items first
+            (joined_numbers operator.And (λ n. EachMatches O c.args.of.index (take index others) n × HasMatch O c.args.of.index first n) (HasMatch O c.args.of.index pattern) c.loop-other.hits.items c.in_ok-found.found.items
             c.deref.result.now c.deref-in-loop-other.result.now c.in_ok-hits-2.hits.items c.deref.ensures.value c.deref-in-loop-other.ensures.value before here c.in_ok-hits-2.ensures),
       );
       counted = λ first is.
-          counted_then g.L.Layout.format (λ content. WordDict row_work content db c.args.index (first ∷ take index others)) (λ content. EntryDict row_work content db (HasNoStar pattern) c.args.index register.Word)
-          (λ content. WordDict row_work content db c.args.index (first ∷ take (index + 1) others)) (λ content. WordRows rows content db c.args.index (first ∷ take index others))
-          (λ content. EntryRows rows content db c.args.index register.Word (Fits pattern)) (λ content. WordRows rows content db c.args.index (first ∷ take (index + 1) others)) old now new c.args.work.now c.loop-other.work c.numbers_wanted-in-loop-other.new.work
-          (λ content m n before here.
-          subst (λ (l : List (List Symbol)). WordDict row_work content db c.args.index (first ∷ l) (m + n)) (sym more) (dict_behind row_work content db c.args.index (first ∷ take index others) pattern m n before here))
-          (λ content m n before here.
-          subst (λ (l : List (List Symbol)). WordRows rows content db c.args.index (first ∷ l) (m + n)) (sym more) (pattern_behind rows content db c.args.index (first ∷ take index others) pattern m n before here))
-          c.loop-other.invariant.read c.numbers_wanted-in-loop-other.ensures.call.crash
-          (c.loop-other.invariant.counted first is) c.in_ok-found.ensures.work;
-      no_work = λ none. c.numbers_wanted-in-loop-other.ensures.no_work none ∙ c.loop-other.invariant.no_work none;
+          subst (λ (l : List (List Symbol)). CountedWords g.L.Layout.format g.L.Layout.row_work g.L.Layout.block_rows c.args.of.database.0 c.args.of.index (first ∷ l) old new c.args.work.now c.word_hits-in-loop-other.new.work) (sym more)
+          (words_behind g.L.Layout.format g.L.Layout.row_work g.L.Layout.block_rows c.args.of.database.0 c.args.of.index (first ∷ take index others) pattern old now new c.args.work.now c.loop-other.work c.word_hits-in-loop-other.new.work
+          c.loop-other.invariant.read c.word_hits-in-loop-other.ensures.call.crash (c.loop-other.invariant.counted first is) c.in_ok-found.ensures.work);
+      no_work = λ none. c.word_hits-in-loop-other.ensures.no_work none ∙ c.loop-other.invariant.no_work none;
     }
 
 pub returns-clause-value : goal.returns-clause-value
 returns-clause-value g c clean store content has =
-    let O = posted content c.args.database.0 in
+    let O = posted content c.args.of.database.0 in
     let others = c.in-Some.others.now in
     let first = c.loop-other.invariant.found.0 in
     let whole = take_whole others c.loop-other.other-index (omega (arith, c.loop-other-test.false)) in
-    each_matches_whole O c.args.index c.args.patterns.now first others c.loop-other.hits.items c.loop-other.invariant.found.1
-    (subst (λ (l : List (List Symbol)). AreNumbers (λ n. EachMatches O c.args.index l n × HasMatch O c.args.index first n) c.loop-other.hits.items) whole (c.loop-other.invariant.found.2 clean store content has))
+    each_matches_whole O c.args.of.index c.args.patterns.now first others c.loop-other.hits.items c.loop-other.invariant.found.1
+    (subst (λ (l : List (List Symbol)). AreNumbers (λ n. EachMatches O c.args.of.index l n × HasMatch O c.args.of.index first n) c.loop-other.hits.items) whole (c.loop-other.invariant.found.2 clean store content has))
 
 pub returns-clause-work : goal.returns-clause-work
 returns-clause-work g c =
@@ -106,14 +86,14 @@ returns-clause-work g c =
     let others = c.in-Some.others.now in
     let whole = take_whole others c.loop-other.other-index (omega (arith, c.loop-other-test.false)) in
     let all : first ∷ take c.loop-other.other-index others ≡ c.args.patterns.now = ap (λ (l : List (List Symbol)). first ∷ l) whole ∙ sym c.loop-other.invariant.found.1 in
-    subst (λ (l : List (List Symbol)). Counted g.L.Layout.format (λ content. WordDict g.L.Layout.row_work content c.args.database.0 c.args.index l) (λ content. WordRows g.L.Layout.block_rows content c.args.database.0 c.args.index l) (state g.S.Store c.args.connection.now)
-    (state g.S.Store c.loop-other.connection) c.args.work.now c.loop-other.work) all (c.loop-other.invariant.counted first c.loop-other.invariant.found.1)
+    subst (λ (l : List (List Symbol)). CountedWords g.L.Layout.format g.L.Layout.row_work g.L.Layout.block_rows c.args.of.database.0 c.args.of.index l (state g.S.Store c.args.connection.now) (state g.S.Store c.loop-other.connection) c.args.work.now c.loop-other.work)
+    all (c.loop-other.invariant.counted first c.loop-other.invariant.found.1)
 
 pub returns-in_err-found-clause-refused : goal.returns-in_err-found-clause-refused
 returns-in_err-found-clause-refused g c =
     let old = state g.S.Store c.args.connection.now in
     let now = state g.S.Store c.loop-other.connection in
-    let new = state g.S.Store c.numbers_wanted-in-loop-other.new.connection in
+    let new = state g.S.Store c.word_hits-in-loop-other.new.connection in
     let cause = c.in_err-found.field-0.0 in
     let told : c.from_residual-in_err-found.result ≡ Err cause = search rules in
-    reasoned_error old now new c.loop-other.invariant.read c.numbers_wanted-in-loop-other.ensures.call.crash cause c.from_residual-in_err-found.result told c.in_err-found.ensures.refused
+    reasoned_error old now new c.loop-other.invariant.read c.word_hits-in-loop-other.ensures.call.crash cause c.from_residual-in_err-found.result told c.in_err-found.ensures.refused

@@ -6,12 +6,10 @@ use Rattle.zeb_register.specs.Formats.{holds_in}
 use Rattle.zeb_register.specs.Store.{IsStore}
 use Rattle.zeb_text.specs.Symbols.{Symbol}
 use Rattle.zeb_search.specs.Holds.{HasMatch}
-use Rattle.zeb_search.specs.ListRows.{WordRows}
 use Rattle.zeb_search.specs.Lists.{AreNumbers}
 use Rattle.zeb_search.proofs.PlanLemmas.{EachMatches}
 use Rattle.zeb_search.proofs.ReadLemmas.{IsRead}
-use Rattle.zeb_search.specs.Counted.{Counted}
-use Rattle.zeb_search.specs.DictRows.{WordDict}
+use Rattle.zeb_search.specs.PrivateCounts.{CountedWords}
 use Rattle.zeb_search.proofs.words.all_words_hits.Given as goal
 
 abbrev pub invariant-loop-other : goal.invariant-loop-other
@@ -22,8 +20,8 @@ invariant-loop-other g l =
       read : IsRead old now;
       found : (first : List Symbol) × (l.fn.patterns ≡ first ∷ l.others)
           × (HasCleanDisk now → IsStore old → (content : Content) → holds_in g.L.Layout.format old.now.trees content
-          → AreNumbers (λ n. EachMatches (posted content l.fn.database.0) l.index (take l.other-index l.others) n × HasMatch (posted content l.fn.database.0) l.index first n) l.hits.items);
+          → AreNumbers (λ n. EachMatches (posted content l.fn.of.database.0) l.of.index (take l.other-index l.others) n × HasMatch (posted content l.fn.of.database.0) l.of.index first n) l.hits.items);
       counted : (first : List Symbol) → l.fn.patterns ≡ first ∷ l.others
-          → Counted g.L.Layout.format (λ content. WordDict g.L.Layout.row_work content l.fn.database.0 l.index (first ∷ take l.other-index l.others)) (λ content. WordRows g.L.Layout.block_rows content l.fn.database.0 l.index (first ∷ take l.other-index l.others)) old now l.fn.work l.work;
+          → CountedWords g.L.Layout.format g.L.Layout.row_work g.L.Layout.block_rows l.fn.of.database.0 l.of.index (first ∷ take l.other-index l.others) old now l.fn.work l.work;
       no_work : g.L.Layout.row_work ≡ 0 → l.work ≡ l.fn.work;
     }

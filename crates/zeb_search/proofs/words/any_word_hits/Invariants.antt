@@ -7,11 +7,9 @@ use Rattle.zeb_register.specs.Formats.{holds_in}
 use Rattle.zeb_register.specs.Store.{IsStore}
 use Rattle.zeb_text.specs.Symbols.{Symbol}
 use Rattle.zeb_search.specs.Holds.{HasMatch}
-use Rattle.zeb_search.specs.ListRows.{WordRows}
 use Rattle.zeb_search.specs.Lists.{AreNumbers}
 use Rattle.zeb_search.proofs.ReadLemmas.{IsRead}
-use Rattle.zeb_search.specs.Counted.{Counted}
-use Rattle.zeb_search.specs.DictRows.{WordDict}
+use Rattle.zeb_search.specs.PrivateCounts.{CountedWords}
 use Rattle.zeb_search.proofs.words.any_word_hits.Given as goal
 
 abbrev pub invariant-loop-pattern : goal.invariant-loop-pattern
@@ -21,7 +19,7 @@ invariant-loop-pattern g l =
     record {
       read : IsRead old now;
       found : HasCleanDisk now → IsStore old → (content : Content) → holds_in g.L.Layout.format old.now.trees content
-          → AreNumbers (λ n. (pattern : List Symbol) × Has (take l.pattern-index l.patterns) pattern × HasMatch (posted content l.fn.database.0) l.index pattern n) l.hits.items;
-      counted : Counted g.L.Layout.format (λ content. WordDict g.L.Layout.row_work content l.fn.database.0 l.index (take l.pattern-index l.patterns)) (λ content. WordRows g.L.Layout.block_rows content l.fn.database.0 l.index (take l.pattern-index l.patterns)) old now l.fn.work l.work;
+          → AreNumbers (λ n. (pattern : List Symbol) × Has (take l.pattern-index l.patterns) pattern × HasMatch (posted content l.fn.of.database.0) l.of.index pattern n) l.hits.items;
+      counted : CountedWords g.L.Layout.format g.L.Layout.row_work g.L.Layout.block_rows l.fn.of.database.0 l.of.index (take l.pattern-index l.patterns) old now l.fn.work l.work;
       no_work : g.L.Layout.row_work ≡ 0 → l.work ≡ l.fn.work;
     }

@@ -5,12 +5,13 @@ use Rattle.zeb_search.specs.Holds.{HasPhrase}
 use Rattle.zeb_search.specs.Lists.{AreNumbers}
 use Rattle.zeb_search.specs.PrivateTerms.{HasPosting}
 use Rattle.zeb_search.proofs.PlanLemmas.{IsStart, first_phrase_hits, firsts_rise, phrase_hits}
+use Rattle.zeb_search.proofs.PostingLemmas.{numbers_told}
 use Rattle.zeb_search.proofs.words.phrase_hits.Goals as goal
 
 pub returns-then-first-clause-value : goal.returns-then-first-clause-value
 returns-then-first-clause-value g c clean store content has =
-    let O = posted content c.args.database.0 in
-    let index = c.args.index in
+    let O = posted content c.args.of.database.0 in
+    let index = c.args.of.index in
     let patterns = c.args.patterns.now in
     let places = c.in_ok-places.places.items in
     let hits = c.in_ok-numbers_of.field-0.items in
@@ -24,13 +25,12 @@ returns-then-first-clause-value g c clean store content has =
 
 pub returns-clause-value : goal.returns-clause-value
 returns-clause-value g c clean store content has =
-    let O = posted content c.args.database.0 in
-    let index = c.args.index in
+    let O = posted content c.args.of.database.0 in
+    let index = c.args.of.index in
     let patterns = c.args.patterns.now in
     let places = c.in_ok-places.places.items in
     let hits = c.in_ok-numbers_of-2.field-0.items in
     let are = c.in_ok-places.ensures.value clean store content has in
-    let rising = subst (IsStrictlySortedBy posting_cmp) (sym c.deref-else-first.ensures.value) are.rising in
-    let numbers = subst (λ (l : List Posting). AreNumbers (HasPosting l) hits) c.deref-else-first.ensures.value (c.in_ok-numbers_of-2.ensures rising) in
+    let numbers = numbers_told (IsStart O index patterns) c.deref-else-first.result.now places hits c.deref-else-first.ensures.value are c.in_ok-numbers_of-2.ensures in
     subst (λ (b : Bool). AreNumbers (λ n. (patterns ≢ []) × HasPhrase O index patterns b n) hits) (sym c.if-first.false)
     (phrase_hits O index patterns places hits are numbers)

@@ -1,27 +1,20 @@
-use Rattle.std.proofs.Common.{rules, ◌≡◌, ◌∙◌, ◌++◌, ◌∷◌, ◌+◌, [], List, ap, subst, sym, Err}
+use Rattle.std.proofs.Common.{rules, ◌≡◌, ◌∙◌, ◌++◌, ◌∷◌, [], List, ap, subst, sym, Err}
 use Rattle.std.proofs.lemmas.List.{append_assoc, append_cancel_left}
 use Rattle.sqlite.specs.Held.{state}
 use Rattle.zeb_register.specs.Content.{posted}
-use Rattle.zeb_register.specs.Formats.{holds_in}
 use Rattle.zeb_text.specs.Symbols.{Symbol}
-use Rattle.zeb_profile.specs.declared.Register.TheVariants as register
-use Rattle.zeb_search.specs.Holds.{Fits}
-use Rattle.zeb_search.specs.ListRows.{EntryRows, WordRows}
 use Rattle.zeb_search.specs.Lists.{ArePostings}
 use Rattle.zeb_search.proofs.PlanLemmas.{AreWordsAt, IsWordAt, none_found, some_patterns, word_before, IsStart, no_patterns, one_word}
-use Rattle.zeb_search.proofs.ReadLemmas.{as_read, clean_before, read_then, still_store, still_trees}
-use Rattle.zeb_search.specs.Counted.{Counted, HasNoStar}
-use Rattle.zeb_search.specs.DictRows.{EntryDict, WordDict}
-use Rattle.zeb_search.proofs.CountedLemmas.{counted_for, counted_then}
-use Rattle.zeb_search.proofs.DictCounts.{dict_before, one_dict}
-use Rattle.zeb_search.proofs.RowCounts.{one_pattern, pattern_before}
+use Rattle.zeb_search.proofs.ReadLemmas.{as_read, clean_before, read_then, told_behind}
 use Rattle.zeb_search.proofs.JustLemmas.{just_same}
 use Rattle.zeb_search.proofs.Reasons.{reasoned_error}
+use Rattle.zeb_search.proofs.WordCounts.{words_before, one_word_counted}
+use Rattle.zeb_search.specs.PrivateCounts.{CountedWords}
 use Rattle.zeb_search.proofs.words.places_of_phrase.Goals as goal
 
 pub returns-in_default-clause-value : goal.returns-in_default-clause-value
 returns-in_default-clause-value g c clean store content has =
-    none_found c.args.patterns.now (AreWordsAt (posted content c.args.database.0) c.args.index c.args.patterns.now) c.new.result.items c.in_default.ensures.cases c.new.ensures.items
+    none_found c.args.patterns.now (AreWordsAt (posted content c.args.of.database.0) c.args.of.index c.args.patterns.now) c.new.result.items c.in_default.ensures.cases c.new.ensures.items
 
 pub loop-pattern-preserved : goal.loop-pattern-preserved
 loop-pattern-preserved g c =
@@ -31,9 +24,6 @@ loop-pattern-preserved g c =
     let pattern = c.in-Some-split_last.pattern.now in
     let before = c.in-Some-split_last.before.now in
     let rest = c.loop-pattern.invariant.behind.0 in
-    let rows = g.L.Layout.block_rows in
-    let row_work = g.L.Layout.row_work in
-    let db = c.args.database.0 in
     let joined : c.args.patterns.now ≡ before ++ (pattern ∷ rest) =
     c.loop-pattern.invariant.behind.2 ∙ ap (λ (l : List (List Symbol)). l ++ rest) c.in-Some-split_last.ensures.cases.0 ∙ append_assoc before (pattern ∷ []) rest in
     record {
@@ -43,22 +33,19 @@ loop-pattern-preserved g c =
         some_patterns pattern rest,
         joined,
         λ clean store content has.
-            let O = posted content c.args.database.0 in
+            let O = posted content c.args.of.database.0 in
             let clean1 = clean_before now new c.places_of_words-in-Some-split_last.ensures.call.crash clean in
-            let there = subst (λ t. holds_in g.L.Layout.format t content) (sym (still_trees old now c.loop-pattern.invariant.read clean1)) has in
-            let starts = subst (ArePostings (IsWordAt O c.args.index pattern)) (sym c.deref.ensures.value) (c.in_ok-starts.ensures.value clean (still_store old now c.loop-pattern.invariant.read clean1 store) content there) in
-            let places = subst (ArePostings (AreWordsAt O c.args.index rest)) (sym c.deref-in-Some-split_last.ensures.value) (c.loop-pattern.invariant.behind.3 clean1 store content has) in
-            word_before O c.args.index pattern rest c.deref.result.now c.deref-in-Some-split_last.result.now c.in_ok-places-2.places.items starts places (c.in_ok-places-2.ensures starts.rising places.rising),
+            let here = told_behind g.L.Layout.format old now new (λ content. ArePostings (IsWordAt (posted content c.args.of.database.0) c.args.of.index pattern) c.in_ok-starts.starts.items) c.loop-pattern.invariant.read
+            c.places_of_words-in-Some-split_last.ensures.call.crash c.in_ok-starts.ensures.value clean store content has in
+            let starts = subst (ArePostings (IsWordAt O c.args.of.index pattern)) (sym c.deref.ensures.value) here in
+            let places = subst (ArePostings (AreWordsAt O c.args.of.index rest)) (sym c.deref-in-Some-split_last.ensures.value) (c.loop-pattern.invariant.behind.3 clean1 store content has) in
+            word_before O c.args.of.index pattern rest c.deref.result.now c.deref-in-Some-split_last.result.now c.in_ok-places-2.places.items starts places (c.in_ok-places-2.ensures starts.rising places.rising),
       );
       counted = λ behind is.
           let same : pattern ∷ rest ≡ behind = append_cancel_left before (pattern ∷ rest) behind (sym joined ∙ is) in
-          counted_then g.L.Layout.format (λ content. WordDict row_work content db c.args.index rest) (λ content. EntryDict row_work content db (HasNoStar pattern) c.args.index register.Word)
-          (λ content. WordDict row_work content db c.args.index behind) (λ content. WordRows rows content db c.args.index rest)
-          (λ content. EntryRows rows content db c.args.index register.Word (Fits pattern)) (λ content. WordRows rows content db c.args.index behind) old now new c.args.work.now c.loop-pattern.work c.places_of_words-in-Some-split_last.new.work
-          (λ content m n words terms. subst (λ (l : List (List Symbol)). WordDict row_work content db c.args.index l (m + n)) same (dict_before row_work content db c.args.index pattern rest m n words terms))
-          (λ content m n words entries. subst (λ (l : List (List Symbol)). WordRows rows content db c.args.index l (m + n)) same (pattern_before rows content db c.args.index pattern rest m n words entries))
-          c.loop-pattern.invariant.read c.places_of_words-in-Some-split_last.ensures.call.crash
-          (c.loop-pattern.invariant.counted rest c.loop-pattern.invariant.behind.2) c.in_ok-starts.ensures.work;
+          subst (λ (l : List (List Symbol)). CountedWords g.L.Layout.format g.L.Layout.row_work g.L.Layout.block_rows c.args.of.database.0 c.args.of.index l old new c.args.work.now c.places_of_words-in-Some-split_last.new.work) same
+          (words_before g.L.Layout.format g.L.Layout.row_work g.L.Layout.block_rows c.args.of.database.0 c.args.of.index rest pattern old now new c.args.work.now c.loop-pattern.work c.places_of_words-in-Some-split_last.new.work
+          c.loop-pattern.invariant.read c.places_of_words-in-Some-split_last.ensures.call.crash (c.loop-pattern.invariant.counted rest c.loop-pattern.invariant.behind.2) c.in_ok-starts.ensures.work);
       no_work = λ none. c.places_of_words-in-Some-split_last.ensures.no_work none ∙ c.loop-pattern.invariant.no_work none;
     }
 
@@ -74,37 +61,32 @@ loop-pattern-init g c =
         last ∷ [],
         some_patterns last [],
         c.in-Some.ensures.cases.0,
-        λ clean store content has. one_word (posted content c.args.database.0) c.args.index last c.in_ok-places.places.items (c.in_ok-places.ensures.value clean store content has),
+        λ clean store content has. one_word (posted content c.args.of.database.0) c.args.of.index last c.in_ok-places.places.items (c.in_ok-places.ensures.value clean store content has),
       );
       counted = λ behind is.
-          let rows = g.L.Layout.block_rows in
-          let row_work = g.L.Layout.row_work in
-          let db = c.args.database.0 in
           let same : last ∷ [] ≡ behind = append_cancel_left others (last ∷ []) behind (sym c.in-Some.ensures.cases.0 ∙ is) in
-          counted_for g.L.Layout.format (λ content. EntryDict row_work content db (HasNoStar last) c.args.index register.Word) (λ content. WordDict row_work content db c.args.index behind) (λ content. EntryRows rows content db c.args.index register.Word (Fits last)) (λ content. WordRows rows content db c.args.index behind) old new
-          c.args.work.now c.places_of_words.new.work
-          (λ content n terms. subst (λ (l : List (List Symbol)). WordDict row_work content db c.args.index l n) same (one_dict row_work content db c.args.index last n terms))
-          (λ content n entries. subst (λ (l : List (List Symbol)). WordRows rows content db c.args.index l n) same (one_pattern rows content db c.args.index last n entries)) c.in_ok-places.ensures.work;
+          subst (λ (l : List (List Symbol)). CountedWords g.L.Layout.format g.L.Layout.row_work g.L.Layout.block_rows c.args.of.database.0 c.args.of.index l old new c.args.work.now c.places_of_words.new.work) same
+          (one_word_counted g.L.Layout.format g.L.Layout.row_work g.L.Layout.block_rows c.args.of.database.0 c.args.of.index last old new c.args.work.now c.places_of_words.new.work c.in_ok-places.ensures.work);
       no_work = c.places_of_words.ensures.no_work;
     }
 
 pub returns-clause-value : goal.returns-clause-value
 returns-clause-value g c clean store content has =
-    let O = posted content c.args.database.0 in
+    let O = posted content c.args.of.database.0 in
     let rest = c.loop-pattern.invariant.behind.0 in
     let places = c.loop-pattern.places.items in
     let whole : c.args.patterns.now ≡ rest =
     c.loop-pattern.invariant.behind.2 ∙ ap (λ (l : List (List Symbol)). l ++ rest) (no_patterns c.loop-pattern.others.now c.in_default-split_last.ensures.cases) in
-    subst (λ (l : List (List Symbol)). ArePostings (IsStart O c.args.index l) places) (sym whole)
-    (just_same (AreWordsAt O c.args.index rest) (IsStart O c.args.index rest) places (λ p. (λ h. (c.loop-pattern.invariant.behind.1, h), λ h. h.1)) (c.loop-pattern.invariant.behind.3 clean store content has))
+    subst (λ (l : List (List Symbol)). ArePostings (IsStart O c.args.of.index l) places) (sym whole)
+    (just_same (AreWordsAt O c.args.of.index rest) (IsStart O c.args.of.index rest) places (λ p. (λ h. (c.loop-pattern.invariant.behind.1, h), λ h. h.1)) (c.loop-pattern.invariant.behind.3 clean store content has))
 
 pub returns-clause-work : goal.returns-clause-work
 returns-clause-work g c =
     let rest = c.loop-pattern.invariant.behind.0 in
     let whole : c.args.patterns.now ≡ rest =
     c.loop-pattern.invariant.behind.2 ∙ ap (λ (l : List (List Symbol)). l ++ rest) (no_patterns c.loop-pattern.others.now c.in_default-split_last.ensures.cases) in
-    subst (λ (l : List (List Symbol)). Counted g.L.Layout.format (λ content. WordDict g.L.Layout.row_work content c.args.database.0 c.args.index l) (λ content. WordRows g.L.Layout.block_rows content c.args.database.0 c.args.index l) (state g.S.Store c.args.connection.now)
-    (state g.S.Store c.loop-pattern.connection) c.args.work.now c.loop-pattern.work) (sym whole) (c.loop-pattern.invariant.counted rest c.loop-pattern.invariant.behind.2)
+    subst (λ (l : List (List Symbol)). CountedWords g.L.Layout.format g.L.Layout.row_work g.L.Layout.block_rows c.args.of.database.0 c.args.of.index l (state g.S.Store c.args.connection.now) (state g.S.Store c.loop-pattern.connection) c.args.work.now c.loop-pattern.work)
+    (sym whole) (c.loop-pattern.invariant.counted rest c.loop-pattern.invariant.behind.2)
 
 pub returns-in_err-starts-clause-refused : goal.returns-in_err-starts-clause-refused
 returns-in_err-starts-clause-refused g c =

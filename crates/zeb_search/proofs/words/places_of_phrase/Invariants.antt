@@ -5,12 +5,10 @@ use Rattle.zeb_register.specs.Content.{Content, posted}
 use Rattle.zeb_register.specs.Formats.{holds_in}
 use Rattle.zeb_register.specs.Store.{IsStore}
 use Rattle.zeb_text.specs.Symbols.{Symbol}
-use Rattle.zeb_search.specs.ListRows.{WordRows}
 use Rattle.zeb_search.specs.Lists.{ArePostings}
 use Rattle.zeb_search.proofs.PlanLemmas.{AreWordsAt}
 use Rattle.zeb_search.proofs.ReadLemmas.{IsRead}
-use Rattle.zeb_search.specs.Counted.{Counted}
-use Rattle.zeb_search.specs.DictRows.{WordDict}
+use Rattle.zeb_search.specs.PrivateCounts.{CountedWords}
 use Rattle.zeb_search.proofs.words.places_of_phrase.Given as goal
 
 abbrev pub invariant-loop-pattern : goal.invariant-loop-pattern
@@ -21,9 +19,9 @@ invariant-loop-pattern g l =
       read : IsRead old now;
       behind : (rest : List (List Symbol)) × (rest ≢ []) × (l.fn.patterns ≡ l.others ++ rest)
           × (HasCleanDisk now → IsStore old → (content : Content) → holds_in g.L.Layout.format old.now.trees content
-          → ArePostings (AreWordsAt (posted content l.fn.database.0) l.index rest) l.places.items);
+          → ArePostings (AreWordsAt (posted content l.fn.of.database.0) l.of.index rest) l.places.items);
       counted : (rest : List (List Symbol)) → l.fn.patterns ≡ l.others ++ rest
-          → Counted g.L.Layout.format (λ content. WordDict g.L.Layout.row_work content l.fn.database.0 l.index rest) (λ content. WordRows g.L.Layout.block_rows content l.fn.database.0 l.index rest) old now l.fn.work l.work;
+          → CountedWords g.L.Layout.format g.L.Layout.row_work g.L.Layout.block_rows l.fn.of.database.0 l.of.index rest old now l.fn.work l.work;
       no_work : g.L.Layout.row_work ≡ 0 → l.work ≡ l.fn.work;
     }
 

@@ -7,7 +7,7 @@ use Rattle.zeb_register.specs.Store.{IsStore}
 use Rattle.zeb_search.proofs.PageLemmas.{HasUpTo}
 use Rattle.zeb_search.proofs.ReadLemmas.{IsRead}
 use Rattle.zeb_search.specs.Counted.{Counted, NoRows}
-use Rattle.zeb_search.proofs.keys.terms_by_pages.Given as goal
+use Rattle.zeb_search.proofs.keys.terms_wanted.Given as goal
 
 abbrev pub invariant-pages : goal.invariant-pages
 invariant-pages g l =
@@ -16,7 +16,7 @@ invariant-pages g l =
     record {
       read : IsRead old now;
       found : HasCleanDisk now → IsStore old → (content : Content) → holds_in g.L.Layout.format old.now.trees content
-          → HasUpTo (posted content l.fn.database.0) l.index l.register l.wanted l.terms.items (string_bytes l.start);
+          → HasUpTo (posted content l.fn.of.database.0) l.of.index l.of.register l.wanted l.terms.items (string_bytes l.start);
       counted : Counted g.L.Layout.format (λ content n. n ≡ g.L.Layout.row_work * length l.terms.items) NoRows old now l.fn.work l.work;
       no_work : g.L.Layout.row_work ≡ 0 → l.work ≡ l.fn.work;
       some : 1 ≤ l.page_terms;
