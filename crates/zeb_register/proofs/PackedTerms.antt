@@ -1,5 +1,5 @@
 -- Rows of `dict` as the terms of a register.
-use Rattle.std.proofs.Common.{◌≡◌, ◌≢◌, ◌↔◌, ◌∙◌, ◌+◌, ◌<◌, ◌≤◌, ◌^◌, ℕ, ℤ, pos, FitsSigned, w64, to_z, of_z, zero, suc, Bool, true, false, not, List, [], ◌∷◌, ◌++◌, ◌⊎◌, length, get_or, map, filter, take, drop, reverse, refl, sym, ap, ap₂, subst, inl, inr, Option, None, Some, Less, nat_cmp, arith}
+use Rattle.std.proofs.Common.{◌≡◌, ◌≢◌, ◌↔◌, ◌∙◌, ◌+◌, ◌<◌, ◌≤◌, ◌^◌, ℕ, ℤ, pos, FitsSigned, w64, to_z, of_z, zero, suc, Bool, true, false, not, List, [], ◌∷◌, ◌++◌, ◌⊎◌, length, get_or, map, filter, take, drop, reverse, refl, sym, ap, ap₂, subst, inl, inr, Less, nat_cmp, arith}
 use Rattle.std.proofs.lemmas.List.{length-reverse, map-append, reverse-append, reverse-reverse, take-append-drop, take-map, take_more}
 use Rattle.std.proofs.Math.Facts.{to_z-of_z}
 use Rattle.std.specs.Ordering.{is_lt, ordering_then}
