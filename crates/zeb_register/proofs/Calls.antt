@@ -8,7 +8,7 @@ use Rattle.sqlite.specs.Command.{Command}
 use Rattle.sqlite.specs.Compile.{compiled, first, returning, planned, meaning, command, with_command, small, timed as timed_in}
 use Rattle.sqlite.specs.Listing.{understood, reads_listing, listing_schema, is_select, if_select}
 use Rattle.sqlite.specs.declared.error.Error.{Error}
-use Rattle.sqlite.specs.State.{State, IsUnchanged, IsRolledBack, KeepsCommit, Survives, Executes, ExecutesInside, Shown, ShowsRows, FailsToQuery, FailsToShow, IsNotRun, CommitsShowing, IsTooLate}
+use Rattle.sqlite.specs.State.{State, HasCleanDisk, IsUnchanged, IsRolledBack, KeepsCommit, Survives, Executes, ExecutesInside, Shown, ShowsRows, FailsToQuery, FailsToShow, IsNotRun, CommitsShowing, IsTooLate}
 use Rattle.sqlite.specs.Clock.{timed}
 use Rattle.sqlite.proofs.StateLemmas.{survives_weaker}
 use Rattle.sqlite_resolve.specs.Lowering.{and_then}
@@ -280,4 +280,15 @@ reading_then a b c x (Err e) first second = record {
   ok = λ clean. tt;
   same = λ clean i. nothing_then a b c (first.same (omega (arith, second.crash.clean)) i) (second.same clean (first.idle i));
   crash = quiet_then a b c first.crash second.crash;
+}
+
+-- a query that was accepted, behind calls that changed nothing
+pub reading_behind : {A B E F : Type 0} (a b c : State) (x : A) (y : B) (Shown : A → State → State → Type 0) → (a.in_transaction ≡ false → b.in_transaction ≡ false) → (HasCleanDisk b → IsUnchanged a b)
+    → (HasCleanDisk b → a.in_transaction ≡ false → ChangesNothing a b) → Survives a b (λ _. ⊥) → Reading {E = E} b c (Ok x) Shown → (Shown x b c → IsUnchanged b c)
+    → Reading {E = F} a c (Ok y) (λ _. IsUnchanged)
+reading_behind a b c x y Shown idle ok same crash next bare = record {
+  idle = λ i. next.idle (idle i);
+  ok = λ clean. unchanged_then a b c (ok (omega (arith, next.crash.clean))) (bare (next.ok clean));
+  same = λ clean i. nothing_then a b c (same (omega (arith, next.crash.clean)) i) (next.same clean (idle i));
+  crash = quiet_then a b c crash next.crash;
 }

@@ -4,12 +4,16 @@ use Rattle.std.specs.Ordering.{int_cmp}
 use Rattle.std.proofs.lemmas.Cmp.{int_ranked}
 use Rattle.std.proofs.lemmas.Int.{ints}
 use Rattle.sqlite.specs.declared.types.Value.TheVariants.{Int}
+use Rattle.sqlite.specs.Effect.{Database}
 use Rattle.sqlite.specs.Order.{Row}
+use Rattle.sqlite.specs.State.{State, IsUnchanged}
 use Rattle.sqlite.specs.Tree.{Trees}
 use Rattle.zeb_register.specs.declared.catalog.ListedDatabase.{ListedDatabase}
 use Rattle.zeb_register.specs.declared.belonging.Ends.{Ends}
 use Rattle.zeb_register.specs.RowExpected.{BelongsTo, IsListedId, Owns}
 use Rattle.zeb_register.specs.RowReads.{AreEnds, ShowsFirst}
+use Rattle.zeb_register.specs.Store.{IsStore}
+use Rattle.zeb_register.proofs.Calls.{store_same}
 use Rattle.zeb_register.proofs.OwnerStatements.{cmp_below}
 
 -- ---- what the first row shows
@@ -143,10 +147,10 @@ module _ (tree : ℕ) (trees : Trees) (listed : List ListedDatabase) where
             let high : id <ℤ other = int_ranked other id Greater is in
             absurd (let e : next ≤ℤ other = first.1 other (there, omega (arith, ints, high)) in omega (arith, ints, e, low))
 
-    -- the same of tables that are the same, from a start that is the next number
-    pub none_seen : {now : Trees} {start : ℤ} → IsListedId listed id → now ≡ trees → IsFirst (λ a b. a ≤ℤ b) (λ other. Owns tree now other × (start ≤ℤ other)) None → start ≡ id +ℤ pos 1 → BelongsTo tree listed trees
-    none_seen here same first is = none_next here (subst₂ (λ t s. IsFirst (λ a b. a ≤ℤ b) (λ other. Owns tree t other × (s ≤ℤ other)) None) same is first)
-
-    pub next_seen : {now : Trees} {start : ℤ} (next : ℤ) → IsListedId listed id → now ≡ trees → IsFirst (λ a b. a ≤ℤ b) (λ other. Owns tree now other × (start ≤ℤ other)) (Some next) → start ≡ id +ℤ pos 1
-        → IsReached tree trees listed last next (turn + 1)
-    next_seen next here same first is = next_reached here next (subst₂ (λ t s. IsFirst (λ a b. a ≤ℤ b) (λ other. Owns tree t other × (s ≤ℤ other)) (Some next)) same is first)
+-- what rows show of tables that are the same, from a start that is the next number
+pub found_next : (tree : ℕ) (id : ℤ) {start : ℤ} (s0 s1 : State) (rows seen : List Row) (found : Option ℤ) → IsUnchanged s0 s1 → IsStore s0
+    → (IsStore s1 → ShowsFirst (λ a b. a ≤ℤ b) (λ other. Owns tree s1.now.trees other × (start ≤ℤ other)) rows) → seen ≡ rows → TellsId seen found → start ≡ id +ℤ pos 1
+    → IsFirst (λ a b. a ≤ℤ b) (λ other. Owns tree s0.now.trees other × ((id +ℤ pos 1) ≤ℤ other)) found
+found_next tree id s0 s1 rows seen found same store shows seen_is told is =
+    let at = same.0.now_is in
+    subst₂ (λ (d : Database) b. IsFirst (λ a b. a ≤ℤ b) (λ other. Owns tree d.trees other × (b ≤ℤ other)) found) at is (first_seen (λ a b. a ≤ℤ b) _ rows seen found (shows (store_same s0 s1 at store)) seen_is told)

@@ -2,8 +2,7 @@
 use Rattle.std.proofs.Common.{◌≡◌, ◌≢◌, ◌↔◌, ◌∙◌, ◌/◌, ℕ, ℤ, pos, List, [], ◌∷◌, ◌++◌, map, refl, sym, ap, ap₂, subst, inl, nat_eq, arith}
 use Rattle.std.proofs.lemmas.Bool.{eqb-true, eq-eqb}
 use Rattle.std.specs.List.Sorted.{IsStrictlySortedBy}
-use Rattle.sqlite.specs.declared.types.Value.{Value}
-use Rattle.sqlite.specs.declared.types.Value.TheVariants.{Null, Int, Real, Text, Blob}
+use Rattle.sqlite.specs.declared.types.Value.TheVariants.{Int, Blob}
 use Rattle.sqlite.specs.Order.{Row, column}
 use Rattle.sqlite.specs.State.{State}
 use Rattle.sqlite.specs.Tree.{Trees}
@@ -32,6 +31,7 @@ use Rattle.zeb_register.proofs.CountLemmas.{count_so}
 use Rattle.zeb_register.proofs.OccurringLemmas.{key_posted}
 use Rattle.zeb_register.proofs.PlaceLemmas.{none_left}
 use Rattle.zeb_register.proofs.RisingLists.{same_list, kept_rises}
+use Rattle.zeb_register.proofs.TermRows.{text_of}
 use Rattle.zeb_register.proofs.TermsAmong.{terms_among, records_count, records_of}
 
 -- ---- the part of a list in a block
@@ -157,13 +157,6 @@ dict_there trees content db key n holds has =
       count_so (IsInRecord (content db key)) (HasKey (posted content db) key) (records_of (content db key)) (λ m. ((key_posted content db key m).1, (key_posted content db key m).0)) (records_count (content db key)),
       refl,
     )
-
-text_of : Value → List ℕ
-text_of (Text t) = t
-text_of Null = []
-text_of (Int n) = []
-text_of (Real x) = []
-text_of (Blob b) = []
 
 text_at : Row → List ℕ
 text_at row = text_of (column row 4)

@@ -1,13 +1,12 @@
 -- Rows of a key's blocks as its list of postings.
-use Rattle.std.proofs.Common.{◌≡◌, ◌∙◌, ◌<◌, ◌+◌, ◌/◌, ℕ, ℤ, pos, negsuc, List, [], ◌∷◌, ◌++◌, length, take, get_or, refl, sym, ap, ap₂, subst, inl, inr, Ordering, Less, Equal, Greater, nat_cmp, arith}
+use Rattle.std.proofs.Common.{◌≡◌, ◌∙◌, ◌<◌, ◌+◌, ◌/◌, ℕ, ℤ, pos, List, [], ◌∷◌, ◌++◌, length, take, get_or, refl, sym, ap, ap₂, subst, inl, inr, Ordering, Less, Equal, Greater, nat_cmp, arith}
 use Rattle.std.specs.Prelude.{◌≢◌, ◌==◌, if◌then◌else◌, Bool}
 use Rattle.std.proofs.lemmas.Bool.{eq-eqb}
 use Rattle.std.proofs.lemmas.Bool.Decides.{eqb_tells}
 use Rattle.std.proofs.lemmas.List.{take_more, append_assoc, append-nil}
 use Rattle.std.specs.Ordering.{ordering_then}
 use Rattle.std.specs.List.Sorted.{IsStrictlySortedBy}
-use Rattle.sqlite.specs.declared.types.Value.{Value}
-use Rattle.sqlite.specs.declared.types.Value.TheVariants.{Null, Int, Real, Text, Blob}
+use Rattle.sqlite.specs.declared.types.Value.TheVariants.{Int, Blob}
 use Rattle.sqlite.specs.Order.{Row, column, row_cmp}
 use Rattle.sqlite.specs.Tree.{Trees}
 use Rattle.sqlite_rules.specs.Lists.{Has}
@@ -28,6 +27,7 @@ use Rattle.zeb_register.proofs.ContentLemmas.{ints_order, told_apart}
 use Rattle.zeb_register.proofs.CountLemmas.{is_less}
 use Rattle.zeb_register.proofs.PackedLemmas.{block_rows, block_spells, block_there, in_part, not_empty, one_spelled, part_in_block, part_in_list}
 use Rattle.zeb_register.proofs.RisingLists.{joined_rises, never_itself, same_list}
+use Rattle.zeb_register.proofs.TermRows.{natural_of}
 
 -- a key's rows are those of its columns
 pub key_listed : (trees : Trees) (db : ℤ) (key : Key) (term : List ℕ) → term ≡ key.term → (rows : List Row)
@@ -84,14 +84,6 @@ pub spelled_whole : (rows : List Row) (list : List Posting) → AreSpelled (take
 spelled_whole rows list are = subst (λ (rs : List Row). AreSpelled rs list) (take_whole rows) are
 
 -- ---- the rows of a key
-
-natural_of : Value → ℕ
-natural_of (Int (pos n)) = n
-natural_of (Int (negsuc n)) = 0
-natural_of Null = 0
-natural_of (Text t) = 0
-natural_of (Real x) = 0
-natural_of (Blob b) = 0
 
 block_at : Row → ℕ
 block_at row = natural_of (column row 0)

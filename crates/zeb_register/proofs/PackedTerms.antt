@@ -1,13 +1,14 @@
 -- Rows of `dict` as the terms of a register.
-use Rattle.std.proofs.Common.{◌≡◌, ◌≢◌, ◌↔◌, ◌∙◌, ◌+◌, ◌<◌, ◌≤◌, ℕ, ℤ, pos, zero, suc, Bool, true, false, not, List, [], ◌∷◌, ◌++◌, ◌⊎◌, length, get_or, map, filter, take, drop, reverse, refl, sym, ap, ap₂, subst, inl, inr, Option, None, Some, Less, nat_cmp, arith}
+use Rattle.std.proofs.Common.{◌≡◌, ◌≢◌, ◌↔◌, ◌∙◌, ◌+◌, ◌<◌, ◌≤◌, ◌^◌, ℕ, ℤ, pos, FitsSigned, w64, to_z, of_z, zero, suc, Bool, true, false, not, List, [], ◌∷◌, ◌++◌, ◌⊎◌, length, get_or, map, filter, take, drop, reverse, refl, sym, ap, ap₂, subst, inl, inr, Less, nat_cmp, arith}
 use Rattle.std.proofs.lemmas.List.{length-reverse, map-append, reverse-append, reverse-reverse, take-append-drop, take-map, take_more}
+use Rattle.std.proofs.Math.Facts.{to_z-of_z}
 use Rattle.std.specs.Ordering.{is_lt, ordering_then}
 use Rattle.std.specs.Cmp.Lexicographic.{slice_cmp}
 use Rattle.std.specs.List.Sorted.{IsStrictlySortedBy}
 use Rattle.sqlite.specs.declared.types.Value.TheVariants.{Int, Text}
 use Rattle.sqlite.specs.Order.{Row, column, row_cmp, value_cmp}
 use Rattle.sqlite.specs.Tree.{Trees}
-use Rattle.sqlite_sql.specs.Query.{limited}
+use Rattle.sqlite_sql.specs.Query.{as_count, limited}
 use Rattle.sqlite_rules.specs.Lists.{Has}
 use Rattle.sqlite_rules.proofs.ListLemmas.{all_has, has_either, has_filtered, has_kept, has_left, has_right}
 use Rattle.sqlite_rules.proofs.ProbeLemmas.{has_mapped, mapped_has}
@@ -108,16 +109,17 @@ last_reversed n xs =
       | inr is ↦ inr (ap reverse is.0, omega (arith, length-reverse front, is.1))
     ])
 
-has_taken : {X : Type 0} (n : ℕ) (xs : List X) (x : X) → Has (take n xs) x → Has xs x
+pub has_taken : {X : Type 0} (n : ℕ) (xs : List X) (x : X) → Has (take n xs) x → Has xs x
 has_taken zero xs x h = absurd h
 has_taken (suc n) [] x h = absurd h
 has_taken (suc n) (y ∷ xs) x (inl same) = inl same
 has_taken (suc n) (y ∷ xs) x (inr later) = inr (has_taken n xs x later)
 
--- what is among the first is there
-pub first_has : {X : Type 0} (limit : Option ℕ) (xs : List X) (x : X) → Has (limited limit xs) x → Has xs x
-first_has None xs x h = h
-first_has (Some n) xs x h = has_taken n xs x h
+-- the rows that are looked at are the first n, where the limit of the query stands for n
+pub first_taken : (n : ℕ) (limit : ℤ) (rows seen all : List Row) → FitsSigned w64 limit → ((some every : List Row) → some ≡ limited (as_count (Int limit)) every → length some < 2 ^ 63 → some ≡ take n every)
+    → rows ≡ limited (as_count (Int (to_z w64 (of_z w64 limit)))) all → seen ≡ rows → length seen < 2 ^ 63 → seen ≡ take n all
+first_taken n limit rows seen all fits stands cut same few =
+    same ∙ stands rows all (subst (λ z. rows ≡ limited (as_count (Int z)) all) (to_z-of_z {w = w64} {z = limit} fits) cut) (subst (λ l. length l < 2 ^ 63) same few)
 
 -- ---- rows that fall
 

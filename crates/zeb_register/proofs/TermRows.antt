@@ -135,14 +135,14 @@ records_whole list n = (λ h. (h.0, subst (λ l. Has l h.0) (take_whole list) h.
 abbrev term_of_row : List ℕ → Posting → Row
 term_of_row term p = Text term ∷ posting_row p
 
-text_of : Value → List ℕ
+unfoldable pub text_of : Value → List ℕ
 text_of (Text t) = t
 text_of Null = []
 text_of (Int n) = []
 text_of (Real x) = []
 text_of (Blob b) = []
 
-natural_of : Value → ℕ
+unfoldable pub natural_of : Value → ℕ
 natural_of (Int (pos n)) = n
 natural_of (Int (negsuc n)) = 0
 natural_of Null = 0

@@ -1,9 +1,10 @@
 -- Steps of private functions, which no public clause speaks of: parts of a key's list changed block by block, and what is written of them.
-use Rattle.std.specs.Prelude.{◌≡◌, ◌≢◌, ◌↔◌, ◌⊎◌, ◌+◌, ◌/◌, ◌<◌, ◌≤◌, ◌^◌, ◌==◌, ℕ, ℤ, pos, nat_lt, Bool, true, false, List, [], ◌∷◌, filter, map}
+use Rattle.std.specs.Prelude.{◌≡◌, ◌≢◌, ◌↔◌, ◌⊎◌, ◌+◌, ◌/◌, ◌<◌, ◌≤◌, ◌^◌, ◌==◌, ℕ, ℤ, pos, nat_lt, Bool, true, false, List, [], ◌∷◌, filter, map, Result, Err}
 use Rattle.std.specs.List.{AllByRecursion}
 use Rattle.std.specs.List.Sorted.{IsStrictlySortedBy}
 use Rattle.sqlite.specs.declared.types.Value.TheVariants.{Int, Text, Blob}
 use Rattle.sqlite.specs.Order.{Row, column}
+use Rattle.sqlite.specs.State.{State}
 use Rattle.sqlite.specs.Tree.{Trees}
 use Rattle.sqlite_rules.specs.Lists.{Has}
 use Rattle.zeb_blocks.specs.declared.postings.Posting.{Posting}
@@ -15,7 +16,11 @@ use Rattle.zeb_register.specs.declared.registers.RecordChange.{RecordChange}
 use Rattle.zeb_register.specs.declared.packed_parts.Parted.{Parted}
 use Rattle.zeb_register.specs.declared.packed_parts.Held.{Held}
 use Rattle.zeb_register.specs.declared.packed_changes.Known.{Known}
-use Rattle.zeb_register.specs.Content.{AreChangedAt, AreListChanges, Content, IsRising, place_cmp, posting_at}
+use Rattle.zeb_register.specs.declared.faults.RegFault.{RegFault}
+use Rattle.zeb_register.specs.declared.faults.RegFault.TheVariants.{Damaged}
+use Rattle.zeb_register.specs.Calls.{Alters, Inside}
+use Rattle.zeb_register.specs.Clauses.{InStore}
+use Rattle.zeb_register.specs.Content.{AreChangedAt, AreListChanges, Content, IsRising, OldsRise, place_cmp, posting_at}
 use Rattle.zeb_register.specs.Occurring.{IsCount}
 use Rattle.zeb_register.specs.PackedBlocks.{IsBlockRow, block_row, dict_row, part_in}
 use Rattle.zeb_register.specs.RowTerms.{IsInRecord}
@@ -140,3 +145,11 @@ PutsChanges db key changes Before After tree old new =
 abbrev pub CannotChange : ℤ → Key → List RecordChange → (List Posting → Type 0) → Trees → Type 0
 CannotChange db key changes Before trees =
     (now : Content) → HoldsBlockRows trees now → Before (now db key) → (new : List Posting) → ¬ AreListChanges changes (now db key) new
+
+-- a call inside a transaction puts these changes into the rows of a key with such a list, and answers how many records have it then
+abbrev pub PutsRun : ℤ → Key → List RecordChange → (List Posting → Type 0) → State → State → Result ℕ RegFault → Type 0
+PutsRun db key run Before old new result = Inside old new result (λ after. Alters blocks_tree (PutsChanges db key run Before (IsCounted after)))
+
+-- Damaged is answered only where these changes can't be made of such a list
+abbrev pub IsHonestRun : ℤ → Key → List RecordChange → (List Posting → Type 0) → State → State → Result ℕ RegFault → Type 0
+IsHonestRun db key run Before old new result = InStore old new (λ trees. result ≡ Err Damaged → OldsRise run → CannotChange db key run Before trees)

@@ -5,11 +5,12 @@ ghost use Rattle.std.specs.Prelude.{IsUtf8, ◌≡◌, ◌≤◌, ◌∷◌, Lis
 ghost use Rattle.std.specs.List.{AllByRecursion};
 ghost use Rattle.sqlite.specs.Held.{state};
 ghost use Rattle.zeb_blocks.specs.declared.postings.Posting.{Posting};
-ghost use Rattle.zeb_register.specs.Calls.{Alters, GoesOn, Inside};
+ghost use Rattle.zeb_register.specs.Calls.{GoesOn, Inside};
 ghost use Rattle.zeb_register.specs.Clauses.{ChangesTable, DamagedHeld, InStore};
 ghost use Rattle.zeb_register.specs.Content.{AreChangedAt, AreListChanges, Content, OldsRise};
 ghost use Rattle.zeb_register.specs.PackedBlocks.{HoldsBlocks};
-ghost use Rattle.zeb_register.specs.PackedChanges.{CannotChange, IsClear, IsCounted, IsInBlock, IsKnown, IsStorableChange, PutsChanges};
+ghost use Rattle.zeb_register.specs.PackedChanges.{IsClear, IsCounted, IsHonestRun, IsInBlock, IsKnown, IsStorableChange};
+ghost use Rattle.zeb_register.specs.PackedChanges.{PutsChanges, PutsRun};
 ghost use Rattle.zeb_register.specs.Store.{IsStore, KeepsLists, blocks_tree};
 ghost use Rattle.zeb_register.specs.Tallies.{Works};
 
@@ -71,8 +72,8 @@ fn runs_put<S: Alter>(
     ensures call { Inside (state S.Store tx.old.conn.now) (state S.Store tx.new.conn.now) result (λ _ a b. IsTrue a.is_open → GoesOn a b) }
     ensures put { ChangesTable blocks_tree (state S.Store tx.old.conn.now) (state S.Store tx.new.conn.now) result
         (λ after. PutsChanges db.0 key.now changes.now (IsKnown known) (IsCounted after)) }
-    ensures damaged { InStore (state S.Store tx.old.conn.now) (state S.Store tx.new.conn.now) (λ trees. result ≡ Err RegFault.Damaged
-        → OldsRise changes.now → CannotChange db.0 key.now changes.now (IsKnown known) trees) }
+    ensures damaged { IsHonestRun db.0 key.now changes.now (IsKnown known)
+        (state S.Store tx.old.conn.now) (state S.Store tx.new.conn.now) result }
 {
     let mut known = known;
     let mut done = 0;
@@ -113,10 +114,10 @@ fn run_put<S: Alter>(
     requires stored { AllByRecursion IsStorableChange run.now }
     requires inside { AllByRecursion (IsInBlock block) run.now }
     ensures same { tx.new.conn.ghost_name ≡ tx.old.conn.ghost_name }
-    ensures call { Inside (state S.Store tx.old.conn.now) (state S.Store tx.new.conn.now) result
-        (λ after. Alters blocks_tree (PutsChanges db.0 key.now run.now (IsKnown known) (IsCounted after))) }
-    ensures damaged { InStore (state S.Store tx.old.conn.now) (state S.Store tx.new.conn.now) (λ trees. result ≡ Err RegFault.Damaged
-        → OldsRise run.now → CannotChange db.0 key.now run.now (IsKnown known) trees) }
+    ensures call { PutsRun db.0 key.now run.now (IsKnown known)
+        (state S.Store tx.old.conn.now) (state S.Store tx.new.conn.now) result }
+    ensures damaged { IsHonestRun db.0 key.now run.now (IsKnown known)
+        (state S.Store tx.old.conn.now) (state S.Store tx.new.conn.now) result }
 {
     if block < known.clear_from {
         return row_renew(tx, db, key, block, known.records, run);
@@ -136,10 +137,10 @@ fn row_renew<S: Alter>(
     requires stored { AllByRecursion IsStorableChange run.now }
     requires inside { AllByRecursion (IsInBlock block) run.now }
     ensures same { tx.new.conn.ghost_name ≡ tx.old.conn.ghost_name }
-    ensures call { Inside (state S.Store tx.old.conn.now) (state S.Store tx.new.conn.now) result
-        (λ after. Alters blocks_tree (PutsChanges db.0 key.now run.now (IsCounted records) (IsCounted after))) }
-    ensures damaged { InStore (state S.Store tx.old.conn.now) (state S.Store tx.new.conn.now) (λ trees. result ≡ Err RegFault.Damaged
-        → OldsRise run.now → CannotChange db.0 key.now run.now (IsCounted records) trees) }
+    ensures call { PutsRun db.0 key.now run.now (IsCounted records)
+        (state S.Store tx.old.conn.now) (state S.Store tx.new.conn.now) result }
+    ensures damaged { IsHonestRun db.0 key.now run.now (IsCounted records)
+        (state S.Store tx.old.conn.now) (state S.Store tx.new.conn.now) result }
 {
     let list = block_list(tx, db, key, block)?;
     let is_there = !list.is_empty();
@@ -167,10 +168,10 @@ fn row_begin<S: Alter>(
     requires stored { AllByRecursion IsStorableChange run.now }
     requires inside { AllByRecursion (IsInBlock block) run.now }
     ensures same { tx.new.conn.ghost_name ≡ tx.old.conn.ghost_name }
-    ensures call { Inside (state S.Store tx.old.conn.now) (state S.Store tx.new.conn.now) result
-        (λ after. Alters blocks_tree (PutsChanges db.0 key.now run.now (IsClear block records) (IsCounted after))) }
-    ensures damaged { InStore (state S.Store tx.old.conn.now) (state S.Store tx.new.conn.now) (λ trees. result ≡ Err RegFault.Damaged
-        → OldsRise run.now → CannotChange db.0 key.now run.now (IsClear block records) trees) }
+    ensures call { PutsRun db.0 key.now run.now (IsClear block records)
+        (state S.Store tx.old.conn.now) (state S.Store tx.new.conn.now) result }
+    ensures damaged { IsHonestRun db.0 key.now run.now (IsClear block records)
+        (state S.Store tx.old.conn.now) (state S.Store tx.new.conn.now) result }
 {
     let held = Held {
         block,

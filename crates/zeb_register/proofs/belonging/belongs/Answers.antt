@@ -1,21 +1,17 @@
-use Rattle.std.proofs.Common.{rules, ◌≡◌, ◌≤ℤ◌, ℤ, true, false, ◌+◌, ap, FitsSigned, w64, to_z, sym, subst, arith}
+use Rattle.std.proofs.Common.{rules, ◌≡◌, true, false, ◌+◌, FitsSigned, w64, to_z, sym, subst, arith}
 use Rattle.std.proofs.lemmas.Int.{ints}
 use Rattle.std.proofs.lemmas.Result.{err_from_is_err_and}
 use Rattle.std.proofs.Math.Facts.{to_z-of_z}
-use Rattle.sqlite.specs.Effect.{Database}
 use Rattle.sqlite.specs.Held.{state}
 use Rattle.sqlite.specs.State.{HasCleanDisk, IsUnchanged}
-use Rattle.sqlite.proofs.Callers.{unchanged_then}
+use Rattle.zeb_register.specs.declared.faults.RegFault.{RegFault}
 use Rattle.zeb_register.specs.Calls.{Reading}
 use Rattle.zeb_register.specs.RowExpected.{tree_of}
-use Rattle.zeb_register.proofs.Calls.{nothing_then, store_same}
+use Rattle.zeb_register.proofs.Calls.{nothing_then, reading_behind}
 use Rattle.zeb_register.proofs.CallsInTurn.{quiet_then}
-use Rattle.zeb_register.proofs.OwnersListed.{IsReached, all_reached, below_few, first_reached, first_seen, next_seen, none_missing, none_seen}
+use Rattle.zeb_register.proofs.OwnersListed.{IsReached, all_reached, below_few, first_reached, found_next, next_reached, none_missing, none_next}
 use Rattle.zeb_register.proofs.Causes.{reasoned_after}
 use Rattle.zeb_register.proofs.belonging.belongs.Goals as goal
-
-abbrev Least : ℤ → ℤ → Type 0
-Least id other = id ≤ℤ other
 
 pub returns-in_default-clause-value : goal.returns-in_default-clause-value
 returns-in_default-clause-value g c clean store =
@@ -84,83 +80,40 @@ returns-in_err-rows-clause-refused g c =
     (rw (is.1, is.2) (λ clean store told. c.in_err-rows.ensures.err clean store (search rules))) told clean store
 
 pub returns-in_default-id_of-clause-call : goal.returns-in_default-id_of-clause-call
-returns-in_default-id_of-clause-call g c =
-    let inv = c.ids.invariant in
-    let s0 = state g.S.Store c.args.conn.now in
-    let s1 = state g.S.Store c.ids.conn in
-    let s2 = state g.S.Store c.next_rows.new.conn in
-    record {
-      idle = λ i. c.next_rows.ensures.call.idle (inv.idle i);
-      ok = λ clean. unchanged_then s0 s1 s2 (inv.ok (omega (arith, c.next_rows.ensures.call.crash.clean))) (c.in_ok-rows.ensures.call.ok clean).0;
-      same = λ clean i. nothing_then s0 s1 s2 (inv.same (omega (arith, c.next_rows.ensures.call.crash.clean)) i) (c.next_rows.ensures.call.same clean (inv.idle i));
-      crash = quiet_then s0 s1 s2 inv.crash c.next_rows.ensures.call.crash;
-    }
+returns-in_default-id_of-clause-call g c = let inv = c.ids.invariant in reading_behind _ _ _ _ true _ inv.idle inv.ok inv.same inv.crash c.in_ok-rows.ensures.call (λ shown. shown.0)
 
 pub returns-in_default-id_of-clause-value : goal.returns-in_default-id_of-clause-value
 returns-in_default-id_of-clause-value g c clean store =
-    let s0 = state g.S.Store c.args.conn.now in
-    let s1 = state g.S.Store c.ids.conn in
-    let clean1 : HasCleanDisk s1 = omega (arith, c.next_rows.ensures.call.crash.clean) in
-    let now_is = (c.ids.invariant.ok clean1).0.now_is in
-    let trees = s0.now.trees in
-    let id = to_z w64 c.ids.id-bits in
-    let at = c.ids.invariant.reached clean1 store in
-    let here = c.is_listed.ensures.same c.if-not-is_listed.false in
+    let clean1 : HasCleanDisk (state g.S.Store c.ids.conn) = omega (arith, c.next_rows.ensures.call.crash.clean) in
     let fits : FitsSigned w64 c.in-Some.ends.last = search rules in
-    let it = first_seen Least _ c.in_ok-rows.rows.items c.deref.result.now c.id_of.result ((c.in_ok-rows.ensures.call.ok clean).1 (store_same s0 s1 now_is store)) c.deref.ensures.value (c.id_of.ensures.none, c.id_of.ensures.some) in
-    (λ _. none_seen (tree_of c.args.table) trees c.args.listed.now c.in-Some.ends.last id c.ids._turn at here (ap (λ (d : Database). d.trees) now_is) (rw c.in_default-id_of.is at it) (omega (arith, ints, c.ids.id-is, c.if-id-ends.false, fits)), λ _. search rules)
+    let first = found_next (tree_of c.args.table) (to_z w64 c.ids.id-bits) (state g.S.Store c.args.conn.now) (state g.S.Store c.ids.conn) c.in_ok-rows.rows.items c.deref.result.now c.id_of.result (c.ids.invariant.ok clean1) store (c.in_ok-rows.ensures.call.ok clean).1 c.deref.ensures.value (c.id_of.ensures.none, c.id_of.ensures.some) (omega (arith, ints, c.ids.id-is, c.if-id-ends.false, fits)) in
+    (λ _. none_next (tree_of c.args.table) (state g.S.Store c.args.conn.now).now.trees c.args.listed.now c.in-Some.ends.last (to_z w64 c.ids.id-bits) c.ids._turn (c.ids.invariant.reached clean1 store) (c.is_listed.ensures.same c.if-not-is_listed.false) (rw c.in_default-id_of.is at first), λ _. search rules)
 
 pub ids-preserved : goal.ids-preserved
 ids-preserved g c =
     let inv = c.ids.invariant in
-    let s0 = state g.S.Store c.args.conn.now in
-    let s1 = state g.S.Store c.ids.conn in
-    let s2 = state g.S.Store c.next_rows.new.conn in
+    let next = reading_behind {F = RegFault} _ _ _ _ true _ inv.idle inv.ok inv.same inv.crash c.in_ok-rows.ensures.call (λ shown. shown.0) in
     record {
-      idle = λ i. c.next_rows.ensures.call.idle (inv.idle i);
-      ok = λ clean. unchanged_then s0 s1 s2 (inv.ok (omega (arith, c.next_rows.ensures.call.crash.clean))) (c.in_ok-rows.ensures.call.ok clean).0;
-      same = λ clean i. nothing_then s0 s1 s2 (inv.same (omega (arith, c.next_rows.ensures.call.crash.clean)) i) (c.next_rows.ensures.call.same clean (inv.idle i));
-      crash = quiet_then s0 s1 s2 inv.crash c.next_rows.ensures.call.crash;
+      idle = next.idle;
+      ok = next.ok;
+      same = next.same;
+      crash = next.crash;
       reached = λ clean store.
-          let s0 = state g.S.Store c.args.conn.now in
-          let s1 = state g.S.Store c.ids.conn in
-          let clean1 : HasCleanDisk s1 = omega (arith, c.next_rows.ensures.call.crash.clean) in
-          let now_is = (c.ids.invariant.ok clean1).0.now_is in
-          let trees = s0.now.trees in
-          let id = to_z w64 c.ids.id-bits in
-          let at = c.ids.invariant.reached clean1 store in
-          let here = c.is_listed.ensures.same c.if-not-is_listed.false in
+          let clean1 : HasCleanDisk (state g.S.Store c.ids.conn) = omega (arith, c.next_rows.ensures.call.crash.clean) in
           let fits : FitsSigned w64 c.in-Some.ends.last = search rules in
-          let it = first_seen Least _ c.in_ok-rows.rows.items c.deref.result.now c.id_of.result ((c.in_ok-rows.ensures.call.ok clean).1 (store_same s0 s1 now_is store)) c.deref.ensures.value (c.id_of.ensures.none, c.id_of.ensures.some) in
+          let first = found_next (tree_of c.args.table) (to_z w64 c.ids.id-bits) (state g.S.Store c.args.conn.now) (state g.S.Store c.ids.conn) c.in_ok-rows.rows.items c.deref.result.now c.id_of.result (c.ids.invariant.ok clean1) store (c.in_ok-rows.ensures.call.ok clean).1 c.deref.ensures.value (c.id_of.ensures.none, c.id_of.ensures.some) (omega (arith, ints, c.ids.id-is, c.if-id-ends.false, fits)) in
           let next_fits : FitsSigned w64 c.in-Some-id_of.next = search rules in
-          subst (λ i. IsReached (tree_of c.args.table) trees c.args.listed.now c.in-Some.ends.last i (c.ids._turn + 1)) (sym (to_z-of_z {w = w64} {z = c.in-Some-id_of.next} next_fits))
-          (next_seen (tree_of c.args.table) trees c.args.listed.now c.in-Some.ends.last id c.ids._turn at c.in-Some-id_of.next here (ap (λ (d : Database). d.trees) now_is) (rw c.in-Some-id_of.is at it) (omega (arith, ints, c.ids.id-is, c.if-id-ends.false, fits)));
+          subst (λ i. IsReached (tree_of c.args.table) (state g.S.Store c.args.conn.now).now.trees c.args.listed.now c.in-Some.ends.last i (c.ids._turn + 1)) (sym (to_z-of_z {w = w64} {z = c.in-Some-id_of.next} next_fits))
+          (next_reached (tree_of c.args.table) (state g.S.Store c.args.conn.now).now.trees c.args.listed.now c.in-Some.ends.last (to_z w64 c.ids.id-bits) c.ids._turn (c.ids.invariant.reached clean1 store) (c.is_listed.ensures.same c.if-not-is_listed.false) c.in-Some-id_of.next (rw c.in-Some-id_of.is at first));
     }
 
 pub returns-in-Some-id_of-clause-call : goal.returns-in-Some-id_of-clause-call
-returns-in-Some-id_of-clause-call g c =
-    let inv = c.ids.invariant in
-    let s0 = state g.S.Store c.args.conn.now in
-    let s1 = state g.S.Store c.ids.conn in
-    let s2 = state g.S.Store c.next_rows.new.conn in
-    record {
-      idle = λ i. c.next_rows.ensures.call.idle (inv.idle i);
-      ok = λ clean. unchanged_then s0 s1 s2 (inv.ok (omega (arith, c.next_rows.ensures.call.crash.clean))) (c.in_ok-rows.ensures.call.ok clean).0;
-      same = λ clean i. nothing_then s0 s1 s2 (inv.same (omega (arith, c.next_rows.ensures.call.crash.clean)) i) (c.next_rows.ensures.call.same clean (inv.idle i));
-      crash = quiet_then s0 s1 s2 inv.crash c.next_rows.ensures.call.crash;
-    }
+returns-in-Some-id_of-clause-call g c = let inv = c.ids.invariant in reading_behind _ _ _ _ false _ inv.idle inv.ok inv.same inv.crash c.in_ok-rows.ensures.call (λ shown. shown.0)
 
 pub returns-in-Some-id_of-clause-value : goal.returns-in-Some-id_of-clause-value
 returns-in-Some-id_of-clause-value g c clean store =
-    let s0 = state g.S.Store c.args.conn.now in
-    let s1 = state g.S.Store c.ids.conn in
-    let clean1 : HasCleanDisk s1 = omega (arith, c.next_rows.ensures.call.crash.clean) in
-    let now_is = (c.ids.invariant.ok clean1).0.now_is in
-    let trees = s0.now.trees in
-    let id = to_z w64 c.ids.id-bits in
-    let at = c.ids.invariant.reached clean1 store in
-    let here = c.is_listed.ensures.same c.if-not-is_listed.false in
+    let clean1 : HasCleanDisk (state g.S.Store c.ids.conn) = omega (arith, c.next_rows.ensures.call.crash.clean) in
     let fits : FitsSigned w64 c.in-Some.ends.last = search rules in
-    let it = first_seen Least _ c.in_ok-rows.rows.items c.deref.result.now c.id_of.result ((c.in_ok-rows.ensures.call.ok clean).1 (store_same s0 s1 now_is store)) c.deref.ensures.value (c.id_of.ensures.none, c.id_of.ensures.some) in
-    let next = next_seen (tree_of c.args.table) trees c.args.listed.now c.in-Some.ends.last id c.ids._turn at c.in-Some-id_of.next here (ap (λ (d : Database). d.trees) now_is) (rw c.in-Some-id_of.is at it) (omega (arith, ints, c.ids.id-is, c.if-id-ends.false, fits)) in
+    let first = found_next (tree_of c.args.table) (to_z w64 c.ids.id-bits) (state g.S.Store c.args.conn.now) (state g.S.Store c.ids.conn) c.in_ok-rows.rows.items c.deref.result.now c.id_of.result (c.ids.invariant.ok clean1) store (c.in_ok-rows.ensures.call.ok clean).1 c.deref.ensures.value (c.id_of.ensures.none, c.id_of.ensures.some) (omega (arith, ints, c.ids.id-is, c.if-id-ends.false, fits)) in
+    let next = next_reached (tree_of c.args.table) (state g.S.Store c.args.conn.now).now.trees c.args.listed.now c.in-Some.ends.last (to_z w64 c.ids.id-bits) c.ids._turn (c.ids.invariant.reached clean1 store) (c.is_listed.ensures.same c.if-not-is_listed.false) c.in-Some-id_of.next (rw c.in-Some-id_of.is at first) in
     absurd (omega (arith, next.turns, below_few c.args.listed.now c.in-Some-id_of.next, c.if-turn-turn-end.false))

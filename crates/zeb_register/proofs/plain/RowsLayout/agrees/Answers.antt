@@ -22,8 +22,7 @@ returns-in_default-clause-value g c clean store ordered =
 
 pub rows_agree-requires : goal.rows_agree-requires
 rows_agree-requires g c =
-    let long : length c.in-Some.listed.items ≡ length c.args.expected.now.databases.items = rw c.in-Some.is at c.in_ok-listed.ensures.long in
-    ap length c.deref.ensures.value ∙ long ∙ ap length (sym c.deref-2.ensures.value)
+    let long : length c.in-Some.listed.items ≡ length c.args.expected.now.databases.items = rw c.in-Some.is at c.in_ok-listed.ensures.long in ap length c.deref.ensures.value ∙ long ∙ ap length (sym c.deref-2.ensures.value)
 
 pub returns-clause-value : goal.returns-clause-value
 returns-clause-value g c clean store ordered =

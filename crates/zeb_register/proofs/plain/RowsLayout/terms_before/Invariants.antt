@@ -1,7 +1,8 @@
-use Rattle.std.proofs.Common.{◌≡◌, ◌++◌, List, false, length, filter, reverse, string_bytes}
+use Rattle.std.proofs.Common.{◌≡◌, ◌++◌, List, Ok, true, length, filter, reverse, string_bytes}
 use Rattle.sqlite.specs.Held.{state}
-use Rattle.sqlite.specs.State.{HasCleanDisk, IsUnchanged, Survives}
-use Rattle.zeb_register.specs.Calls.{ChangesNothing}
+use Rattle.sqlite.specs.State.{HasCleanDisk, IsUnchanged}
+use Rattle.zeb_register.specs.declared.faults.RegFault.{RegFault}
+use Rattle.zeb_register.specs.Calls.{Reading}
 use Rattle.zeb_register.specs.declared.registers.TermCount.{TermCount}
 use Rattle.zeb_register.specs.Store.{IsStore}
 use Rattle.zeb_register.specs.Content.{Content, posted}
@@ -14,10 +15,7 @@ invariant-loop-done g l =
     let old = state g.S.Store l.fn.conn in
     let now = state g.S.Store l.conn in
     record {
-      idle : l.fn.conn.in_transaction ≡ false → l.conn.in_transaction ≡ false;
-      ok : HasCleanDisk now → IsUnchanged old now;
-      same : HasCleanDisk now → l.fn.conn.in_transaction ≡ false → ChangesNothing old now;
-      crash : Survives old now (λ _. ⊥);
+      call : Reading {E = RegFault} old now (Ok true) (λ _. IsUnchanged);
       long : length l.counts.items ≡ l._done;
       rest : HasCleanDisk now → IsStore old → (content : Content) → HoldsRows old.now.trees content → (all : List TermCount) → AreTermsOf (posted content l.db.0) l.index l.register all
           → filter (is_before l.start) all ≡ filter (is_before (string_bytes l.above)) all ++ reverse l.counts.items;

@@ -1,4 +1,4 @@
-use Rattle.std.proofs.Common.{rules, ◌≡◌, ◌∙◌, ◌++◌, [], ◌∷◌, length, filter, sym, ap, subst, arith, string_bytes, length-append}
+use Rattle.std.proofs.Common.{rules, ◌≡◌, ◌∙◌, ◌++◌, [], ◌∷◌, true, length, filter, sym, ap, subst, arith, string_bytes, length-append}
 use Rattle.sqlite.specs.Held.{state}
 use Rattle.sqlite.specs.State.{HasCleanDisk, IsUnchanged}
 use Rattle.sqlite.specs.Effect.{Database}
@@ -7,7 +7,7 @@ use Rattle.zeb_register.specs.PlainRows.{HoldsRows}
 use Rattle.zeb_register.specs.Occurring.{is_from, TermIn}
 use Rattle.zeb_register.specs.RowTerms.{IsLeastTerm}
 use Rattle.sqlite.proofs.Callers.{unchanged_then}
-use Rattle.zeb_register.proofs.Calls.{nothing_then, store_same}
+use Rattle.zeb_register.proofs.Calls.{reading_behind, reading_then, store_same}
 use Rattle.zeb_register.proofs.CallsInTurn.{quiet_then}
 use Rattle.zeb_register.proofs.Causes.{reasoned_after}
 use Rattle.zeb_register.proofs.TermLists.{from_step, from_whole, from_end}
@@ -17,10 +17,7 @@ use Rattle.zeb_register.proofs.plain.RowsLayout.terms_from.Goals.{else-loop-done
 
 pub loop-done-init : goal.loop-done-init
 loop-done-init g c = record {
-  idle = c.nothing_of.ensures.call.idle;
-  ok = c.in_ok-nothing_of.ensures.call.ok;
-  same = c.nothing_of.ensures.call.same;
-  crash = c.nothing_of.ensures.call.crash;
+  call = record { idle = c.nothing_of.ensures.call.idle; ok = c.in_ok-nothing_of.ensures.call.ok; same = c.nothing_of.ensures.call.same; crash = c.nothing_of.ensures.call.crash };
   long = ap length c.new-counts.ensures.items;
   rest = λ clean store content holds all are. sym (ap (λ l. l ++ filter (is_from (string_bytes c.in_ok-next.next)) all) c.new-counts.ensures.items ∙ ap (λ u. filter (is_from u) all) c.in_ok-next.ensures.ok);
 }
@@ -28,19 +25,19 @@ loop-done-init g c = record {
 pub returns-in_err-term-clause-honest : goal.returns-in_err-term-clause-honest
 returns-in_err-term-clause-honest g c clean store is content texts holds =
     let clean0 : HasCleanDisk (state g.S.Store c.loop-done.conn) = omega (arith, c.term_from.ensures.call.crash.clean) in
-    let at = (c.loop-done.invariant.ok clean0).0.now_is in
+    let at = (c.loop-done.invariant.call.ok clean0).0.now_is in
     c.in_err-term.ensures.honest clean (store_same _ _ at store) (search rules) content texts (subst (λ (d : Database). HoldsRows d.trees content) (sym at) holds)
 
 pub returns-in_err-count-clause-honest : goal.returns-in_err-count-clause-honest
 returns-in_err-count-clause-honest g c clean store is content texts holds =
     let clean1 : HasCleanDisk (state g.S.Store c.term_from.new.conn) = omega (arith, c.term_count.ensures.call.crash.clean) in
     let clean0 : HasCleanDisk (state g.S.Store c.loop-done.conn) = omega (arith, clean1, c.term_from.ensures.call.crash.clean) in
-    let at = (c.in_ok-term.ensures.call.ok clean1).0.now_is ∙ (c.loop-done.invariant.ok clean0).0.now_is in
+    let at = (c.in_ok-term.ensures.call.ok clean1).0.now_is ∙ (c.loop-done.invariant.call.ok clean0).0.now_is in
     c.in_err-count.ensures.honest clean (store_same _ _ at store) (search rules) content (subst (λ (d : Database). HoldsRows d.trees content) (sym at) holds)
 
 pub returns-in_err-term-clause-refused : goal.returns-in_err-term-clause-refused
 returns-in_err-term-clause-refused g c clean store is =
-    reasoned_after (state g.S.Store c.args.conn.now) (state g.S.Store c.loop-done.conn) (state g.S.Store c.term_from.new.conn) _ c.loop-done.invariant.crash c.loop-done.invariant.ok c.term_from.ensures.call.crash c.in_err-term.ensures.refused (search rules) clean store
+    reasoned_after (state g.S.Store c.args.conn.now) (state g.S.Store c.loop-done.conn) (state g.S.Store c.term_from.new.conn) _ c.loop-done.invariant.call.crash c.loop-done.invariant.call.ok c.term_from.ensures.call.crash c.in_err-term.ensures.refused (search rules) clean store
 
 pub returns-in_err-count-clause-refused : goal.returns-in_err-count-clause-refused
 returns-in_err-count-clause-refused g c clean store is =
@@ -48,8 +45,8 @@ returns-in_err-count-clause-refused g c clean store is =
     let s1 = state g.S.Store c.loop-done.conn in
     let s2 = state g.S.Store c.term_from.new.conn in
     let clean_a = λ (clean2 : HasCleanDisk (state g.S.Store c.term_from.new.conn)). (let e : HasCleanDisk (state g.S.Store c.loop-done.conn) = omega (arith, clean2, c.term_from.ensures.call.crash.clean) in e) in
-    reasoned_after s0 s2 (state g.S.Store c.term_count.new.conn) _ (quiet_then s0 s1 s2 c.loop-done.invariant.crash c.term_from.ensures.call.crash)
-    (λ clean2. unchanged_then s0 s1 s2 (c.loop-done.invariant.ok (clean_a clean2)) (c.in_ok-term.ensures.call.ok clean2)) c.term_count.ensures.call.crash c.in_err-count.ensures.refused (search rules) clean store
+    reasoned_after s0 s2 (state g.S.Store c.term_count.new.conn) _ (quiet_then s0 s1 s2 c.loop-done.invariant.call.crash c.term_from.ensures.call.crash)
+    (λ clean2. unchanged_then s0 s1 s2 (c.loop-done.invariant.call.ok (clean_a clean2)) (c.in_ok-term.ensures.call.ok clean2)) c.term_count.ensures.call.crash c.in_err-count.ensures.refused (search rules) clean store
 
 pub loop-done-preserved : goal.loop-done-preserved
 loop-done-preserved g c =
@@ -60,16 +57,14 @@ loop-done-preserved g c =
     let s3 = state g.S.Store c.term_count.new.conn in
     let items = c.loop-done.counts.items in
     let count = c.in_ok-count.count in
+    let first = reading_then s0 s1 s2 true _ inv.call c.in_ok-term.ensures.call in
     let clean_a = λ (clean : HasCleanDisk (state g.S.Store c.term_count.new.conn)). (let e : HasCleanDisk (state g.S.Store c.term_from.new.conn) = omega (arith, c.term_count.ensures.call.crash.clean) in e) in
     let clean_b = λ (clean : HasCleanDisk (state g.S.Store c.term_count.new.conn)). (let e : HasCleanDisk (state g.S.Store c.loop-done.conn) = omega (arith, c.term_count.ensures.call.crash.clean, c.term_from.ensures.call.crash.clean) in e) in
     record {
-      idle = λ i. c.term_count.ensures.call.idle (c.term_from.ensures.call.idle (inv.idle i));
-      same = λ clean i. nothing_then s0 s2 s3 (nothing_then s0 s1 s2 (inv.same (clean_b clean) i) (c.term_from.ensures.call.same (clean_a clean) (inv.idle i))) (c.term_count.ensures.call.same clean (c.term_from.ensures.call.idle (inv.idle i)));
-      crash = quiet_then s0 s2 s3 (quiet_then s0 s1 s2 inv.crash c.term_from.ensures.call.crash) c.term_count.ensures.call.crash;
-      ok = λ clean. unchanged_then s0 s2 s3 (unchanged_then s0 s1 s2 (inv.ok (clean_b clean)) (c.in_ok-term.ensures.call.ok (clean_a clean))) (c.in_ok-count.ensures.call.ok clean);
+      call = reading_behind s0 s2 s3 count true _ first.idle first.ok first.same first.crash c.in_ok-count.ensures.call (λ same. same);
       long = omega (arith, inv.long, ap length c.in_ok-push.ensures.items, length-append items (count ∷ []));
       rest = λ clean store content holds all are.
-          let at0 = (inv.ok (clean_b clean)).0.now_is in
+          let at0 = (inv.call.ok (clean_b clean)).0.now_is in
           let at1 = (c.in_ok-term.ensures.call.ok (clean_a clean)).0.now_is ∙ at0 in
           let holds0 = subst (λ (d : Database). HoldsRows d.trees content) (sym at0) holds in
           let holds1 = subst (λ (d : Database). HoldsRows d.trees content) (sym at1) holds in
@@ -83,11 +78,11 @@ pub returns-clause-call : goal.returns-clause-call
 returns-clause-call g c = record {
   idle = search rules;
   ok = λ clean. elim c.loop-done-test.branch [
-    | else-loop-done-test w ↦ subst (λ k. IsUnchanged (state g.S.Store c.args.conn.now) (state g.S.Store k)) (sym w.conn-is) (c.loop-done.invariant.ok (subst (λ k. HasCleanDisk (state g.S.Store k)) w.conn-is clean))
+    | else-loop-done-test w ↦ subst (λ k. IsUnchanged (state g.S.Store c.args.conn.now) (state g.S.Store k)) (sym w.conn-is) (c.loop-done.invariant.call.ok (subst (λ k. HasCleanDisk (state g.S.Store k)) w.conn-is clean))
     | then-loop-done-test+in_ok-term+in_default w ↦
         let clean1 : HasCleanDisk (state g.S.Store w.term_from.new.conn) = subst (λ k. HasCleanDisk (state g.S.Store k)) w.conn-is clean in
         let clean0 : HasCleanDisk (state g.S.Store c.loop-done.conn) = omega (arith, w.term_from.ensures.call.crash.clean) in
-        subst (λ k. IsUnchanged (state g.S.Store c.args.conn.now) (state g.S.Store k)) (sym w.conn-is) (unchanged_then _ _ _ (c.loop-done.invariant.ok clean0) (w.in_ok-term.ensures.call.ok clean1))
+        subst (λ k. IsUnchanged (state g.S.Store c.args.conn.now) (state g.S.Store k)) (sym w.conn-is) (unchanged_then _ _ _ (c.loop-done.invariant.call.ok clean0) (w.in_ok-term.ensures.call.ok clean1))
   ];
   same = search rules;
   crash = search rules;
@@ -107,7 +102,7 @@ returns-clause-value g c clean store content holds =
         | then-loop-done-test+in_ok-term+in_default w ↦
             let clean1 : HasCleanDisk (state g.S.Store w.term_from.new.conn) = subst (λ k. HasCleanDisk (state g.S.Store k)) w.conn-is clean in
             let clean0 : HasCleanDisk (state g.S.Store c.loop-done.conn) = omega (arith, w.term_from.ensures.call.crash.clean) in
-            let at0 = (inv.ok clean0).0.now_is in
+            let at0 = (inv.call.ok clean0).0.now_is in
             let near = w.in_ok-term.ensures.value clean1 (store_same _ _ at0 store) content (subst (λ (d : Database). HoldsRows d.trees content) (sym at0) holds) in
             from_end (TermIn (posted content c.args.db.0) c.args.index c.args.register) all.0 all.1 c.args.start.now (string_bytes c.loop-done.next) c.loop-done.counts.items c.args.n (inv.rest clean0 store content holds all.0 all.1)
             (subst (IsLeastTerm (TermIn (posted content c.args.db.0) c.args.index c.args.register) (string_bytes c.loop-done.next)) w.in_default.is (subst (λ u. IsLeastTerm (TermIn (posted content c.args.db.0) c.args.index c.args.register) u w.in_ok-term.field-0) w.deref.ensures near)) (omega (arith, inv.long, w.loop-done-test.true))

@@ -1,7 +1,8 @@
-use Rattle.std.proofs.Common.{◌≡◌, ◌++◌, List, false, length, filter, string_bytes}
+use Rattle.std.proofs.Common.{◌≡◌, ◌++◌, List, Ok, true, length, filter, string_bytes}
 use Rattle.sqlite.specs.Held.{state}
-use Rattle.sqlite.specs.State.{HasCleanDisk, IsUnchanged, Survives}
-use Rattle.zeb_register.specs.Calls.{ChangesNothing}
+use Rattle.sqlite.specs.State.{HasCleanDisk, IsUnchanged}
+use Rattle.zeb_register.specs.declared.faults.RegFault.{RegFault}
+use Rattle.zeb_register.specs.Calls.{Reading}
 use Rattle.zeb_register.specs.declared.registers.TermCount.{TermCount}
 use Rattle.zeb_register.specs.Store.{IsStore}
 use Rattle.zeb_register.specs.Content.{Content, posted}
@@ -15,10 +16,7 @@ invariant-loop-done g l =
     let now = state g.S.Store l.conn in
     record {
       long : length l.counts.items ≡ l._done;
-      idle : l.fn.conn.in_transaction ≡ false → l.conn.in_transaction ≡ false;
-      ok : HasCleanDisk now → IsUnchanged old now;
-      same : HasCleanDisk now → l.fn.conn.in_transaction ≡ false → ChangesNothing old now;
-      crash : Survives old now (λ _. ⊥);
+      call : Reading {E = RegFault} old now (Ok true) (λ _. IsUnchanged);
       rest : HasCleanDisk now → IsStore old → (content : Content) → HoldsRows old.now.trees content → (all : List TermCount) → AreTermsOf (posted content l.db.0) l.index l.register all
           → filter (is_from l.start) all ≡ l.counts.items ++ filter (is_from (string_bytes l.next)) all;
     }
