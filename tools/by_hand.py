@@ -21,6 +21,7 @@ MADE_BY_HAND = {
     "crates/zeb_register/src/packed_changes.rt": (["block_begin", "block_begin"], "the refusal of a row, which is passed on as it was told"),
     "crates/zeb_register/src/packed_parts.rt": (["check_numbers", "check_place"], "a number or a place that no row has"),
     "crates/zeb_register/src/values.rt": (["stored"], "a number that no column stores"),
+    "crates/zeb_change/src/key_notes.rt": (["note"], "more changes of a key than a number counts"),
     "crates/zeb_image/src/rebuilding.rt": (["database_post"], "more turns than there are numbers"),
     "crates/zeb_engine/src/session.rt": (["run_all"], "no room for the answers"),
     "crates/zeb_engine/src/tables.rt": (["check_tables"], "a store with other tables, and no other store, as a clause says"),

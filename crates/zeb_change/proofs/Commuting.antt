@@ -1,5 +1,5 @@
 -- Changes of different records commute: given by the numbers of their records, the changes of a key come to the same content.
-use Rattle.std.proofs.Common.{◌≡◌, ◌≢◌, ◌↔◌, ◌⊎◌, ◌∙◌, ℤ, List, [], ◌∷◌, ◌++◌, length, nat_cmp, sym, subst, inl, inr}
+use Rattle.std.proofs.Common.{◌≡◌, ◌≢◌, ◌↔◌, ◌⊎◌, ℤ, List, [], ◌∷◌, ◌++◌, nat_cmp, sym, subst, inl, inr}
 use Rattle.std.specs.Cmp.{nat_cmp_total}
 use Rattle.std.specs.List.Sorted.{IsStableByKey, IsStrictlySortedBy}
 use Rattle.sqlite_rules.specs.Lists.{Has}
@@ -10,11 +10,11 @@ use Rattle.zeb_register.proofs.ContentChanges.{at_sysno, numbers_apart}
 use Rattle.zeb_register.proofs.ListChanges.{list_changed}
 use Rattle.zeb_register.proofs.PackedParts.{place_of, posting_is}
 use Rattle.zeb_register.proofs.RisingLists.{told_by}
-use Rattle.zeb_change.specs.declared.pending.KeyChange.{KeyChange}
+use Rattle.zeb_change.specs.NoteWords.{KeyChange}
 use Rattle.zeb_change.specs.Noted.{AreTurns}
-use Rattle.zeb_change.specs.PrivatePending.{AreGivenInOrder, ArePutAt, number_in}
-use Rattle.zeb_change.proofs.Leading.{given_many, put_given, turns_rise}
-use Rattle.zeb_change.proofs.Reordering.{AreApart, all_of, as_many, of_reordered}
+use Rattle.zeb_change.specs.PrivatePending.{AreGivenInOrder, number_in}
+use Rattle.zeb_change.proofs.Leading.{turns_given, turns_rise}
+use Rattle.zeb_change.proofs.Reordering.{AreApart, all_of, of_reordered}
 
 -- ---- two changes
 
@@ -92,13 +92,12 @@ in_order = of_reordered number_in (λ noted given. (old new : List Posting) → 
 -- ---- the changes of a key
 
 module _ (changes : List KeyChange) (given : List RecordChange) (is : AreGivenInOrder changes given) where
-  pub put_in_order : (db : ℤ) (key : Key) (old new : Content) → IsRising old → ArePutAt db key changes old new → AreChangedAt db key given old new
-  put_in_order db key old new up put =
-      let noted = put_given db key changes is.noted old new is.same put in
-      record { list = in_order is.noted given is.stable (old db key) (new db key) (up db key) noted.list; others = noted.others }
+  pub put_in_order : (db : ℤ) (key : Key) (old new : Content) → IsRising old → AreTurns changes (old db key) (new db key)
+      → ((d : ℤ) (k : Key) → ¬ ((d ≡ db) × (k ≡ key)) → new d k ≡ old d k) → AreChangedAt db key given old new
+  put_in_order db key old new up turns others = record {
+    list = in_order is.noted given is.stable (old db key) (new db key) (up db key) (turns_given changes is.noted (old db key) (new db key) is.same turns);
+    others = others;
+  }
 
   pub olds_rise : (old new : List Posting) → AreTurns changes old new → OldsRise given
   olds_rise old new are = all_of number_in (λ (c : RecordChange). IsStrictlySortedBy place_cmp c.old.now) is.noted given is.stable (turns_rise changes is.noted old new is.same are)
-
-  pub as_many_given : length given ≡ length changes
-  as_many_given = as_many number_in is.noted given is.stable ∙ given_many changes is.noted is.same

@@ -5,6 +5,7 @@ pub mod BaseLemmas
 pub mod StoredLemmas
 pub mod PostedLemmas
 pub mod Reposted
+pub mod NoteWords
 pub mod NotedChanges
 pub mod Leading
 pub mod Reordering

@@ -1,7 +1,5 @@
 -- The changes that are noted of each key, and how many there are, as a change is noted and as a key's changes are taken out.
-use Rattle.std.proofs.Common.{◌≡◌, ◌≢◌, ◌∙◌, ◌+◌, Bool, true, false, List, [], ◌∷◌, ◌++◌, length, length-append, Option, Some, None, refl, sym, ap, subst, arith}
-use Rattle.std.specs.declared.alloc.Global.{Global}
-use Rattle.std.specs.declared.vec.Vec.{Vec}
+use Rattle.std.proofs.Common.{◌≡◌, ◌≢◌, ◌∙◌, ◌+◌, Bool, true, false, List, [], ◌∷◌, ◌++◌, length, Option, Some, None, refl, sym, ap, subst, arith}
 use Rattle.std.specs.declared.cmp.Ordering.{Ordering}
 use Rattle.std.specs.declared.cmp.Ordering.TheVariants.{Less, Equal, Greater}
 use Rattle.std.specs.Ordering.{is_eq}
@@ -10,17 +8,16 @@ use Rattle.std.specs.BTreeMap.{BTreeMap, get, insert_entry, is_at, Updates, Writ
 use Rattle.zeb_extract.specs.declared.keys.Key.{Key}
 use Rattle.zeb_extract.specs.Order.{key_order}
 use Rattle.zeb_extract.proofs.Rising.{keys_apart}
-use Rattle.zeb_change.specs.declared.pending.KeyChange.{KeyChange}
+use Rattle.zeb_change.specs.declared.key_notes.KeyNotes.{KeyNotes}
 use Rattle.zeb_change.specs.declared.pending.Pending.{Pending}
-use Rattle.zeb_change.specs.Noted.{IsNothingNoted, changes_among, changes_in, noted_at, noted_count}
+use Rattle.zeb_change.specs.NoteWords.{KeyChange, change_words}
+use Rattle.zeb_change.specs.Noted.{AreNoted, IsNotedIn, IsNothingNoted, changes_among, notes_at, noted_count}
 use Rattle.zeb_change.specs.PrivatePending.{IsNotNoted, IsNotedAlso, IsTakenOut}
-
-abbrev Changes : Type 0
-Changes = Vec KeyChange Global
+use Rattle.zeb_change.proofs.NoteWords.{noted_more, one_noted}
 
 -- ---- how many
 
-set_more : (test : Key → Bool) (es : List (Key × Changes)) (v w : Changes) → lookup test es ≡ Some v → length w.items ≡ length v.items + 1
+set_more : (test : Key → Bool) (es : List (Key × KeyNotes)) (v w : KeyNotes) → lookup test es ≡ Some v → w.count ≡ v.count + 1
     → changes_among (set_value test es w) ≡ changes_among es + 1
 set_more test [] v w found more = absurd (cc)
 set_more test (e ∷ es) v w found more = by (test e.0) refl (λ later. set_more test es v w later more)
@@ -29,14 +26,14 @@ set_more test (e ∷ es) v w found more = by (test e.0) refl (λ later. set_more
     by true is rest =
         let here : Some e.1 ≡ Some v = sym (rw is refl) ∙ found in
         let same : e.1 ≡ v = cc in
-        let many : length w.items ≡ length e.1.items + 1 = more ∙ ap (λ (u : Changes). length u.items + 1) (sym same) in
+        let many : w.count ≡ e.1.count + 1 = more ∙ ap (λ (u : KeyNotes). u.count + 1) (sym same) in
         rw is (omega (arith, many))
     by false is rest =
         let later : lookup test es ≡ Some v = sym (rw is refl) ∙ found in
         let tail = rest later in
         rw is (omega (arith, tail))
 
-insert_more : (es : List (Key × Changes)) (key : Key) (v : Changes) → lookup (is_at (key_order key)) es ≡ None → length v.items ≡ 1
+insert_more : (es : List (Key × KeyNotes)) (key : Key) (v : KeyNotes) → lookup (is_at (key_order key)) es ≡ None → v.count ≡ 1
     → changes_among (insert_entry key_order es key v) ≡ changes_among es + 1
 insert_more [] key v none one = omega (arith, one)
 insert_more (e ∷ es) key v none one = by (key_order key e.0) refl (λ later. insert_more es key v later one)
@@ -61,41 +58,45 @@ apart_at key k differs = by (key_order key k) refl
     by Greater is = refl
 
 -- a key has a change already
-noted_behind : (key : Key) (change : KeyChange) (v w : Changes) (old new : Pending) → get key_order old.changes key ≡ Some v → w.items ≡ v.items ++ change ∷ []
-    → WritesThrough key_order (key_order key) old.changes w new.changes → IsNotedAlso key change old new
-noted_behind key change v w old new found more writes =
+noted_behind : (key : Key) (change : KeyChange) (v w : KeyNotes) (old new : Pending) → get key_order old.notes key ≡ Some v → w.count ≡ v.count + 1
+    → w.words.items ≡ v.words.items ++ change_words change → WritesThrough key_order (key_order key) old.notes w new.notes → IsNotedAlso key change old new
+noted_behind key change v w old new found more words writes =
     let updates = writes.3 (rw found refl) in
     record {
-      here = ap changes_in updates.1 ∙ more ∙ ap (λ (o : Option Changes). changes_in o ++ change ∷ []) (sym found);
-      others = λ k differs. ap changes_in (updates.2 k (apart_at key k differs));
-      count = ap changes_among writes.0
-          ∙ set_more (is_at (key_order key)) old.changes.entries v w found (ap length more ∙ length-append v.items (change ∷ []));
+      here = λ changes noted. subst (λ (o : Option KeyNotes). AreNoted o (changes ++ change ∷ [])) (sym updates.1)
+          (noted_more v w changes change more words (subst (λ (o : Option KeyNotes). AreNoted o changes) found noted));
+      others = λ k differs. updates.2 k (apart_at key k differs);
+      count = ap changes_among writes.0 ∙ set_more (is_at (key_order key)) old.notes.entries v w found more;
     }
 
 -- what is noted is told by the map
-pub noted_by : (key : Key) (change : KeyChange) (old old' new : Pending) → old'.changes ≡ old.changes → IsNotedAlso key change old new → IsNotedAlso key change old' new
+pub noted_by : (key : Key) (change : KeyChange) (old old' new : Pending) → old'.notes ≡ old.notes → IsNotedAlso key change old new → IsNotedAlso key change old' new
 noted_by key change old old' new same is = record {
-  here = is.here ∙ ap (λ (m : BTreeMap Key Changes). changes_in (get key_order m key) ++ change ∷ []) (sym same);
-  others = λ k differs. is.others k differs ∙ ap (λ (m : BTreeMap Key Changes). changes_in (get key_order m k)) (sym same);
-  count = is.count ∙ ap (λ (m : BTreeMap Key Changes). changes_among m.entries + 1) (sym same);
+  here = λ changes noted. is.here changes (subst (λ (m : BTreeMap Key KeyNotes). AreNoted (get key_order m key) changes) same noted);
+  others = λ k differs. is.others k differs ∙ ap (λ (m : BTreeMap Key KeyNotes). get key_order m k) (sym same);
+  count = is.count ∙ ap (λ (m : BTreeMap Key KeyNotes). changes_among m.entries + 1) (sym same);
 }
 
 -- it has none
-noted_first : (key : Key) (change : KeyChange) (v : Changes) (old new : Pending) → IsNotNoted key old → v.items ≡ change ∷ []
-    → new.changes.entries ≡ insert_entry key_order old.changes.entries key v → Updates key_order old.changes new.changes key (Some v) → IsNotedAlso key change old new
-noted_first key change v old new none one entries updates = record {
-  here = ap changes_in updates.1 ∙ one ∙ ap (λ (o : Option Changes). changes_in o ++ change ∷ []) (sym none);
-  others = λ k differs. ap changes_in (updates.2 k (apart_at key k differs));
-  count = ap changes_among entries ∙ insert_more old.changes.entries key v none (ap length one);
+noted_first : (key : Key) (change : KeyChange) (v : KeyNotes) (old new : Pending) → IsNotNoted key old → v.count ≡ 1 → v.words.items ≡ change_words change
+    → new.notes.entries ≡ insert_entry key_order old.notes.entries key v → Updates key_order old.notes new.notes key (Some v) → IsNotedAlso key change old new
+noted_first key change v old new none one words entries updates = record {
+  here = λ changes noted. subst (λ (o : Option KeyNotes). AreNoted o (changes ++ change ∷ [])) (sym updates.1)
+      (alone changes (subst (λ (o : Option KeyNotes). AreNoted o changes) none noted));
+  others = λ k differs. updates.2 k (apart_at key k differs);
+  count = ap changes_among entries ∙ insert_more old.notes.entries key v none one;
 }
+  where
+    alone : (changes : List KeyChange) → changes ≡ [] → IsNotedIn v (changes ++ change ∷ [])
+    alone changes empty = subst (λ (cs : List KeyChange). IsNotedIn v (cs ++ change ∷ [])) (sym empty) (record { count = one; words = words ∙ sym (one_noted change) })
 
 -- the first key's changes are taken out
-first_out : (key : Key) (v : Changes) (old new : Pending) → old.changes.entries ≡ (key, v) ∷ new.changes.entries → get key_order old.changes key ≡ Some v
-    → Updates key_order old.changes new.changes key None → IsTakenOut key v.items old new
+first_out : (key : Key) (v : KeyNotes) (old new : Pending) → old.notes.entries ≡ (key, v) ∷ new.notes.entries → get key_order old.notes key ≡ Some v
+    → Updates key_order old.notes new.notes key None → IsTakenOut key v old new
 first_out key v old new entries found updates = record {
-  here = ap changes_in found;
-  gone = ap changes_in updates.1;
-  others = λ k differs. ap changes_in (updates.2 k (apart_at key k differs));
+  here = found;
+  gone = updates.1;
+  others = λ k differs. updates.2 k (apart_at key k differs);
   count = ap changes_among entries;
   fewer = ap length entries ∙ omega arith;
 }
@@ -106,30 +107,30 @@ module _ (cmp : Key → Key → Ordering) (law : (a b : Key) → cmp a b ≡ key
   same_order : cmp ≡ key_order
   same_order = λ i a b. law a b i
 
-  pub behind : (key : Key) (change : KeyChange) (v w : Changes) (old new : Pending) → get cmp old.changes key ≡ Some v → w.items ≡ v.items ++ change ∷ []
-      → WritesThrough cmp (cmp key) old.changes w new.changes → IsNotedAlso key change old new
-  behind key change v w old new found more writes =
-      noted_behind key change v w old new (subst (λ R. get R old.changes key ≡ Some v) same_order found) more
-      (subst (λ R. WritesThrough R (R key) old.changes w new.changes) same_order writes)
+  pub behind : (key : Key) (change : KeyChange) (v w : KeyNotes) (old new : Pending) → get cmp old.notes key ≡ Some v → w.count ≡ v.count + 1
+      → w.words.items ≡ v.words.items ++ change_words change → WritesThrough cmp (cmp key) old.notes w new.notes → IsNotedAlso key change old new
+  behind key change v w old new found more words writes =
+      noted_behind key change v w old new (subst (λ R. get R old.notes key ≡ Some v) same_order found) more words
+      (subst (λ R. WritesThrough R (R key) old.notes w new.notes) same_order writes)
 
-  pub first : (key : Key) (change : KeyChange) (v : Changes) (old new : Pending) → IsNotNoted key old → v.items ≡ change ∷ []
-      → new.changes.entries ≡ insert_entry cmp old.changes.entries key v → Updates cmp old.changes new.changes key (Some v) → IsNotedAlso key change old new
-  first key change v old new none one entries updates =
-      noted_first key change v old new none one (subst (λ R. new.changes.entries ≡ insert_entry R old.changes.entries key v) same_order entries)
-      (subst (λ R. Updates R old.changes new.changes key (Some v)) same_order updates)
+  pub first : (key : Key) (change : KeyChange) (v : KeyNotes) (old new : Pending) → IsNotNoted key old → v.count ≡ 1 → v.words.items ≡ change_words change
+      → new.notes.entries ≡ insert_entry cmp old.notes.entries key v → Updates cmp old.notes new.notes key (Some v) → IsNotedAlso key change old new
+  first key change v old new none one words entries updates =
+      noted_first key change v old new none one words (subst (λ R. new.notes.entries ≡ insert_entry R old.notes.entries key v) same_order entries)
+      (subst (λ R. Updates R old.notes new.notes key (Some v)) same_order updates)
 
-  pub absent : (key : Key) (old : Pending) → get cmp old.changes key ≡ None → IsNotNoted key old
-  absent key old none = subst (λ R. get R old.changes key ≡ None) same_order none
+  pub absent : (key : Key) (old : Pending) → get cmp old.notes key ≡ None → IsNotNoted key old
+  absent key old none = subst (λ R. get R old.notes key ≡ None) same_order none
 
-  pub out : (key : Key) (v : Changes) (old new : Pending) → old.changes.entries ≡ (key, v) ∷ new.changes.entries → get cmp old.changes key ≡ Some v
-      → Updates cmp old.changes new.changes key None → IsTakenOut key v.items old new
+  pub out : (key : Key) (v : KeyNotes) (old new : Pending) → old.notes.entries ≡ (key, v) ∷ new.notes.entries → get cmp old.notes key ≡ Some v
+      → Updates cmp old.notes new.notes key None → IsTakenOut key v old new
   out key v old new entries found updates =
-      first_out key v old new entries (subst (λ R. get R old.changes key ≡ Some v) same_order found)
-      (subst (λ R. Updates R old.changes new.changes key None) same_order updates)
+      first_out key v old new entries (subst (λ R. get R old.notes key ≡ Some v) same_order found)
+      (subst (λ R. Updates R old.notes new.notes key None) same_order updates)
 
 -- where nothing is noted, no change is
-pub nothing_at : (pending : Pending) → IsNothingNoted pending → (key : Key) → noted_at pending key ≡ []
-nothing_at pending none key = ap (λ (es : List (Key × Changes)). changes_in (lookup (is_at (key_order key)) es)) none
+pub nothing_at : (pending : Pending) → IsNothingNoted pending → (key : Key) → notes_at pending key ≡ None
+nothing_at pending none key = ap (λ (es : List (Key × KeyNotes)). lookup (is_at (key_order key)) es) none
 
 pub nothing_count : (pending : Pending) → IsNothingNoted pending → noted_count pending ≡ 0
 nothing_count pending none = ap changes_among none

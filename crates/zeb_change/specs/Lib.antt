@@ -12,10 +12,12 @@ pub mod Reading
 pub mod UnderWay
 pub mod Holding
 pub mod Reposted
+pub mod NoteWords
 pub mod Noted
 pub mod PrivateKeyRuns
 pub mod PrivateChangedKeys
 pub mod PrivateTallies
+pub mod PrivateNotes
 pub mod PrivatePending
 pub mod PrivateStanding
 pub mod PrivateRecords

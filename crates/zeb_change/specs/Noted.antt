@@ -1,7 +1,5 @@
 -- Changes of keys that are noted and not yet written: what the registers hold once they are.
 use Rattle.std.specs.Prelude.{◌≡◌, ◌≢◌, ◌+◌, ℕ, ℤ, List, [], ◌∷◌, length, Option, Some, None, IsTrue, Result, Err, OnOk}
-use Rattle.std.specs.declared.alloc.Global.{Global}
-use Rattle.std.specs.declared.vec.Vec.{Vec}
 use Rattle.std.specs.BTreeMap.{get}
 use Rattle.std.specs.List.Sorted.{IsStrictlySortedBy}
 use Rattle.sqlite.specs.State.{HasCleanDisk, State, Survives}
@@ -14,31 +12,37 @@ use Rattle.zeb_register.specs.declared.registers.Work.{Work}
 use Rattle.zeb_register.specs.Content.{ArePlacesOf, Content, IsListChanged, IsStorable, Posting, place_cmp}
 use Rattle.zeb_register.specs.Formats.{Format, holds_in}
 use Rattle.zeb_register.specs.Store.{IsStore, KeepsLists}
-use Rattle.zeb_change.specs.declared.pending.KeyChange.{KeyChange}
+use Rattle.zeb_change.specs.declared.key_notes.KeyNotes.{KeyNotes}
 use Rattle.zeb_change.specs.declared.pending.Pending.{Pending}
 use Rattle.zeb_change.specs.Costs.{IsWorkFor}
 use Rattle.zeb_change.specs.Inside.{Stays}
+use Rattle.zeb_change.specs.NoteWords.{KeyChange, words_of}
 
 -- ---- what is noted
 
-abbrev pub changes_in : Option (Vec KeyChange Global) → List KeyChange
-changes_in None = []
-changes_in (Some changes) = changes.items
-
 -- the changes of a key, in the order in which they were noted
-abbrev pub noted_at : Pending → Key → List KeyChange
-noted_at pending key = changes_in (get key_order pending.changes key)
+pub record IsNotedIn (notes : KeyNotes) (changes : List KeyChange) : Type 0 where
+  pub count : notes.count ≡ length changes
+  pub words : notes.words.items ≡ words_of changes
 
-abbrev pub changes_among : List (Key × Vec KeyChange Global) → ℕ
+abbrev pub AreNoted : Option KeyNotes → List KeyChange → Type 0
+AreNoted None changes = changes ≡ []
+AreNoted (Some notes) changes = IsNotedIn notes changes
+
+-- what is noted of a key
+abbrev pub notes_at : Pending → Key → Option KeyNotes
+notes_at pending key = get key_order pending.notes key
+
+abbrev pub changes_among : List (Key × KeyNotes) → ℕ
 changes_among [] = 0
-changes_among (entry ∷ entries) = length entry.1.items + changes_among entries
+changes_among (entry ∷ entries) = entry.1.count + changes_among entries
 
 -- how many changes are noted
 abbrev pub noted_count : Pending → ℕ
-noted_count pending = changes_among pending.changes.entries
+noted_count pending = changes_among pending.notes.entries
 
 abbrev pub IsNothingNoted : Pending → Type 0
-IsNothingNoted pending = pending.changes.entries ≡ []
+IsNothingNoted pending = pending.notes.entries ≡ []
 
 -- ---- what the changes make of contents
 
@@ -46,12 +50,16 @@ IsNothingNoted pending = pending.changes.entries ≡ []
 abbrev pub AreTurns : List KeyChange → List Posting → List Posting → Type 0
 AreTurns [] old new = new ≡ old
 AreTurns (change ∷ changes) old new =
-    (next : List Posting) × IsStrictlySortedBy place_cmp change.old.items × ArePlacesOf change.sysno change.old.items old
-    × IsListChanged change.sysno change.new.items old next × AreTurns changes next new
+    (next : List Posting) × IsStrictlySortedBy place_cmp change.old × ArePlacesOf change.sysno change.old old
+    × IsListChanged change.sysno change.new old next × AreTurns changes next new
+
+-- the changes that are noted make the one list of the other
+abbrev pub LeadsList : Option KeyNotes → List Posting → List Posting → Type 0
+LeadsList notes old new = (changes : List KeyChange) × AreNoted notes changes × AreTurns changes old new
 
 -- the noted changes make the content ahead of the one behind, in one database
 pub record LeadsTo (db : ℤ) (pending : Pending) (behind ahead : Content) : Type 0 where
-  pub each : (key : Key) → AreTurns (noted_at pending key) (behind db key) (ahead db key)
+  pub each : (key : Key) → LeadsList (notes_at pending key) (behind db key) (ahead db key)
   pub others : (d : ℤ) (key : Key) → d ≢ db → ahead d key ≡ behind d key
 
 -- the registers hold this content once the noted changes are written

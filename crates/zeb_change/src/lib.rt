@@ -6,12 +6,14 @@ mod counts;
 mod faults;
 mod files;
 mod kept;
+mod key_notes;
 mod noting;
 mod pending;
 mod records;
 mod refusals;
 mod settings;
 mod tally;
+mod words;
 mod writing;
 
 pub use faults::RecordFault;

@@ -9,7 +9,7 @@ ghost use Rattle.zeb_change.specs.Noted.{LeadsTo, noted_count};
 ghost use Rattle.zeb_change.specs.Reposted.{ArePostingsOf, AreTheSame, IsReposted};
 
 use crate::changed_keys::changed_keys;
-use crate::pending::{KeyChange, Pending};
+use crate::pending::Pending;
 use std::alloc::{AllocError, Global};
 use zeb_extract::Occurrence;
 
@@ -37,12 +37,7 @@ pub fn note_keys(
 {
     let changed_keys = changed_keys(alloc, elder, newer)?;
     for changed in changed_keys {
-        let change = KeyChange {
-            sysno,
-            old: changed.old,
-            new: changed.new,
-        };
-        pending.note(changed.key, change)?;
+        pending.note(changed.key, sysno, &changed.old, &changed.new)?;
     }
     Ok(())
 }

@@ -1,6 +1,6 @@
 //! Noted changes of keys, written into the registers key by key.
 
-ghost use Rattle.std.specs.Prelude.{◌≡◌, Err, IsTrue, OnOk, IfOk, length};
+ghost use Rattle.std.specs.Prelude.{◌≡◌, List, Err, IsTrue, OnOk, IfOk, length, map};
 ghost use Rattle.sqlite.specs.Held.{state};
 ghost use Rattle.sqlite.specs.State.{HasCleanDisk};
 ghost use Rattle.zeb_register.specs.Calls.{GoesOn, Inside};
@@ -8,28 +8,48 @@ ghost use Rattle.zeb_register.specs.Content.{Content, IsStorable};
 ghost use Rattle.zeb_register.specs.Formats.{holds_in};
 ghost use Rattle.zeb_register.specs.Store.{IsStore, KeepsLists};
 ghost use Rattle.zeb_change.specs.Costs.{IsWorkFor};
+ghost use Rattle.zeb_change.specs.NoteWords.{KeyChange};
 ghost use Rattle.zeb_change.specs.Noted.{IsNothingNoted, Settles};
+ghost use Rattle.zeb_change.specs.PrivateNotes.{IsCutOff, counts_in, places_in};
 ghost use Rattle.zeb_change.specs.PrivatePending.{AreGivenInOrder, ArePutAt};
 
 use crate::counts::counts_are_numbers;
-use crate::pending::{KeyChange, Pending};
+use crate::key_notes::{KeyNotes, PlaceCounts};
+use crate::pending::Pending;
 use sqlite::{Alter, Transaction};
 use std::alloc::{AllocError, Global};
 use zeb_extract::Key;
-use zeb_register::{DatabaseId, Layout, RecordChange, RegFault, Work};
+use zeb_register::{DatabaseId, Layout, Place, RecordChange, RegFault, Work};
+
+/// So many places at the front, and those behind them; all where there are fewer.
+fn cut_off<'a>(places: &'a [Place], count: u64) -> (&'a [Place], &'a [Place])
+    ensures { IsCutOff places.now count result.0.now result.1.now }
+{
+    places.split_at(places.len().min(count as usize))
+}
 
 /// The changes of a key as a layout takes them, by the numbers of their records: a layout reads and writes a row once for changes that
 /// stand next to each other. Those of one record stay in the order in which they were noted.
-fn given<'a>(alloc: Global, changes: &'a [KeyChange]) -> Result<Vec<RecordChange<'a>>, AllocError>
-    ensures { IfOk result (λ given. AreGivenInOrder changes.now given.items) }
+fn given<'a>(
+    alloc: Global,
+    counts: &[PlaceCounts],
+    places: &'a [Place],
+) -> Result<Vec<RecordChange<'a>>, AllocError>
+    ensures many { IfOk result (λ given. length given.items ≡ length counts.now) }
+    ensures told { IfOk result (λ given. (changes : List KeyChange) → counts.now ≡ map counts_in changes → places.now ≡ places_in changes
+        → AreGivenInOrder changes given.items) }
 {
-    let mut given = Vec::with_capacity(alloc, changes.len())?;
-    for change in changes {
+    let mut given = Vec::with_capacity(alloc, counts.len())?;
+    let mut left = places;
+    for count in counts {
+        let (old, behind) = cut_off(left, count.old);
+        let (new, behind) = cut_off(behind, count.new);
         given.push(RecordChange {
-            sysno: change.sysno,
-            old: &change.old,
-            new: &change.new,
+            sysno: count.sysno,
+            old,
+            new,
         })?;
+        left = behind;
     }
     given.sort_by_key(|change| change.sysno)?;
     Ok(given)
@@ -42,7 +62,7 @@ fn write_key<S: Alter, L: Layout>(
     work: &mut Work,
     db: DatabaseId,
     key: &Key,
-    changes: &[KeyChange],
+    notes: &KeyNotes,
 ) -> Result<(), RegFault>
     ensures same { tx.new.conn.ghost_name ≡ tx.old.conn.ghost_name }
     ensures call { Inside (state S.Store tx.old.conn.now) (state S.Store tx.new.conn.now) result (λ _. GoesOn) }
@@ -51,18 +71,19 @@ fn write_key<S: Alter, L: Layout>(
         → OnOk result (IsStore (state S.Store tx.new.conn.now)
         × KeepsLists (state S.Store tx.old.conn.now).now.trees (state S.Store tx.new.conn.now).now.trees
         × ((before after : Content) → holds_in L.format (state S.Store tx.old.conn.now).now.trees before
-        → ArePutAt db.0 key.now changes.now before after → holds_in L.format (state S.Store tx.new.conn.now).now.trees after)) }
+        → ArePutAt db.0 key.now notes.now before after → holds_in L.format (state S.Store tx.new.conn.now).now.trees after)) }
     ensures honest { HasCleanDisk (state S.Store tx.new.conn.now) → IsTrue (state S.Store tx.old.conn.now).in_transaction
         → IsStore (state S.Store tx.old.conn.now)
         → result ≡ Err RegFault.Damaged
         → (before after : Content) → IsStorable before → holds_in L.format (state S.Store tx.old.conn.now).now.trees before
-        → ¬ ArePutAt db.0 key.now changes.now before after }
+        → ¬ ArePutAt db.0 key.now notes.now before after }
     ensures work { HasCleanDisk (state S.Store tx.new.conn.now) → IsTrue (state S.Store tx.old.conn.now).in_transaction
         → IsStore (state S.Store tx.old.conn.now)
         → OnOk result ((content : Content) → holds_in L.format (state S.Store tx.old.conn.now).now.trees content
-        → IsWorkFor L.row_work (length changes.now) work.old work.new) }
+        → IsWorkFor L.row_work notes.now.count work.old work.new) }
 {
-    let given = given(alloc, changes)?;
+    let (counts, places) = notes.read(alloc)?;
+    let given = given(alloc, &counts, &places)?;
     L::key_changes(tx, work, db, key, &given)?;
     Ok(())
 }
@@ -84,8 +105,8 @@ pub fn write_pending<S: Alter, L: Layout>(
         work.old work.new result }
     ensures all { OnOk result (IsNothingNoted pending.new) }
 {
-    while let Some((key, changes)) = pending.take_first() {
-        write_key::<S, L>(tx, alloc, work, db, &key, &changes)?;
+    while let Some((key, notes)) = pending.take_first() {
+        write_key::<S, L>(tx, alloc, work, db, &key, &notes)?;
         counts_are_numbers(work);
     }
     Ok(())

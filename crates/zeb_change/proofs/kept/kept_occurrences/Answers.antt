@@ -2,7 +2,6 @@ use Rattle.std.proofs.Common.{◌↔◌, List, subst}
 use Rattle.std.specs.List.{Contains}
 use Rattle.zeb_marc.specs.Contents.{units_of}
 use Rattle.zeb_marc.specs.Directory.{FieldText}
-use Rattle.zeb_marc.specs.Records.{fields_of}
 use Rattle.zeb_profile.specs.Indexes.{unit_targets}
 use Rattle.zeb_extract.specs.declared.keys.Occurrence.{Occurrence}
 use Rattle.zeb_extract.specs.Occurrences.{IsOccurrence}

@@ -1,10 +1,12 @@
-use Rattle.std.proofs.Common.{◌≡◌, ◌∙◌, ◌++◌, ◌∷◌, List, [], arith, ap, drop, length, length-append, map, refl, suc, subst, sym, take}
+use Rattle.std.proofs.Common.{◌≡◌, ◌∙◌, ◌++◌, ◌∷◌, List, [], arith, ap, drop, length, length-append, map, refl, suc, subst, subst₂, sym, take}
 use Rattle.std.proofs.Math.Seq.{split_at}
 use Rattle.std.proofs.lemmas.Iterator.Adapters.{YieldsList-from_vec}
 use Rattle.std.proofs.lemmas.Iterator.Consumers.{YieldsList-end, YieldsList-so_far, YieldsList-turn}
 use Rattle.zeb_register.proofs.ContentChanges.{changed_at, change_is}
 use Rattle.zeb_change.specs.declared.changed_keys.ChangedKey.{ChangedKey}
-use Rattle.zeb_change.specs.declared.pending.KeyChange.{KeyChange}
+use Rattle.zeb_register.specs.declared.registers.Place.{Place}
+use Rattle.zeb_change.specs.NoteWords.{KeyChange}
+use Rattle.zeb_change.specs.PrivatePending.{IsNotedAlso}
 use Rattle.zeb_change.specs.PrivateChangedKeys.{AreChangedKeys, key_in}
 use Rattle.zeb_change.specs.Noted.{LeadsTo}
 use Rattle.zeb_change.proofs.ChangeKeysContent.{moved, moved_is, moved_more, moved_none, moved_rises, one_reposted, still_old}
@@ -37,7 +39,9 @@ loop-changed-preserved c =
     let rest = drop (suc (length done)) all.items in
     let split : all.items ≡ done ++ item ∷ rest =
     split_at all.items (length done) item turn.0 ∙ ap (λ (x : ChangedKey). take (length done) all.items ++ x ∷ rest) (sym turn.1) ∙ ap (λ (l : List ChangedKey). l ++ item ∷ rest) front in
-    let change : KeyChange = record { sysno = sysno; old = item.old; new = item.new } in
+    let change : KeyChange = record { sysno = sysno; old = item.old.items; new = item.new.items } in
+    let noted = subst₂ (λ (old new : List Place). IsNotedAlso (key_in item) (record { sysno = sysno; old = old; new = new }) c.loop-changed.pending c.note.new.self)
+    c.deref.ensures.value c.deref-in-loop-changed.ensures.value c.in_ok-note.ensures in
     record {
       leads = λ elder newer db behind before leads up was.
           let are = c.in_ok-changed_keys.ensures elder newer in
@@ -47,10 +51,10 @@ loop-changed-preserved c =
           let stood = still_old db sysno c.args.elder.now c.args.newer.now done rest item before up (subst (AreChangedKeys c.args.elder.now c.args.newer.now) split are) was in
           let old_rises = (are.old item (length done, turn.0, sym turn.1)).rising in
           subst (LeadsTo db c.note.new.self behind) (sym (moved_more db sysno done item before))
-          (leads_more db (key_in item) change c.loop-changed.pending c.note.new.self behind now (changed_at db (key_in item) sysno item.new.items now) so_far rising c.in_ok-note.ensures old_rises stood
+          (leads_more db (key_in item) change c.loop-changed.pending c.note.new.self behind now (changed_at db (key_in item) sysno item.new.items now) so_far rising noted old_rises stood
           (change_is db (key_in item) sysno item.new.items now rising));
       idle = λ none. absurd (omega (arith, ap length none, length-append done (item ∷ [])));
-      count = omega (arith, c.loop-changed.invariant.count, c.in_ok-note.ensures.count, length-append done (item ∷ []));
+      count = omega (arith, c.loop-changed.invariant.count, noted.count, length-append done (item ∷ []));
     }
 
 pub returns-clause-moved : goal.returns-clause-moved

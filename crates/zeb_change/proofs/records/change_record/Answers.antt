@@ -10,7 +10,6 @@ use Rattle.zeb_extract.specs.Occurrences.{IsOccurrence}
 use Rattle.zeb_register.specs.declared.faults.RegFault.TheVariants as fault
 use Rattle.zeb_register.specs.declared.kept.Elder.{Elder}
 use Rattle.zeb_register.specs.Formats.{Format}
-use Rattle.zeb_register.specs.Kept.{IsElderOf}
 use Rattle.zeb_change.specs.declared.settings.Kind.{Kind}
 use Rattle.zeb_change.specs.declared.settings.Kind.TheVariants.{Update, Delete, Adelete}
 use Rattle.zeb_change.specs.declared.tally.Fate.TheVariants.{PassedOver, Updated}

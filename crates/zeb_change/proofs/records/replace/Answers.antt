@@ -1,4 +1,4 @@
-use Rattle.std.proofs.Common.{◌≡◌, ℕ, List, rules, Err, inr, ap, sym, subst}
+use Rattle.std.proofs.Common.{◌≡◌, rules, Err, inr, ap, sym, subst}
 use Rattle.sqlite.specs.Held.{state}
 use Rattle.zeb_change.specs.Refused.{why_of}
 use Rattle.zeb_change.specs.Folding.{Changed, updated}

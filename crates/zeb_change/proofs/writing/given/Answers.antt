@@ -1,28 +1,32 @@
-use Rattle.std.proofs.Common.{◌≡◌, ◌∙◌, ◌+◌, ◌++◌, ◌∷◌, [], List, ap, refl, rules, subst, subst₂, sym, take}
-use Rattle.std.proofs.lemmas.List.{take_all, take_more}
+use Rattle.std.proofs.Common.{arith, refl, rules, slice_index_or}
+use Rattle.std.proofs.Math.ListN.{drop_of_length-le}
+use Rattle.std.proofs.lemmas.List.{drop_more}
 use Rattle.std.proofs.lemmas.List.Sorted.{IsNonDecreasingBy-from_sort_by_key, answers_always}
 use Rattle.zeb_register.specs.declared.registers.RecordChange.{RecordChange}
-use Rattle.zeb_change.specs.declared.pending.KeyChange.{KeyChange}
-use Rattle.zeb_change.specs.PrivatePending.{AreGivenAs, number_in}
-use Rattle.zeb_change.proofs.Leading.{given_more}
+use Rattle.zeb_change.specs.declared.key_notes.PlaceCounts.{PlaceCounts}
+use Rattle.zeb_change.specs.PrivatePending.{number_in}
+use Rattle.zeb_change.proofs.Leading.{all_given, one_given}
 use Rattle.zeb_change.proofs.writing.given.Goals as goal
 
-pub loop-change-preserved : goal.loop-change-preserved
-loop-change-preserved c =
-    let all = c.args.changes.now in
-    let index = c.loop-change.change-index in
-    let change = c.change-item.result in
-    let given : RecordChange = record { sysno = change.sysno; old = c.deref.result; new = c.deref-in-loop-change.result } in
-    let more : take (index + 1) all ≡ take index all ++ change ∷ [] = take_more all index change c.loop-change-test.true ∙ ap (λ (x : KeyChange). take index all ++ x ∷ []) (sym c.change-item.is) in
+pub loop-count-preserved : goal.loop-count-preserved
+loop-count-preserved c =
+    let counts = c.args.counts.now in
+    let index = c.loop-count.count-index in
+    let none : PlaceCounts = record { sysno = 0; old = 0; new = 0 } in
+    let count : PlaceCounts = slice_index_or counts index none in
+    let change : RecordChange = record { sysno = count.sysno; old = c.cut_off.result.0; new = c.cut_off-in-loop-count.result.0 } in
     record {
-      so_far = subst₂ (λ (cs : List KeyChange) (gs : List RecordChange). AreGivenAs cs gs) (sym more) (sym c.in_ok-push.ensures.items)
-          (given_more (take index all) c.loop-change.given.items change given c.loop-change.invariant.so_far (refl, c.deref.ensures.value, c.deref-in-loop-change.ensures.value));
+      many = omega (arith, c.in_ok-push.ensures.len, c.loop-count.invariant.many);
+      told = one_given counts c.args.places.now c.loop-count.left.now c.cut_off.result.1.now c.cut_off-in-loop-count.result.1.now index c.loop-count.given.items
+          c.push.new.self.items count change (drop_more counts index none c.loop-count-test.true) c.cut_off.ensures c.cut_off-in-loop-count.ensures refl
+          c.in_ok-push.ensures.items c.loop-count.invariant.told;
     }
 
-pub returns : goal.returns
-returns c = record {
-  noted = c.loop-change.given.items;
-  same = subst (λ (cs : List KeyChange). AreGivenAs cs c.loop-change.given.items) (take_all c.loop-change.change-index c.args.changes.now c.loop-change-test.false) c.loop-change.invariant.so_far;
+pub returns-clause-told : goal.returns-clause-told
+returns-clause-told c changes many are = record {
+  noted = c.loop-count.given.items;
+  same = all_given c.args.counts.now c.args.places.now c.loop-count.left.now c.loop-count.count-index c.loop-count.given.items
+      (drop_of_length-le c.args.counts.now c.loop-count-test.false) c.loop-count.invariant.told changes many are;
   rising = IsNonDecreasingBy-from_sort_by_key number_in _ c.in_ok-sort_by_key.ensures.sorted (λ a r q k. search rules);
   stable = c.sort_by_key.ensures.stable number_in (answers_always _ _ _ (λ f a r g h. search rules));
 }

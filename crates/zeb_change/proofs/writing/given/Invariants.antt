@@ -1,6 +1,9 @@
-use Rattle.std.proofs.Common.{take}
-use Rattle.zeb_change.specs.PrivatePending.{AreGivenAs}
+use Rattle.std.proofs.Common.{◌≡◌, length}
+use Rattle.zeb_change.proofs.Leading.{AreGivenSoFar}
 use Rattle.zeb_change.proofs.writing.given.Given as goal
 
-abbrev pub invariant-loop-change : goal.invariant-loop-change
-invariant-loop-change l = record { so_far : AreGivenAs (take l.change-index l.changes) l.given.items }
+abbrev pub invariant-loop-count : goal.invariant-loop-count
+invariant-loop-count l = record {
+  many : length l.given.items ≡ l.count-index;
+  told : AreGivenSoFar l.counts l.places l.count-index l.left l.given.items;
+}

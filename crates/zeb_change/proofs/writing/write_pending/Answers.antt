@@ -1,15 +1,18 @@
-use Rattle.std.proofs.Common.{◌≡◌, ◌∙◌, List, rules, arith, Err, length, refl, subst, sym}
+use Rattle.std.proofs.Common.{◌≡◌, ◌∙◌, Ok, Result, rules, arith, Err, refl, sym}
 use Rattle.sqlite.specs.Held.{state}
 use Rattle.sqlite.specs.State.{HasCleanDisk}
+use Rattle.zeb_register.specs.declared.faults.RegFault.{RegFault}
 use Rattle.zeb_register.specs.declared.faults.RegFault.TheVariants.{Damaged}
-use Rattle.zeb_change.specs.declared.pending.KeyChange.{KeyChange}
-use Rattle.zeb_change.specs.PrivatePending.{IsTakenOut}
 use Rattle.zeb_change.proofs.ChangeKeysContent.{keeps_then}
 use Rattle.zeb_change.proofs.CostLemmas.{due_nothing, due_written}
 use Rattle.zeb_change.proofs.Leading.{held_then, nothing_more, put_one}
 use Rattle.zeb_change.proofs.Settling.{still_settled}
 use Rattle.zeb_change.proofs.TransactionLemmas.{kept_then}
 use Rattle.zeb_change.proofs.writing.write_pending.Goals as goal
+
+-- what is accepted is no refusal
+accepted_only : (result : Result (Unit {0}) RegFault) → result ≡ Ok tt → result ≡ Err Damaged → ⊥
+accepted_only result done refused = let both = sym done ∙ refused in absurd (cc)
 
 pub loop-key-init : goal.loop-key-init
 loop-key-init g c = record {
@@ -26,8 +29,8 @@ loop-key-preserved g c =
     let next = state g.S.Store c.write_key.new.tx.conn.now in
     let db = c.args.db.0 in
     let key = c.in-Some.key in
-    let changes = c.deref.result.now in
-    let out : IsTakenOut key changes c.loop-key.pending c.take_first.new.self = subst (λ (cs : List KeyChange). IsTakenOut key cs c.loop-key.pending c.take_first.new.self) (sym c.deref.ensures.value) c.in-Some.ensures.taken in
+    let notes = c.in-Some.notes in
+    let out = c.in-Some.ensures.taken in
     record {
       same = search rules;
       crash = search rules;
@@ -42,8 +45,8 @@ loop-key-preserved g c =
             λ ahead storable holds.
                 let held = so_far.2 ahead storable holds in
                 let worked = c.in_ok-write_key.ensures.work clean stays.mode so_far.0 held.0.behind held.0.held in (
-                  held_then g.L.Layout.format now.now.trees next.now.trees db key changes c.loop-key.pending c.take_first.new.self ahead storable out write.2 held.0,
-                  due_written g.L.Layout.row_work (length changes) c.args.work.now c.loop-key.work c.write_key.new.work
+                  held_then g.L.Layout.format now.now.trees next.now.trees db key notes c.loop-key.pending c.take_first.new.self ahead storable out write.2 held.0,
+                  due_written g.L.Layout.row_work notes.count c.args.work.now c.loop-key.work c.write_key.new.work
                       c.args.pending.now c.loop-key.pending c.take_first.new.self c.counts_are_numbers.ensures held.1 worked out.count,
                 ),
           );
@@ -56,8 +59,8 @@ returns-in_err-write_key-clause-call g c =
     let new = state g.S.Store c.write_key.new.tx.conn.now in
     let db = c.args.db.0 in
     let key = c.in-Some.key in
-    let changes = c.deref.result.now in
-    let out : IsTakenOut key changes c.loop-key.pending c.take_first.new.self = subst (λ (cs : List KeyChange). IsTakenOut key cs c.loop-key.pending c.take_first.new.self) (sym c.deref.ensures.value) c.in-Some.ensures.taken in
+    let notes = c.in-Some.notes in
+    let out = c.in-Some.ensures.taken in
     let given : c.from_residual.result ≡ Err c.in_err-write_key.field-0.0 = search rules in
     record {
       stays = λ clean mode.
@@ -70,7 +73,7 @@ returns-in_err-write_key-clause-call g c =
           let stays = c.loop-key.invariant.stays was mode in
           let so_far = c.loop-key.invariant.written was mode store in
           let held = (so_far.2 ahead storable holds).0 in
-          let one = put_one g.L.Layout.format now.now.trees db key changes c.loop-key.pending c.take_first.new.self ahead out held in
+          let one = put_one g.L.Layout.format now.now.trees db key notes c.loop-key.pending c.take_first.new.self ahead out held in
           let fault : c.write_key.result ≡ Err Damaged = c.in_err-write_key.was ∙ sym given ∙ told in
           c.write_key.ensures.honest clean stays.mode so_far.0 fault held.behind one.0 held.storable held.held one.1;
       crash = search rules;
@@ -91,6 +94,6 @@ returns-clause-call g c = record {
               due_nothing g.L.Layout.row_work 0 c.args.work.now c.loop-key.work c.args.pending.now c.loop-key.pending c.take_first.new.self none.0 none.1 held.1,
             ),
       );
-  honest = λ clean mode store told. absurd (cc);
+  honest = λ clean mode store told. absurd (accepted_only (Ok tt) refl told);
   crash = search rules;
 }

@@ -18,4 +18,4 @@ invariant-loop-key g l =
     }
 
 abbrev pub decreases-loop-key : goal.decreases-loop-key
-decreases-loop-key g l = length l.pending.changes.entries
+decreases-loop-key g l = length l.pending.notes.entries

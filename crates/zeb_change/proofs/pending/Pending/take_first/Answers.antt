@@ -1,8 +1,6 @@
-use Rattle.zeb_change.specs.declared.pending.Pending.{Pending}
 use Rattle.zeb_change.proofs.NotedChanges.{out}
 use Rattle.zeb_change.proofs.pending.Pending.take_first.Goals as goal
 
 pub returns-in-Some-clause-taken : goal.returns-in-Some-clause-taken
 returns-in-Some-clause-taken c =
-    let new : Pending = record { alloc = c.args.self.now.alloc; changes = c.pop_first.new.self; weight = c.args.self.now.weight } in
-    out _ c.order_is_by_parts.ensures.keys c.in-Some.first.0 c.in-Some.first.1 c.args.self.now new c.in-Some.ensures.removal c.in-Some.ensures.value c.in-Some.ensures.updates
+    out _ c.order_is_by_parts.ensures.keys c.in-Some.first.0 c.in-Some.first.1 c.args.self.now _ c.in-Some.ensures.removal c.in-Some.ensures.value c.in-Some.ensures.updates

@@ -1,0 +1,94 @@
+//! The noted changes of one key.
+
+ghost use Rattle.std.specs.Prelude.{◌≡◌, ◌+◌, ◌++◌, [], List, IfOk, OnOk, length, map};
+ghost use Rattle.zeb_change.specs.NoteWords.{KeyChange, change_words};
+ghost use Rattle.zeb_change.specs.Noted.{IsNotedIn};
+ghost use Rattle.zeb_change.specs.PrivateNotes.{TakesChange, counts_in, places_in};
+
+use crate::words::{put_number, put_places, take_number, take_places};
+use std::alloc::{AllocError, Global};
+use zeb_register::Place;
+
+/// A record, and how many places of a key stood there and stand there then.
+#[derive(Clone, Copy)]
+pub(crate) struct PlaceCounts {
+    pub sysno: u64,
+    pub old: u64,
+    pub new: u64,
+}
+
+/// The changes of one key, in the order in which they were noted: how many, and the words that they take.
+///
+/// A change of one place takes some ten bytes so, of which there are many in memory at a time.
+#[derive(Drop)]
+pub struct KeyNotes {
+    count: u64,
+    words: Vec<u16>,
+}
+
+impl KeyNotes {
+    /// No change is noted.
+    pub(crate) fn new(alloc: Global) -> KeyNotes
+        ensures { (result.count ≡ 0) × (result.words.items ≡ []) }
+    {
+        KeyNotes {
+            count: 0,
+            words: Vec::new(alloc),
+        }
+    }
+
+    /// Notes one more change, of places that stood in a record and of those that stand there then; answers how many bytes more are taken.
+    pub(crate) fn note(
+        &mut self,
+        sysno: u64,
+        old: &[Place],
+        new: &[Place],
+    ) -> Result<usize, AllocError>
+        ensures count { OnOk result (self.new.count ≡ self.old.count + 1) }
+        ensures words { OnOk result (self.new.words.items
+            ≡ self.old.words.items ++ change_words (record { sysno = sysno; old = old.now; new = new.now })) }
+    {
+        let room = self.words.capacity();
+        self.count = self.count.checked_add(1).ok_or(AllocError)?;
+        put_number(&mut self.words, sysno)?;
+        put_number(&mut self.words, old.len() as u64)?;
+        put_number(&mut self.words, new.len() as u64)?;
+        put_places(&mut self.words, old)?;
+        put_places(&mut self.words, new)?;
+        Ok(self.words.capacity().saturating_sub(room).saturating_mul(2))
+    }
+
+    /// Of each change its record and how many places it has, and the places of all, one behind the other.
+    pub(crate) fn read(&self, alloc: Global) -> Result<(Vec<PlaceCounts>, Vec<Place>), AllocError>
+        ensures many { IfOk result (λ read. length read.0.items ≡ self.now.count) }
+        ensures told { IfOk result (λ read. (changes : List KeyChange) → IsNotedIn self.now changes
+            → (read.0.items ≡ map counts_in changes) × (read.1.items ≡ places_in changes)) }
+    {
+        let mut counts = Vec::new(alloc);
+        let mut places = Vec::new(alloc);
+        let mut left = self.words.as_slice();
+        for _ in 0..self.count {
+            left = take_change(left, &mut counts, &mut places)?;
+        }
+        Ok((counts, places))
+    }
+}
+
+/// Takes a change from the front of the words, and puts it behind others; answers what is left of the words.
+fn take_change<'a>(
+    words: &'a [u16],
+    counts: &mut Vec<PlaceCounts>,
+    places: &mut Vec<Place>,
+) -> Result<&'a [u16], AllocError>
+    ensures one { OnOk result (length counts.new.items ≡ length counts.old.items + 1) }
+    ensures told { IfOk result (λ left. TakesChange words.now left.now counts.old.items counts.new.items places.old.items
+        places.new.items) }
+{
+    let (sysno, left) = take_number(words);
+    let (old, left) = take_number(left);
+    let (new, left) = take_number(left);
+    let left = take_places(left, old, places)?;
+    let left = take_places(left, new, places)?;
+    counts.push(PlaceCounts { sysno, old, new })?;
+    Ok(left)
+}
