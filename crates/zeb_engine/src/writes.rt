@@ -20,6 +20,7 @@ ghost use Rattle.zeb_engine.specs.Transactions.{Commanded};
 ghost use Rattle.zeb_change.specs.Inside.{Stays};
 ghost use Rattle.zeb_engine.specs.Works.{Always, IsReady, Serves, Works};
 ghost use Rattle.zeb_engine.specs.PrivateWriting.{AreOf, Begins, CommitsRemade, IsFree, IsKnown, FailsAlone, Fits, IsReached, IsRuled, IsUpgradable, PutsTexts, ReadsSound, Remakes, answered, written};
+ghost use Rattle.zeb_engine.specs.PrivateConnections.{CommitsNothing};
 
 use crate::readiness::{IDENTIFIER, PROFILE, VERSION, existing_database};
 use crate::replies::Reply;
@@ -70,7 +71,7 @@ fn put_texts<S: Alter>(
         → IsStore (state S.Store tx.old.conn.now) → (state S.Store tx.old.conn.now).now.trees meta_tree ≡ []
         → OnOk result (PutsTexts version.now text.now pattern.now (state S.Store tx.old.conn.now) (state S.Store tx.new.conn.now)) }
     ensures failed { IfErr (answered result) (λ refusal. IsFailure (refused (why_of refusal))) }
-    ensures crash { Survives (state S.Store tx.old.conn.now) (state S.Store tx.new.conn.now) (λ _. ⊥) }
+    ensures crash { CommitsNothing S.Store tx.old.conn.now tx.new.conn.now }
 {
     meta_put(tx, VERSION, version)?;
     meta_put(tx, PROFILE, text)?;
@@ -95,7 +96,7 @@ fn init<S: Alter, L: Layout>(
         × ((c : Conditions) → AreOf (version_of L.format) profile.now pattern.now c
         → IsImage (state S.Store tx.new.conn.now).now.trees (holding c []))) }
     ensures failed { IfErr (answered result) (λ refusal. IsFailure (refused (why_of refusal))) }
-    ensures crash { Survives (state S.Store tx.old.conn.now) (state S.Store tx.new.conn.now) (λ _. ⊥) }
+    ensures crash { CommitsNothing S.Store tx.old.conn.now tx.new.conn.now }
 {
     wipe(tx)?;
     put_texts(tx, L::version(), profile.text(), pattern)?;
@@ -111,7 +112,7 @@ fn create<S: Alter, L: Layout>(tx: &mut Transaction<'_, S>, name: &DbName) -> Re
         → IsTrue (state S.Store tx.old.conn.now).is_open → (c : Conditions)
         → Works (IsFree (name_bytes name.now) c) (turned c (created (name_bytes name.now))) (state S.Store tx.old.conn.now)
         (state S.Store tx.new.conn.now) (answered result) }
-    ensures crash { Survives (state S.Store tx.old.conn.now) (state S.Store tx.new.conn.now) (λ _. ⊥) }
+    ensures crash { CommitsNothing S.Store tx.old.conn.now tx.new.conn.now }
 {
     database_put(tx, name.as_str(), 0)?;
     Ok(())
@@ -130,7 +131,7 @@ fn take<S: Alter, L: Layout>(
         → Works (λ trees before. (c.version ≡ version_of L.format)
         × IsKnown (name_bytes name.now) id.0 c trees before) (turned c (dropped (name_bytes name.now))) (state S.Store tx.old.conn.now)
         (state S.Store tx.new.conn.now) (answered result) }
-    ensures crash { Survives (state S.Store tx.old.conn.now) (state S.Store tx.new.conn.now) (λ _. ⊥) }
+    ensures crash { CommitsNothing S.Store tx.old.conn.now tx.new.conn.now }
 {
     L::database_take(tx, id)?;
     Ok(())
@@ -149,7 +150,7 @@ fn reindex<S: Alter, L: Layout>(
         → IsTrue (state S.Store tx.old.conn.now).is_open → (c : Conditions)
         → Works (λ _ before. IsRuled (version_of L.format) profile.now c before) (reindexed c) (state S.Store tx.old.conn.now)
         (state S.Store tx.new.conn.now) (answered result) }
-    ensures crash { Survives (state S.Store tx.old.conn.now) (state S.Store tx.new.conn.now) (λ _. ⊥) }
+    ensures crash { CommitsNothing S.Store tx.old.conn.now tx.new.conn.now }
     ensures sound { HasCleanDisk (state S.Store tx.new.conn.now) → IsTrue (state S.Store tx.old.conn.now).in_transaction
         → IsStore (state S.Store tx.old.conn.now) → TellsSound profile.now (state S.Store tx.old.conn.now).now.trees
         (answered result) }
@@ -176,7 +177,7 @@ fn upgrade<S: Alter, L: Layout>(
         → IsTrue (state S.Store tx.old.conn.now).is_open → (c : Conditions)
         → Works (λ _ before. IsUpgradable (version_of L.format) profile.now c before) (upgraded c) (state S.Store tx.old.conn.now)
         (state S.Store tx.new.conn.now) (answered result) }
-    ensures crash { Survives (state S.Store tx.old.conn.now) (state S.Store tx.new.conn.now) (λ _. ⊥) }
+    ensures crash { CommitsNothing S.Store tx.old.conn.now tx.new.conn.now }
 {
     rebuild::<S, L>(alloc, tx, profile)?;
     meta_put(tx, VERSION, L::version())?;
@@ -197,7 +198,7 @@ fn apply<S: Alter, L: Layout>(
     ensures begun { HasCleanDisk (state S.Store tx.new.conn.now) → IsTrue (state S.Store tx.old.conn.now).in_transaction
         → OnOk result (Begins (version_of L.format) write.now (state S.Store tx.old.conn.now) (state S.Store tx.new.conn.now)) }
     ensures failed { FailsAlone write.now (answered result) }
-    ensures crash { Survives (state S.Store tx.old.conn.now) (state S.Store tx.new.conn.now) (λ _. ⊥) }
+    ensures crash { CommitsNothing S.Store tx.old.conn.now tx.new.conn.now }
     ensures sound { HasCleanDisk (state S.Store tx.new.conn.now) → IsTrue (state S.Store tx.old.conn.now).in_transaction
         → ReadsSound write.now (state S.Store tx.old.conn.now) (answered result) }
     ensures remade { HasCleanDisk (state S.Store tx.new.conn.now) → IsTrue (state S.Store tx.old.conn.now).in_transaction
