@@ -7,9 +7,16 @@ use Rattle.sqlite.specs.Store.{Ghosts}
 use Rattle.zeb_profile.specs.declared.directives.Directive.{Directive}
 use Rattle.zeb_register.specs.Calls.{ChangesNothing}
 use Rattle.zeb_change.specs.declared.refusals.Refusal.{Refusal}
+use Rattle.zeb_change.specs.declared.settings.Limits.{Limits}
+use Rattle.zeb_change.specs.Conditions.{Conditions, conditions}
+use Rattle.zeb_image.specs.Holdings.{Holdings}
 use Rattle.zeb_engine.specs.Adopting.{StaysOpen}
+use Rattle.zeb_engine.specs.declared.replies.Reply.{Reply}
 use Rattle.zeb_engine.specs.Causes.{HasStoreCause}
+use Rattle.zeb_engine.specs.Crashes.{Commits}
 use Rattle.zeb_engine.specs.Readiness.{GoesByTexts}
+use Rattle.zeb_engine.specs.Steps.{Outcome}
+use Rattle.zeb_engine.specs.Works.{Always, Serves}
 
 -- nothing changes
 abbrev pub LeavesAsIs : {S : Type 0} → Ghosts S → Held S → Held S → Type 0
@@ -34,3 +41,15 @@ FailsForCause g old new result = HasCleanDisk (state g new) → HasStoreCause (s
 -- the texts of the store tell whether the register was ready
 abbrev pub TellsReady : {S T : Type 0} → Ghosts S → (version : List ℕ) → List Directive → Held S → Held S → Result T Refusal → Type 0
 TellsReady g version profile old new result = HasCleanDisk (state g new) → GoesByTexts version profile (state g old) result
+
+-- ---- a command that goes by the version and the profile alone, under any limits
+
+-- only this outcome is committed
+abbrev pub CommitsUnder : {S : Type 0} → Ghosts S → (Conditions → Holdings → Outcome) → (version : List ℕ) → List Directive → Held S → Held S → Type 0
+CommitsUnder g outcome version profile old new =
+    Survives (state g old) (state g new) (λ db. (limits : Limits) → Commits Always (outcome (conditions version profile limits)) (state g old) db)
+
+-- it takes what is held to this outcome
+abbrev pub ServesUnder : {S : Type 0} → Ghosts S → (Conditions → Holdings → Outcome) → (version : List ℕ) → List Directive → Held S → Held S → Result Reply Refusal → Type 0
+ServesUnder g outcome version profile old new result =
+    HasCleanDisk (state g new) → (limits : Limits) → Serves Always (outcome (conditions version profile limits)) (state g old) (state g new) result

@@ -121,14 +121,6 @@ fn transact<S: Alter, L: Layout, R: Source>(
     readers: &mut [R],
 ) -> Result<Reply, Refusal>
     requires idle { connection.old.in_transaction ≡ false }
-    ensures idle { connection.new.in_transaction ≡ false }
-    ensures call { Commanded (state S.Store connection.old) (state S.Store connection.new) result }
-    ensures survives { Survives (state S.Store connection.old) (state S.Store connection.new)
-        (λ db. IsTrue (state S.Store connection.old).is_open
-        → (texts : List (List ℕ)) → map R.remaining readers.old ≡ map Some texts → NoneFailed R.has_failed readers.new
-        → Commits (MayBegin (version_of L.format) change.now.setting (name_bytes change.now.name.now) change.now.found)
-        (comes_to (version_of L.format) change.now.setting (name_bytes change.now.name.now) texts)
-        (state S.Store connection.old) db) }
     ensures serves { HasCleanDisk (state S.Store connection.new) → IsTrue (state S.Store connection.old).is_open
         → (texts : List (List ℕ)) → map R.remaining readers.old ≡ map Some texts → NoneFailed R.has_failed readers.new
         → Serves (MayBegin (version_of L.format) change.now.setting (name_bytes change.now.name.now) change.now.found)
@@ -138,6 +130,14 @@ fn transact<S: Alter, L: Layout, R: Source>(
         → (before : Holdings) → MayBegin (version_of L.format) change.now.setting (name_bytes change.now.name.now) change.now.found
         (state S.Store connection.old).now.trees before
         → Keeps (state S.Store connection.old) before → result ≢ Err Refusal.Damaged }
+    ensures idle { connection.new.in_transaction ≡ false }
+    ensures call { Commanded (state S.Store connection.old) (state S.Store connection.new) result }
+    ensures survives { Survives (state S.Store connection.old) (state S.Store connection.new)
+        (λ db. IsTrue (state S.Store connection.old).is_open
+        → (texts : List (List ℕ)) → map R.remaining readers.old ≡ map Some texts → NoneFailed R.has_failed readers.new
+        → Commits (MayBegin (version_of L.format) change.now.setting (name_bytes change.now.name.now) change.now.found)
+        (comes_to (version_of L.format) change.now.setting (name_bytes change.now.name.now) texts)
+        (state S.Store connection.old) db) }
     ensures failed { NoneFailed R.has_failed readers.old → (file : ℕ) → HasFailedAt R.has_failed readers.new file
         → result ≡ Err (Refusal.ReadFault file) }
     ensures fault { (file : ℕ) → result ≡ Err (Refusal.ReadFault file) → HasFailedAt R.has_failed readers.new file }
@@ -194,14 +194,6 @@ pub(crate) fn change_database<S: Alter, L: Layout, R: Source>(
     readers: &mut [R],
 ) -> Result<Reply, Refusal>
     requires idle { connection.old.in_transaction ≡ false }
-    ensures idle { connection.new.in_transaction ≡ false }
-    ensures call { Commanded (state S.Store connection.old) (state S.Store connection.new) result }
-    ensures survives { Survives (state S.Store connection.old) (state S.Store connection.new)
-        (λ db. IsTrue (state S.Store connection.old).is_open
-        → (texts : List (List ℕ)) → map R.remaining readers.old ≡ map Some texts → NoneFailed R.has_failed readers.new
-        → Commits (IsReady (conditions_of (version_of L.format) setting.entry))
-        (comes_to (version_of L.format) setting.entry (name_bytes name.now) texts)
-        (state S.Store connection.old) db) }
     ensures serves { HasCleanDisk (state S.Store connection.new) → IsTrue (state S.Store connection.old).is_open
         → (texts : List (List ℕ)) → map R.remaining readers.old ≡ map Some texts → NoneFailed R.has_failed readers.new
         → Serves (IsReady (conditions_of (version_of L.format) setting.entry))
@@ -211,6 +203,14 @@ pub(crate) fn change_database<S: Alter, L: Layout, R: Source>(
         → (before : Holdings)
         → IsReady (conditions_of (version_of L.format) setting.entry) (state S.Store connection.old).now.trees before
         → Keeps (state S.Store connection.old) before → result ≢ Err Refusal.Damaged }
+    ensures idle { connection.new.in_transaction ≡ false }
+    ensures call { Commanded (state S.Store connection.old) (state S.Store connection.new) result }
+    ensures survives { Survives (state S.Store connection.old) (state S.Store connection.new)
+        (λ db. IsTrue (state S.Store connection.old).is_open
+        → (texts : List (List ℕ)) → map R.remaining readers.old ≡ map Some texts → NoneFailed R.has_failed readers.new
+        → Commits (IsReady (conditions_of (version_of L.format) setting.entry))
+        (comes_to (version_of L.format) setting.entry (name_bytes name.now) texts)
+        (state S.Store connection.old) db) }
     ensures failed { NoneFailed R.has_failed readers.old → (file : ℕ) → HasFailedAt R.has_failed readers.new file
         → result ≡ Err (Refusal.ReadFault file) }
     ensures fault { (file : ℕ) → result ≡ Err (Refusal.ReadFault file) → HasFailedAt R.has_failed readers.new file }

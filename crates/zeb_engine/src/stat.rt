@@ -127,18 +127,18 @@ pub(crate) fn stat<S: Alter, L: Layout>(
         → Asks (λ before answer. CountedFrom (conditions (version_of L.format) profile.now limits) (name_bytes name.now)
         (ready (conditions (version_of L.format) profile.now limits) before) answer)
         (state S.Store connection.old) (state S.Store connection.new) result }
-    // The terms and occurrences are counted in the registers, on any tables that hold a content.
-    ensures alone { HasCleanDisk (state S.Store connection.new)
-        → Alone L.format (StatSays profile.now) (name_bytes name.now) (state S.Store connection.old) result }
     ensures idle { connection.new.in_transaction ≡ false }
     ensures open { FindsOpen S.Store connection.old connection.new result }
     ensures same { LeavesAsIs S.Store connection.old connection.new }
     ensures crash { CommitsNothing S.Store connection.old connection.new }
-    ensures no_work { L.row_work ≡ 0 → work.new ≡ work.old }
+    // The terms and occurrences are counted in the registers, on any tables that hold a content.
+    ensures alone { HasCleanDisk (state S.Store connection.new)
+        → Alone L.format (StatSays profile.now) (name_bytes name.now) (state S.Store connection.old) result }
     ensures unread { NoReadFault result }
     ensures ready { TellsReady S.Store (version_of L.format) profile.now connection.old connection.new result }
     // The store fails for a cause.
     ensures caused { FailsForCause S.Store connection.old connection.new result }
+    ensures no_work { L.row_work ≡ 0 → work.new ≡ work.old }
 {
     // Its profile is some text's.
     profile.is_of_some_text();
