@@ -215,3 +215,14 @@ adopted_commits old db commits before (inr none) =
 
 pub adopted_keeps : (old new : State) → HasCleanDisk new → Survives old new (CommitsAdopted old) → KeepsDisk old new
 adopted_keeps old new clean survives before bears leaves db left = elim (survives.crash clean db left) [ inl was ↦ leaves db was | inr made ↦ made before bears ]
+
+-- so a transaction that makes the absent tables commits these alone
+pub tables_survive : {S : Type 0} (g : Ghosts S) (old inside : Held S) (mid : State) (end given : Held S) → end ≡ given → inside ≡ record old { in_transaction = true }
+    → Survives (state g inside) mid (λ _. ⊥) → Survives mid (state g end) (λ db. db ≡ mid.now.trees) → (HasCleanDisk mid → GoesOn (state g inside) mid)
+    → (HasCleanDisk mid → (state g inside).now.schema ≡ store_schema → IsUnchanged (state g inside) mid) → (HasCleanDisk mid → (state g inside).now.schema ≡ no_schema → IsEmptyStore mid)
+    → Survives (state g old) (state g given) (CommitsTables (state g old))
+tables_survive g old inside mid end given same begins work commits on there made =
+    subst (λ (h : Held _). Survives (state g old) (state g h) (CommitsTables (state g old))) same
+    (commit_survives g old inside mid (state g end) (CommitsTables (state g old)) begins work commits (λ clean db is.
+    let first : HasCleanDisk mid = omega (arith, commits.clean) in
+    tables_commit g old inside mid begins (on first) (there first) (made first) db is))

@@ -5,6 +5,7 @@ pub mod ReadyImages
 pub mod Creating
 pub mod Dropping
 pub mod Turns
+pub mod NamedDatabases
 pub mod RuleLines
 pub mod RenewalSteps
 pub mod Beginning
@@ -37,6 +38,7 @@ pub mod Showing
 pub mod Finds
 pub mod FindRefusals
 pub mod Lookups
+pub mod ReadyBases
 pub mod Scans
 pub mod StoreCauses
 pub mod Dumps

@@ -66,3 +66,19 @@ hits_asked format content old mid new still id plan first count numbers seen ask
       said = met_view (λ (x : Bor (List ℕ)). x.now) (asked_of numbers first count) asked told;
       shows = still_shows mid new old.now.trees nothing still.shows;
     }
+
+-- the hits of a database of the name, on their way
+pub record IsOnWay (format : Format) (c : Conditions) (name : List ℕ) (bases : List Base) (id : ℤ) (plan : PlanValue) (first count : ℕ) (numbers asked : List ℕ) (old mid new : State) : Type 0 where
+  pub at : IsFoundBase format c name bases id old mid
+  pub wanted : AreAsked at.held.content id plan first count numbers asked old new
+
+pub hits_found : (format : Format) (c : Conditions) → AreSessions format c → (old mid new : State) (before : Holdings) (bases : List Base) (name : List ℕ) (it : Database)
+    → ready c before ≡ Ok bases → IsStore old × IsImage old.now.trees before → ChangesNothing old mid
+    → Meets {X = Database} (λ base d. HasDatabase old.now.trees d.id.0 base.name (pos base.last) × (d.last ≡ base.last) × IsTrue mid.is_open) (existing name bases) (Ok it)
+    → (plan : PlanValue) (first count : ℕ) (numbers seen : List ℕ) (asked : Bor (List ℕ))
+    → (IsStore mid → (content : Content) → holds_in format mid.now.trees content → AreNumbers (HoldsIn mid.now.trees content it.id.0 plan) numbers)
+    → seen ≡ numbers → Meets (λ (wanted : List ℕ) (x : Bor (List ℕ)). x.now ≡ wanted) (asked_of seen first count) (Ok asked)
+    → ChangesNothing mid new → IsOnWay format c name bases it.id.0 plan first count numbers asked.now old mid new
+hits_found format c session old mid new before bases name it is seen nothing met plan first count numbers shown asked are same told quiet =
+    let at = base_found format c session old mid before bases name it is seen nothing met in
+    record { at = at; wanted = hits_asked format at.held.content old mid new at.still it.id.0 plan first count numbers shown asked (are at.still.store at.held.content at.still.held) same told quiet }

@@ -132,3 +132,20 @@ module _ (c : Conditions) where
           λ i. under ((bytes_eq-Decides version c.version).0 one i) ((bytes_eq-Decides text (canonical_text c.profile)).0 two i) (bases_are i)
       told true false one two = let e : ◌≡◌ {A = Result (List Base) Why} (Err profile_changed) (Ok bases) = rw (one, two) at is in absurd cc
       told false s one two = let e : ◌≡◌ {A = Result (List Base) Why} (Err old_format) (Ok bases) = rw one at is in absurd cc
+
+-- ---- a text that was found to be the session's
+
+module _ (format : Format) (c : Conditions) (before : Holdings) (found : String Global) (r : Bool) (a b : List ℕ) (tested : r ≡ not (bytes_eq a b)) (agrees : r ≡ false) (left : a ≡ string_bytes found) where
+  -- its version, and then what the tables are still an image of
+  pub version_own : (old mid : State) (value : Option (String Global)) → value ≡ Some found → IsStore old × IsImage old.now.trees before → (IsStore old → IsValueOf old.now.trees (codes "version") value)
+      → mid.now ≡ old.now → b ≡ c.version → (version_in before ≡ Some c.version) × (IsStore mid × IsImage mid.now.trees before)
+  version_own old mid value is seen told same right = (
+    told_version format c old.now.trees before value seen.1 (told seen.0) ∙ ap (option_map string_bytes) is ∙ ap Some (texts_agree r a b (string_bytes found) c.version tested agrees left right),
+    image_still before old mid same seen,
+  )
+
+  -- its profile's text
+  pub profile_own : (trees : Trees) (value : Option (String Global)) → value ≡ Some found → IsImage trees before → IsValueOf trees (codes "profile") value
+      → b ≡ canonical_text c.profile → profile_in before ≡ Some (canonical_text c.profile)
+  profile_own trees value is image told right =
+      told_profile format c trees before value image told ∙ ap (option_map string_bytes) is ∙ ap Some (texts_agree r a b (string_bytes found) (canonical_text c.profile) tested agrees left right)

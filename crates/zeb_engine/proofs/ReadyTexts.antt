@@ -1,6 +1,7 @@
 -- What a look at the texts of a store tells, and what is said of them after a command.
-use Rattle.std.proofs.Common.{◌≡◌, ◌≢◌, ℕ, List, Option, Some, None, Result, Ok, Err, String, codes, string_bytes, refl, subst, inl, inr}
+use Rattle.std.proofs.Common.{◌≡◌, ◌≢◌, ℕ, Bool, false, not, List, Option, Some, None, Result, Ok, Err, String, codes, string_bytes, refl, subst, inl, inr}
 use Rattle.std.specs.declared.alloc.Global.{Global}
+use Rattle.std.specs.Str.{bytes_eq}
 use Rattle.sqlite.specs.Tree.{Trees}
 use Rattle.sqlite.specs.State.{State}
 use Rattle.zeb_profile.specs.declared.directives.Directive.{Directive}
@@ -14,6 +15,7 @@ use Rattle.zeb_change.specs.Outcomes.{register_refusal}
 use Rattle.zeb_change.specs.Refused.{NeverUnready, why_of}
 use Rattle.zeb_engine.specs.Answers.{IsFailure, refused}
 use Rattle.zeb_engine.specs.PrivateLooking.{IsUnready}
+use Rattle.zeb_engine.proofs.Ready.{texts_agree}
 use Rattle.zeb_engine.specs.Readiness.{GoesByTexts, HidesText, IsReadyFor, IsRefusedOver, KeepsText}
 
 -- ---- one text
@@ -23,6 +25,12 @@ text_found trees name o found is value = subst (IsValueOf trees name) is value
 
 pub text_missing : (trees : Trees) (name : List ℕ) (o : Option (String Global)) → o ≡ None → IsValueOf trees name o → (text : List ℕ) → ¬ KeepsText trees name text
 text_missing trees name o is value = subst (IsValueOf trees name) is value
+
+-- it is the one that it was compared with
+pub own_text : (trees : Trees) (name own : List ℕ) (o : Option (String Global)) (found : String Global) → o ≡ Some found → IsValueOf trees name o
+    → (r : Bool) (a b : List ℕ) → r ≡ not (bytes_eq a b) → r ≡ false → a ≡ string_bytes found → b ≡ own → KeepsText trees name own
+own_text trees name own o found is value r a b tested agrees left right =
+    subst (KeepsText trees name) (texts_agree r a b (string_bytes found) own tested agrees left right) (text_found trees name o found is value)
 
 -- a name has one text, so no other is kept under it
 pub other_text : (s : State) → IsStore s → (name found other : List ℕ) → KeepsText s.now.trees name found → found ≢ other → ¬ KeepsText s.now.trees name other
@@ -71,10 +79,18 @@ module _ (version : List ℕ) (profile : List Directive) where
   other_texts trees refusal.Store is never = tt
   other_texts trees refusal.Memory is never = tt
 
+  -- a refusal that is passed on
+  pub passed_texts : {T : Type 0} (s : State) (it : Refusal) (result : Result T Refusal) → result ≡ Err it → (IsStore s → IsRefusedOver version profile s.now.trees it) → GoesByTexts version profile s result
+  passed_texts s it result is told = rw is told
+
   -- the work of a command on a register that is ready
   pub ready_then : {T X : Type 0} (s : State) (x : X) → GoesByTexts version profile s (Ok x) → (result : Result T Refusal) → NeverUnready result → GoesByTexts version profile s result
   ready_then s x is (Ok reply) never = is
   ready_then s x is (Err it) never = λ store. other_texts s.now.trees it (is store) never
+
+  -- a refusal of the work that is passed on
+  pub passed_then : {A T X : Type 0} (s : State) (x : X) → GoesByTexts version profile s (Ok x) → (it : Refusal) (result : Result T Refusal) → result ≡ Err it → NeverUnready {T = A} (Err it) → GoesByTexts version profile s result
+  passed_then {A} s x is it result told never = rw told (ready_then {T = A} s x is (Err it) never)
 
 -- a fault that is no damage is answered by another refusal
 pub fault_whole : {T : Type 0} (fault : RegFault) → (fault ≡ register.Damaged → ⊥) → ◌≢◌ {A = Result T Refusal} (Err (register_refusal fault)) (Err refusal.Damaged)

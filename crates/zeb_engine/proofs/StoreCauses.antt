@@ -11,6 +11,7 @@ use Rattle.zeb_register.specs.declared.RegFault.TheVariants as register
 use Rattle.zeb_register.proofs.Calls.{nothing_then, store_same}
 use Rattle.zeb_register.proofs.CallsInTurn.{quiet_then}
 use Rattle.zeb_register.proofs.Causes.{may_after}
+use Rattle.zeb_search.proofs.ReadLemmas.{clean_before}
 use Rattle.zeb_change.specs.declared.refusals.Refusal.{Refusal}
 use Rattle.zeb_change.specs.declared.refusals.Refusal.TheVariants as refusal
 use Rattle.zeb_change.specs.Conditions.{Conditions}
@@ -32,6 +33,10 @@ fault_caused register.Memory caused is = absurd cc
 -- this refusal, where it is a failed store, has a cause
 abbrev pub HasCauseFor : State → State → Refusal → Type 0
 HasCauseFor old new why = IsStore old → why ≡ refusal.Store → MayRefuse old new
+
+-- a refusal that is passed on
+pub passed_cause : {T : Type 0} (old new : State) (why : Refusal) (result : Result T Refusal) → result ≡ Err why → HasCauseFor old new why → HasStoreCause old new result
+passed_cause old new why result is caused = subst (λ (r : Result _ Refusal). HasStoreCause old new r) (sym is) caused
 
 -- a query is never refused as a failed store
 pub query_caused : (old new : State) (fault : QueryFault) → HasCauseFor old new (query_refusal fault)
@@ -63,6 +68,18 @@ leaves_then a b c one two = record {
   nothing = nothing_then a b c one.nothing two.nothing;
 }
 
+-- a call that was accepted, and left the disk clean as it ended
+pub look_leaves : (old mid new : State) → Survives mid new (λ _. ⊥) → HasCleanDisk new → Survives old mid (λ _. ⊥) → (HasCleanDisk mid → StaysOpen old mid) → (HasCleanDisk mid → ChangesNothing old mid) → LeavesAll old mid
+look_leaves old mid new late clean survives stays nothing =
+    let first = clean_before mid new late clean in
+    accepted_leaves old mid survives (stays first) (nothing first)
+
+-- two of them, one after the other
+pub two_leave : (old mid new : State) → HasCleanDisk new → Survives old mid (λ _. ⊥) → (HasCleanDisk mid → StaysOpen old mid) → (HasCleanDisk mid → ChangesNothing old mid)
+    → Survives mid new (λ _. ⊥) → (HasCleanDisk new → StaysOpen mid new) → (HasCleanDisk new → ChangesNothing mid new) → LeavesAll old new
+two_leave old mid new clean survives stays nothing late finds quiet =
+    leaves_then old mid new (look_leaves old mid new late clean survives stays nothing) (accepted_leaves mid new late (finds clean) (quiet clean))
+
 module _ (old mid new : State) (leaves : LeavesAll old mid) where
   pub refusal_after : (why : Refusal) → HasCauseFor mid new why → HasCauseFor old new why
   refusal_after why caused store is =
@@ -75,3 +92,9 @@ module _ (old mid new : State) (leaves : LeavesAll old mid) where
   -- the fault of a call on the tables
   pub fault_after : {A : Type 0} (fault : RegFault) → HasCleanDisk new → IsReasoned {A = A} mid new (Err fault) → HasCauseFor old new (register_refusal fault)
   fault_after fault clean reasoned = refusal_after (register_refusal fault) (λ store. fault_caused fault (λ is. reasoned clean store (ap Err is)))
+
+-- a refusal behind a call that was accepted
+pub look_caused : {T : Type 0} (old mid new : State) → Survives mid new (λ _. ⊥) → HasCleanDisk new → Survives old mid (λ _. ⊥) → (HasCleanDisk mid → StaysOpen old mid) → (HasCleanDisk mid → ChangesNothing old mid)
+    → (why : Refusal) (result : Result T Refusal) → result ≡ Err why → HasCauseFor mid new why → HasStoreCause old new result
+look_caused old mid new late clean survives stays nothing why result is caused =
+    passed_cause old new why result is (refusal_after old mid new (look_leaves old mid new late clean survives stays nothing) why caused)

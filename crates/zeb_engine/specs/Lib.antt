@@ -18,6 +18,7 @@ pub mod PrivateLooking
 pub mod PrivateWriting
 pub mod PrivateChanging
 pub mod PrivateDumping
+pub mod PrivateConnections
 pub mod Headline
 pub mod Adopting
 pub mod Worked

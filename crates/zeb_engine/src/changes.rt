@@ -3,7 +3,6 @@
 ghost use Rattle.std.specs.Prelude.{◌≡◌, ◌≢◌, ℕ, List, map, Some, Ok, Err, OnOk, false, IsTrue};
 ghost use Rattle.sqlite.specs.Held.{state};
 ghost use Rattle.sqlite.specs.State.{HasCleanDisk, Survives};
-ghost use Rattle.zeb_register.specs.Calls.{ChangesNothing};
 ghost use Rattle.zeb_register.specs.Formats.{version_of};
 ghost use Rattle.zeb_register.specs.Store.{IsStore};
 ghost use Rattle.zeb_engine.specs.PrivateChanging.{BeginsWith, MayBegin, comes_to, last_of};
@@ -21,6 +20,7 @@ ghost use Rattle.zeb_engine.specs.Transactions.{Commanded};
 ghost use Rattle.zeb_change.specs.Inside.{Stays};
 ghost use Rattle.zeb_change.specs.UnderWay.{conditions_of};
 ghost use Rattle.zeb_engine.specs.Works.{IsReady, Serves, Works};
+ghost use Rattle.zeb_engine.specs.PrivateConnections.{CommitsNothing, LeavesAsIs};
 
 use crate::readiness::existing_database;
 use crate::replies::Reply;
@@ -84,7 +84,7 @@ fn apply<S: Alter, L: Layout, R: Source>(
         → result ≡ Err (Refusal.ReadFault file) }
     ensures fault { (file : ℕ) → result ≡ Err (Refusal.ReadFault file) → HasFailedAt R.has_failed readers.new file }
     ensures ready { NeverUnready result }
-    ensures crash { Survives (state S.Store tx.old.conn.now) (state S.Store tx.new.conn.now) (λ _. ⊥) }
+    ensures crash { CommitsNothing S.Store tx.old.conn.now tx.new.conn.now }
     ensures work { HasCleanDisk (state S.Store tx.new.conn.now) → IsTrue (state S.Store tx.old.conn.now).in_transaction
         → (texts : List (List ℕ)) → map R.remaining readers.old ≡ map Some texts
         → OnOk result ((before : Holdings)
@@ -121,14 +121,6 @@ fn transact<S: Alter, L: Layout, R: Source>(
     readers: &mut [R],
 ) -> Result<Reply, Refusal>
     requires idle { connection.old.in_transaction ≡ false }
-    ensures idle { connection.new.in_transaction ≡ false }
-    ensures call { Commanded (state S.Store connection.old) (state S.Store connection.new) result }
-    ensures survives { Survives (state S.Store connection.old) (state S.Store connection.new)
-        (λ db. IsTrue (state S.Store connection.old).is_open
-        → (texts : List (List ℕ)) → map R.remaining readers.old ≡ map Some texts → NoneFailed R.has_failed readers.new
-        → Commits (MayBegin (version_of L.format) change.now.setting (name_bytes change.now.name.now) change.now.found)
-        (comes_to (version_of L.format) change.now.setting (name_bytes change.now.name.now) texts)
-        (state S.Store connection.old) db) }
     ensures serves { HasCleanDisk (state S.Store connection.new) → IsTrue (state S.Store connection.old).is_open
         → (texts : List (List ℕ)) → map R.remaining readers.old ≡ map Some texts → NoneFailed R.has_failed readers.new
         → Serves (MayBegin (version_of L.format) change.now.setting (name_bytes change.now.name.now) change.now.found)
@@ -138,6 +130,14 @@ fn transact<S: Alter, L: Layout, R: Source>(
         → (before : Holdings) → MayBegin (version_of L.format) change.now.setting (name_bytes change.now.name.now) change.now.found
         (state S.Store connection.old).now.trees before
         → Keeps (state S.Store connection.old) before → result ≢ Err Refusal.Damaged }
+    ensures idle { connection.new.in_transaction ≡ false }
+    ensures call { Commanded (state S.Store connection.old) (state S.Store connection.new) result }
+    ensures survives { Survives (state S.Store connection.old) (state S.Store connection.new)
+        (λ db. IsTrue (state S.Store connection.old).is_open
+        → (texts : List (List ℕ)) → map R.remaining readers.old ≡ map Some texts → NoneFailed R.has_failed readers.new
+        → Commits (MayBegin (version_of L.format) change.now.setting (name_bytes change.now.name.now) change.now.found)
+        (comes_to (version_of L.format) change.now.setting (name_bytes change.now.name.now) texts)
+        (state S.Store connection.old) db) }
     ensures failed { NoneFailed R.has_failed readers.old → (file : ℕ) → HasFailedAt R.has_failed readers.new file
         → result ≡ Err (Refusal.ReadFault file) }
     ensures fault { (file : ℕ) → result ≡ Err (Refusal.ReadFault file) → HasFailedAt R.has_failed readers.new file }
@@ -165,8 +165,7 @@ fn found_for<S: Alter, L: Layout>(
 ) -> Result<Option<Database>, Refusal>
     requires idle { connection.old.in_transaction ≡ false }
     ensures idle { connection.new.in_transaction ≡ false }
-    ensures same { HasCleanDisk (state S.Store connection.new)
-        → ChangesNothing (state S.Store connection.old) (state S.Store connection.new) }
+    ensures same { LeavesAsIs S.Store connection.old connection.new }
     ensures begins { HasCleanDisk (state S.Store connection.new) → IsTrue (state S.Store connection.old).is_open
         → (c : Conditions) (before : Holdings) (bases : List Base) → ready c before ≡ Ok bases → Keeps (state S.Store connection.old) before
         → Meets (λ base found. BeginsWith setting.now.kind (name_bytes name.now) found c (state S.Store connection.old).now.trees before
@@ -174,7 +173,7 @@ fn found_for<S: Alter, L: Layout>(
         (start_of setting.now.kind (name_bytes name.now) (base_named (name_bytes name.now) bases)) result }
     ensures unread { NoReadFault result }
     ensures ready { NeverUnready result }
-    ensures crash { Survives (state S.Store connection.old) (state S.Store connection.new) (λ _. ⊥) }
+    ensures crash { CommitsNothing S.Store connection.old connection.new }
 {
     match setting.kind {
         Kind::Update => Ok(database_of(connection, name.as_str())?),
@@ -195,14 +194,6 @@ pub(crate) fn change_database<S: Alter, L: Layout, R: Source>(
     readers: &mut [R],
 ) -> Result<Reply, Refusal>
     requires idle { connection.old.in_transaction ≡ false }
-    ensures idle { connection.new.in_transaction ≡ false }
-    ensures call { Commanded (state S.Store connection.old) (state S.Store connection.new) result }
-    ensures survives { Survives (state S.Store connection.old) (state S.Store connection.new)
-        (λ db. IsTrue (state S.Store connection.old).is_open
-        → (texts : List (List ℕ)) → map R.remaining readers.old ≡ map Some texts → NoneFailed R.has_failed readers.new
-        → Commits (IsReady (conditions_of (version_of L.format) setting.entry))
-        (comes_to (version_of L.format) setting.entry (name_bytes name.now) texts)
-        (state S.Store connection.old) db) }
     ensures serves { HasCleanDisk (state S.Store connection.new) → IsTrue (state S.Store connection.old).is_open
         → (texts : List (List ℕ)) → map R.remaining readers.old ≡ map Some texts → NoneFailed R.has_failed readers.new
         → Serves (IsReady (conditions_of (version_of L.format) setting.entry))
@@ -212,6 +203,14 @@ pub(crate) fn change_database<S: Alter, L: Layout, R: Source>(
         → (before : Holdings)
         → IsReady (conditions_of (version_of L.format) setting.entry) (state S.Store connection.old).now.trees before
         → Keeps (state S.Store connection.old) before → result ≢ Err Refusal.Damaged }
+    ensures idle { connection.new.in_transaction ≡ false }
+    ensures call { Commanded (state S.Store connection.old) (state S.Store connection.new) result }
+    ensures survives { Survives (state S.Store connection.old) (state S.Store connection.new)
+        (λ db. IsTrue (state S.Store connection.old).is_open
+        → (texts : List (List ℕ)) → map R.remaining readers.old ≡ map Some texts → NoneFailed R.has_failed readers.new
+        → Commits (IsReady (conditions_of (version_of L.format) setting.entry))
+        (comes_to (version_of L.format) setting.entry (name_bytes name.now) texts)
+        (state S.Store connection.old) db) }
     ensures failed { NoneFailed R.has_failed readers.old → (file : ℕ) → HasFailedAt R.has_failed readers.new file
         → result ≡ Err (Refusal.ReadFault file) }
     ensures fault { (file : ℕ) → result ≡ Err (Refusal.ReadFault file) → HasFailedAt R.has_failed readers.new file }

@@ -1,15 +1,12 @@
 //! What is kept of a database, as it came in.
 
-ghost use Rattle.std.specs.Prelude.{◌≡◌, List, false, IsTrue, IfErr, IfOk, OnOk};
+ghost use Rattle.std.specs.Prelude.{◌≡◌, List, false, IsTrue, IfErr, IfOk};
 ghost use Rattle.std.specs.List.{flat_map};
 ghost use Rattle.sqlite.specs.Held.{state};
-ghost use Rattle.sqlite.specs.State.{HasCleanDisk, Survives};
+ghost use Rattle.sqlite.specs.State.{HasCleanDisk};
 ghost use Rattle.sqlite.specs.Tree.{Trees};
-ghost use Rattle.zeb_register.specs.Calls.{ChangesNothing};
 ghost use Rattle.zeb_register.specs.Formats.{version_of};
-ghost use Rattle.zeb_engine.specs.Adopting.{StaysOpen};
 ghost use Rattle.zeb_engine.specs.Answers.{IsFailure, refused};
-ghost use Rattle.zeb_engine.specs.Causes.{HasStoreCause};
 ghost use Rattle.zeb_change.specs.Refused.{why_of};
 ghost use Rattle.zeb_change.specs.Conditions.{conditions};
 ghost use Rattle.zeb_change.specs.declared.settings.Limits.{Limits};
@@ -17,10 +14,10 @@ ghost use Rattle.zeb_change.specs.Base.{Kept};
 ghost use Rattle.zeb_image.specs.NameOf.{name_bytes};
 ghost use Rattle.zeb_engine.specs.PrivateDumping.{KeepsBase};
 ghost use Rattle.zeb_change.specs.Refused.{NeverUnready};
-ghost use Rattle.zeb_engine.specs.Readiness.{GoesByTexts};
 ghost use Rattle.zeb_change.specs.Reading.{NoReadFault};
 ghost use Rattle.zeb_engine.specs.Steps.{dumped_by};
 ghost use Rattle.zeb_engine.specs.Works.{Always, Serves, ShowsStore};
+ghost use Rattle.zeb_engine.specs.PrivateConnections.{CommitsNothing, FailsForCause, FindsOpen, LeavesAsIs, LeavesOpen, TellsReady};
 
 use crate::readiness::{check_ready, existing_database};
 use crate::replies::Reply;
@@ -38,22 +35,19 @@ fn bytes_of<S: Alter>(
     database: DatabaseId,
 ) -> Result<Vec<u8>, Refusal>
     requires idle { connection.old.in_transaction ≡ false }
-    ensures idle { connection.new.in_transaction ≡ false }
-    ensures open { HasCleanDisk (state S.Store connection.new)
-        → OnOk result (IsTrue (state S.Store connection.old).is_open → IsTrue (state S.Store connection.new).is_open) }
-    ensures same { HasCleanDisk (state S.Store connection.new)
-        → ChangesNothing (state S.Store connection.old) (state S.Store connection.new) }
     ensures joined { HasCleanDisk (state S.Store connection.new) → (trees : Trees) → ShowsStore (state S.Store connection.old) trees
         → IsTrue (state S.Store connection.old).is_open → (records : List Kept) → KeepsBase trees database.0 records
         → IfOk result (λ bytes. bytes.items ≡ flat_map (λ kept. kept.bytes) records) }
+    ensures idle { connection.new.in_transaction ≡ false }
+    ensures open { LeavesOpen S.Store connection.old connection.new result }
+    ensures same { LeavesAsIs S.Store connection.old connection.new }
+    ensures crash { CommitsNothing S.Store connection.old connection.new }
     ensures failed { HasCleanDisk (state S.Store connection.new) → (trees : Trees) → ShowsStore (state S.Store connection.old) trees
         → IsTrue (state S.Store connection.old).is_open → (records : List Kept) → KeepsBase trees database.0 records
         → IfErr result (λ refusal. IsFailure (refused (why_of refusal))) }
-    ensures crash { Survives (state S.Store connection.old) (state S.Store connection.new) (λ _. ⊥) }
     ensures unread { NoReadFault result }
     ensures ready { NeverUnready result }
-    ensures caused { HasCleanDisk (state S.Store connection.new)
-        → HasStoreCause (state S.Store connection.old) (state S.Store connection.new) result }
+    ensures caused { FailsForCause S.Store connection.old connection.new result }
 {
     let mut bytes = Vec::new(alloc);
     let mut next: u64 = 0;
@@ -75,21 +69,17 @@ pub(crate) fn dump<S: Alter, L: Layout>(
     name: &DbName,
 ) -> Result<Reply, Refusal>
     requires idle { connection.old.in_transaction ≡ false }
-    ensures idle { connection.new.in_transaction ≡ false }
-    ensures open { HasCleanDisk (state S.Store connection.new)
-        → OnOk result (StaysOpen (state S.Store connection.old) (state S.Store connection.new)) }
-    ensures same { HasCleanDisk (state S.Store connection.new)
-        → ChangesNothing (state S.Store connection.old) (state S.Store connection.new) }
     ensures serves { HasCleanDisk (state S.Store connection.new) → (limits : Limits)
         → Serves Always (dumped_by (conditions (version_of L.format) profile.now limits) (name_bytes name.now))
         (state S.Store connection.old) (state S.Store connection.new) result }
-    ensures crash { Survives (state S.Store connection.old) (state S.Store connection.new) (λ _. ⊥) }
+    ensures idle { connection.new.in_transaction ≡ false }
+    ensures open { FindsOpen S.Store connection.old connection.new result }
+    ensures same { LeavesAsIs S.Store connection.old connection.new }
+    ensures crash { CommitsNothing S.Store connection.old connection.new }
     ensures unread { NoReadFault result }
-    ensures ready { HasCleanDisk (state S.Store connection.new)
-        → GoesByTexts (version_of L.format) profile.now (state S.Store connection.old) result }
+    ensures ready { TellsReady S.Store (version_of L.format) profile.now connection.old connection.new result }
     // The store fails for a cause.
-    ensures caused { HasCleanDisk (state S.Store connection.new)
-        → HasStoreCause (state S.Store connection.old) (state S.Store connection.new) result }
+    ensures caused { FailsForCause S.Store connection.old connection.new result }
 {
     // Its profile is some text's.
     profile.is_of_some_text();

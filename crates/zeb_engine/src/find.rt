@@ -2,16 +2,13 @@
 
 ghost use Rattle.std.specs.Prelude.{◌≡◌, ◌≢◌, ◌⊎◌, ◌<◌, ◌^◌, ℕ, List, false, map, string_bytes, IfOk, IfErr, OnOk, IsTrue, Ok, Err};
 ghost use Rattle.sqlite.specs.Held.{state};
-ghost use Rattle.sqlite.specs.State.{HasCleanDisk, Survives};
+ghost use Rattle.sqlite.specs.State.{HasCleanDisk};
 ghost use Rattle.sqlite.specs.Tree.{Trees};
 ghost use Rattle.sqlite_rules.specs.Lists.{Has};
-ghost use Rattle.zeb_register.specs.Calls.{ChangesNothing};
 ghost use Rattle.zeb_register.specs.Formats.{version_of};
 ghost use Rattle.zeb_search.specs.Registers.{has_ident_in};
 ghost use Rattle.zeb_change.specs.declared.settings.Limits.{Limits};
-ghost use Rattle.zeb_engine.specs.Adopting.{StaysOpen};
 ghost use Rattle.zeb_engine.specs.Answers.{answer_of, refused, IsFailure};
-ghost use Rattle.zeb_engine.specs.Causes.{HasStoreCause};
 ghost use Rattle.zeb_change.specs.Refused.{why_of, NeverUnready, Meets};
 ghost use Rattle.zeb_change.specs.Conditions.{conditions};
 ghost use Rattle.zeb_engine.specs.Alone.{Alone, FindSays, HidesOne, RefusedAlone, RefusesFind};
@@ -24,6 +21,7 @@ ghost use Rattle.zeb_image.specs.NameOf.{name_bytes};
 ghost use Rattle.zeb_change.specs.Reading.{NoReadFault};
 ghost use Rattle.zeb_engine.specs.Steps.{ready, AskedAmong, FindAnswers};
 ghost use Rattle.zeb_engine.specs.Works.{ShowsStore};
+ghost use Rattle.zeb_engine.specs.PrivateConnections.{CommitsNothing, FailsForCause, FindsOpen, LeavesAsIs, LeavesOpen};
 
 use crate::readiness::existing_database;
 use crate::replies::{Hit, Reply};
@@ -55,23 +53,20 @@ fn show<S: Alter>(
     numbers: &[u64],
 ) -> Result<Vec<Hit>, Refusal>
     requires idle { connection.old.in_transaction ≡ false }
-    ensures idle { connection.new.in_transaction ≡ false }
-    ensures open { HasCleanDisk (state S.Store connection.new)
-        → OnOk result (IsTrue (state S.Store connection.old).is_open → IsTrue (state S.Store connection.new).is_open) }
-    ensures same { HasCleanDisk (state S.Store connection.new)
-        → ChangesNothing (state S.Store connection.old) (state S.Store connection.new) }
     ensures shown { HasCleanDisk (state S.Store connection.new) → (trees : Trees) → ShowsStore (state S.Store connection.old) trees
         → IfOk result (λ shown. AreShown (has_ident_in trees database.0) numbers.now (map (λ hit.
         (hit.sysno, string_bytes hit.ident)) shown.items)) }
+    ensures idle { connection.new.in_transaction ≡ false }
+    ensures open { LeavesOpen S.Store connection.old connection.new result }
+    ensures same { LeavesAsIs S.Store connection.old connection.new }
+    ensures crash { CommitsNothing S.Store connection.old connection.new }
     ensures refused { HasCleanDisk (state S.Store connection.new) → (trees : Trees) → ShowsStore (state S.Store connection.old) trees
         → ((n : ℕ) → Has numbers.now n → n < 2 ^ 63)
         → IfErr result (λ refusal. IsFailure (refused (why_of refusal))
         ⊎ ((refusal ≡ Refusal.Damaged) × HidesOne trees database.0 numbers.now)) }
-    ensures crash { Survives (state S.Store connection.old) (state S.Store connection.new) (λ _. ⊥) }
     ensures unread { NoReadFault result }
     ensures ready { NeverUnready result }
-    ensures caused { HasCleanDisk (state S.Store connection.new)
-        → HasStoreCause (state S.Store connection.old) (state S.Store connection.new) result }
+    ensures caused { FailsForCause S.Store connection.old connection.new result }
 {
     let mut shown = Vec::with_capacity(alloc, numbers.len())?;
     for number in numbers {
@@ -120,20 +115,12 @@ pub(crate) fn find<S: Alter, L: Layout>(
     question: Question<'_>,
 ) -> Result<Reply, Refusal>
     requires idle { connection.old.in_transaction ≡ false }
-    ensures idle { connection.new.in_transaction ≡ false }
-    ensures open { HasCleanDisk (state S.Store connection.new)
-        → OnOk result (StaysOpen (state S.Store connection.old) (state S.Store connection.new)) }
-    ensures same { HasCleanDisk (state S.Store connection.new)
-        → ChangesNothing (state S.Store connection.old) (state S.Store connection.new) }
     ensures found { HasCleanDisk (state S.Store connection.new) → IsTrue (state S.Store connection.old).is_open
         → (limits : Limits) (before : Holdings) (bases : List Base)
         → ready (conditions (version_of L.format) profile.now limits) before ≡ Ok bases → Keeps (state S.Store connection.old) before
         → AskedAmong (FindAnswers profile.now question.entry.query.now question.entry.first question.entry.count)
         (name_bytes name.now) question.entry.query.now bases (answer_of result)
         ⊎ IsFailure (answer_of result) }
-    ensures crash { Survives (state S.Store connection.old) (state S.Store connection.new) (λ _. ⊥) }
-    ensures unread { NoReadFault result }
-    ensures ready { NeverUnready result }
     // The hits are read from the registers, on any tables that hold a content.
     ensures alone { HasCleanDisk (state S.Store connection.new)
         → Alone L.format (FindSays profile.now question.entry.query.now question.entry.first question.entry.count) (name_bytes name.now)
@@ -142,15 +129,20 @@ pub(crate) fn find<S: Alter, L: Layout>(
     ensures refused { HasCleanDisk (state S.Store connection.new)
         → RefusedAlone L.format (RefusesFind profile.now (name_bytes name.now) question.entry.query.now question.entry.first
         question.entry.count) (state S.Store connection.old) result }
-    // The store fails for a cause.
-    ensures caused { HasCleanDisk (state S.Store connection.new)
-        → HasStoreCause (state S.Store connection.old) (state S.Store connection.new) result }
+    ensures idle { connection.new.in_transaction ≡ false }
+    ensures open { FindsOpen S.Store connection.old connection.new result }
+    ensures same { LeavesAsIs S.Store connection.old connection.new }
+    ensures crash { CommitsNothing S.Store connection.old connection.new }
     // No row is written; of terms no more are read than the searched registers have, once for each pattern with a star and each entry that
     // isn't named, and no more lists than those that the query asks for.
     ensures work { HasCleanDisk (state S.Store connection.new)
         → OnOk result (FindReads L.format L.row_work L.block_rows profile.now (name_bytes name.now)
         question.entry.query.now (state S.Store connection.old) work.old work.new) }
     ensures no_work { L.row_work ≡ 0 → work.new ≡ work.old }
+    ensures unread { NoReadFault result }
+    ensures ready { NeverUnready result }
+    // The store fails for a cause.
+    ensures caused { FailsForCause S.Store connection.old connection.new result }
 {
     // Its profile is some text's.
     profile.is_of_some_text();

@@ -2,11 +2,12 @@
 
 ghost use Rattle.std.specs.Prelude.{◌≡◌, false, codes, string_bytes};
 ghost use Rattle.sqlite.specs.Held.{state};
-ghost use Rattle.sqlite.specs.State.{HasCleanDisk, Survives};
+ghost use Rattle.sqlite.specs.State.{HasCleanDisk};
 ghost use Rattle.zeb_register.specs.Formats.{version_of};
 ghost use Rattle.zeb_change.specs.Reading.{NoReadFault};
 ghost use Rattle.zeb_engine.specs.PrivateLooking.{FindsStanding, IsLook, RefusesText, RefusesVersion, TellsStanding, TellsText};
 ghost use Rattle.zeb_engine.specs.Readiness.{IsReadyToReindex, KeepsText, RefusesReindex, RefusesUpgrade};
+ghost use Rattle.zeb_engine.specs.PrivateConnections.{CommitsNothing};
 
 use crate::readiness::{IDENTIFIER, PROFILE, VERSION};
 use sqlite::{Alter, Connection};
@@ -32,7 +33,7 @@ fn kept_version<S: Alter>(connection: &mut Connection<S>) -> Result<String, Refu
         → IsLook (λ trees version. KeepsText trees (codes "version") (string_bytes version)) RefusesVersion (state S.Store connection.old)
         (state S.Store connection.new) result }
     ensures unread { NoReadFault result }
-    ensures crash { Survives (state S.Store connection.old) (state S.Store connection.new) (λ _. ⊥) }
+    ensures crash { CommitsNothing S.Store connection.old connection.new }
 {
     match meta_of(connection, VERSION)? {
         Some(version) => Ok(version),
@@ -51,7 +52,7 @@ fn keeps_text<S: Alter>(
     ensures look { HasCleanDisk (state S.Store connection.new)
         → IsLook (TellsText name.now text.now) (RefusesText name.now) (state S.Store connection.old) (state S.Store connection.new) result }
     ensures unread { NoReadFault result }
-    ensures crash { Survives (state S.Store connection.old) (state S.Store connection.new) (λ _. ⊥) }
+    ensures crash { CommitsNothing S.Store connection.old connection.new }
 {
     match meta_of(connection, name)? {
         Some(found) => Ok(found.as_str() == text),
@@ -71,7 +72,7 @@ pub(crate) fn check_rule<S: Alter, L: Layout>(
         → IsLook (λ trees _. IsReadyToReindex (version_of L.format) profile.now trees) (RefusesReindex (version_of L.format) profile.now)
         (state S.Store connection.old) (state S.Store connection.new) result }
     ensures unread { NoReadFault result }
-    ensures crash { Survives (state S.Store connection.old) (state S.Store connection.new) (λ _. ⊥) }
+    ensures crash { CommitsNothing S.Store connection.old connection.new }
 {
     let version = kept_version(connection)?;
     if version.as_str() != L::version() {
@@ -110,7 +111,7 @@ pub(crate) fn check_layout<S: Alter, L: Layout>(
         → IsLook (FindsStanding (version_of L.format) profile.now) (RefusesUpgrade (version_of L.format) profile.now)
         (state S.Store connection.old) (state S.Store connection.new) result }
     ensures unread { NoReadFault result }
-    ensures crash { Survives (state S.Store connection.old) (state S.Store connection.new) (λ _. ⊥) }
+    ensures crash { CommitsNothing S.Store connection.old connection.new }
 {
     let version = kept_version(connection)?;
     let Some(standing) = standing_of::<L>(version.as_str()) else {

@@ -1,14 +1,11 @@
 //! Whether a register may be used by a session, and which of its databases is meant.
 
-ghost use Rattle.std.specs.Prelude.{◌≡◌, ◌≢◌, ◌⊎◌, ℕ, List, false, pos, Ok, Err, IsTrue, OnOk, IfOk, IfErr};
+ghost use Rattle.std.specs.Prelude.{◌≡◌, ◌≢◌, ◌⊎◌, ℕ, List, false, pos, Ok, Err, IsTrue, IfOk, IfErr};
 ghost use Rattle.sqlite.specs.Held.{state};
-ghost use Rattle.sqlite.specs.State.{HasCleanDisk, Survives};
-ghost use Rattle.zeb_register.specs.Calls.{ChangesNothing};
+ghost use Rattle.sqlite.specs.State.{HasCleanDisk};
 ghost use Rattle.zeb_register.specs.Formats.{version_of};
 ghost use Rattle.zeb_register.specs.Store.{IsStore, HasDatabase};
-ghost use Rattle.zeb_engine.specs.Adopting.{StaysOpen};
 ghost use Rattle.zeb_engine.specs.Answers.{IsFailure, refused};
-ghost use Rattle.zeb_engine.specs.Causes.{HasStoreCause};
 ghost use Rattle.zeb_change.specs.Refused.{why_of, NeverUnready, Meets};
 ghost use Rattle.zeb_change.specs.Conditions.{Conditions, conditions};
 ghost use Rattle.zeb_change.specs.declared.settings.Limits.{Limits};
@@ -17,9 +14,10 @@ ghost use Rattle.zeb_change.specs.Base.{Base};
 ghost use Rattle.zeb_image.specs.Image.{Keeps};
 ghost use Rattle.zeb_image.specs.NameOf.{name_bytes};
 ghost use Rattle.zeb_engine.specs.PrivateLooking.{IsUnready, MissesDatabase};
-ghost use Rattle.zeb_engine.specs.Readiness.{GoesByTexts, IsReadyFor};
+ghost use Rattle.zeb_engine.specs.Readiness.{IsReadyFor};
 ghost use Rattle.zeb_change.specs.Reading.{NoReadFault};
 ghost use Rattle.zeb_engine.specs.Steps.{ready, existing};
+ghost use Rattle.zeb_engine.specs.PrivateConnections.{CommitsNothing, FailsForCause, FindsOpen, LeavesAsIs, TellsReady};
 
 use sqlite::{Alter, Connection};
 use std::alloc::Global;
@@ -46,25 +44,21 @@ pub(crate) fn check_ready<S: Alter, L: Layout>(
     profile: &Profile,
 ) -> Result<(), Refusal>
     requires idle { connection.old.in_transaction ≡ false }
-    ensures idle { connection.new.in_transaction ≡ false }
-    ensures same { HasCleanDisk (state S.Store connection.new)
-        → ChangesNothing (state S.Store connection.old) (state S.Store connection.new) }
+    ensures texts { TellsReady S.Store (version_of L.format) profile.now connection.old connection.new result }
     ensures ready { HasCleanDisk (state S.Store connection.new) → (limits : Limits) (before : Holdings)
         → Keeps (state S.Store connection.old) before
         → Meets (λ bases _. IsTrue (state S.Store connection.old).is_open
         × IsTrue (state S.Store connection.new).is_open) (ready (conditions (version_of L.format) profile.now limits) before) result }
-    ensures texts { HasCleanDisk (state S.Store connection.new)
-        → GoesByTexts (version_of L.format) profile.now (state S.Store connection.old) result }
-    ensures unread { NoReadFault result }
+    ensures idle { connection.new.in_transaction ≡ false }
+    ensures open { FindsOpen S.Store connection.old connection.new result }
+    ensures same { LeavesAsIs S.Store connection.old connection.new }
+    ensures crash { CommitsNothing S.Store connection.old connection.new }
     ensures few { IfErr result IsUnready }
-    ensures open { HasCleanDisk (state S.Store connection.new)
-        → OnOk result (StaysOpen (state S.Store connection.old) (state S.Store connection.new)) }
     // The texts of a register that is ready can be read.
     ensures whole { HasCleanDisk (state S.Store connection.new) → IsStore (state S.Store connection.old)
         → IsReadyFor (version_of L.format) profile.now (state S.Store connection.old).now.trees → result ≢ Err Refusal.Damaged }
-    ensures caused { HasCleanDisk (state S.Store connection.new)
-        → HasStoreCause (state S.Store connection.old) (state S.Store connection.new) result }
-    ensures crash { Survives (state S.Store connection.old) (state S.Store connection.new) (λ _. ⊥) }
+    ensures unread { NoReadFault result }
+    ensures caused { FailsForCause S.Store connection.old connection.new result }
 {
     // Both texts of the session are UTF-8.
     let _version = L::version();
@@ -91,28 +85,25 @@ pub(crate) fn existing_database<S: Alter, L: Layout>(
     name: &DbName,
 ) -> Result<Database, Refusal>
     requires idle { connection.old.in_transaction ≡ false }
-    ensures idle { connection.new.in_transaction ≡ false }
-    ensures same { HasCleanDisk (state S.Store connection.new)
-        → ChangesNothing (state S.Store connection.old) (state S.Store connection.new) }
     ensures exists { HasCleanDisk (state S.Store connection.new) → IsTrue (state S.Store connection.old).is_open
         → (c : Conditions) (before : Holdings) (bases : List Base) → ready c before ≡ Ok bases → Keeps (state S.Store connection.old) before
         → Meets (λ base found. HasDatabase (state S.Store connection.old).now.trees found.id.0 base.name (pos base.last)
         × (found.last ≡ base.last) × IsTrue (state S.Store connection.new).is_open)
         (existing (name_bytes name.now) bases) result }
-    ensures found { HasCleanDisk (state S.Store connection.new)
-        → OnOk result (StaysOpen (state S.Store connection.old) (state S.Store connection.new)) }
-    ensures opened { HasCleanDisk (state S.Store connection.new)
-        → IfErr result (λ refusal. IsFailure (refused (why_of refusal)) ⊎ IsTrue (state S.Store connection.old).is_open) }
-    ensures unread { NoReadFault result }
-    ensures ready { NeverUnready result }
-    ensures crash { Survives (state S.Store connection.old) (state S.Store connection.new) (λ _. ⊥) }
-    ensures row { HasCleanDisk (state S.Store connection.new) → IsStore (state S.Store connection.old)
-        → IfOk result (λ found. HasDatabase (state S.Store connection.old).now.trees found.id.0 (name_bytes name.now) (pos found.last)) }
     ensures misses { HasCleanDisk (state S.Store connection.new) → IsStore (state S.Store connection.old)
         → IfErr result (λ refusal. IsFailure (refused (why_of refusal))
         ⊎ MissesDatabase (state S.Store connection.old).now.trees (name_bytes name.now) refusal) }
-    ensures caused { HasCleanDisk (state S.Store connection.new)
-        → HasStoreCause (state S.Store connection.old) (state S.Store connection.new) result }
+    ensures row { HasCleanDisk (state S.Store connection.new) → IsStore (state S.Store connection.old)
+        → IfOk result (λ found. HasDatabase (state S.Store connection.old).now.trees found.id.0 (name_bytes name.now) (pos found.last)) }
+    ensures idle { connection.new.in_transaction ≡ false }
+    ensures found { FindsOpen S.Store connection.old connection.new result }
+    ensures opened { HasCleanDisk (state S.Store connection.new)
+        → IfErr result (λ refusal. IsFailure (refused (why_of refusal)) ⊎ IsTrue (state S.Store connection.old).is_open) }
+    ensures same { LeavesAsIs S.Store connection.old connection.new }
+    ensures crash { CommitsNothing S.Store connection.old connection.new }
+    ensures unread { NoReadFault result }
+    ensures ready { NeverUnready result }
+    ensures caused { FailsForCause S.Store connection.old connection.new result }
 {
     match database_of(connection, name.as_str())? {
         Some(database) => Ok(database),

@@ -4,15 +4,13 @@ ghost use Rattle.std.specs.Prelude.{◌≡◌, false, OnOk};
 ghost use Rattle.sqlite.specs.Held.{state};
 ghost use Rattle.sqlite.specs.State.{HasCleanDisk, Survives};
 ghost use Rattle.zeb_register.specs.Formats.{version_of};
-ghost use Rattle.zeb_change.specs.declared.settings.Limits.{Limits};
-ghost use Rattle.zeb_change.specs.Conditions.{conditions};
 ghost use Rattle.zeb_change.specs.Reading.{NoReadFault};
 ghost use Rattle.zeb_engine.specs.Checking.{ReindexesTables, StaysUpgraded, UpgradesTables};
-ghost use Rattle.zeb_engine.specs.Crashes.{Commits, CommitsReindex};
+ghost use Rattle.zeb_engine.specs.Crashes.{CommitsReindex};
 ghost use Rattle.zeb_engine.specs.PrivateWriting.{HoldsRemade};
 ghost use Rattle.zeb_engine.specs.Steps.{reindexed, upgraded};
 ghost use Rattle.zeb_engine.specs.Transactions.{Commanded};
-ghost use Rattle.zeb_engine.specs.Works.{Always, Serves};
+ghost use Rattle.zeb_engine.specs.PrivateConnections.{CommitsUnder, ServesUnder};
 
 use crate::looks::{Standing, check_layout, check_rule};
 use crate::replies::Reply;
@@ -33,15 +31,12 @@ pub(crate) fn reindex<S: Alter, L: Layout>(
     profile: &Profile,
 ) -> Result<Reply, Refusal>
     requires idle { connection.old.in_transaction ≡ false }
-    ensures idle { connection.new.in_transaction ≡ false }
-    ensures call { Commanded (state S.Store connection.old) (state S.Store connection.new) result }
-    ensures survives { Survives (state S.Store connection.old) (state S.Store connection.new) (λ db. (limits : Limits)
-        → Commits Always (reindexed (conditions (version_of L.format) profile.now limits)) (state S.Store connection.old) db) }
-    ensures serves { HasCleanDisk (state S.Store connection.new) → (limits : Limits)
-        → Serves Always (reindexed (conditions (version_of L.format) profile.now limits)) (state S.Store connection.old)
-        (state S.Store connection.new) result }
+    ensures serves { ServesUnder S.Store reindexed (version_of L.format) profile.now connection.old connection.new result }
     ensures told { HasCleanDisk (state S.Store connection.new)
         → ReindexesTables (version_of L.format) profile.now (state S.Store connection.old) result }
+    ensures idle { connection.new.in_transaction ≡ false }
+    ensures call { Commanded (state S.Store connection.old) (state S.Store connection.new) result }
+    ensures survives { CommitsUnder S.Store reindexed (version_of L.format) profile.now connection.old connection.new }
     ensures remade { HasCleanDisk (state S.Store connection.new)
         → OnOk result (HoldsRemade L.format profile.now (state S.Store connection.old) (state S.Store connection.new)) }
     ensures survives_remade { Survives (state S.Store connection.old) (state S.Store connection.new)
@@ -65,17 +60,14 @@ pub(crate) fn upgrade<S: Alter, L: Layout>(
     profile: &Profile,
 ) -> Result<Reply, Refusal>
     requires idle { connection.old.in_transaction ≡ false }
-    ensures idle { connection.new.in_transaction ≡ false }
-    ensures call { Commanded (state S.Store connection.old) (state S.Store connection.new) result }
-    ensures survives { Survives (state S.Store connection.old) (state S.Store connection.new) (λ db. (limits : Limits)
-        → Commits Always (upgraded (conditions (version_of L.format) profile.now limits)) (state S.Store connection.old) db) }
-    ensures serves { HasCleanDisk (state S.Store connection.new) → (limits : Limits)
-        → Serves Always (upgraded (conditions (version_of L.format) profile.now limits)) (state S.Store connection.old)
-        (state S.Store connection.new) result }
+    ensures serves { ServesUnder S.Store upgraded (version_of L.format) profile.now connection.old connection.new result }
     ensures told { HasCleanDisk (state S.Store connection.new)
         → UpgradesTables (version_of L.format) profile.now (state S.Store connection.old) result }
     ensures stays { HasCleanDisk (state S.Store connection.new)
         → StaysUpgraded (version_of L.format) profile.now (state S.Store connection.old) (state S.Store connection.new) result }
+    ensures idle { connection.new.in_transaction ≡ false }
+    ensures call { Commanded (state S.Store connection.old) (state S.Store connection.new) result }
+    ensures survives { CommitsUnder S.Store upgraded (version_of L.format) profile.now connection.old connection.new }
     ensures unread { NoReadFault result }
 {
     // What is shown is what was committed.

@@ -2,16 +2,13 @@
 
 ghost use Rattle.std.specs.Prelude.{◌≡◌, ◌⊎◌, ◌++◌, List, false, IfOk, IfErr, OnOk, IsTrue, Ok};
 ghost use Rattle.sqlite.specs.Held.{state};
-ghost use Rattle.sqlite.specs.State.{HasCleanDisk, Survives};
+ghost use Rattle.sqlite.specs.State.{HasCleanDisk};
 ghost use Rattle.zeb_query.specs.Plans.{scan_value};
-ghost use Rattle.zeb_register.specs.Calls.{ChangesNothing};
 ghost use Rattle.zeb_register.specs.Formats.{holds_in, version_of};
 ghost use Rattle.zeb_register.specs.Content.{Content, IsStorable, posted};
 ghost use Rattle.zeb_register.specs.Store.{IsStore};
 ghost use Rattle.zeb_change.specs.declared.settings.Limits.{Limits};
-ghost use Rattle.zeb_engine.specs.Adopting.{StaysOpen};
 ghost use Rattle.zeb_engine.specs.Answers.{answer_of, refused, IsFailure};
-ghost use Rattle.zeb_engine.specs.Causes.{HasStoreCause};
 ghost use Rattle.zeb_change.specs.Refused.{why_of, NeverUnready};
 ghost use Rattle.zeb_change.specs.Conditions.{conditions};
 ghost use Rattle.zeb_image.specs.Holdings.{Holdings};
@@ -23,6 +20,7 @@ ghost use Rattle.zeb_engine.specs.Alone.{Alone, ScanSays};
 ghost use Rattle.zeb_engine.specs.Reads.{ScanReads};
 ghost use Rattle.zeb_engine.specs.Scanning.{AreAround};
 ghost use Rattle.zeb_engine.specs.Steps.{ready, AskedAmong, ScanAnswers};
+ghost use Rattle.zeb_engine.specs.PrivateConnections.{CommitsNothing, FailsForCause, FindsOpen, LeavesAsIs};
 
 use crate::readiness::existing_database;
 use crate::replies::Reply;
@@ -63,22 +61,19 @@ fn terms_around<S: Alter, L: Layout>(
     around: &Around<'_>,
 ) -> Result<Vec<TermCount>, Refusal>
     requires idle { connection.old.in_transaction ≡ false }
-    ensures idle { connection.new.in_transaction ≡ false }
-    ensures open { HasCleanDisk (state S.Store connection.new)
-        → OnOk result (StaysOpen (state S.Store connection.old) (state S.Store connection.new)) }
-    ensures same { HasCleanDisk (state S.Store connection.new)
-        → ChangesNothing (state S.Store connection.old) (state S.Store connection.new) }
     ensures around { HasCleanDisk (state S.Store connection.new) → IsStore (state S.Store connection.old)
         → IfOk result (λ terms. (content : Content) → holds_in L.format (state S.Store connection.old).now.trees content
         → AreAround (posted content database.0) (scan_value plan.now) around.now.number around.now.position terms.items) }
+    ensures idle { connection.new.in_transaction ≡ false }
+    ensures open { FindsOpen S.Store connection.old connection.new result }
+    ensures same { LeavesAsIs S.Store connection.old connection.new }
+    ensures crash { CommitsNothing S.Store connection.old connection.new }
     ensures failed { HasCleanDisk (state S.Store connection.new) → IsStore (state S.Store connection.old)
         → (content : Content) → IsStorable content → holds_in L.format (state S.Store connection.old).now.trees content
         → IfErr result (λ refusal. IsFailure (refused (why_of refusal))) }
-    ensures crash { Survives (state S.Store connection.old) (state S.Store connection.new) (λ _. ⊥) }
     ensures unread { NoReadFault result }
     ensures ready { NeverUnready result }
-    ensures caused { HasCleanDisk (state S.Store connection.new)
-        → HasStoreCause (state S.Store connection.old) (state S.Store connection.new) result }
+    ensures caused { FailsForCause S.Store connection.old connection.new result }
     ensures work { HasCleanDisk (state S.Store connection.new)
         → OnOk result (ScanReads L.format L.row_work around.now.number around.now.position (state S.Store connection.old)
         work.old work.new) }
@@ -107,32 +102,29 @@ pub(crate) fn scan<S: Alter, L: Layout>(
     around: Around<'_>,
 ) -> Result<Reply, Refusal>
     requires idle { connection.old.in_transaction ≡ false }
-    ensures idle { connection.new.in_transaction ≡ false }
-    ensures open { HasCleanDisk (state S.Store connection.new)
-        → OnOk result (StaysOpen (state S.Store connection.old) (state S.Store connection.new)) }
-    ensures same { HasCleanDisk (state S.Store connection.new)
-        → ChangesNothing (state S.Store connection.old) (state S.Store connection.new) }
     ensures scanned { HasCleanDisk (state S.Store connection.new) → IsTrue (state S.Store connection.old).is_open
         → (limits : Limits) (before : Holdings) (bases : List Base)
         → ready (conditions (version_of L.format) profile.now limits) before ≡ Ok bases → Keeps (state S.Store connection.old) before
         → AskedAmong (ScanAnswers profile.now around.entry.query.now around.entry.number around.entry.position)
         (name_bytes name.now) around.entry.query.now bases (answer_of result)
         ⊎ IsFailure (answer_of result) }
-    ensures crash { Survives (state S.Store connection.old) (state S.Store connection.new) (λ _. ⊥) }
-    ensures unread { NoReadFault result }
-    ensures ready { NeverUnready result }
     // The terms are read from the registers, on any tables that hold a content.
     ensures alone { HasCleanDisk (state S.Store connection.new)
         → Alone L.format (ScanSays profile.now around.entry.query.now around.entry.number around.entry.position) (name_bytes name.now)
         (state S.Store connection.old) result }
-    // The store fails for a cause.
-    ensures caused { HasCleanDisk (state S.Store connection.new)
-        → HasStoreCause (state S.Store connection.old) (state S.Store connection.new) result }
+    ensures idle { connection.new.in_transaction ≡ false }
+    ensures open { FindsOpen S.Store connection.old connection.new result }
+    ensures same { LeavesAsIs S.Store connection.old connection.new }
+    ensures crash { CommitsNothing S.Store connection.old connection.new }
     // The terms that are asked for are read, one more at most, and nothing else.
     ensures work { HasCleanDisk (state S.Store connection.new)
         → OnOk result (ScanReads L.format L.row_work around.entry.number around.entry.position (state S.Store connection.old)
         work.old work.new) }
     ensures no_work { L.row_work ≡ 0 → work.new ≡ work.old }
+    ensures unread { NoReadFault result }
+    ensures ready { NeverUnready result }
+    // The store fails for a cause.
+    ensures caused { FailsForCause S.Store connection.old connection.new result }
 {
     // Its profile is some text's.
     profile.is_of_some_text();

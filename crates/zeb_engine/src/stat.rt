@@ -2,25 +2,22 @@
 
 ghost use Rattle.std.specs.Prelude.{◌≡◌, ◌++◌, List, false, IsTrue, IfErr, IfOk, OnOk, string_bytes};
 ghost use Rattle.sqlite.specs.Held.{state};
-ghost use Rattle.sqlite.specs.State.{HasCleanDisk, Survives};
+ghost use Rattle.sqlite.specs.State.{HasCleanDisk};
 ghost use Rattle.sqlite.specs.Tree.{Trees};
-ghost use Rattle.zeb_register.specs.Calls.{ChangesNothing};
 ghost use Rattle.zeb_register.specs.Formats.{holds_in, version_of};
 ghost use Rattle.zeb_register.specs.Content.{Content, IsStorable, posted};
-ghost use Rattle.zeb_engine.specs.Adopting.{StaysOpen};
 ghost use Rattle.zeb_engine.specs.Alone.{Alone, StatSays};
 ghost use Rattle.zeb_engine.specs.Answers.{IsFailure, extent_of, refused};
-ghost use Rattle.zeb_engine.specs.Causes.{HasStoreCause};
 ghost use Rattle.zeb_change.specs.Refused.{why_of, NeverUnready};
 ghost use Rattle.zeb_change.specs.Conditions.{conditions};
 ghost use Rattle.zeb_engine.specs.Counting.{IsExtent, Paired, name_of_index, target_in, target_list};
 ghost use Rattle.zeb_change.specs.declared.settings.Limits.{Limits};
 ghost use Rattle.zeb_image.specs.Holdings.{Holdings};
 ghost use Rattle.zeb_image.specs.NameOf.{name_bytes};
-ghost use Rattle.zeb_engine.specs.Readiness.{GoesByTexts};
 ghost use Rattle.zeb_change.specs.Reading.{NoReadFault};
 ghost use Rattle.zeb_engine.specs.Steps.{CountedFrom, ready};
 ghost use Rattle.zeb_engine.specs.Works.{Asks, ShowsStore};
+ghost use Rattle.zeb_engine.specs.PrivateConnections.{CommitsNothing, FailsForCause, FindsOpen, LeavesAsIs, LeavesOpen, TellsReady};
 
 use crate::readiness::{check_ready, existing_database};
 use crate::replies::{Holding, Reply};
@@ -90,25 +87,22 @@ fn holdings_of<S: Alter, L: Layout>(
     targets: &[(u32, Register)],
 ) -> Result<Vec<Holding>, Refusal>
     requires idle { connection.old.in_transaction ≡ false }
-    ensures idle { connection.new.in_transaction ≡ false }
-    ensures open { HasCleanDisk (state S.Store connection.new)
-        → OnOk result (IsTrue (state S.Store connection.old).is_open → IsTrue (state S.Store connection.new).is_open) }
-    ensures same { HasCleanDisk (state S.Store connection.new)
-        → ChangesNothing (state S.Store connection.old) (state S.Store connection.new) }
     ensures held { HasCleanDisk (state S.Store connection.new) → (trees : Trees) → ShowsStore (state S.Store connection.old) trees
         → IsTrue (state S.Store connection.old).is_open
         → (content : Content) → holds_in L.format trees content
         → IfOk result (λ holdings. Paired (λ target holding. IsExtent (posted content database.0) profile.now target
         (extent_of holding)) targets.now holdings.items) }
+    ensures idle { connection.new.in_transaction ≡ false }
+    ensures open { LeavesOpen S.Store connection.old connection.new result }
+    ensures same { LeavesAsIs S.Store connection.old connection.new }
+    ensures crash { CommitsNothing S.Store connection.old connection.new }
     ensures failed { HasCleanDisk (state S.Store connection.new) → (trees : Trees) → ShowsStore (state S.Store connection.old) trees
         → IsTrue (state S.Store connection.old).is_open
         → (content : Content) → IsStorable content → holds_in L.format trees content
         → IfErr result (λ refusal. IsFailure (refused (why_of refusal))) }
-    ensures crash { Survives (state S.Store connection.old) (state S.Store connection.new) (λ _. ⊥) }
     ensures unread { NoReadFault result }
     ensures ready { NeverUnready result }
-    ensures caused { HasCleanDisk (state S.Store connection.new)
-        → HasStoreCause (state S.Store connection.old) (state S.Store connection.new) result }
+    ensures caused { FailsForCause S.Store connection.old connection.new result }
     ensures no_work { L.row_work ≡ 0 → work.new ≡ work.old }
 {
     let mut holdings = Vec::with_capacity(alloc, targets.len())?;
@@ -129,25 +123,21 @@ pub(crate) fn stat<S: Alter, L: Layout>(
     name: &DbName,
 ) -> Result<Reply, Refusal>
     requires idle { connection.old.in_transaction ≡ false }
-    ensures idle { connection.new.in_transaction ≡ false }
-    ensures open { HasCleanDisk (state S.Store connection.new)
-        → OnOk result (StaysOpen (state S.Store connection.old) (state S.Store connection.new)) }
-    ensures same { HasCleanDisk (state S.Store connection.new)
-        → ChangesNothing (state S.Store connection.old) (state S.Store connection.new) }
     ensures serves { HasCleanDisk (state S.Store connection.new) → (limits : Limits)
         → Asks (λ before answer. CountedFrom (conditions (version_of L.format) profile.now limits) (name_bytes name.now)
         (ready (conditions (version_of L.format) profile.now limits) before) answer)
         (state S.Store connection.old) (state S.Store connection.new) result }
-    ensures crash { Survives (state S.Store connection.old) (state S.Store connection.new) (λ _. ⊥) }
-    ensures unread { NoReadFault result }
-    ensures ready { HasCleanDisk (state S.Store connection.new)
-        → GoesByTexts (version_of L.format) profile.now (state S.Store connection.old) result }
+    ensures idle { connection.new.in_transaction ≡ false }
+    ensures open { FindsOpen S.Store connection.old connection.new result }
+    ensures same { LeavesAsIs S.Store connection.old connection.new }
+    ensures crash { CommitsNothing S.Store connection.old connection.new }
     // The terms and occurrences are counted in the registers, on any tables that hold a content.
     ensures alone { HasCleanDisk (state S.Store connection.new)
         → Alone L.format (StatSays profile.now) (name_bytes name.now) (state S.Store connection.old) result }
+    ensures unread { NoReadFault result }
+    ensures ready { TellsReady S.Store (version_of L.format) profile.now connection.old connection.new result }
     // The store fails for a cause.
-    ensures caused { HasCleanDisk (state S.Store connection.new)
-        → HasStoreCause (state S.Store connection.old) (state S.Store connection.new) result }
+    ensures caused { FailsForCause S.Store connection.old connection.new result }
     ensures no_work { L.row_work ≡ 0 → work.new ≡ work.old }
 {
     // Its profile is some text's.

@@ -18,8 +18,9 @@ ghost use Rattle.zeb_change.specs.Reading.{NoReadFault};
 ghost use Rattle.zeb_engine.specs.Steps.{holding, initialised, turned, created, dropped, reindexed, upgraded};
 ghost use Rattle.zeb_engine.specs.Transactions.{Commanded};
 ghost use Rattle.zeb_change.specs.Inside.{Stays};
-ghost use Rattle.zeb_engine.specs.Works.{Always, IsReady, Serves, Works};
+ghost use Rattle.zeb_engine.specs.Works.{IsReady, Serves, Works};
 ghost use Rattle.zeb_engine.specs.PrivateWriting.{AreOf, Begins, CommitsRemade, IsFree, IsKnown, FailsAlone, Fits, IsReached, IsRuled, IsUpgradable, PutsTexts, ReadsSound, Remakes, answered, written};
+ghost use Rattle.zeb_engine.specs.PrivateConnections.{CommitsNothing, CommitsUnder, ServesUnder};
 
 use crate::readiness::{IDENTIFIER, PROFILE, VERSION, existing_database};
 use crate::replies::Reply;
@@ -70,7 +71,7 @@ fn put_texts<S: Alter>(
         → IsStore (state S.Store tx.old.conn.now) → (state S.Store tx.old.conn.now).now.trees meta_tree ≡ []
         → OnOk result (PutsTexts version.now text.now pattern.now (state S.Store tx.old.conn.now) (state S.Store tx.new.conn.now)) }
     ensures failed { IfErr (answered result) (λ refusal. IsFailure (refused (why_of refusal))) }
-    ensures crash { Survives (state S.Store tx.old.conn.now) (state S.Store tx.new.conn.now) (λ _. ⊥) }
+    ensures crash { CommitsNothing S.Store tx.old.conn.now tx.new.conn.now }
 {
     meta_put(tx, VERSION, version)?;
     meta_put(tx, PROFILE, text)?;
@@ -95,7 +96,7 @@ fn init<S: Alter, L: Layout>(
         × ((c : Conditions) → AreOf (version_of L.format) profile.now pattern.now c
         → IsImage (state S.Store tx.new.conn.now).now.trees (holding c []))) }
     ensures failed { IfErr (answered result) (λ refusal. IsFailure (refused (why_of refusal))) }
-    ensures crash { Survives (state S.Store tx.old.conn.now) (state S.Store tx.new.conn.now) (λ _. ⊥) }
+    ensures crash { CommitsNothing S.Store tx.old.conn.now tx.new.conn.now }
 {
     wipe(tx)?;
     put_texts(tx, L::version(), profile.text(), pattern)?;
@@ -111,7 +112,7 @@ fn create<S: Alter, L: Layout>(tx: &mut Transaction<'_, S>, name: &DbName) -> Re
         → IsTrue (state S.Store tx.old.conn.now).is_open → (c : Conditions)
         → Works (IsFree (name_bytes name.now) c) (turned c (created (name_bytes name.now))) (state S.Store tx.old.conn.now)
         (state S.Store tx.new.conn.now) (answered result) }
-    ensures crash { Survives (state S.Store tx.old.conn.now) (state S.Store tx.new.conn.now) (λ _. ⊥) }
+    ensures crash { CommitsNothing S.Store tx.old.conn.now tx.new.conn.now }
 {
     database_put(tx, name.as_str(), 0)?;
     Ok(())
@@ -130,7 +131,7 @@ fn take<S: Alter, L: Layout>(
         → Works (λ trees before. (c.version ≡ version_of L.format)
         × IsKnown (name_bytes name.now) id.0 c trees before) (turned c (dropped (name_bytes name.now))) (state S.Store tx.old.conn.now)
         (state S.Store tx.new.conn.now) (answered result) }
-    ensures crash { Survives (state S.Store tx.old.conn.now) (state S.Store tx.new.conn.now) (λ _. ⊥) }
+    ensures crash { CommitsNothing S.Store tx.old.conn.now tx.new.conn.now }
 {
     L::database_take(tx, id)?;
     Ok(())
@@ -142,21 +143,21 @@ fn reindex<S: Alter, L: Layout>(
     tx: &mut Transaction<'_, S>,
     profile: &Profile,
 ) -> Result<(), RegFault>
-    ensures same { tx.new.conn.ghost_name ≡ tx.old.conn.ghost_name }
-    ensures stays { HasCleanDisk (state S.Store tx.new.conn.now) → IsTrue (state S.Store tx.old.conn.now).in_transaction
-        → Stays (state S.Store tx.old.conn.now) (state S.Store tx.new.conn.now) result }
-    ensures works { HasCleanDisk (state S.Store tx.new.conn.now) → IsTrue (state S.Store tx.old.conn.now).in_transaction
-        → IsTrue (state S.Store tx.old.conn.now).is_open → (c : Conditions)
-        → Works (λ _ before. IsRuled (version_of L.format) profile.now c before) (reindexed c) (state S.Store tx.old.conn.now)
-        (state S.Store tx.new.conn.now) (answered result) }
-    ensures crash { Survives (state S.Store tx.old.conn.now) (state S.Store tx.new.conn.now) (λ _. ⊥) }
-    ensures sound { HasCleanDisk (state S.Store tx.new.conn.now) → IsTrue (state S.Store tx.old.conn.now).in_transaction
-        → IsStore (state S.Store tx.old.conn.now) → TellsSound profile.now (state S.Store tx.old.conn.now).now.trees
-        (answered result) }
     ensures remade { HasCleanDisk (state S.Store tx.new.conn.now) → IsTrue (state S.Store tx.old.conn.now).in_transaction
         → IsStore (state S.Store tx.old.conn.now)
         → OnOk result (IsStore (state S.Store tx.new.conn.now)
         × IsRemade L.format profile.now (state S.Store tx.old.conn.now).now.trees (state S.Store tx.new.conn.now).now.trees) }
+    ensures sound { HasCleanDisk (state S.Store tx.new.conn.now) → IsTrue (state S.Store tx.old.conn.now).in_transaction
+        → IsStore (state S.Store tx.old.conn.now) → TellsSound profile.now (state S.Store tx.old.conn.now).now.trees
+        (answered result) }
+    ensures works { HasCleanDisk (state S.Store tx.new.conn.now) → IsTrue (state S.Store tx.old.conn.now).in_transaction
+        → IsTrue (state S.Store tx.old.conn.now).is_open → (c : Conditions)
+        → Works (λ _ before. IsRuled (version_of L.format) profile.now c before) (reindexed c) (state S.Store tx.old.conn.now)
+        (state S.Store tx.new.conn.now) (answered result) }
+    ensures same { tx.new.conn.ghost_name ≡ tx.old.conn.ghost_name }
+    ensures stays { HasCleanDisk (state S.Store tx.new.conn.now) → IsTrue (state S.Store tx.old.conn.now).in_transaction
+        → Stays (state S.Store tx.old.conn.now) (state S.Store tx.new.conn.now) result }
+    ensures crash { CommitsNothing S.Store tx.old.conn.now tx.new.conn.now }
 {
     rebuild::<S, L>(alloc, tx, profile)?;
     meta_put(tx, PROFILE, profile.text())?;
@@ -169,14 +170,14 @@ fn upgrade<S: Alter, L: Layout>(
     tx: &mut Transaction<'_, S>,
     profile: &Profile,
 ) -> Result<(), RegFault>
-    ensures same { tx.new.conn.ghost_name ≡ tx.old.conn.ghost_name }
-    ensures stays { HasCleanDisk (state S.Store tx.new.conn.now) → IsTrue (state S.Store tx.old.conn.now).in_transaction
-        → Stays (state S.Store tx.old.conn.now) (state S.Store tx.new.conn.now) result }
     ensures works { HasCleanDisk (state S.Store tx.new.conn.now) → IsTrue (state S.Store tx.old.conn.now).in_transaction
         → IsTrue (state S.Store tx.old.conn.now).is_open → (c : Conditions)
         → Works (λ _ before. IsUpgradable (version_of L.format) profile.now c before) (upgraded c) (state S.Store tx.old.conn.now)
         (state S.Store tx.new.conn.now) (answered result) }
-    ensures crash { Survives (state S.Store tx.old.conn.now) (state S.Store tx.new.conn.now) (λ _. ⊥) }
+    ensures crash { CommitsNothing S.Store tx.old.conn.now tx.new.conn.now }
+    ensures same { tx.new.conn.ghost_name ≡ tx.old.conn.ghost_name }
+    ensures stays { HasCleanDisk (state S.Store tx.new.conn.now) → IsTrue (state S.Store tx.old.conn.now).in_transaction
+        → Stays (state S.Store tx.old.conn.now) (state S.Store tx.new.conn.now) result }
 {
     rebuild::<S, L>(alloc, tx, profile)?;
     meta_put(tx, VERSION, L::version())?;
@@ -197,7 +198,7 @@ fn apply<S: Alter, L: Layout>(
     ensures begun { HasCleanDisk (state S.Store tx.new.conn.now) → IsTrue (state S.Store tx.old.conn.now).in_transaction
         → OnOk result (Begins (version_of L.format) write.now (state S.Store tx.old.conn.now) (state S.Store tx.new.conn.now)) }
     ensures failed { FailsAlone write.now (answered result) }
-    ensures crash { Survives (state S.Store tx.old.conn.now) (state S.Store tx.new.conn.now) (λ _. ⊥) }
+    ensures crash { CommitsNothing S.Store tx.old.conn.now tx.new.conn.now }
     ensures sound { HasCleanDisk (state S.Store tx.new.conn.now) → IsTrue (state S.Store tx.old.conn.now).in_transaction
         → ReadsSound write.now (state S.Store tx.old.conn.now) (answered result) }
     ensures remade { HasCleanDisk (state S.Store tx.new.conn.now) → IsTrue (state S.Store tx.old.conn.now).in_transaction
@@ -251,17 +252,14 @@ pub(crate) fn init_register<S: Alter, L: Layout>(
     profile: &Profile,
 ) -> Result<Reply, Refusal>
     requires idle { connection.old.in_transaction ≡ false }
-    ensures idle { connection.new.in_transaction ≡ false }
-    ensures call { Commanded (state S.Store connection.old) (state S.Store connection.new) result }
-    ensures survives { Survives (state S.Store connection.old) (state S.Store connection.new) (λ db. (limits : Limits)
-        → Commits Always (initialised (conditions (version_of L.format) profile.now limits)) (state S.Store connection.old) db) }
+    ensures serves { ServesUnder S.Store initialised (version_of L.format) profile.now connection.old connection.new result }
     ensures begun { HasCleanDisk (state S.Store connection.new) → OnOk result (IsStore (state S.Store connection.old) → (limits : Limits)
         → IsStore (state S.Store connection.new)
         × IsImage (state S.Store connection.new).now.trees (holding (conditions (version_of L.format) profile.now limits) [])) }
     ensures failed { IfErr result (λ refusal. IsFailure (refused (why_of refusal))) }
-    ensures serves { HasCleanDisk (state S.Store connection.new) → (limits : Limits)
-        → Serves (λ _ _. Unit {0}) (initialised (conditions (version_of L.format) profile.now limits)) (state S.Store connection.old)
-        (state S.Store connection.new) result }
+    ensures idle { connection.new.in_transaction ≡ false }
+    ensures call { Commanded (state S.Store connection.old) (state S.Store connection.new) result }
+    ensures survives { CommitsUnder S.Store initialised (version_of L.format) profile.now connection.old connection.new }
     ensures unread { NoReadFault result }
 {
     // Its profile is some text's.
@@ -282,13 +280,13 @@ pub(crate) fn create_database<S: Alter, L: Layout>(
     name: &DbName,
 ) -> Result<Reply, Refusal>
     requires idle { connection.old.in_transaction ≡ false }
+    ensures serves { HasCleanDisk (state S.Store connection.new) → (c : Conditions)
+        → Serves (IsReady c) (turned c (created (name_bytes name.now))) (state S.Store connection.old)
+        (state S.Store connection.new) result }
     ensures idle { connection.new.in_transaction ≡ false }
     ensures call { Commanded (state S.Store connection.old) (state S.Store connection.new) result }
     ensures survives { Survives (state S.Store connection.old) (state S.Store connection.new) (λ db. (c : Conditions)
         → Commits (IsReady c) (turned c (created (name_bytes name.now))) (state S.Store connection.old) db) }
-    ensures serves { HasCleanDisk (state S.Store connection.new) → (c : Conditions)
-        → Serves (IsReady c) (turned c (created (name_bytes name.now))) (state S.Store connection.old)
-        (state S.Store connection.new) result }
     ensures unread { NoReadFault result }
     ensures ready { NeverUnready result }
 {
@@ -306,14 +304,14 @@ pub(crate) fn drop_database<S: Alter, L: Layout>(
     name: &DbName,
 ) -> Result<Reply, Refusal>
     requires idle { connection.old.in_transaction ≡ false }
+    ensures serves { HasCleanDisk (state S.Store connection.new) → (c : Conditions) → c.version ≡ version_of L.format
+        → Serves (IsReady c) (turned c (dropped (name_bytes name.now))) (state S.Store connection.old)
+        (state S.Store connection.new) result }
     ensures idle { connection.new.in_transaction ≡ false }
     ensures call { Commanded (state S.Store connection.old) (state S.Store connection.new) result }
     ensures survives { Survives (state S.Store connection.old) (state S.Store connection.new) (λ db. (c : Conditions)
         → c.version ≡ version_of L.format
         → Commits (IsReady c) (turned c (dropped (name_bytes name.now))) (state S.Store connection.old) db) }
-    ensures serves { HasCleanDisk (state S.Store connection.new) → (c : Conditions) → c.version ≡ version_of L.format
-        → Serves (IsReady c) (turned c (dropped (name_bytes name.now))) (state S.Store connection.old)
-        (state S.Store connection.new) result }
     ensures unread { NoReadFault result }
     ensures ready { NeverUnready result }
 {

@@ -2,20 +2,19 @@
 
 ghost use Rattle.std.specs.Prelude.{◌≡◌, OnOk};
 ghost use Rattle.sqlite.specs.Held.{state};
-ghost use Rattle.sqlite.specs.State.{HasCleanDisk, Survives};
-ghost use Rattle.zeb_register.specs.Calls.{ChangesNothing};
+ghost use Rattle.sqlite.specs.State.{HasCleanDisk};
 ghost use Rattle.zeb_register.specs.Formats.{version_of};
 ghost use Rattle.zeb_engine.specs.Alone.{Alone, FindSays, RefusedAlone, RefusesFind, ScanSays};
 ghost use Rattle.zeb_change.specs.Conditions.{conditions};
 ghost use Rattle.zeb_image.specs.NameOf.{name_bytes};
-ghost use Rattle.zeb_engine.specs.Causes.{HasStoreCause};
 ghost use Rattle.zeb_engine.specs.Checking.{ChecksTables};
-ghost use Rattle.zeb_engine.specs.Readiness.{GoesByTexts, IsReadyFor};
+ghost use Rattle.zeb_engine.specs.Readiness.{IsReadyFor};
 ghost use Rattle.zeb_engine.specs.Reads.{FindReads, ScanReads};
 ghost use Rattle.zeb_change.specs.Reading.{NoReadFault};
 ghost use Rattle.zeb_engine.specs.Transactions.{Commanded};
 ghost use Rattle.zeb_engine.specs.Steps.{checked};
 ghost use Rattle.zeb_engine.specs.Works.{Always, Finds, ScansFrom, Serves};
+ghost use Rattle.zeb_engine.specs.PrivateConnections.{CommitsNothing, FailsForCause, LeavesAsIs, TellsReady};
 
 use crate::find::{Question, find};
 use crate::readiness::check_ready;
@@ -35,17 +34,15 @@ impl<S: Alter, L: Layout> Session<S, L> {
         question: Question<'_>,
     ) -> Result<Reply, Refusal>
         ensures call { Commanded (state S.Store self.old.connection) (state S.Store self.new.connection) result }
-        ensures reads { HasCleanDisk (state S.Store self.new.connection)
-            → ChangesNothing (state S.Store self.old.connection) (state S.Store self.new.connection) }
-        ensures survives { Survives (state S.Store self.old.connection) (state S.Store self.new.connection) (λ _. ⊥) }
+        ensures reads { LeavesAsIs S.Store self.old.connection self.new.connection }
+        ensures survives { CommitsNothing S.Store self.old.connection self.new.connection }
         ensures under { (self.new.profile ≡ self.old.profile) × (self.new.limits ≡ self.old.limits) }
         ensures serves { HasCleanDisk (state S.Store self.new.connection)
             → Finds (conditions (version_of L.format) self.old.profile self.old.limits)
             (name_bytes database.now) question.entry.query.now question.entry.first question.entry.count
             (state S.Store self.old.connection) (state S.Store self.new.connection) result }
         ensures unread { NoReadFault result }
-        ensures ready { HasCleanDisk (state S.Store self.new.connection)
-            → GoesByTexts (version_of L.format) self.old.profile (state S.Store self.old.connection) result }
+        ensures ready { TellsReady S.Store (version_of L.format) self.old.profile self.old.connection self.new.connection result }
         ensures alone { HasCleanDisk (state S.Store self.new.connection)
             → Alone L.format (FindSays self.old.profile question.entry.query.now question.entry.first question.entry.count)
             (name_bytes database.now) (state S.Store self.old.connection) result }
@@ -53,8 +50,7 @@ impl<S: Alter, L: Layout> Session<S, L> {
             → IsReadyFor (version_of L.format) self.old.profile (state S.Store self.old.connection).now.trees
             → RefusedAlone L.format (RefusesFind self.old.profile (name_bytes database.now) question.entry.query.now question.entry.first
             question.entry.count) (state S.Store self.old.connection) result }
-        ensures caused { HasCleanDisk (state S.Store self.new.connection)
-            → HasStoreCause (state S.Store self.old.connection) (state S.Store self.new.connection) result }
+        ensures caused { FailsForCause S.Store self.old.connection self.new.connection result }
         ensures work { HasCleanDisk (state S.Store self.new.connection)
             → OnOk result (FindReads L.format L.row_work L.block_rows self.old.profile (name_bytes database.now)
             question.entry.query.now (state S.Store self.old.connection) self.old.work self.new.work) }
@@ -74,22 +70,19 @@ impl<S: Alter, L: Layout> Session<S, L> {
     /// Terms around a start, on a register that is ready.
     pub(super) fn scan(&mut self, database: &DbName, around: Around<'_>) -> Result<Reply, Refusal>
         ensures call { Commanded (state S.Store self.old.connection) (state S.Store self.new.connection) result }
-        ensures reads { HasCleanDisk (state S.Store self.new.connection)
-            → ChangesNothing (state S.Store self.old.connection) (state S.Store self.new.connection) }
-        ensures survives { Survives (state S.Store self.old.connection) (state S.Store self.new.connection) (λ _. ⊥) }
+        ensures reads { LeavesAsIs S.Store self.old.connection self.new.connection }
+        ensures survives { CommitsNothing S.Store self.old.connection self.new.connection }
         ensures under { (self.new.profile ≡ self.old.profile) × (self.new.limits ≡ self.old.limits) }
         ensures serves { HasCleanDisk (state S.Store self.new.connection)
             → ScansFrom (conditions (version_of L.format) self.old.profile self.old.limits)
             (name_bytes database.now) around.entry.query.now around.entry.number around.entry.position (state S.Store self.old.connection)
             (state S.Store self.new.connection) result }
         ensures unread { NoReadFault result }
-        ensures ready { HasCleanDisk (state S.Store self.new.connection)
-            → GoesByTexts (version_of L.format) self.old.profile (state S.Store self.old.connection) result }
+        ensures ready { TellsReady S.Store (version_of L.format) self.old.profile self.old.connection self.new.connection result }
         ensures alone { HasCleanDisk (state S.Store self.new.connection)
             → Alone L.format (ScanSays self.old.profile around.entry.query.now around.entry.number around.entry.position)
             (name_bytes database.now) (state S.Store self.old.connection) result }
-        ensures caused { HasCleanDisk (state S.Store self.new.connection)
-            → HasStoreCause (state S.Store self.old.connection) (state S.Store self.new.connection) result }
+        ensures caused { FailsForCause S.Store self.old.connection self.new.connection result }
         ensures work { HasCleanDisk (state S.Store self.new.connection)
             → OnOk result (ScanReads L.format L.row_work around.entry.number around.entry.position
             (state S.Store self.old.connection) self.old.work self.new.work) }
@@ -109,20 +102,17 @@ impl<S: Alter, L: Layout> Session<S, L> {
     /// Whether the tables of a register that is ready are the image of what it holds: `Damaged` where they aren't.
     pub(super) fn check(&mut self) -> Result<Reply, Refusal>
         ensures call { Commanded (state S.Store self.old.connection) (state S.Store self.new.connection) result }
-        ensures reads { HasCleanDisk (state S.Store self.new.connection)
-            → ChangesNothing (state S.Store self.old.connection) (state S.Store self.new.connection) }
-        ensures survives { Survives (state S.Store self.old.connection) (state S.Store self.new.connection) (λ _. ⊥) }
+        ensures reads { LeavesAsIs S.Store self.old.connection self.new.connection }
+        ensures survives { CommitsNothing S.Store self.old.connection self.new.connection }
         ensures under { (self.new.profile ≡ self.old.profile) × (self.new.limits ≡ self.old.limits) }
         ensures serves { HasCleanDisk (state S.Store self.new.connection)
             → Serves Always (checked (conditions (version_of L.format) self.old.profile self.old.limits))
             (state S.Store self.old.connection) (state S.Store self.new.connection) result }
         ensures unread { NoReadFault result }
-        ensures ready { HasCleanDisk (state S.Store self.new.connection)
-            → GoesByTexts (version_of L.format) self.old.profile (state S.Store self.old.connection) result }
+        ensures ready { TellsReady S.Store (version_of L.format) self.old.profile self.old.connection self.new.connection result }
         ensures checked { HasCleanDisk (state S.Store self.new.connection)
             → ChecksTables (version_of L.format) self.old.profile (state S.Store self.old.connection) result }
-        ensures caused { HasCleanDisk (state S.Store self.new.connection)
-            → HasStoreCause (state S.Store self.old.connection) (state S.Store self.new.connection) result }
+        ensures caused { FailsForCause S.Store self.old.connection self.new.connection result }
         ensures unworked { self.new.work ≡ self.old.work }
     {
         // What is shown is what was committed.

@@ -11,10 +11,10 @@ ghost use Rattle.zeb_image.specs.Image.{Keeps};
 ghost use Rattle.zeb_image.specs.NameOf.{name_bytes};
 ghost use Rattle.zeb_engine.specs.Costs.{CostsAlone};
 ghost use Rattle.zeb_engine.specs.Crashes.{CommitsBy, Endures};
-ghost use Rattle.zeb_engine.specs.Readiness.{GoesByTexts};
 ghost use Rattle.zeb_engine.specs.Steps.{TakesFiles};
 ghost use Rattle.zeb_engine.specs.Transactions.{Commanded, IsDurable};
 ghost use Rattle.zeb_engine.specs.Works.{ServesBy};
+ghost use Rattle.zeb_engine.specs.PrivateConnections.{TellsReady};
 
 use crate::changes::change_database;
 use crate::readiness::check_ready;
@@ -43,8 +43,7 @@ impl<S: Alter, L: Layout> Session<S, L> {
             → ServesBy (TakesFiles (conditions (version_of L.format) self.old.profile self.old.limits) kind (name_bytes database.now)
             (map (λ file. file.items) files.now)) (state S.Store self.old.connection) (state S.Store self.new.connection) result }
         ensures unread { NoReadFault result }
-        ensures ready { HasCleanDisk (state S.Store self.new.connection)
-            → GoesByTexts (version_of L.format) self.old.profile (state S.Store self.old.connection) result }
+        ensures ready { TellsReady S.Store (version_of L.format) self.old.profile self.old.connection self.new.connection result }
         ensures work { HasCleanDisk (state S.Store self.new.connection)
             → CostsAlone L.row_work (conditions (version_of L.format) self.old.profile self.old.limits) kind (name_bytes database.now)
             (map (λ file. file.items) files.now) (state S.Store self.old.connection) result self.new.work }
@@ -81,8 +80,7 @@ impl<S: Alter, L: Layout> Session<S, L> {
             → ServesBy (TakesFiles (conditions (version_of L.format) self.old.profile self.old.limits) kind
             (name_bytes database.now) texts) (state S.Store self.old.connection) (state S.Store self.new.connection) result }
         // The texts of the store tell whether its register was ready, on any tables.
-        ensures ready { HasCleanDisk (state S.Store self.new.connection)
-            → GoesByTexts (version_of L.format) self.old.profile (state S.Store self.old.connection) result }
+        ensures ready { TellsReady S.Store (version_of L.format) self.old.profile self.old.connection self.new.connection result }
         // A reader that has failed, also before the call, is named, whatever else would be refused.
         ensures sound { NoneFailed R.has_failed readers.new ⊎ IsErrAnd result (NamesFailed R.has_failed readers.new) }
         ensures fault { (file : ℕ) → result ≡ Err (Refusal.ReadFault file) → HasFailedAt R.has_failed readers.new file }
@@ -119,8 +117,7 @@ impl<S: Alter, L: Layout> Session<S, L> {
             (name_bytes database.now) texts) (state S.Store self.old.connection) (state S.Store self.new.connection) result }
         ensures sound { NoneFailed R.has_failed readers.new ⊎ IsErrAnd result (NamesFailed R.has_failed readers.new) }
         ensures fault { (file : ℕ) → result ≡ Err (Refusal.ReadFault file) → HasFailedAt R.has_failed readers.new file }
-        ensures ready { HasCleanDisk (state S.Store self.new.connection)
-            → GoesByTexts (version_of L.format) self.old.profile (state S.Store self.old.connection) result }
+        ensures ready { TellsReady S.Store (version_of L.format) self.old.profile self.old.connection self.new.connection result }
         ensures honest { HasCleanDisk (state S.Store self.new.connection)
             → (before : Holdings) → Keeps (state S.Store self.old.connection) before → result ≢ Err Refusal.Damaged }
         ensures work { HasCleanDisk (state S.Store self.new.connection) → (texts : List (List ℕ))

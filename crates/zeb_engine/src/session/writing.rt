@@ -8,10 +8,10 @@ ghost use Rattle.zeb_change.specs.Conditions.{conditions};
 ghost use Rattle.zeb_change.specs.Reading.{NoReadFault};
 ghost use Rattle.zeb_image.specs.NameOf.{name_bytes};
 ghost use Rattle.zeb_engine.specs.Crashes.{Commits};
-ghost use Rattle.zeb_engine.specs.Readiness.{GoesByTexts};
 ghost use Rattle.zeb_engine.specs.Steps.{created, dropped, turned};
 ghost use Rattle.zeb_engine.specs.Transactions.{Commanded};
 ghost use Rattle.zeb_engine.specs.Works.{Always, Serves};
+ghost use Rattle.zeb_engine.specs.PrivateConnections.{TellsReady};
 
 use crate::readiness::check_ready;
 use crate::replies::Reply;
@@ -34,8 +34,7 @@ impl<S: Alter, L: Layout> Session<S, L> {
             → Serves Always (turned (conditions (version_of L.format) self.old.profile self.old.limits) (created (name_bytes name.now)))
             (state S.Store self.old.connection) (state S.Store self.new.connection) result }
         ensures unread { NoReadFault result }
-        ensures ready { HasCleanDisk (state S.Store self.new.connection)
-            → GoesByTexts (version_of L.format) self.old.profile (state S.Store self.old.connection) result }
+        ensures ready { TellsReady S.Store (version_of L.format) self.old.profile self.old.connection self.new.connection result }
         ensures unworked { self.new.work ≡ self.old.work }
     {
         check_ready::<S, L>(&mut self.connection, &self.profile)?;
@@ -53,8 +52,7 @@ impl<S: Alter, L: Layout> Session<S, L> {
             → Serves Always (turned (conditions (version_of L.format) self.old.profile self.old.limits) (dropped (name_bytes name.now)))
             (state S.Store self.old.connection) (state S.Store self.new.connection) result }
         ensures unread { NoReadFault result }
-        ensures ready { HasCleanDisk (state S.Store self.new.connection)
-            → GoesByTexts (version_of L.format) self.old.profile (state S.Store self.old.connection) result }
+        ensures ready { TellsReady S.Store (version_of L.format) self.old.profile self.old.connection self.new.connection result }
         ensures unworked { self.new.work ≡ self.old.work }
     {
         check_ready::<S, L>(&mut self.connection, &self.profile)?;

@@ -2,6 +2,7 @@ use Rattle.std.proofs.Common.{rules, ◌≡◌, ℕ, pos, List, Bor, length, map
 use Rattle.sqlite.specs.Held.{state}
 use Rattle.sqlite.specs.State.{HasCleanDisk}
 use Rattle.sqlite.specs.Tree.{Trees}
+use Rattle.zeb_profile.specs.declared.directives.Directive.{Directive}
 use Rattle.zeb_query.specs.Plans.{plan_value}
 use Rattle.zeb_query.specs.Grammar.{query_value}
 use Rattle.zeb_register.specs.Content.{posted}
@@ -10,8 +11,11 @@ use Rattle.zeb_register.specs.Store.{HasDatabase}
 use Rattle.zeb_register.specs.declared.catalog.Database.{Database}
 use Rattle.zeb_search.specs.Lists.{AreNumbers}
 use Rattle.zeb_search.specs.Registers.{has_ident_in, HoldsIn, NamesReadable}
+use Rattle.zeb_engine.specs.declared.find.Question.{Question}
 use Rattle.zeb_engine.specs.declared.replies.Reply.{Reply}
+use Rattle.zeb_change.specs.Base.{Base}
 use Rattle.zeb_change.specs.Conditions.{conditions}
+use Rattle.zeb_engine.specs.Answers.{Answer}
 use Rattle.zeb_engine.specs.Finding.{asked_of}
 use Rattle.zeb_image.specs.NameOf.{name_bytes}
 use Rattle.zeb_change.specs.Outcomes.{query_refusal, register_refusal}
@@ -20,156 +24,22 @@ use Rattle.zeb_change.specs.Refused.{Meets}
 use Rattle.zeb_engine.proofs.Asked.{existing_ends, query_ends, refused_ends}
 use Rattle.zeb_engine.proofs.Finds.{asked_ends, asked_kept, found_ends, hits_answered, idents_readable, plan_ends}
 use Rattle.zeb_engine.proofs.ListedDatabases.{fault_fails}
-use Rattle.zeb_engine.proofs.Lookups.{base_found, hits_asked, still_holds}
+use Rattle.zeb_engine.proofs.Lookups.{base_found, hits_asked, hits_found, still_holds}
 use Rattle.zeb_engine.proofs.FindRefusals.{asked_refused, asked_small, hits_refused, misses_refused, plan_refused, query_refused, show_refused}
 use Rattle.zeb_engine.proofs.ReadyTexts.{fault_never}
 use Rattle.zeb_engine.proofs.Showing.{kept_fails}
-use Rattle.zeb_engine.proofs.StoreCauses.{LeavesAll, accepted_leaves, fault_after, leaves_then, query_caused, refusal_after}
+use Rattle.zeb_engine.proofs.StoreCauses.{LeavesAll, accepted_leaves, fault_after, leaves_then, passed_cause, query_caused, refusal_after}
 use Rattle.zeb_engine.proofs.find.find.Goals as goal
+
+-- what may be answered of a database
+abbrev says : List Directive → Question → Base → Answer → Type 0
+says profile asked = FindAnswers profile asked.query.now asked.first asked.count
 
 pub returns-in_err-query-clause-found : goal.returns-in_err-query-clause-found
 returns-in_err-query-clause-found g c clean opened limits before bases is keeps =
-    let name = name_bytes c.args.name.now in
-    let query = c.args.question.query.now in
-    let says = FindAnswers c.args.profile.now query c.args.question.first c.args.question.count in
     let fault = c.in_err-query.field-0.0 in
     let told : c.from_residual.result ≡ Err (query_refusal fault) = search rules in
-    refused_ends says name query bases c.from_residual.result (query_refusal fault) told (query_ends says name query bases fault c.in_err-query.ensures.faulty)
-
-pub returns-in_err-database-clause-found : goal.returns-in_err-database-clause-found
-returns-in_err-database-clause-found g c clean opened limits before bases is keeps =
-    let k = conditions (version_of g.L.Layout.format) c.args.profile.now limits in
-    let name = name_bytes c.args.name.now in
-    let query = c.args.question.query.now in
-    let says = FindAnswers k.profile query c.args.question.first c.args.question.count in
-    let s0 = state g.S.Store c.args.connection.now in
-    let s1 = state g.S.Store c.existing_database.new.connection in
-    let refusal = c.in_err-database.field-0.0 in
-    let told : c.from_residual-in_err-database.result ≡ Err refusal = search rules in
-    refused_ends says name query bases c.from_residual-in_err-database.result refusal told (existing_ends says name query bases c.in_ok-query.ensures.readable {X = Database}
-    (λ base d. HasDatabase s0.now.trees d.id.0 base.name (pos base.last) × (d.last ≡ base.last) × IsTrue s1.is_open) refusal (c.in_err-database.ensures.exists clean opened k before bases is keeps))
-
-pub returns-in_err-plan-clause-found : goal.returns-in_err-plan-clause-found
-returns-in_err-plan-clause-found g c clean opened limits before bases is keeps =
-    let k = conditions (version_of g.L.Layout.format) c.args.profile.now limits in
-    let name = name_bytes c.args.name.now in
-    let query = c.args.question.query.now in
-    let says = FindAnswers k.profile query c.args.question.first c.args.question.count in
-    let s0 = state g.S.Store c.args.connection.now in
-    let s1 = state g.S.Store c.existing_database.new.connection in
-    let id = c.in_ok-database.database.id.0 in
-    let at = base_found g.L.Layout.format k (record { version_is = refl; sound = c.is_of_some_text.ensures }) s0 s1 before bases name c.in_ok-database.database is (keeps opened).0 (c.existing_database.ensures.same clean) (c.in_ok-database.ensures.exists clean opened k before bases is keeps) in
-    let fault = c.in_err-plan.field-0.0 in
-    let told : c.from_residual-in_err-plan.result ≡ Err (query_refusal fault) = search rules in
-    refused_ends says name query bases c.from_residual-in_err-plan.result (query_refusal fault) told (plan_ends g.L.Layout.format k.profile s0.now.trees id at.base at.held name query c.args.question.first c.args.question.count bases
-    c.in_ok-query.ensures.readable at.named (query_value c.in_ok-query.query) c.in_ok-query.ensures.spelled fault c.in_err-plan.ensures.planned)
-
-pub returns-in_err-hits-clause-found : goal.returns-in_err-hits-clause-found
-returns-in_err-hits-clause-found g c clean opened limits before bases is keeps =
-    let k = conditions (version_of g.L.Layout.format) c.args.profile.now limits in
-    let name = name_bytes c.args.name.now in
-    let query = c.args.question.query.now in
-    let says = FindAnswers k.profile query c.args.question.first c.args.question.count in
-    let s0 = state g.S.Store c.args.connection.now in
-    let s1 = state g.S.Store c.existing_database.new.connection in
-    let clean1 : HasCleanDisk s1 = omega (arith, c.hits.ensures.call.crash.clean) in
-    let id = c.in_ok-database.database.id.0 in
-    let at = base_found g.L.Layout.format k (record { version_is = refl; sound = c.is_of_some_text.ensures }) s0 s1 before bases name c.in_ok-database.database is (keeps opened).0 (c.existing_database.ensures.same clean1) (c.in_ok-database.ensures.exists clean1 opened k before bases is keeps) in
-    let plan = plan_value c.in_ok-plan.plan in
-    let readable = subst (λ (t : Trees). NamesReadable t id plan) (sym at.still.trees) (idents_readable g.L.Layout.format k.profile s0.now.trees id at.base at.held plan) in
-    let fault = c.in_err-hits.field-0.0 in
-    let told : c.from_residual-in_err-hits.result ≡ Err (register_refusal fault) = search rules in
-    refused_ends says name query bases c.from_residual-in_err-hits.result (register_refusal fault) told (inr (fault_fails fault (λ is_damaged.
-    c.in_err-hits.ensures.honest clean at.still.store (ap Err is_damaged) readable at.held.content at.held.storable at.still.held)))
-
-pub returns-in_err-asked-clause-found : goal.returns-in_err-asked-clause-found
-returns-in_err-asked-clause-found g c clean opened limits before bases is keeps =
-    let k = conditions (version_of g.L.Layout.format) c.args.profile.now limits in
-    let name = name_bytes c.args.name.now in
-    let query = c.args.question.query.now in
-    let says = FindAnswers k.profile query c.args.question.first c.args.question.count in
-    let s0 = state g.S.Store c.args.connection.now in
-    let s1 = state g.S.Store c.existing_database.new.connection in
-    let clean1 : HasCleanDisk s1 = omega (arith, c.hits.ensures.call.crash.clean) in
-    let id = c.in_ok-database.database.id.0 in
-    let at = base_found g.L.Layout.format k (record { version_is = refl; sound = c.is_of_some_text.ensures }) s0 s1 before bases name c.in_ok-database.database is (keeps opened).0 (c.existing_database.ensures.same clean1) (c.in_ok-database.ensures.exists clean1 opened k before bases is keeps) in
-    let plan = plan_value c.in_ok-plan.plan in
-    let numbers = c.in_ok-hits.hits.items in
-    let hits = subst (λ (t : Trees). AreNumbers (HoldsIn t at.held.content id plan) numbers) at.still.trees (c.in_ok-hits.ensures.value clean at.still.store at.held.content at.still.held) in
-    let refusal = c.in_err-asked.field-0.0 in
-    let told : c.from_residual-in_err-asked.result ≡ Err refusal = search rules in
-    let Asked = λ (wanted : List ℕ) (asked : Bor (List ℕ)). asked.now ≡ wanted in
-    let met = subst (λ (l : List ℕ). Meets Asked (asked_of l c.args.question.first c.args.question.count) (Err refusal)) c.deref.ensures.value c.in_err-asked.ensures.asked in
-    refused_ends says name query bases c.from_residual-in_err-asked.result refusal told (asked_ends g.L.Layout.format k.profile s0.now.trees id at.base at.held name query c.args.question.first c.args.question.count bases
-    c.in_ok-query.ensures.readable at.named (query_value c.in_ok-query.query) c.in_ok-query.ensures.spelled plan c.in_ok-plan.ensures.planned numbers hits Asked refusal met)
-
-pub returns-in_err-shown-clause-found : goal.returns-in_err-shown-clause-found
-returns-in_err-shown-clause-found g c clean opened limits before bases is keeps =
-    let k = conditions (version_of g.L.Layout.format) c.args.profile.now limits in
-    let name = name_bytes c.args.name.now in
-    let query = c.args.question.query.now in
-    let says = FindAnswers k.profile query c.args.question.first c.args.question.count in
-    let s0 = state g.S.Store c.args.connection.now in
-    let s1 = state g.S.Store c.existing_database.new.connection in
-    let s2 = state g.S.Store c.hits.new.connection in
-    let clean2 : HasCleanDisk s2 = omega (arith, c.show.ensures.crash.clean) in
-    let clean1 : HasCleanDisk s1 = omega (arith, clean2, c.hits.ensures.call.crash.clean) in
-    let id = c.in_ok-database.database.id.0 in
-    let at = base_found g.L.Layout.format k (record { version_is = refl; sound = c.is_of_some_text.ensures }) s0 s1 before bases name c.in_ok-database.database is (keeps opened).0 (c.existing_database.ensures.same clean1) (c.in_ok-database.ensures.exists clean1 opened k before bases is keeps) in
-    let plan = plan_value c.in_ok-plan.plan in
-    let numbers = c.in_ok-hits.hits.items in
-    let asked = c.in_ok-asked.asked in
-    let shown = hits_asked g.L.Layout.format at.held.content s0 s1 s2 at.still id plan c.args.question.first c.args.question.count numbers _ asked (c.in_ok-hits.ensures.value clean2 at.still.store at.held.content at.still.held)
-    c.deref.ensures.value c.in_ok-asked.ensures.asked (c.hits.ensures.call.same clean2 c.existing_database.ensures.idle) in
-    let kept = asked_kept g.L.Layout.format k.profile s0.now.trees id at.base at.held plan numbers asked.now c.args.question.first c.args.question.count shown.hits shown.said in
-    let refusal = c.in_err-shown.field-0.0 in
-    let told : c.from_residual-in_err-shown.result ≡ Err refusal = search rules in
-    refused_ends says name query bases c.from_residual-in_err-shown.result refusal told
-    (inr (kept_fails s0.now.trees id asked.now refusal kept (c.in_err-shown.ensures.refused clean s0.now.trees shown.shows (λ n there. (kept n there).1))))
-
-pub returns-clause-found : goal.returns-clause-found
-returns-clause-found g c clean opened limits before bases is keeps =
-    let k = conditions (version_of g.L.Layout.format) c.args.profile.now limits in
-    let name = name_bytes c.args.name.now in
-    let query = c.args.question.query.now in
-    let s0 = state g.S.Store c.args.connection.now in
-    let s1 = state g.S.Store c.existing_database.new.connection in
-    let s2 = state g.S.Store c.hits.new.connection in
-    let clean2 : HasCleanDisk s2 = omega (arith, c.show.ensures.crash.clean) in
-    let clean1 : HasCleanDisk s1 = omega (arith, clean2, c.hits.ensures.call.crash.clean) in
-    let id = c.in_ok-database.database.id.0 in
-    let at = base_found g.L.Layout.format k (record { version_is = refl; sound = c.is_of_some_text.ensures }) s0 s1 before bases name c.in_ok-database.database is (keeps opened).0 (c.existing_database.ensures.same clean1) (c.in_ok-database.ensures.exists clean1 opened k before bases is keeps) in
-    let plan = plan_value c.in_ok-plan.plan in
-    let numbers = c.in_ok-hits.hits.items in
-    let asked = c.in_ok-asked.asked in
-    let shown = hits_asked g.L.Layout.format at.held.content s0 s1 s2 at.still id plan c.args.question.first c.args.question.count numbers _ asked (c.in_ok-hits.ensures.value clean2 at.still.store at.held.content at.still.held)
-    c.deref.ensures.value c.in_ok-asked.ensures.asked (c.hits.ensures.call.same clean2 c.existing_database.ensures.idle) in
-    let counted : c.len.result ≡ length numbers = search rules in
-    rw counted (found_ends g.L.Layout.format k.profile s0.now.trees id at.base at.held name query c.args.question.first c.args.question.count bases c.in_ok-query.ensures.readable at.named
-    (query_value c.in_ok-query.query) c.in_ok-query.ensures.spelled plan c.in_ok-plan.ensures.planned numbers shown.hits asked.now shown.said (map (λ hit. (hit.sysno, string_bytes hit.ident)) c.in_ok-shown.shown.items) (c.in_ok-shown.ensures.shown clean s0.now.trees shown.shows))
-
-pub returns-clause-alone : goal.returns-clause-alone
-returns-clause-alone g c clean store content held =
-    let s0 = state g.S.Store c.args.connection.now in
-    let s1 = state g.S.Store c.existing_database.new.connection in
-    let s2 = state g.S.Store c.hits.new.connection in
-    let clean2 : HasCleanDisk s2 = omega (arith, c.show.ensures.crash.clean) in
-    let clean1 : HasCleanDisk s1 = omega (arith, clean2, c.hits.ensures.call.crash.clean) in
-    let id = c.in_ok-database.database.id.0 in
-    let still = still_holds g.L.Layout.format content s0 s1 (c.existing_database.ensures.same clean1) (c.in_ok-database.ensures.found clean1).1 store held in
-    let plan = plan_value c.in_ok-plan.plan in
-    let numbers = c.in_ok-hits.hits.items in
-    let asked = c.in_ok-asked.asked in
-    let shown = hits_asked g.L.Layout.format content s0 s1 s2 still id plan c.args.question.first c.args.question.count numbers _ asked (c.in_ok-hits.ensures.value clean2 still.store content still.held)
-    c.deref.ensures.value c.in_ok-asked.ensures.asked (c.hits.ensures.call.same clean2 c.existing_database.ensures.idle) in
-    let counted : c.len.result ≡ length numbers = search rules in
-    rw counted (
-      id,
-      pos c.in_ok-database.database.last,
-      c.in_ok-database.ensures.row clean1 store,
-      hits_answered (posted content id) (has_ident_in s0.now.trees id) c.args.profile.now c.args.question.query.now c.args.question.first c.args.question.count (query_value c.in_ok-query.query) c.in_ok-query.ensures.spelled
-          plan c.in_ok-plan.ensures.planned numbers shown.hits asked.now shown.said (map (λ hit. (hit.sysno, string_bytes hit.ident)) c.in_ok-shown.shown.items) (c.in_ok-shown.ensures.shown clean s0.now.trees shown.shows),
-    )
+    refused_ends (says c.args.profile.now c.args.question) (name_bytes c.args.name.now) c.args.question.query.now bases c.from_residual.result (query_refusal fault) told (query_ends (says c.args.profile.now c.args.question) (name_bytes c.args.name.now) c.args.question.query.now bases fault c.in_err-query.ensures.faulty)
 
 pub returns-in_err-query-clause-refused : goal.returns-in_err-query-clause-refused
 returns-in_err-query-clause-refused g c clean store content storable held =
@@ -178,6 +48,22 @@ returns-in_err-query-clause-refused g c clean store content storable held =
     let trees = (state g.S.Store c.args.connection.now).now.trees in
     rw told (query_refused c.args.profile.now (name_bytes c.args.name.now) c.args.question.query.now c.args.question.first c.args.question.count trees content fault c.in_err-query.ensures.faulty)
 
+pub returns-in_err-query-clause-caused : goal.returns-in_err-query-clause-caused
+returns-in_err-query-clause-caused g c clean =
+    let s0 = state g.S.Store c.args.connection.now in
+    let fault = c.in_err-query.field-0.0 in
+    passed_cause s0 s0 (query_refusal fault) c.from_residual.result (search rules) (query_caused s0 s0 fault)
+
+pub returns-in_err-database-clause-found : goal.returns-in_err-database-clause-found
+returns-in_err-database-clause-found g c clean opened limits before bases is keeps =
+    let k = conditions (version_of g.L.Layout.format) c.args.profile.now limits in
+    let s0 = state g.S.Store c.args.connection.now in
+    let s1 = state g.S.Store c.existing_database.new.connection in
+    let refusal = c.in_err-database.field-0.0 in
+    let told : c.from_residual-in_err-database.result ≡ Err refusal = search rules in
+    refused_ends (says c.args.profile.now c.args.question) (name_bytes c.args.name.now) c.args.question.query.now bases c.from_residual-in_err-database.result refusal told (existing_ends (says c.args.profile.now c.args.question) (name_bytes c.args.name.now) c.args.question.query.now bases c.in_ok-query.ensures.readable {X = Database}
+    (λ base d. HasDatabase s0.now.trees d.id.0 base.name (pos base.last) × (d.last ≡ base.last) × IsTrue s1.is_open) refusal (c.in_err-database.ensures.exists clean opened k before bases is keeps))
+
 pub returns-in_err-database-clause-refused : goal.returns-in_err-database-clause-refused
 returns-in_err-database-clause-refused g c clean store content storable held =
     let refusal = c.in_err-database.field-0.0 in
@@ -185,6 +71,21 @@ returns-in_err-database-clause-refused g c clean store content storable held =
     let trees = (state g.S.Store c.args.connection.now).now.trees in
     rw told (misses_refused c.args.profile.now (name_bytes c.args.name.now) c.args.question.query.now c.args.question.first c.args.question.count trees content c.in_ok-query.ensures.readable
     refusal (c.in_err-database.ensures.misses clean store))
+
+pub returns-in_err-database-clause-caused : goal.returns-in_err-database-clause-caused
+returns-in_err-database-clause-caused g c clean =
+    passed_cause (state g.S.Store c.args.connection.now) (state g.S.Store c.existing_database.new.connection) c.in_err-database.field-0.0 c.from_residual-in_err-database.result (search rules) (c.in_err-database.ensures.caused clean)
+
+pub returns-in_err-plan-clause-found : goal.returns-in_err-plan-clause-found
+returns-in_err-plan-clause-found g c clean opened limits before bases is keeps =
+    let k = conditions (version_of g.L.Layout.format) c.args.profile.now limits in
+    let s0 = state g.S.Store c.args.connection.now in
+    let s1 = state g.S.Store c.existing_database.new.connection in
+    let at = base_found g.L.Layout.format k (record { version_is = refl; sound = c.is_of_some_text.ensures }) s0 s1 before bases (name_bytes c.args.name.now) c.in_ok-database.database is (keeps opened).0 (c.existing_database.ensures.same clean) (c.in_ok-database.ensures.exists clean opened k before bases is keeps) in
+    let fault = c.in_err-plan.field-0.0 in
+    let told : c.from_residual-in_err-plan.result ≡ Err (query_refusal fault) = search rules in
+    refused_ends (says c.args.profile.now c.args.question) (name_bytes c.args.name.now) c.args.question.query.now bases c.from_residual-in_err-plan.result (query_refusal fault) told (plan_ends g.L.Layout.format k.profile s0.now.trees c.in_ok-database.database.id.0 at.base at.held (name_bytes c.args.name.now) c.args.question.query.now c.args.question.first c.args.question.count bases
+    c.in_ok-query.ensures.readable at.named (query_value c.in_ok-query.query) c.in_ok-query.ensures.spelled fault c.in_err-plan.ensures.planned)
 
 pub returns-in_err-plan-clause-refused : goal.returns-in_err-plan-clause-refused
 returns-in_err-plan-clause-refused g c clean store content storable held =
@@ -195,96 +96,44 @@ returns-in_err-plan-clause-refused g c clean store content storable held =
     c.in_ok-database.database.id.0 (pos c.in_ok-database.database.last) (c.in_ok-database.ensures.row clean store) (query_value c.in_ok-query.query) c.in_ok-query.ensures.spelled
     fault c.in_err-plan.ensures.planned)
 
+pub returns-in_err-plan-clause-caused : goal.returns-in_err-plan-clause-caused
+returns-in_err-plan-clause-caused g c clean =
+    let s0 = state g.S.Store c.args.connection.now in
+    let s1 = state g.S.Store c.existing_database.new.connection in
+    passed_cause s0 s1 (query_refusal c.in_err-plan.field-0.0) c.from_residual-in_err-plan.result (search rules) (query_caused s0 s1 c.in_err-plan.field-0.0)
+
+pub returns-in_err-hits-clause-found : goal.returns-in_err-hits-clause-found
+returns-in_err-hits-clause-found g c clean opened limits before bases is keeps =
+    let k = conditions (version_of g.L.Layout.format) c.args.profile.now limits in
+    let s0 = state g.S.Store c.args.connection.now in
+    let s1 = state g.S.Store c.existing_database.new.connection in
+    let clean1 : HasCleanDisk s1 = omega (arith, c.hits.ensures.call.crash.clean) in
+    let at = base_found g.L.Layout.format k (record { version_is = refl; sound = c.is_of_some_text.ensures }) s0 s1 before bases (name_bytes c.args.name.now) c.in_ok-database.database is (keeps opened).0 (c.existing_database.ensures.same clean1) (c.in_ok-database.ensures.exists clean1 opened k before bases is keeps) in
+    let plan = plan_value c.in_ok-plan.plan in
+    let readable = subst (λ (t : Trees). NamesReadable t c.in_ok-database.database.id.0 plan) (sym at.still.trees) (idents_readable g.L.Layout.format k.profile s0.now.trees c.in_ok-database.database.id.0 at.base at.held plan) in
+    let fault = c.in_err-hits.field-0.0 in
+    let told : c.from_residual-in_err-hits.result ≡ Err (register_refusal fault) = search rules in
+    refused_ends (says c.args.profile.now c.args.question) (name_bytes c.args.name.now) c.args.question.query.now bases c.from_residual-in_err-hits.result (register_refusal fault) told (inr (fault_fails fault (λ is_damaged.
+    c.in_err-hits.ensures.honest clean at.still.store (ap Err is_damaged) readable at.held.content at.held.storable at.still.held)))
+
 pub returns-in_err-hits-clause-refused : goal.returns-in_err-hits-clause-refused
 returns-in_err-hits-clause-refused g c clean store content storable held =
     let s0 = state g.S.Store c.args.connection.now in
     let s1 = state g.S.Store c.existing_database.new.connection in
     let clean1 : HasCleanDisk s1 = omega (arith, c.hits.ensures.call.crash.clean) in
     let still = still_holds g.L.Layout.format content s0 s1 (c.existing_database.ensures.same clean1) (c.in_ok-database.ensures.found clean1).1 store held in
-    let id = c.in_ok-database.database.id.0 in
     let plan = plan_value c.in_ok-plan.plan in
     let fault = c.in_err-hits.field-0.0 in
     let told : c.from_residual-in_err-hits.result ≡ Err (register_refusal fault) = search rules in
     rw told (hits_refused c.args.profile.now (name_bytes c.args.name.now) c.args.question.query.now c.args.question.first c.args.question.count s0.now.trees content c.in_ok-query.ensures.readable
-    id (pos c.in_ok-database.database.last) (c.in_ok-database.ensures.row clean1 store) (query_value c.in_ok-query.query) c.in_ok-query.ensures.spelled plan c.in_ok-plan.ensures.planned fault
-    (λ is readable. c.in_err-hits.ensures.honest clean still.store (ap Err is) (subst (λ (t : Trees). NamesReadable t id plan) (sym still.trees) readable) content storable still.held))
-
-pub returns-in_err-asked-clause-refused : goal.returns-in_err-asked-clause-refused
-returns-in_err-asked-clause-refused g c clean store content storable held =
-    let s0 = state g.S.Store c.args.connection.now in
-    let s1 = state g.S.Store c.existing_database.new.connection in
-    let clean1 : HasCleanDisk s1 = omega (arith, c.hits.ensures.call.crash.clean) in
-    let still = still_holds g.L.Layout.format content s0 s1 (c.existing_database.ensures.same clean1) (c.in_ok-database.ensures.found clean1).1 store held in
-    let id = c.in_ok-database.database.id.0 in
-    let plan = plan_value c.in_ok-plan.plan in
-    let numbers = c.in_ok-hits.hits.items in
-    let hits = subst (λ (t : Trees). AreNumbers (HoldsIn t content id plan) numbers) still.trees (c.in_ok-hits.ensures.value clean still.store content still.held) in
-    let refusal = c.in_err-asked.field-0.0 in
-    let told : c.from_residual-in_err-asked.result ≡ Err refusal = search rules in
-    let Asked = λ (wanted : List ℕ) (asked : Bor (List ℕ)). asked.now ≡ wanted in
-    let met = subst (λ (l : List ℕ). Meets Asked (asked_of l c.args.question.first c.args.question.count) (Err refusal)) c.deref.ensures.value c.in_err-asked.ensures.asked in
-    rw told (asked_refused c.args.profile.now (name_bytes c.args.name.now) c.args.question.query.now c.args.question.first c.args.question.count s0.now.trees content c.in_ok-query.ensures.readable
-    id (pos c.in_ok-database.database.last) (c.in_ok-database.ensures.row clean1 store) (query_value c.in_ok-query.query) c.in_ok-query.ensures.spelled plan c.in_ok-plan.ensures.planned
-    numbers hits Asked refusal met)
-
-pub returns-in_err-shown-clause-refused : goal.returns-in_err-shown-clause-refused
-returns-in_err-shown-clause-refused g c clean store content storable held =
-    let s0 = state g.S.Store c.args.connection.now in
-    let s1 = state g.S.Store c.existing_database.new.connection in
-    let s2 = state g.S.Store c.hits.new.connection in
-    let clean2 : HasCleanDisk s2 = omega (arith, c.show.ensures.crash.clean) in
-    let clean1 : HasCleanDisk s1 = omega (arith, clean2, c.hits.ensures.call.crash.clean) in
-    let still = still_holds g.L.Layout.format content s0 s1 (c.existing_database.ensures.same clean1) (c.in_ok-database.ensures.found clean1).1 store held in
-    let id = c.in_ok-database.database.id.0 in
-    let plan = plan_value c.in_ok-plan.plan in
-    let numbers = c.in_ok-hits.hits.items in
-    let asked = c.in_ok-asked.asked in
-    let shown = hits_asked g.L.Layout.format content s0 s1 s2 still id plan c.args.question.first c.args.question.count numbers _ asked (c.in_ok-hits.ensures.value clean2 still.store content still.held)
-    c.deref.ensures.value c.in_ok-asked.ensures.asked (c.hits.ensures.call.same clean2 c.existing_database.ensures.idle) in
-    let small = asked_small s0.now.trees content storable id plan c.in_ok-plan.ensures.numbers numbers asked.now c.args.question.first c.args.question.count shown.hits shown.said in
-    let refusal = c.in_err-shown.field-0.0 in
-    let told : c.from_residual-in_err-shown.result ≡ Err refusal = search rules in
-    rw told (show_refused c.args.profile.now (name_bytes c.args.name.now) c.args.question.query.now c.args.question.first c.args.question.count s0.now.trees content c.in_ok-query.ensures.readable
-    id (pos c.in_ok-database.database.last) (c.in_ok-database.ensures.row clean1 store) (query_value c.in_ok-query.query) c.in_ok-query.ensures.spelled plan c.in_ok-plan.ensures.planned
-    numbers shown.hits asked.now shown.said refusal (c.in_err-shown.ensures.refused clean s0.now.trees shown.shows small))
-
-pub returns-clause-work : goal.returns-clause-work
-returns-clause-work g c clean store content held =
-    let s0 = state g.S.Store c.args.connection.now in
-    let s1 = state g.S.Store c.existing_database.new.connection in
-    let s2 = state g.S.Store c.hits.new.connection in
-    let clean2 : HasCleanDisk s2 = omega (arith, c.show.ensures.crash.clean) in
-    let clean1 : HasCleanDisk s1 = omega (arith, clean2, c.hits.ensures.call.crash.clean) in
-    let still = still_holds g.L.Layout.format content s0 s1 (c.existing_database.ensures.same clean1) (c.in_ok-database.ensures.found clean1).1 store held in
-    let counted = c.in_ok-hits.ensures.work clean2 still.store content still.held in (
-      plan_value c.in_ok-plan.plan,
-      (query_value c.in_ok-query.query, c.in_ok-query.ensures.spelled, c.in_ok-plan.ensures.planned),
-      (c.in_ok-database.database.id.0, pos c.in_ok-database.database.last, c.in_ok-database.ensures.row clean1 store, counted.0, counted.1, counted.2, counted.3, counted.4),
-    )
+    c.in_ok-database.database.id.0 (pos c.in_ok-database.database.last) (c.in_ok-database.ensures.row clean1 store) (query_value c.in_ok-query.query) c.in_ok-query.ensures.spelled plan c.in_ok-plan.ensures.planned fault
+    (λ is readable. c.in_err-hits.ensures.honest clean still.store (ap Err is) (subst (λ (t : Trees). NamesReadable t c.in_ok-database.database.id.0 plan) (sym still.trees) readable) content storable still.held))
 
 pub returns-in_err-hits-clause-ready : goal.returns-in_err-hits-clause-ready
 returns-in_err-hits-clause-ready g c =
     let fault = c.in_err-hits.field-0.0 in
     let told : c.from_residual-in_err-hits.result ≡ Err (register_refusal fault) = search rules in
     rw told (fault_never {T = Reply} fault)
-
-pub returns-in_err-query-clause-caused : goal.returns-in_err-query-clause-caused
-returns-in_err-query-clause-caused g c clean =
-    let s0 = state g.S.Store c.args.connection.now in
-    let fault = c.in_err-query.field-0.0 in
-    let told : c.from_residual.result ≡ Err (query_refusal fault) = search rules in
-    rw told (query_caused s0 s0 fault)
-
-pub returns-in_err-database-clause-caused : goal.returns-in_err-database-clause-caused
-returns-in_err-database-clause-caused g c clean =
-    let told : c.from_residual-in_err-database.result ≡ Err c.in_err-database.field-0.0 = search rules in
-    rw told (c.in_err-database.ensures.caused clean)
-
-pub returns-in_err-plan-clause-caused : goal.returns-in_err-plan-clause-caused
-returns-in_err-plan-clause-caused g c clean =
-    let fault = c.in_err-plan.field-0.0 in
-    let told : c.from_residual-in_err-plan.result ≡ Err (query_refusal fault) = search rules in
-    rw told (query_caused (state g.S.Store c.args.connection.now) (state g.S.Store c.existing_database.new.connection) fault)
 
 pub returns-in_err-hits-clause-caused : goal.returns-in_err-hits-clause-caused
 returns-in_err-hits-clause-caused g c clean =
@@ -296,11 +145,81 @@ returns-in_err-hits-clause-caused g c clean =
     let found = accepted_leaves s0 s1 c.existing_database.ensures.crash (c.in_ok-database.ensures.found clean1) (c.existing_database.ensures.same clean1) in
     rw told (fault_after s0 s1 (state g.S.Store c.hits.new.connection) found fault clean c.in_err-hits.ensures.refused)
 
+pub returns-in_err-asked-clause-found : goal.returns-in_err-asked-clause-found
+returns-in_err-asked-clause-found g c clean opened limits before bases is keeps =
+    let k = conditions (version_of g.L.Layout.format) c.args.profile.now limits in
+    let s0 = state g.S.Store c.args.connection.now in
+    let s1 = state g.S.Store c.existing_database.new.connection in
+    let clean1 : HasCleanDisk s1 = omega (arith, c.hits.ensures.call.crash.clean) in
+    let at = base_found g.L.Layout.format k (record { version_is = refl; sound = c.is_of_some_text.ensures }) s0 s1 before bases (name_bytes c.args.name.now) c.in_ok-database.database is (keeps opened).0 (c.existing_database.ensures.same clean1) (c.in_ok-database.ensures.exists clean1 opened k before bases is keeps) in
+    let numbers = c.in_ok-hits.hits.items in
+    let hits = subst (λ (t : Trees). AreNumbers (HoldsIn t at.held.content c.in_ok-database.database.id.0 (plan_value c.in_ok-plan.plan)) numbers) at.still.trees (c.in_ok-hits.ensures.value clean at.still.store at.held.content at.still.held) in
+    let refusal = c.in_err-asked.field-0.0 in
+    let told : c.from_residual-in_err-asked.result ≡ Err refusal = search rules in
+    let Asked = λ (wanted : List ℕ) (asked : Bor (List ℕ)). asked.now ≡ wanted in
+    let met = subst (λ (l : List ℕ). Meets Asked (asked_of l c.args.question.first c.args.question.count) (Err refusal)) c.deref.ensures.value c.in_err-asked.ensures.asked in
+    refused_ends (says c.args.profile.now c.args.question) (name_bytes c.args.name.now) c.args.question.query.now bases c.from_residual-in_err-asked.result refusal told (asked_ends g.L.Layout.format k.profile s0.now.trees c.in_ok-database.database.id.0 at.base at.held (name_bytes c.args.name.now) c.args.question.query.now c.args.question.first c.args.question.count bases
+    c.in_ok-query.ensures.readable at.named (query_value c.in_ok-query.query) c.in_ok-query.ensures.spelled (plan_value c.in_ok-plan.plan) c.in_ok-plan.ensures.planned numbers hits Asked refusal met)
+
+pub returns-in_err-asked-clause-refused : goal.returns-in_err-asked-clause-refused
+returns-in_err-asked-clause-refused g c clean store content storable held =
+    let s0 = state g.S.Store c.args.connection.now in
+    let s1 = state g.S.Store c.existing_database.new.connection in
+    let clean1 : HasCleanDisk s1 = omega (arith, c.hits.ensures.call.crash.clean) in
+    let still = still_holds g.L.Layout.format content s0 s1 (c.existing_database.ensures.same clean1) (c.in_ok-database.ensures.found clean1).1 store held in
+    let numbers = c.in_ok-hits.hits.items in
+    let hits = subst (λ (t : Trees). AreNumbers (HoldsIn t content c.in_ok-database.database.id.0 (plan_value c.in_ok-plan.plan)) numbers) still.trees (c.in_ok-hits.ensures.value clean still.store content still.held) in
+    let refusal = c.in_err-asked.field-0.0 in
+    let told : c.from_residual-in_err-asked.result ≡ Err refusal = search rules in
+    let Asked = λ (wanted : List ℕ) (asked : Bor (List ℕ)). asked.now ≡ wanted in
+    let met = subst (λ (l : List ℕ). Meets Asked (asked_of l c.args.question.first c.args.question.count) (Err refusal)) c.deref.ensures.value c.in_err-asked.ensures.asked in
+    rw told (asked_refused c.args.profile.now (name_bytes c.args.name.now) c.args.question.query.now c.args.question.first c.args.question.count s0.now.trees content c.in_ok-query.ensures.readable
+    c.in_ok-database.database.id.0 (pos c.in_ok-database.database.last) (c.in_ok-database.ensures.row clean1 store) (query_value c.in_ok-query.query) c.in_ok-query.ensures.spelled (plan_value c.in_ok-plan.plan) c.in_ok-plan.ensures.planned
+    numbers hits Asked refusal met)
+
 pub returns-in_err-asked-clause-caused : goal.returns-in_err-asked-clause-caused
 returns-in_err-asked-clause-caused g c clean store =
     let refusal = c.in_err-asked.field-0.0 in
     let told : c.from_residual-in_err-asked.result ≡ Err refusal = search rules in
     rw told (λ is. absurd (c.in_err-asked.ensures.unstored (ap Err is)))
+
+pub returns-in_err-shown-clause-found : goal.returns-in_err-shown-clause-found
+returns-in_err-shown-clause-found g c clean opened limits before bases is keeps =
+    let k = conditions (version_of g.L.Layout.format) c.args.profile.now limits in
+    let s0 = state g.S.Store c.args.connection.now in
+    let s1 = state g.S.Store c.existing_database.new.connection in
+    let s2 = state g.S.Store c.hits.new.connection in
+    let clean2 : HasCleanDisk s2 = omega (arith, c.show.ensures.crash.clean) in
+    let clean1 : HasCleanDisk s1 = omega (arith, clean2, c.hits.ensures.call.crash.clean) in
+    let on = hits_found g.L.Layout.format k (record { version_is = refl; sound = c.is_of_some_text.ensures }) s0 s1 s2 before bases (name_bytes c.args.name.now) c.in_ok-database.database is (keeps opened).0
+    (c.existing_database.ensures.same clean1) (c.in_ok-database.ensures.exists clean1 opened k before bases is keeps) (plan_value c.in_ok-plan.plan) c.args.question.first c.args.question.count c.in_ok-hits.hits.items _ c.in_ok-asked.asked
+    (c.in_ok-hits.ensures.value clean2) c.deref.ensures.value c.in_ok-asked.ensures.asked (c.hits.ensures.call.same clean2 c.existing_database.ensures.idle) in
+    let asked = c.in_ok-asked.asked.now in
+    let kept = asked_kept g.L.Layout.format k.profile s0.now.trees c.in_ok-database.database.id.0 on.at.base on.at.held (plan_value c.in_ok-plan.plan) c.in_ok-hits.hits.items asked c.args.question.first c.args.question.count on.wanted.hits on.wanted.said in
+    let refusal = c.in_err-shown.field-0.0 in
+    let told : c.from_residual-in_err-shown.result ≡ Err refusal = search rules in
+    refused_ends (says c.args.profile.now c.args.question) (name_bytes c.args.name.now) c.args.question.query.now bases c.from_residual-in_err-shown.result refusal told
+    (inr (kept_fails s0.now.trees c.in_ok-database.database.id.0 asked refusal kept (c.in_err-shown.ensures.refused clean s0.now.trees on.wanted.shows (λ n there. (kept n there).1))))
+
+pub returns-in_err-shown-clause-refused : goal.returns-in_err-shown-clause-refused
+returns-in_err-shown-clause-refused g c clean store content storable held =
+    let s0 = state g.S.Store c.args.connection.now in
+    let s1 = state g.S.Store c.existing_database.new.connection in
+    let s2 = state g.S.Store c.hits.new.connection in
+    let clean2 : HasCleanDisk s2 = omega (arith, c.show.ensures.crash.clean) in
+    let clean1 : HasCleanDisk s1 = omega (arith, clean2, c.hits.ensures.call.crash.clean) in
+    let still = still_holds g.L.Layout.format content s0 s1 (c.existing_database.ensures.same clean1) (c.in_ok-database.ensures.found clean1).1 store held in
+    let plan = plan_value c.in_ok-plan.plan in
+    let numbers = c.in_ok-hits.hits.items in
+    let asked = c.in_ok-asked.asked in
+    let shown = hits_asked g.L.Layout.format content s0 s1 s2 still c.in_ok-database.database.id.0 plan c.args.question.first c.args.question.count numbers _ asked (c.in_ok-hits.ensures.value clean2 still.store content still.held)
+    c.deref.ensures.value c.in_ok-asked.ensures.asked (c.hits.ensures.call.same clean2 c.existing_database.ensures.idle) in
+    let small = asked_small s0.now.trees content storable c.in_ok-database.database.id.0 plan c.in_ok-plan.ensures.numbers numbers asked.now c.args.question.first c.args.question.count shown.hits shown.said in
+    let refusal = c.in_err-shown.field-0.0 in
+    let told : c.from_residual-in_err-shown.result ≡ Err refusal = search rules in
+    rw told (show_refused c.args.profile.now (name_bytes c.args.name.now) c.args.question.query.now c.args.question.first c.args.question.count s0.now.trees content c.in_ok-query.ensures.readable
+    c.in_ok-database.database.id.0 (pos c.in_ok-database.database.last) (c.in_ok-database.ensures.row clean1 store) (query_value c.in_ok-query.query) c.in_ok-query.ensures.spelled plan c.in_ok-plan.ensures.planned
+    numbers shown.hits asked.now shown.said refusal (c.in_err-shown.ensures.refused clean s0.now.trees shown.shows small))
 
 pub returns-in_err-shown-clause-caused : goal.returns-in_err-shown-clause-caused
 returns-in_err-shown-clause-caused g c clean =
@@ -314,3 +233,53 @@ returns-in_err-shown-clause-caused g c clean =
     let found = accepted_leaves s0 s1 c.existing_database.ensures.crash (c.in_ok-database.ensures.found clean1) (c.existing_database.ensures.same clean1) in
     let searched : LeavesAll s1 s2 = record { survives = c.hits.ensures.call.crash; opened = λ was. ((c.in_ok-hits.ensures.call.ok clean2).1 was).0.is_open; nothing = c.hits.ensures.call.same clean2 c.existing_database.ensures.idle } in
     rw told (refusal_after s0 s2 (state g.S.Store c.show.new.connection) (leaves_then s0 s1 s2 found searched) refusal (c.in_err-shown.ensures.caused clean))
+
+pub returns-clause-found : goal.returns-clause-found
+returns-clause-found g c clean opened limits before bases is keeps =
+    let k = conditions (version_of g.L.Layout.format) c.args.profile.now limits in
+    let s0 = state g.S.Store c.args.connection.now in
+    let s1 = state g.S.Store c.existing_database.new.connection in
+    let clean2 : HasCleanDisk (state g.S.Store c.hits.new.connection) = omega (arith, c.show.ensures.crash.clean) in
+    let clean1 : HasCleanDisk s1 = omega (arith, clean2, c.hits.ensures.call.crash.clean) in
+    let on = hits_found g.L.Layout.format k (record { version_is = refl; sound = c.is_of_some_text.ensures }) s0 s1 (state g.S.Store c.hits.new.connection) before bases (name_bytes c.args.name.now) c.in_ok-database.database is (keeps opened).0
+    (c.existing_database.ensures.same clean1) (c.in_ok-database.ensures.exists clean1 opened k before bases is keeps) (plan_value c.in_ok-plan.plan) c.args.question.first c.args.question.count c.in_ok-hits.hits.items _ c.in_ok-asked.asked
+    (c.in_ok-hits.ensures.value clean2) c.deref.ensures.value c.in_ok-asked.ensures.asked (c.hits.ensures.call.same clean2 c.existing_database.ensures.idle) in
+    let numbers = c.in_ok-hits.hits.items in
+    let counted : c.len.result ≡ length numbers = search rules in
+    rw counted (found_ends g.L.Layout.format k.profile s0.now.trees c.in_ok-database.database.id.0 on.at.base on.at.held (name_bytes c.args.name.now) c.args.question.query.now c.args.question.first c.args.question.count bases c.in_ok-query.ensures.readable on.at.named
+    (query_value c.in_ok-query.query) c.in_ok-query.ensures.spelled (plan_value c.in_ok-plan.plan) c.in_ok-plan.ensures.planned numbers on.wanted.hits c.in_ok-asked.asked.now on.wanted.said
+    (map (λ hit. (hit.sysno, string_bytes hit.ident)) c.in_ok-shown.shown.items) (c.in_ok-shown.ensures.shown clean s0.now.trees on.wanted.shows))
+
+pub returns-clause-alone : goal.returns-clause-alone
+returns-clause-alone g c clean store content held =
+    let s0 = state g.S.Store c.args.connection.now in
+    let s1 = state g.S.Store c.existing_database.new.connection in
+    let clean2 : HasCleanDisk (state g.S.Store c.hits.new.connection) = omega (arith, c.show.ensures.crash.clean) in
+    let clean1 : HasCleanDisk s1 = omega (arith, clean2, c.hits.ensures.call.crash.clean) in
+    let still = still_holds g.L.Layout.format content s0 s1 (c.existing_database.ensures.same clean1) (c.in_ok-database.ensures.found clean1).1 store held in
+    let plan = plan_value c.in_ok-plan.plan in
+    let numbers = c.in_ok-hits.hits.items in
+    let asked = c.in_ok-asked.asked in
+    let shown = hits_asked g.L.Layout.format content s0 s1 (state g.S.Store c.hits.new.connection) still c.in_ok-database.database.id.0 plan c.args.question.first c.args.question.count numbers _ asked (c.in_ok-hits.ensures.value clean2 still.store content still.held)
+    c.deref.ensures.value c.in_ok-asked.ensures.asked (c.hits.ensures.call.same clean2 c.existing_database.ensures.idle) in
+    let counted : c.len.result ≡ length numbers = search rules in
+    rw counted (
+      c.in_ok-database.database.id.0,
+      pos c.in_ok-database.database.last,
+      c.in_ok-database.ensures.row clean1 store,
+      hits_answered (posted content c.in_ok-database.database.id.0) (has_ident_in s0.now.trees c.in_ok-database.database.id.0) c.args.profile.now c.args.question.query.now c.args.question.first c.args.question.count (query_value c.in_ok-query.query) c.in_ok-query.ensures.spelled
+          plan c.in_ok-plan.ensures.planned numbers shown.hits asked.now shown.said (map (λ hit. (hit.sysno, string_bytes hit.ident)) c.in_ok-shown.shown.items) (c.in_ok-shown.ensures.shown clean s0.now.trees shown.shows),
+    )
+
+pub returns-clause-work : goal.returns-clause-work
+returns-clause-work g c clean store content held =
+    let s0 = state g.S.Store c.args.connection.now in
+    let s1 = state g.S.Store c.existing_database.new.connection in
+    let clean2 : HasCleanDisk (state g.S.Store c.hits.new.connection) = omega (arith, c.show.ensures.crash.clean) in
+    let clean1 : HasCleanDisk s1 = omega (arith, clean2, c.hits.ensures.call.crash.clean) in
+    let still = still_holds g.L.Layout.format content s0 s1 (c.existing_database.ensures.same clean1) (c.in_ok-database.ensures.found clean1).1 store held in
+    let counted = c.in_ok-hits.ensures.work clean2 still.store content still.held in (
+      plan_value c.in_ok-plan.plan,
+      (query_value c.in_ok-query.query, c.in_ok-query.ensures.spelled, c.in_ok-plan.ensures.planned),
+      (c.in_ok-database.database.id.0, pos c.in_ok-database.database.last, c.in_ok-database.ensures.row clean1 store, counted.0, counted.1, counted.2, counted.3, counted.4),
+    )

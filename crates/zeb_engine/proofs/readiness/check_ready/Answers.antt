@@ -13,7 +13,7 @@ use Rattle.zeb_change.specs.Outcomes.{register_refusal}
 use Rattle.zeb_engine.specs.Steps.{ready}
 use Rattle.zeb_change.specs.Refused.{Meets}
 use Rattle.zeb_engine.proofs.ListedDatabases.{fault_meets}
-use Rattle.zeb_engine.proofs.Ready.{version_in, profile_in, image_still, same_inside, told_version, told_profile, version_readable, profile_readable, texts_differ, texts_agree, ready_none, ready_old, ready_changed, ready_good}
+use Rattle.zeb_engine.proofs.Ready.{version_in, profile_in, image_still, same_inside, told_version, told_profile, version_readable, profile_readable, texts_differ, ready_none, ready_old, ready_changed, ready_good, version_own, profile_own}
 use Rattle.zeb_register.proofs.Causes.{may_after}
 use Rattle.zeb_engine.proofs.StoreCauses.{fault_caused}
 use Rattle.zeb_engine.proofs.readiness.check_ready.Goals as goal
@@ -21,9 +21,8 @@ use Rattle.zeb_register.specs.Formats.{version_of}
 use Rattle.sqlite.specs.Effect.{Database}
 use Rattle.zeb_register.specs.Store.{AreReadableTexts, IsValueOf}
 use Rattle.zeb_register.proofs.Calls.{store_same}
-use Rattle.zeb_engine.specs.Readiness.{KeepsText}
 use Rattle.zeb_engine.proofs.Looking.{kept_readable, one_readable}
-use Rattle.zeb_engine.proofs.ReadyTexts.{fault_texts, fault_whole, other_text, text_found, text_missing}
+use Rattle.zeb_engine.proofs.ReadyTexts.{fault_texts, fault_whole, other_text, own_text, text_found, text_missing}
 
 pub returns-in_err-version-clause-ready : goal.returns-in_err-version-clause-ready
 returns-in_err-version-clause-ready g c clean limits before keeps =
@@ -73,62 +72,40 @@ returns-in_err-text-clause-ready g c clean limits before keeps =
 pub returns-in_default-2-clause-ready : goal.returns-in_default-2-clause-ready
 returns-in_default-2-clause-ready g c clean limits before keeps =
     let k = conditions (version_of g.L.Layout.format) c.args.profile.now limits in
-    let old = state g.S.Store c.args.connection.now in
     let mid = state g.S.Store c.meta_of.new.conn in
     let first : HasCleanDisk mid = omega (arith, c.meta_of-2.ensures.call.crash.clean) in
-    let was = c.in_ok-version.ensures.call.ok first in
-    let seen = (keeps was.0.was_open).0 in
-    let at = image_still before old mid was.0.now_is seen in
-    let found = c.in-Some.version in
-    let told : version_in before ≡ Some (string_bytes found) =
-    told_version g.L.Layout.format k old.now.trees before c.in_ok-version.field-0 seen.1 (c.in_ok-version.ensures.value first seen.0) ∙ ap (option_map string_bytes) c.in-Some.is in
-    let tested : c.ne.result ≡ not (bytes_eq c.as_str.result.now c.version.result.now) = search rules in
-    let same = texts_agree c.ne.result c.as_str.result.now c.version.result.now (string_bytes found) (version_of g.L.Layout.format) tested c.if-ne.false (search rules) c.version.ensures in
-    let none : profile_in before ≡ None = told_profile g.L.Layout.format k mid.now.trees before c.in_ok-text.field-0 at.1 (c.in_ok-text.ensures.value clean at.0) ∙ ap (option_map string_bytes) c.in_default-2.is in
-    inr (ready_changed k before (told ∙ ap Some same) (λ is. let e : None ≡ Some (canonical_text c.args.profile.now) = sym none ∙ is in cc))
+    let own = version_own g.L.Layout.format k before c.in-Some.version c.ne.result c.as_str.result.now c.version.result.now (search rules) c.if-ne.false (search rules)
+    (state g.S.Store c.args.connection.now) mid c.in_ok-version.field-0 c.in-Some.is (keeps (c.in_ok-version.ensures.call.ok first).0.was_open).0 (c.in_ok-version.ensures.value first) (c.in_ok-version.ensures.call.ok first).0.now_is c.version.ensures in
+    let none : profile_in before ≡ None = told_profile g.L.Layout.format k mid.now.trees before c.in_ok-text.field-0 own.1.1 (c.in_ok-text.ensures.value clean own.1.0) ∙ ap (option_map string_bytes) c.in_default-2.is in
+    inr (ready_changed k before own.0 (λ is. let e : None ≡ Some (canonical_text c.args.profile.now) = sym none ∙ is in cc))
 
 pub returns-then-ne-2-clause-ready : goal.returns-then-ne-2-clause-ready
 returns-then-ne-2-clause-ready g c clean limits before keeps =
     let k = conditions (version_of g.L.Layout.format) c.args.profile.now limits in
-    let old = state g.S.Store c.args.connection.now in
     let mid = state g.S.Store c.meta_of.new.conn in
     let first : HasCleanDisk mid = omega (arith, c.meta_of-2.ensures.call.crash.clean) in
-    let was = c.in_ok-version.ensures.call.ok first in
-    let seen = (keeps was.0.was_open).0 in
-    let at = image_still before old mid was.0.now_is seen in
-    let found = c.in-Some.version in
+    let own = version_own g.L.Layout.format k before c.in-Some.version c.ne.result c.as_str.result.now c.version.result.now (search rules) c.if-ne.false (search rules)
+    (state g.S.Store c.args.connection.now) mid c.in_ok-version.field-0 c.in-Some.is (keeps (c.in_ok-version.ensures.call.ok first).0.was_open).0 (c.in_ok-version.ensures.value first) (c.in_ok-version.ensures.call.ok first).0.now_is c.version.ensures in
     let text = c.in-Some-2.text in
-    let told : version_in before ≡ Some (string_bytes found) =
-    told_version g.L.Layout.format k old.now.trees before c.in_ok-version.field-0 seen.1 (c.in_ok-version.ensures.value first seen.0) ∙ ap (option_map string_bytes) c.in-Some.is in
-    let tested : c.ne.result ≡ not (bytes_eq c.as_str.result.now c.version.result.now) = search rules in
-    let same = texts_agree c.ne.result c.as_str.result.now c.version.result.now (string_bytes found) (version_of g.L.Layout.format) tested c.if-ne.false (search rules) c.version.ensures in
-    let has : profile_in before ≡ Some (string_bytes text) = told_profile g.L.Layout.format k mid.now.trees before c.in_ok-text.field-0 at.1 (c.in_ok-text.ensures.value clean at.0) ∙ ap (option_map string_bytes) c.in-Some-2.is in
+    let has : profile_in before ≡ Some (string_bytes text) = told_profile g.L.Layout.format k mid.now.trees before c.in_ok-text.field-0 own.1.1 (c.in_ok-text.ensures.value clean own.1.0) ∙ ap (option_map string_bytes) c.in-Some-2.is in
     let tested2 : c.ne-2.result ≡ not (bytes_eq c.as_str-2.result.now c.text.result.now) = search rules in
     let other = texts_differ c.ne-2.result c.as_str-2.result.now c.text.result.now (string_bytes text) (canonical_text c.args.profile.now) tested2 c.if-ne-2.true (search rules) c.text.ensures in
-    inr (ready_changed k before (told ∙ ap Some same) (λ is. other (same_inside (string_bytes text) (canonical_text c.args.profile.now) (sym has ∙ is))))
+    inr (ready_changed k before own.0 (λ is. other (same_inside (string_bytes text) (canonical_text c.args.profile.now) (sym has ∙ is))))
 
 pub returns-clause-ready : goal.returns-clause-ready
 returns-clause-ready g c clean limits before keeps =
     let k = conditions (version_of g.L.Layout.format) c.args.profile.now limits in
-    let old = state g.S.Store c.args.connection.now in
     let mid = state g.S.Store c.meta_of.new.conn in
-    let new = state g.S.Store c.meta_of-2.new.conn in
     let first : HasCleanDisk mid = omega (arith, c.meta_of-2.ensures.call.crash.clean) in
-    let was = c.in_ok-version.ensures.call.ok first in
-    let seen = (keeps was.0.was_open).0 in
-    let at = image_still before old mid was.0.now_is seen in
-    let found = c.in-Some.version in
-    let text = c.in-Some-2.text in
-    let told : version_in before ≡ Some (string_bytes found) =
-    told_version g.L.Layout.format k old.now.trees before c.in_ok-version.field-0 seen.1 (c.in_ok-version.ensures.value first seen.0) ∙ ap (option_map string_bytes) c.in-Some.is in
-    let tested : c.ne.result ≡ not (bytes_eq c.as_str.result.now c.version.result.now) = search rules in
-    let same = texts_agree c.ne.result c.as_str.result.now c.version.result.now (string_bytes found) (version_of g.L.Layout.format) tested c.if-ne.false (search rules) c.version.ensures in
-    let has : profile_in before ≡ Some (string_bytes text) = told_profile g.L.Layout.format k mid.now.trees before c.in_ok-text.field-0 at.1 (c.in_ok-text.ensures.value clean at.0) ∙ ap (option_map string_bytes) c.in-Some-2.is in
-    let tested2 : c.ne-2.result ≡ not (bytes_eq c.as_str-2.result.now c.text.result.now) = search rules in
-    let as_said = texts_agree c.ne-2.result c.as_str-2.result.now c.text.result.now (string_bytes text) (canonical_text c.args.profile.now) tested2 c.if-ne-2.false (search rules) c.text.ensures in
-    let good = ready_good k before (told ∙ ap Some same) (has ∙ ap Some as_said) in
+    let own = version_own g.L.Layout.format k before c.in-Some.version c.ne.result c.as_str.result.now c.version.result.now (search rules) c.if-ne.false (search rules)
+    (state g.S.Store c.args.connection.now) mid c.in_ok-version.field-0 c.in-Some.is (keeps (c.in_ok-version.ensures.call.ok first).0.was_open).0 (c.in_ok-version.ensures.value first) (c.in_ok-version.ensures.call.ok first).0.now_is c.version.ensures in
+    let old = state g.S.Store c.args.connection.now in
+    let new = state g.S.Store c.meta_of-2.new.conn in
+    let has = profile_own g.L.Layout.format k before c.in-Some-2.text c.ne-2.result c.as_str-2.result.now c.text.result.now (search rules) c.if-ne-2.false (search rules)
+    mid.now.trees c.in_ok-text.field-0 c.in-Some-2.is own.1.1 (c.in_ok-text.ensures.value clean own.1.0) c.text.ensures in
+    let good = ready_good k before own.0 has in
     let open_still : IsTrue new.is_open = (c.in_ok-text.ensures.call.ok clean).0.is_open in
-    subst (λ said. Meets {X = Unit {0}} (λ (bases : List Base) x. IsTrue old.is_open × IsTrue new.is_open) said (Ok tt)) (sym good.1) (was.0.was_open, open_still)
+    subst (λ said. Meets {X = Unit {0}} (λ (bases : List Base) x. IsTrue old.is_open × IsTrue new.is_open) said (Ok tt)) (sym good.1) ((c.in_ok-version.ensures.call.ok first).0.was_open, open_still)
 
 pub returns-in_err-version-clause-texts : goal.returns-in_err-version-clause-texts
 returns-in_err-version-clause-texts g c clean store =
@@ -158,17 +135,13 @@ returns-in_err-text-clause-texts g c clean store =
     let mid = state g.S.Store c.meta_of.new.conn in
     let first : HasCleanDisk mid = omega (arith, c.meta_of-2.ensures.call.crash.clean) in
     let same = (c.in_ok-version.ensures.call.ok first).0.now_is in
-    let found = c.in-Some.version in
-    let version = version_of g.L.Layout.format in
-    let kept = text_found old.now.trees (codes "version") c.in_ok-version.field-0 found c.in-Some.is (c.in_ok-version.ensures.value first store) in
-    let tested : c.ne.result ≡ not (bytes_eq c.as_str.result.now c.version.result.now) = search rules in
-    let agrees = texts_agree c.ne.result c.as_str.result.now c.version.result.now (string_bytes found) version tested c.if-ne.false (search rules) c.version.ensures in
+    let own = own_text old.now.trees (codes "version") (version_of g.L.Layout.format) c.in_ok-version.field-0 c.in-Some.version c.in-Some.is (c.in_ok-version.ensures.value first store) c.ne.result c.as_str.result.now c.version.result.now (search rules) c.if-ne.false (search rules) c.version.ensures in
     let fault = c.in_err-text.field-0.0 in
     let told : c.from_residual-in_err-text.result ≡ Err (register_refusal fault) = search rules in
-    rw told (fault_texts version c.args.profile.now old.now.trees fault (λ is.
+    rw told (fault_texts (version_of g.L.Layout.format) c.args.profile.now old.now.trees fault (λ is.
     let damaged : ◌≡◌ {A = Result (Option (String Global)) RegFault} (Err fault) (Err register.Damaged) = ap Err is in
     let hard = c.in_err-text.ensures.honest clean (store_same old mid same store) damaged in
-    inr (subst (KeepsText old.now.trees (codes "version")) agrees kept, subst (λ (d : Database). ¬ AreReadableTexts d.trees (codes "profile")) same hard)))
+    inr (own, subst (λ (d : Database). ¬ AreReadableTexts d.trees (codes "profile")) same hard)))
 
 pub returns-in_default-2-clause-texts : goal.returns-in_default-2-clause-texts
 returns-in_default-2-clause-texts g c clean store =
@@ -176,14 +149,9 @@ returns-in_default-2-clause-texts g c clean store =
     let mid = state g.S.Store c.meta_of.new.conn in
     let first : HasCleanDisk mid = omega (arith, c.meta_of-2.ensures.call.crash.clean) in
     let same = (c.in_ok-version.ensures.call.ok first).0.now_is in
-    let found = c.in-Some.version in
-    let version = version_of g.L.Layout.format in
-    let kept = text_found old.now.trees (codes "version") c.in_ok-version.field-0 found c.in-Some.is (c.in_ok-version.ensures.value first store) in
-    let tested : c.ne.result ≡ not (bytes_eq c.as_str.result.now c.version.result.now) = search rules in
-    let agrees = texts_agree c.ne.result c.as_str.result.now c.version.result.now (string_bytes found) version tested c.if-ne.false (search rules) c.version.ensures in
-    let value = subst (λ (d : Database). IsValueOf d.trees (codes "profile") c.in_ok-text.field-0) same (c.in_ok-text.ensures.value clean (store_same old mid same store)) in
-    let none = text_missing old.now.trees (codes "profile") c.in_ok-text.field-0 c.in_default-2.is value in
-    (subst (KeepsText old.now.trees (codes "version")) agrees kept, none (canonical_text c.args.profile.now), λ other there. absurd (none other there))
+    let own = own_text old.now.trees (codes "version") (version_of g.L.Layout.format) c.in_ok-version.field-0 c.in-Some.version c.in-Some.is (c.in_ok-version.ensures.value first store) c.ne.result c.as_str.result.now c.version.result.now (search rules) c.if-ne.false (search rules) c.version.ensures in
+    let none = text_missing old.now.trees (codes "profile") c.in_ok-text.field-0 c.in_default-2.is (subst (λ (d : Database). IsValueOf d.trees (codes "profile") c.in_ok-text.field-0) same (c.in_ok-text.ensures.value clean (store_same old mid same store))) in
+    (own, none (canonical_text c.args.profile.now), λ other there. absurd (none other there))
 
 pub returns-then-ne-2-clause-texts : goal.returns-then-ne-2-clause-texts
 returns-then-ne-2-clause-texts g c clean store =
@@ -191,18 +159,13 @@ returns-then-ne-2-clause-texts g c clean store =
     let mid = state g.S.Store c.meta_of.new.conn in
     let first : HasCleanDisk mid = omega (arith, c.meta_of-2.ensures.call.crash.clean) in
     let same = (c.in_ok-version.ensures.call.ok first).0.now_is in
-    let found = c.in-Some.version in
+    let own = own_text old.now.trees (codes "version") (version_of g.L.Layout.format) c.in_ok-version.field-0 c.in-Some.version c.in-Some.is (c.in_ok-version.ensures.value first store) c.ne.result c.as_str.result.now c.version.result.now (search rules) c.if-ne.false (search rules) c.version.ensures in
     let text = c.in-Some-2.text in
-    let version = version_of g.L.Layout.format in
     let profile = canonical_text c.args.profile.now in
-    let kept = text_found old.now.trees (codes "version") c.in_ok-version.field-0 found c.in-Some.is (c.in_ok-version.ensures.value first store) in
-    let tested : c.ne.result ≡ not (bytes_eq c.as_str.result.now c.version.result.now) = search rules in
-    let agrees = texts_agree c.ne.result c.as_str.result.now c.version.result.now (string_bytes found) version tested c.if-ne.false (search rules) c.version.ensures in
-    let value = subst (λ (d : Database). IsValueOf d.trees (codes "profile") c.in_ok-text.field-0) same (c.in_ok-text.ensures.value clean (store_same old mid same store)) in
-    let there = text_found old.now.trees (codes "profile") c.in_ok-text.field-0 text c.in-Some-2.is value in
+    let there = text_found old.now.trees (codes "profile") c.in_ok-text.field-0 text c.in-Some-2.is (subst (λ (d : Database). IsValueOf d.trees (codes "profile") c.in_ok-text.field-0) same (c.in_ok-text.ensures.value clean (store_same old mid same store))) in
     let tested2 : c.ne-2.result ≡ not (bytes_eq c.as_str-2.result.now c.text.result.now) = search rules in
     let differs = texts_differ c.ne-2.result c.as_str-2.result.now c.text.result.now (string_bytes text) profile tested2 c.if-ne-2.true (search rules) c.text.ensures in
-    (subst (KeepsText old.now.trees (codes "version")) agrees kept, other_text old store (codes "profile") (string_bytes text) profile there differs, one_readable old store (codes "profile") text there)
+    (own, other_text old store (codes "profile") (string_bytes text) profile there differs, one_readable old store (codes "profile") text there)
 
 pub returns-clause-texts : goal.returns-clause-texts
 returns-clause-texts g c clean store =
@@ -210,20 +173,10 @@ returns-clause-texts g c clean store =
     let mid = state g.S.Store c.meta_of.new.conn in
     let first : HasCleanDisk mid = omega (arith, c.meta_of-2.ensures.call.crash.clean) in
     let same = (c.in_ok-version.ensures.call.ok first).0.now_is in
-    let found = c.in-Some.version in
-    let text = c.in-Some-2.text in
-    let version = version_of g.L.Layout.format in
-    let profile = canonical_text c.args.profile.now in
-    let kept = text_found old.now.trees (codes "version") c.in_ok-version.field-0 found c.in-Some.is (c.in_ok-version.ensures.value first store) in
-    let tested : c.ne.result ≡ not (bytes_eq c.as_str.result.now c.version.result.now) = search rules in
-    let agrees = texts_agree c.ne.result c.as_str.result.now c.version.result.now (string_bytes found) version tested c.if-ne.false (search rules) c.version.ensures in
-    let value = subst (λ (d : Database). IsValueOf d.trees (codes "profile") c.in_ok-text.field-0) same (c.in_ok-text.ensures.value clean (store_same old mid same store)) in
-    let there = text_found old.now.trees (codes "profile") c.in_ok-text.field-0 text c.in-Some-2.is value in
-    let tested2 : c.ne-2.result ≡ not (bytes_eq c.as_str-2.result.now c.text.result.now) = search rules in
-    let as_said = texts_agree c.ne-2.result c.as_str-2.result.now c.text.result.now (string_bytes text) profile tested2 c.if-ne-2.false (search rules) c.text.ensures in
+    let own = own_text old.now.trees (codes "version") (version_of g.L.Layout.format) c.in_ok-version.field-0 c.in-Some.version c.in-Some.is (c.in_ok-version.ensures.value first store) c.ne.result c.as_str.result.now c.version.result.now (search rules) c.if-ne.false (search rules) c.version.ensures in
     record {
-      has_version = subst (KeepsText old.now.trees (codes "version")) agrees kept;
-      has_profile = subst (KeepsText old.now.trees (codes "profile")) as_said there;
+      has_version = own;
+      has_profile = own_text old.now.trees (codes "profile") (canonical_text c.args.profile.now) c.in_ok-text.field-0 c.in-Some-2.text c.in-Some-2.is (subst (λ (d : Database). IsValueOf d.trees (codes "profile") c.in_ok-text.field-0) same (c.in_ok-text.ensures.value clean (store_same old mid same store))) c.ne-2.result c.as_str-2.result.now c.text.result.now (search rules) c.if-ne-2.false (search rules) c.text.ensures;
     }
 
 pub returns-clause-open : goal.returns-clause-open

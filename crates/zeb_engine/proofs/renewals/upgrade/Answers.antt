@@ -63,10 +63,8 @@ returns-then-branch-clause-survives g c =
     let first : HasCleanDisk mid = omega (arith, c.transact.ensures.survives.clean, c.is_image.ensures.call.crash.clean) in
     let look = subst (λ (s : Standing). IsLook (FindsStanding own profile) (RefusesUpgrade own profile) old mid (Ok s)) c.in-First.is (c.in_ok-standing.ensures.look first) in
     let met = first_met k old mid look before keeps in
-    let yes : IsTrue c.in_ok-is_image-in-First.field-0 = search rules in
-    let read = (c.in_ok-is_image-in-First.ensures.call.ok second).1 yes in
-    let nothing = nothing_then old mid late look.same (c.is_image.ensures.call.same second c.check_layout.ensures.idle) in
-    made k read.0.is_open before (λ _. (record { version_is = refl; profile_is = refl; sound = c.is_of_some_text.ensures }, (met.0, met.2))) (keeps_still before old late nothing keeps))
+    let read = (c.in_ok-is_image-in-First.ensures.call.ok second).1 (search rules) in
+    made k read.0.is_open before (λ _. (record { version_is = refl; profile_is = refl; sound = c.is_of_some_text.ensures }, (met.0, met.2))) (keeps_still before old late (nothing_then old mid late look.same (c.is_image.ensures.call.same second c.check_layout.ensures.idle)) keeps))
 
 pub returns-then-branch-clause-serves : goal.returns-then-branch-clause-serves
 returns-then-branch-clause-serves g c clean limits before fits keeps =
@@ -80,10 +78,8 @@ returns-then-branch-clause-serves g c clean limits before fits keeps =
     let first : HasCleanDisk mid = omega (arith, c.transact.ensures.survives.clean, c.is_image.ensures.call.crash.clean) in
     let look = subst (λ (s : Standing). IsLook (FindsStanding own profile) (RefusesUpgrade own profile) old mid (Ok s)) c.in-First.is (c.in_ok-standing.ensures.look first) in
     let met = first_met k old mid look before keeps in
-    let yes : IsTrue c.in_ok-is_image-in-First.field-0 = search rules in
-    let read = (c.in_ok-is_image-in-First.ensures.call.ok second).1 yes in
-    let nothing = nothing_then old mid late look.same (c.is_image.ensures.call.same second c.check_layout.ensures.idle) in
-    c.transact.ensures.serves clean k read.0.is_open before (λ _. (record { version_is = refl; profile_is = refl; sound = c.is_of_some_text.ensures }, (met.0, met.2))) (keeps_still before old late nothing keeps)
+    let read = (c.in_ok-is_image-in-First.ensures.call.ok second).1 (search rules) in
+    c.transact.ensures.serves clean k read.0.is_open before (λ _. (record { version_is = refl; profile_is = refl; sound = c.is_of_some_text.ensures }, (met.0, met.2))) (keeps_still before old late (nothing_then old mid late look.same (c.is_image.ensures.call.same second c.check_layout.ensures.idle)) keeps)
 
 pub returns-then-branch-clause-told : goal.returns-then-branch-clause-told
 returns-then-branch-clause-told g c clean store =
@@ -92,8 +88,7 @@ returns-then-branch-clause-told g c clean store =
     let k = conditions own profile any_limits in
     let old = state g.S.Store c.args.connection.now in
     let mid = state g.S.Store c.check_layout.new.connection in
-    let late = state g.S.Store c.is_image.new.connection in
-    let second : HasCleanDisk late = omega (arith, c.transact.ensures.survives.clean) in
+    let second : HasCleanDisk (state g.S.Store c.is_image.new.connection) = omega (arith, c.transact.ensures.survives.clean) in
     let first : HasCleanDisk mid = omega (arith, c.transact.ensures.survives.clean, c.is_image.ensures.call.crash.clean) in
     let look = subst (λ (s : Standing). IsLook (FindsStanding own profile) (RefusesUpgrade own profile) old mid (Ok s)) c.in-First.is (c.in_ok-standing.ensures.look first) in
     let still = (look.same look.found.1).1 in
@@ -101,14 +96,14 @@ returns-then-branch-clause-told g c clean store =
     let yes : IsTrue c.in_ok-is_image-in-First.field-0 = search rules in
     let image = told_image k (version_of plain_rows) old mid still c.in_ok-is_image-in-First.field-0 (c.in_ok-is_image-in-First.ensures.value second (store_same old mid still store)) yes in
     let read = (c.in_ok-is_image-in-First.ensures.call.ok second).1 yes in
-    let nothing = nothing_then old mid late look.same (c.is_image.ensures.call.same second c.check_layout.ensures.idle) in
+    let nothing = nothing_then old mid (state g.S.Store c.is_image.new.connection) look.same (c.is_image.ensures.call.same second c.check_layout.ensures.idle) in
     let texts = look.told store in
     inr (inr (
       texts.1,
       texts.0,
       first_tells k old store (λ is_open. sym (c.is_autocommit-settled.ensures.settled idle is_open)) image (state g.S.Store c.transact.new.connection) c.transact.result (λ before fits keeps.
           let met = first_met k old mid look before keeps in
-          c.transact.ensures.serves clean k read.0.is_open before (λ _. (record { version_is = refl; profile_is = refl; sound = c.is_of_some_text.ensures }, (met.0, met.2))) (keeps_still before old late nothing keeps)),
+          c.transact.ensures.serves clean k read.0.is_open before (λ _. (record { version_is = refl; profile_is = refl; sound = c.is_of_some_text.ensures }, (met.0, met.2))) (keeps_still before old (state g.S.Store c.is_image.new.connection) nothing keeps)),
     ))
 
 pub returns-else-branch-clause-serves : goal.returns-else-branch-clause-serves
@@ -143,42 +138,34 @@ returns-else-branch-clause-told g c clean store =
 
 pub returns-in_err-standing-clause-stays : goal.returns-in_err-standing-clause-stays
 returns-in_err-standing-clause-stays g c clean store texts =
-    let own = version_of g.L.Layout.format in
-    let profile = c.args.profile.now in
     let why = c.in_err-standing.field-0.0 in
     let look = c.in_err-standing.ensures.look clean in
     let told : c.from_residual.result ≡ Err why = search rules in
-    rw told (look.same, inr (own_unrefused own profile (state g.S.Store c.args.connection.now) store texts (subst IsUtf8 c.version-version.ensures c.version-version.utf8) (subst IsUtf8 c.text-text.ensures c.text-text.utf8) why (look.told store)))
+    rw told (look.same, inr (own_unrefused (version_of g.L.Layout.format) c.args.profile.now (state g.S.Store c.args.connection.now) store texts (subst IsUtf8 c.version-version.ensures c.version-version.utf8) (subst IsUtf8 c.text-text.ensures c.text-text.utf8) why (look.told store)))
 
 pub returns-in-Upgraded-clause-stays : goal.returns-in-Upgraded-clause-stays
 returns-in-Upgraded-clause-stays g c clean store texts = ((c.in_ok-standing.ensures.look clean).same, inl refl)
 
 pub returns-in_err-is_image-in-First-clause-stays : goal.returns-in_err-is_image-in-First-clause-stays
 returns-in_err-is_image-in-First-clause-stays g c clean store texts =
-    let own = version_of g.L.Layout.format in
-    let profile = c.args.profile.now in
     let old = state g.S.Store c.args.connection.now in
     let mid = state g.S.Store c.check_layout.new.connection in
     let first : HasCleanDisk mid = omega (arith, c.is_image.ensures.call.crash.clean) in
-    let look = subst (λ (s : Standing). IsLook (FindsStanding own profile) (RefusesUpgrade own profile) old mid (Ok s)) c.in-First.is (c.in_ok-standing.ensures.look first) in
-    absurd (own_not_first own profile old store texts (look.told store))
+    let look = subst (λ (s : Standing). IsLook (FindsStanding (version_of g.L.Layout.format) c.args.profile.now) (RefusesUpgrade (version_of g.L.Layout.format) c.args.profile.now) old mid (Ok s)) c.in-First.is (c.in_ok-standing.ensures.look first) in
+    absurd (own_not_first (version_of g.L.Layout.format) c.args.profile.now old store texts (look.told store))
 
 pub returns-then-branch-clause-stays : goal.returns-then-branch-clause-stays
 returns-then-branch-clause-stays g c clean store texts =
-    let own = version_of g.L.Layout.format in
-    let profile = c.args.profile.now in
     let old = state g.S.Store c.args.connection.now in
     let mid = state g.S.Store c.check_layout.new.connection in
     let first : HasCleanDisk mid = omega (arith, c.transact.ensures.survives.clean, c.is_image.ensures.call.crash.clean) in
-    let look = subst (λ (s : Standing). IsLook (FindsStanding own profile) (RefusesUpgrade own profile) old mid (Ok s)) c.in-First.is (c.in_ok-standing.ensures.look first) in
-    absurd (own_not_first own profile old store texts (look.told store))
+    let look = subst (λ (s : Standing). IsLook (FindsStanding (version_of g.L.Layout.format) c.args.profile.now) (RefusesUpgrade (version_of g.L.Layout.format) c.args.profile.now) old mid (Ok s)) c.in-First.is (c.in_ok-standing.ensures.look first) in
+    absurd (own_not_first (version_of g.L.Layout.format) c.args.profile.now old store texts (look.told store))
 
 pub returns-else-branch-clause-stays : goal.returns-else-branch-clause-stays
 returns-else-branch-clause-stays g c clean store texts =
-    let own = version_of g.L.Layout.format in
-    let profile = c.args.profile.now in
     let old = state g.S.Store c.args.connection.now in
     let mid = state g.S.Store c.check_layout.new.connection in
     let first : HasCleanDisk mid = omega (arith, c.is_image.ensures.call.crash.clean) in
-    let look = subst (λ (s : Standing). IsLook (FindsStanding own profile) (RefusesUpgrade own profile) old mid (Ok s)) c.in-First.is (c.in_ok-standing.ensures.look first) in
-    absurd (own_not_first own profile old store texts (look.told store))
+    let look = subst (λ (s : Standing). IsLook (FindsStanding (version_of g.L.Layout.format) c.args.profile.now) (RefusesUpgrade (version_of g.L.Layout.format) c.args.profile.now) old mid (Ok s)) c.in-First.is (c.in_ok-standing.ensures.look first) in
+    absurd (own_not_first (version_of g.L.Layout.format) c.args.profile.now old store texts (look.told store))

@@ -1,63 +1,47 @@
-use Rattle.std.proofs.Common.{rules, arith, ◌≡◌, ◌+◌, ◌-◌, Err, sym, ap, subst}
-use Rattle.sqlite.specs.Effect.{Database}
+use Rattle.std.proofs.Common.{rules, arith, ◌≡◌, Err, ap}
 use Rattle.sqlite.specs.Held.{state}
 use Rattle.sqlite.specs.State.{HasCleanDisk}
 use Rattle.zeb_query.specs.Plans.{scan_value}
 use Rattle.zeb_register.specs.Content.{posted}
-use Rattle.zeb_register.proofs.Calls.{store_same}
 use Rattle.zeb_change.specs.Outcomes.{register_refusal}
 use Rattle.zeb_engine.proofs.ListedDatabases.{fault_fails}
 use Rattle.zeb_engine.proofs.AskedReads.{around_reads}
+use Rattle.zeb_engine.proofs.Lookups.{still_holds}
 use Rattle.zeb_engine.proofs.Scans.{around_lists}
 use Rattle.zeb_engine.proofs.StoreCauses.{LeavesAll, fault_after, fault_caused}
 use Rattle.zeb_engine.proofs.scan.terms_around.Goals as goal
-use Rattle.zeb_register.specs.Formats.{holds_in}
 
 pub returns-in_err-rest-clause-failed : goal.returns-in_err-rest-clause-failed
 returns-in_err-rest-clause-failed g c clean store content texts format =
     let old = state g.S.Store c.args.connection.now in
     let mid = state g.S.Store c.terms_before.new.conn in
     let clean1 : HasCleanDisk mid = omega (arith, c.terms_from.ensures.call.crash.clean) in
-    let same = c.terms_before.ensures.call.same clean1 c.requires.idle (c.in_ok-first.ensures.call.ok clean1).0.is_open in
-    let there = store_same old mid same.1 store in
-    let held = subst (λ (d : Database). holds_in g.L.Layout.format d.trees content) (sym same.1) format in
+    let still = still_holds g.L.Layout.format content old mid (c.terms_before.ensures.call.same clean1 c.requires.idle) (c.in_ok-first.ensures.call.ok clean1).0.is_open store format in
     let fault = c.in_err-rest.field-0.0 in
     let told : c.from_residual-in_err-rest.result ≡ Err (register_refusal fault) = search rules in
-    rw told (fault_fails fault (λ damaged. c.in_err-rest.ensures.honest clean there (ap Err damaged) content texts held))
+    rw told (fault_fails fault (λ damaged. c.in_err-rest.ensures.honest clean still.store (ap Err damaged) content texts still.held))
 
 pub returns-clause-around : goal.returns-clause-around
 returns-clause-around g c clean store content format =
     let old = state g.S.Store c.args.connection.now in
     let mid = state g.S.Store c.terms_before.new.conn in
     let clean1 : HasCleanDisk mid = omega (arith, c.terms_from.ensures.call.crash.clean) in
-    let same = c.terms_before.ensures.call.same clean1 c.requires.idle (c.in_ok-first.ensures.call.ok clean1).0.is_open in
-    let there = store_same old mid same.1 store in
-    let held = subst (λ (d : Database). holds_in g.L.Layout.format d.trees content) (sym same.1) format in
-    let number = c.args.around.now.number in
-    let position = c.args.around.now.position in
-    let below : c.saturating_sub-below.result ≡ position - 1 = search rules in
-    let from : c.saturating_sub-from.result ≡ number + 1 - position = search rules in
+    let still = still_holds g.L.Layout.format content old mid (c.terms_before.ensures.call.same clean1 c.requires.idle) (c.in_ok-first.ensures.call.ok clean1).0.is_open store format in
     let front = c.in_ok-first.ensures.value clean1 store content format in
-    let back = c.in_ok-rest.ensures.value clean there content held in
-    around_lists (posted content c.args.database.0) (scan_value c.args.plan.now) number position c.as_str-start.result.now c.saturating_sub-below.result c.saturating_sub-from.result
-    c.in_ok-first.first.items c.in_ok-rest.rest.items c.in_ok-joined.field-0.items c.as_str-start.ensures.value below from front back c.in_ok-joined.ensures
+    let back = c.in_ok-rest.ensures.value clean still.store content still.held in
+    around_lists (posted content c.args.database.0) (scan_value c.args.plan.now) c.args.around.now.number c.args.around.now.position c.as_str-start.result.now c.saturating_sub-below.result c.saturating_sub-from.result
+    c.in_ok-first.first.items c.in_ok-rest.rest.items c.in_ok-joined.field-0.items c.as_str-start.ensures.value (search rules) (search rules) front back c.in_ok-joined.ensures
 
 pub returns-clause-work : goal.returns-clause-work
 returns-clause-work g c clean store content format least most =
     let old = state g.S.Store c.args.connection.now in
     let mid = state g.S.Store c.terms_before.new.conn in
     let clean1 : HasCleanDisk mid = omega (arith, c.terms_from.ensures.call.crash.clean) in
-    let same = c.terms_before.ensures.call.same clean1 c.requires.idle (c.in_ok-first.ensures.call.ok clean1).0.is_open in
-    let there = store_same old mid same.1 store in
-    let held = subst (λ (d : Database). holds_in g.L.Layout.format d.trees content) (sym same.1) format in
-    let number = c.args.around.now.number in
-    let position = c.args.around.now.position in
-    let below : c.saturating_sub-below.result ≡ position - 1 = search rules in
-    let from : c.saturating_sub-from.result ≡ number + 1 - position = search rules in
-    around_reads (posted content c.args.database.0) c.args.plan.now.index c.args.plan.now.register c.as_str-start.result.now g.L.Layout.row_work number position c.saturating_sub-below.result c.saturating_sub-from.result
-    c.in_ok-first.first.items c.in_ok-rest.rest.items c.args.work.now c.terms_before.new.work c.terms_from.new.work below from least most
-    (c.in_ok-first.ensures.value clean1 store content format) (c.in_ok-rest.ensures.value clean there content held)
-    (c.in_ok-first.ensures.work clean1 store content format) (c.in_ok-rest.ensures.work clean there content held)
+    let still = still_holds g.L.Layout.format content old mid (c.terms_before.ensures.call.same clean1 c.requires.idle) (c.in_ok-first.ensures.call.ok clean1).0.is_open store format in
+    around_reads (posted content c.args.database.0) c.args.plan.now.index c.args.plan.now.register c.as_str-start.result.now g.L.Layout.row_work c.args.around.now.number c.args.around.now.position c.saturating_sub-below.result c.saturating_sub-from.result
+    c.in_ok-first.first.items c.in_ok-rest.rest.items c.args.work.now c.terms_before.new.work c.terms_from.new.work (search rules) (search rules) least most
+    (c.in_ok-first.ensures.value clean1 store content format) (c.in_ok-rest.ensures.value clean still.store content still.held)
+    (c.in_ok-first.ensures.work clean1 store content format) (c.in_ok-rest.ensures.work clean still.store content still.held)
 
 pub returns-in_err-first-clause-caused : goal.returns-in_err-first-clause-caused
 returns-in_err-first-clause-caused g c clean store =

@@ -15,126 +15,146 @@ use Rattle.zeb_engine.specs.Counting.{IsExtent, Paired, Target}
 use Rattle.zeb_change.specs.Occurs.{occurs}
 use Rattle.zeb_image.specs.NameOf.{name_bytes}
 use Rattle.zeb_change.specs.Outcomes.{register_refusal}
-use Rattle.zeb_engine.proofs.Commanding.{ready_kept}
 use Rattle.zeb_engine.proofs.Dumps.{as_many}
-use Rattle.zeb_engine.proofs.Held.{looked_up}
 use Rattle.zeb_engine.proofs.ListedDatabases.{fault_fails}
 use Rattle.zeb_engine.proofs.Showing.{still_shows}
 use Rattle.zeb_engine.proofs.Stats.{Counts, count_fails, count_known, count_unknown, extents_as, last_named, unready_counts}
-use Rattle.zeb_engine.proofs.StoreCauses.{LeavesAll, accepted_leaves, fault_after, leaves_then, refusal_after}
+use Rattle.zeb_engine.proofs.StoreCauses.{LeavesAll, fault_after, leaves_then, look_caused, passed_cause, refusal_after, two_leave}
+use Rattle.zeb_engine.proofs.ReadyBases.{Tells, ready_base, ready_still}
+use Rattle.zeb_search.proofs.ReadLemmas.{clean_before}
 use Rattle.zeb_engine.proofs.stat.stat.Goals as goal
 use Rattle.zeb_register.specs.Formats.{version_of}
-use Rattle.zeb_engine.proofs.ReadyTexts.{fault_never, ready_then}
+use Rattle.zeb_engine.proofs.ReadyTexts.{fault_never, passed_texts, passed_then}
+
+pub returns-in_err-check_ready-clause-ready : goal.returns-in_err-check_ready-clause-ready
+returns-in_err-check_ready-clause-ready g c clean = passed_texts (version_of g.L.Layout.format) c.args.profile.now (state g.S.Store c.args.connection.now) c.in_err-check_ready.field-0.0 c.from_residual.result (search rules) (c.in_err-check_ready.ensures.texts clean)
 
 pub returns-in_err-check_ready-clause-serves : goal.returns-in_err-check_ready-clause-serves
 returns-in_err-check_ready-clause-serves g c clean limits before keeps =
     let k = conditions (version_of g.L.Layout.format) c.args.profile.now limits in
-    let name = name_bytes c.args.name.now in
     let s0 = state g.S.Store c.args.connection.now in
     let s1 = state g.S.Store c.check_ready.new.connection in
     let refusal = c.in_err-check_ready.field-0.0 in
     let told : c.from_residual.result ≡ Err refusal = search rules in
     let nothing = c.check_ready.ensures.same clean in
-    subst (Counts k name s0 s1 nothing before) (sym told)
-    (unready_counts k name s0 s1 nothing refusal (λ before keeps. c.in_err-check_ready.ensures.ready clean limits before keeps) before keeps)
+    subst (Counts k (name_bytes c.args.name.now) s0 s1 nothing before) (sym told)
+    (unready_counts k (name_bytes c.args.name.now) s0 s1 nothing refusal (λ before keeps. c.in_err-check_ready.ensures.ready clean limits before keeps) before keeps)
+
+pub returns-in_err-check_ready-clause-caused : goal.returns-in_err-check_ready-clause-caused
+returns-in_err-check_ready-clause-caused g c clean = passed_cause (state g.S.Store c.args.connection.now) (state g.S.Store c.check_ready.new.connection) c.in_err-check_ready.field-0.0 c.from_residual.result (search rules) (c.in_err-check_ready.ensures.caused clean)
+
+pub returns-in_err-database-clause-ready : goal.returns-in_err-database-clause-ready
+returns-in_err-database-clause-ready g c clean = passed_then (version_of g.L.Layout.format) c.args.profile.now {X = Unit {0}} (state g.S.Store c.args.connection.now) tt (c.in_ok-check_ready.ensures.texts (clean_before (state g.S.Store c.check_ready.new.connection) (state g.S.Store c.existing_database.new.connection) c.existing_database.ensures.crash clean)) c.in_err-database.field-0.0 c.from_residual-in_err-database.result (search rules) c.in_err-database.ensures.ready
 
 pub returns-in_err-database-clause-serves : goal.returns-in_err-database-clause-serves
 returns-in_err-database-clause-serves g c clean limits before keeps =
     let k = conditions (version_of g.L.Layout.format) c.args.profile.now limits in
-    let name = name_bytes c.args.name.now in
     let s0 = state g.S.Store c.args.connection.now in
     let s1 = state g.S.Store c.check_ready.new.connection in
     let s2 = state g.S.Store c.existing_database.new.connection in
-    let clean1 : HasCleanDisk s1 = omega (arith, c.existing_database.ensures.crash.clean) in
-    let met = ready_kept k s0 s1 before (c.in_ok-check_ready.ensures.ready clean1 limits before keeps) (c.check_ready.ensures.same clean1) keeps in
-    let refusal = c.in_err-database.field-0.0 in
-    let told : c.from_residual-in_err-database.result ≡ Err refusal = search rules in
-    let nothing = nothing_then s0 s1 s2 (c.check_ready.ensures.same clean1) (c.existing_database.ensures.same clean) in
-    subst (Counts k name s0 s2 nothing before) (sym told)
-    (count_unknown k name s0 s2 nothing before met.0 met.1 keeps
-    {X = Database} (λ base d. HasDatabase s1.now.trees d.id.0 base.name (pos base.last) × (d.last ≡ base.last) × IsTrue s2.is_open) refusal (c.in_err-database.ensures.exists clean met.2.1 k before met.0 met.1 met.3))
+    let met = ready_still k s0 s1 s2 before c.existing_database.ensures.crash clean c.check_ready.ensures.same (λ first. c.in_ok-check_ready.ensures.ready first limits before keeps) c.existing_database.ensures.same keeps in
+    let told : c.from_residual-in_err-database.result ≡ Err c.in_err-database.field-0.0 = search rules in
+    subst (Counts k (name_bytes c.args.name.now) s0 s2 met.nothing before) (sym told)
+    (count_unknown k (name_bytes c.args.name.now) s0 s2 met.nothing before met.bases met.is keeps {X = Database} (Tells s1 s2) c.in_err-database.field-0.0 (c.in_err-database.ensures.exists clean met.opened k before met.bases met.is met.kept))
+
+pub returns-in_err-database-clause-caused : goal.returns-in_err-database-clause-caused
+returns-in_err-database-clause-caused g c clean =
+    look_caused (state g.S.Store c.args.connection.now) (state g.S.Store c.check_ready.new.connection) (state g.S.Store c.existing_database.new.connection) c.existing_database.ensures.crash clean
+    c.check_ready.ensures.crash c.in_ok-check_ready.ensures.open c.check_ready.ensures.same c.in_err-database.field-0.0 c.from_residual-in_err-database.result (search rules) (c.in_err-database.ensures.caused clean)
+
+pub returns-in_err-kept-clause-ready : goal.returns-in_err-kept-clause-ready
+returns-in_err-kept-clause-ready g c clean =
+    let clean2 : HasCleanDisk (state g.S.Store c.existing_database.new.connection) = omega (arith, c.record_count.ensures.call.crash.clean) in
+    let clean1 = clean_before (state g.S.Store c.check_ready.new.connection) (state g.S.Store c.existing_database.new.connection) c.existing_database.ensures.crash clean2 in
+    let fault = c.in_err-kept.field-0.0 in
+    passed_then (version_of g.L.Layout.format) c.args.profile.now {A = Reply} {X = Unit {0}} (state g.S.Store c.args.connection.now) tt (c.in_ok-check_ready.ensures.texts clean1) (register_refusal fault) c.from_residual-in_err-kept.result (search rules) (fault_never {T = Reply} fault)
 
 pub returns-in_err-kept-clause-serves : goal.returns-in_err-kept-clause-serves
 returns-in_err-kept-clause-serves g c clean limits before keeps =
     let k = conditions (version_of g.L.Layout.format) c.args.profile.now limits in
-    let name = name_bytes c.args.name.now in
     let s0 = state g.S.Store c.args.connection.now in
     let s1 = state g.S.Store c.check_ready.new.connection in
-    let s2 = state g.S.Store c.existing_database.new.connection in
-    let s3 = state g.S.Store c.record_count.new.conn in
-    let clean2 : HasCleanDisk s2 = omega (arith, c.record_count.ensures.call.crash.clean) in
-    let clean1 : HasCleanDisk s1 = omega (arith, clean2, c.existing_database.ensures.crash.clean) in
-    let met = ready_kept k s0 s1 before (c.in_ok-check_ready.ensures.ready clean1 limits before keeps) (c.check_ready.ensures.same clean1) keeps in
-    let database = c.in_ok-database.database in
-    let seen = (met.3 met.2.1).0 in
-    let base = looked_up g.L.Layout.format k (record { version_is = refl; sound = c.is_of_some_text.ensures }) s1 before met.0 name database (IsTrue s2.is_open) met.1 seen.1 (c.in_ok-database.ensures.exists clean2 met.2.1 k before met.0 met.1 met.3) in
-    let there = still_shows s1 s2 s1.now.trees (c.existing_database.ensures.same clean2) (λ _. (seen.0, refl)) base.3 in
-    let nothing = nothing_then s0 s2 s3 (nothing_then s0 s1 s2 (c.check_ready.ensures.same clean1) (c.existing_database.ensures.same clean2)) (c.record_count.ensures.call.same clean c.existing_database.ensures.idle) in
+    let clean2 : HasCleanDisk (state g.S.Store c.existing_database.new.connection) = omega (arith, c.record_count.ensures.call.crash.clean) in
+    let it = ready_base k s0 s1 (state g.S.Store c.existing_database.new.connection) before c.existing_database.ensures.crash clean2 c.check_ready.ensures.same (λ first. c.in_ok-check_ready.ensures.ready first limits before keeps) c.existing_database.ensures.same keeps g.L.Layout.format (record { version_is = refl; sound = c.is_of_some_text.ensures }) (name_bytes c.args.name.now) c.in_ok-database.database c.in_ok-database.ensures.exists in
     let fault = c.in_err-kept.field-0.0 in
     let told : c.from_residual-in_err-kept.result ≡ Err (register_refusal fault) = search rules in
-    subst (Counts k name s0 s3 nothing before) (sym told) (count_fails k name s0 s3 nothing before met.0 met.1 keeps (Err (register_refusal fault))
-    (fault_fails fault (λ is_damaged. c.in_err-kept.ensures.honest clean there.0 (ap Err is_damaged))))
+    let nothing = nothing_then s0 (state g.S.Store c.existing_database.new.connection) (state g.S.Store c.record_count.new.conn) it.still.nothing (c.record_count.ensures.call.same clean c.existing_database.ensures.idle) in
+    subst (Counts k (name_bytes c.args.name.now) s0 (state g.S.Store c.record_count.new.conn) nothing before) (sym told) (count_fails k (name_bytes c.args.name.now) s0 (state g.S.Store c.record_count.new.conn) nothing before it.still.bases it.still.is keeps (Err (register_refusal fault))
+    (fault_fails fault (λ is_damaged. c.in_err-kept.ensures.honest clean (it.at.still.store) (ap Err is_damaged))))
+
+pub returns-in_err-kept-clause-caused : goal.returns-in_err-kept-clause-caused
+returns-in_err-kept-clause-caused g c clean =
+    let s0 = state g.S.Store c.args.connection.now in
+    let s2 = state g.S.Store c.existing_database.new.connection in
+    let clean2 : HasCleanDisk s2 = omega (arith, c.record_count.ensures.call.crash.clean) in
+    let looked = two_leave s0 (state g.S.Store c.check_ready.new.connection) s2 clean2 c.check_ready.ensures.crash c.in_ok-check_ready.ensures.open c.check_ready.ensures.same c.existing_database.ensures.crash c.in_ok-database.ensures.found c.existing_database.ensures.same in
+    let fault = c.in_err-kept.field-0.0 in
+    passed_cause s0 (state g.S.Store c.record_count.new.conn) (register_refusal fault) c.from_residual-in_err-kept.result (search rules) (fault_after s0 s2 (state g.S.Store c.record_count.new.conn) looked fault clean c.in_err-kept.ensures.refused)
+
+pub returns-in_err-holdings-clause-ready : goal.returns-in_err-holdings-clause-ready
+returns-in_err-holdings-clause-ready g c clean =
+    let clean3 : HasCleanDisk (state g.S.Store c.record_count.new.conn) = omega (arith, c.holdings_of.ensures.crash.clean) in
+    let clean2 : HasCleanDisk (state g.S.Store c.existing_database.new.connection) = (omega (arith, clean3, c.record_count.ensures.call.crash.clean)) in
+    let clean1 = clean_before (state g.S.Store c.check_ready.new.connection) (state g.S.Store c.existing_database.new.connection) c.existing_database.ensures.crash clean2 in
+    passed_then (version_of g.L.Layout.format) c.args.profile.now {X = Unit {0}} (state g.S.Store c.args.connection.now) tt (c.in_ok-check_ready.ensures.texts clean1) c.in_err-holdings.field-0.0 c.from_residual-in_err-holdings.result (search rules) c.in_err-holdings.ensures.ready
 
 pub returns-in_err-holdings-clause-serves : goal.returns-in_err-holdings-clause-serves
 returns-in_err-holdings-clause-serves g c clean limits before keeps =
     let k = conditions (version_of g.L.Layout.format) c.args.profile.now limits in
-    let name = name_bytes c.args.name.now in
     let s0 = state g.S.Store c.args.connection.now in
     let s1 = state g.S.Store c.check_ready.new.connection in
-    let s2 = state g.S.Store c.existing_database.new.connection in
-    let s3 = state g.S.Store c.record_count.new.conn in
-    let s4 = state g.S.Store c.holdings_of.new.connection in
-    let clean3 : HasCleanDisk s3 = omega (arith, c.holdings_of.ensures.crash.clean) in
-    let clean2 : HasCleanDisk s2 = omega (arith, clean3, c.record_count.ensures.call.crash.clean) in
-    let clean1 : HasCleanDisk s1 = omega (arith, clean2, c.existing_database.ensures.crash.clean) in
-    let met = ready_kept k s0 s1 before (c.in_ok-check_ready.ensures.ready clean1 limits before keeps) (c.check_ready.ensures.same clean1) keeps in
-    let database = c.in_ok-database.database in
-    let seen = (met.3 met.2.1).0 in
-    let base = looked_up g.L.Layout.format k (record { version_is = refl; sound = c.is_of_some_text.ensures }) s1 before met.0 name database (IsTrue s2.is_open) met.1 seen.1 (c.in_ok-database.ensures.exists clean2 met.2.1 k before met.0 met.1 met.3) in
-    let held = base.2 in
-    let records_same = c.record_count.ensures.call.same clean3 c.existing_database.ensures.idle in
-    let at2 = still_shows s1 s2 s1.now.trees (c.existing_database.ensures.same clean2) (λ _. (seen.0, refl)) in
-    let at3 = still_shows s2 s3 s1.now.trees records_same at2 in
-    let nothing = nothing_then s0 s3 s4 (nothing_then s0 s2 s3 (nothing_then s0 s1 s2 (c.check_ready.ensures.same clean1) (c.existing_database.ensures.same clean2)) records_same) (c.holdings_of.ensures.same clean) in
-    let opened = (c.in_ok-kept.ensures.call.ok clean3).0.is_open in
+    let clean3 : HasCleanDisk (state g.S.Store c.record_count.new.conn) = omega (arith, c.holdings_of.ensures.crash.clean) in
+    let it = ready_base k s0 s1 (state g.S.Store c.existing_database.new.connection) before c.existing_database.ensures.crash (omega (arith, clean3, c.record_count.ensures.call.crash.clean)) c.check_ready.ensures.same (λ first. c.in_ok-check_ready.ensures.ready first limits before keeps) c.existing_database.ensures.same keeps g.L.Layout.format (record { version_is = refl; sound = c.is_of_some_text.ensures }) (name_bytes c.args.name.now) c.in_ok-database.database c.in_ok-database.ensures.exists in
     let refusal = c.in_err-holdings.field-0.0 in
     let told : c.from_residual-in_err-holdings.result ≡ Err refusal = search rules in
-    subst (Counts k name s0 s4 nothing before) (sym told) (count_fails k name s0 s4 nothing before met.0 met.1 keeps (Err refusal)
-    (c.in_err-holdings.ensures.failed clean s1.now.trees at3 opened held.content held.storable held.held))
+    let read = c.record_count.ensures.call.same clean3 c.existing_database.ensures.idle in
+    let shows = still_shows (state g.S.Store c.existing_database.new.connection) (state g.S.Store c.record_count.new.conn) s1.now.trees read it.at.still.shows in
+    let nothing = nothing_then s0 (state g.S.Store c.record_count.new.conn) (state g.S.Store c.holdings_of.new.connection) (nothing_then s0 (state g.S.Store c.existing_database.new.connection) (state g.S.Store c.record_count.new.conn) it.still.nothing read) (c.holdings_of.ensures.same clean) in
+    subst (Counts k (name_bytes c.args.name.now) s0 (state g.S.Store c.holdings_of.new.connection) nothing before) (sym told) (count_fails k (name_bytes c.args.name.now) s0 (state g.S.Store c.holdings_of.new.connection) nothing before it.still.bases it.still.is keeps (Err refusal)
+    (c.in_err-holdings.ensures.failed clean s1.now.trees shows (c.in_ok-kept.ensures.call.ok clean3).0.is_open it.at.held.content it.at.held.storable it.at.held.held))
+
+pub returns-in_err-holdings-clause-caused : goal.returns-in_err-holdings-clause-caused
+returns-in_err-holdings-clause-caused g c clean =
+    let s0 = state g.S.Store c.args.connection.now in
+    let s2 = state g.S.Store c.existing_database.new.connection in
+    let s3 = state g.S.Store c.record_count.new.conn in
+    let clean3 : HasCleanDisk s3 = omega (arith, c.holdings_of.ensures.crash.clean) in
+    let clean2 : HasCleanDisk s2 = omega (arith, clean3, c.record_count.ensures.call.crash.clean) in
+    let looked = two_leave s0 (state g.S.Store c.check_ready.new.connection) s2 clean2 c.check_ready.ensures.crash c.in_ok-check_ready.ensures.open c.check_ready.ensures.same c.existing_database.ensures.crash c.in_ok-database.ensures.found c.existing_database.ensures.same in
+    let refusal = c.in_err-holdings.field-0.0 in
+    let counted : LeavesAll s2 s3 = record { survives = c.record_count.ensures.call.crash; opened = λ _. (c.in_ok-kept.ensures.call.ok clean3).0.is_open; nothing = c.record_count.ensures.call.same clean3 c.existing_database.ensures.idle } in
+    passed_cause s0 (state g.S.Store c.holdings_of.new.connection) refusal c.from_residual-in_err-holdings.result (search rules) (refusal_after s0 s3 (state g.S.Store c.holdings_of.new.connection) (leaves_then s0 s2 s3 looked counted) refusal (c.in_err-holdings.ensures.caused clean))
+
+pub returns-clause-ready : goal.returns-clause-ready
+returns-clause-ready g c clean =
+    let clean3 : HasCleanDisk (state g.S.Store c.record_count.new.conn) = omega (arith, c.holdings_of.ensures.crash.clean) in
+    let clean2 : HasCleanDisk (state g.S.Store c.existing_database.new.connection) = (omega (arith, clean3, c.record_count.ensures.call.crash.clean)) in
+    let clean1 = clean_before (state g.S.Store c.check_ready.new.connection) (state g.S.Store c.existing_database.new.connection) c.existing_database.ensures.crash clean2 in
+    c.in_ok-check_ready.ensures.texts clean1
 
 pub returns-clause-serves : goal.returns-clause-serves
 returns-clause-serves g c clean limits before keeps =
     let k = conditions (version_of g.L.Layout.format) c.args.profile.now limits in
-    let name = name_bytes c.args.name.now in
     let s0 = state g.S.Store c.args.connection.now in
     let s1 = state g.S.Store c.check_ready.new.connection in
-    let s2 = state g.S.Store c.existing_database.new.connection in
-    let s3 = state g.S.Store c.record_count.new.conn in
-    let s4 = state g.S.Store c.holdings_of.new.connection in
-    let clean3 : HasCleanDisk s3 = omega (arith, c.holdings_of.ensures.crash.clean) in
-    let clean2 : HasCleanDisk s2 = omega (arith, clean3, c.record_count.ensures.call.crash.clean) in
-    let clean1 : HasCleanDisk s1 = omega (arith, clean2, c.existing_database.ensures.crash.clean) in
-    let met = ready_kept k s0 s1 before (c.in_ok-check_ready.ensures.ready clean1 limits before keeps) (c.check_ready.ensures.same clean1) keeps in
-    let database = c.in_ok-database.database in
-    let seen = (met.3 met.2.1).0 in
-    let said = c.in_ok-database.ensures.exists clean2 met.2.1 k before met.0 met.1 met.3 in
-    let base = looked_up g.L.Layout.format k (record { version_is = refl; sound = c.is_of_some_text.ensures }) s1 before met.0 name database (IsTrue s2.is_open) met.1 seen.1 said in
-    let held = base.2 in
-    let records_same = c.record_count.ensures.call.same clean3 c.existing_database.ensures.idle in
-    let at2 = still_shows s1 s2 s1.now.trees (c.existing_database.ensures.same clean2) (λ _. (seen.0, refl)) in
-    let at3 = still_shows s2 s3 s1.now.trees records_same at2 in
-    let nothing = nothing_then s0 s3 s4 (nothing_then s0 s2 s3 (nothing_then s0 s1 s2 (c.check_ready.ensures.same clean1) (c.existing_database.ensures.same clean2)) records_same) (c.holdings_of.ensures.same clean) in
-    let opened = (c.in_ok-kept.ensures.call.ok clean3).0.is_open in
-    let there = at2 base.3 in
-    let kept = subst (λ (t : Trees). IsRecordCount t database.id.0 c.in_ok-kept.kept) there.1 (c.in_ok-kept.ensures.value clean3 there.0) in
-    let many = as_many g.L.Layout.format c.args.profile.now s1.now.trees database.id.0 base.0 held c.in_ok-kept.kept kept in
-    let last = last_named name met.0 database s1.now.trees (IsTrue s2.is_open) said base.0 base.1 in
+    let clean3 : HasCleanDisk (state g.S.Store c.record_count.new.conn) = omega (arith, c.holdings_of.ensures.crash.clean) in
+    let it = ready_base k s0 s1 (state g.S.Store c.existing_database.new.connection) before c.existing_database.ensures.crash (omega (arith, clean3, c.record_count.ensures.call.crash.clean)) c.check_ready.ensures.same (λ first. c.in_ok-check_ready.ensures.ready first limits before keeps) c.existing_database.ensures.same keeps g.L.Layout.format (record { version_is = refl; sound = c.is_of_some_text.ensures }) (name_bytes c.args.name.now) c.in_ok-database.database c.in_ok-database.ensures.exists in
+    let held = it.at.held in
+    let id = c.in_ok-database.database.id.0 in
+    let read = c.record_count.ensures.call.same clean3 c.existing_database.ensures.idle in
+    let shows = still_shows (state g.S.Store c.existing_database.new.connection) (state g.S.Store c.record_count.new.conn) s1.now.trees read it.at.still.shows in
+    let nothing = nothing_then s0 (state g.S.Store c.record_count.new.conn) (state g.S.Store c.holdings_of.new.connection) (nothing_then s0 (state g.S.Store c.existing_database.new.connection) (state g.S.Store c.record_count.new.conn) it.still.nothing read) (c.holdings_of.ensures.same clean) in
+    let there = it.at.still in
+    let kept = subst (λ (t : Trees). IsRecordCount t id c.in_ok-kept.kept) there.trees (c.in_ok-kept.ensures.value clean3 there.store) in
+    let many = as_many g.L.Layout.format c.args.profile.now s1.now.trees id it.at.base held c.in_ok-kept.kept kept in
+    let last = last_named (name_bytes c.args.name.now) it.still.bases c.in_ok-database.database s1.now.trees (IsTrue (state g.S.Store c.existing_database.new.connection).is_open) it.said it.at.base it.at.named in
     let holdings = c.in_ok-holdings.holdings in
     let targets = c.deref.ensures.value ∙ c.in_ok-targets.ensures in
-    let paired = subst (λ (l : List Target). Paired (λ target holding. IsExtent (posted held.content database.id.0) c.args.profile.now target (extent_of holding)) l holdings.items) targets (c.in_ok-holdings.ensures.held clean s1.now.trees at3 opened held.content held.held) in
-    count_known k name s0 s4 nothing before met.0 met.1 keeps base.0 base.1 (Ok (Counted c.in_ok-kept.kept database.last holdings)) (
+    let told = c.in_ok-holdings.ensures.held clean s1.now.trees shows (c.in_ok-kept.ensures.call.ok clean3).0.is_open held.content held.held in
+    let paired = subst (λ (l : List Target). Paired (λ target holding. IsExtent (posted held.content id) c.args.profile.now target (extent_of holding)) l holdings.items) targets told in
+    count_known k (name_bytes c.args.name.now) s0 (state g.S.Store c.holdings_of.new.connection) nothing before it.still.bases it.still.is keeps it.at.base it.at.named (Ok (Counted c.in_ok-kept.kept c.in_ok-database.database.last holdings)) (
       map extent_of holdings.items,
-      extents_as (posted held.content database.id.0) (occurs c.args.profile.now base.0.records) held.occurring c.args.profile.now _ holdings.items paired,
+      extents_as (posted held.content id) (occurs c.args.profile.now it.at.base.records) held.occurring c.args.profile.now _ holdings.items paired,
       ap₂ (λ (m n : ℕ). counted m n (map extent_of holdings.items)) many last,
     )
 
@@ -175,81 +195,3 @@ returns-clause-alone g c clean store content has =
         ),
       ),
     )
-
-pub returns-in_err-check_ready-clause-ready : goal.returns-in_err-check_ready-clause-ready
-returns-in_err-check_ready-clause-ready g c clean =
-    let told : c.from_residual.result ≡ Err c.in_err-check_ready.field-0.0 = search rules in
-    rw told (c.in_err-check_ready.ensures.texts clean)
-
-pub returns-in_err-database-clause-ready : goal.returns-in_err-database-clause-ready
-returns-in_err-database-clause-ready g c clean =
-    let first : HasCleanDisk (state g.S.Store c.check_ready.new.connection) = omega (arith, c.existing_database.ensures.crash.clean) in
-    let told : c.from_residual-in_err-database.result ≡ Err c.in_err-database.field-0.0 = search rules in
-    rw told (ready_then (version_of g.L.Layout.format) c.args.profile.now {X = Unit {0}} (state g.S.Store c.args.connection.now) tt (c.in_ok-check_ready.ensures.texts first) (Err c.in_err-database.field-0.0) c.in_err-database.ensures.ready)
-
-pub returns-in_err-kept-clause-ready : goal.returns-in_err-kept-clause-ready
-returns-in_err-kept-clause-ready g c clean =
-    let clean2 : HasCleanDisk (state g.S.Store c.existing_database.new.connection) = omega (arith, c.record_count.ensures.call.crash.clean) in
-    let clean1 : HasCleanDisk (state g.S.Store c.check_ready.new.connection) = omega (arith, clean2, c.existing_database.ensures.crash.clean) in
-    let fault = c.in_err-kept.field-0.0 in
-    let told : c.from_residual-in_err-kept.result ≡ Err (register_refusal fault) = search rules in
-    rw told (ready_then (version_of g.L.Layout.format) c.args.profile.now {T = Reply} {X = Unit {0}} (state g.S.Store c.args.connection.now) tt (c.in_ok-check_ready.ensures.texts clean1) (Err (register_refusal fault)) (fault_never {T = Reply} fault))
-
-pub returns-in_err-holdings-clause-ready : goal.returns-in_err-holdings-clause-ready
-returns-in_err-holdings-clause-ready g c clean =
-    let clean3 : HasCleanDisk (state g.S.Store c.record_count.new.conn) = omega (arith, c.holdings_of.ensures.crash.clean) in
-    let clean2 : HasCleanDisk (state g.S.Store c.existing_database.new.connection) = omega (arith, clean3, c.record_count.ensures.call.crash.clean) in
-    let clean1 : HasCleanDisk (state g.S.Store c.check_ready.new.connection) = omega (arith, clean2, c.existing_database.ensures.crash.clean) in
-    let told : c.from_residual-in_err-holdings.result ≡ Err c.in_err-holdings.field-0.0 = search rules in
-    rw told (ready_then (version_of g.L.Layout.format) c.args.profile.now {X = Unit {0}} (state g.S.Store c.args.connection.now) tt (c.in_ok-check_ready.ensures.texts clean1) (Err c.in_err-holdings.field-0.0) c.in_err-holdings.ensures.ready)
-
-pub returns-clause-ready : goal.returns-clause-ready
-returns-clause-ready g c clean =
-    let clean3 : HasCleanDisk (state g.S.Store c.record_count.new.conn) = omega (arith, c.holdings_of.ensures.crash.clean) in
-    let clean2 : HasCleanDisk (state g.S.Store c.existing_database.new.connection) = omega (arith, clean3, c.record_count.ensures.call.crash.clean) in
-    let clean1 : HasCleanDisk (state g.S.Store c.check_ready.new.connection) = omega (arith, clean2, c.existing_database.ensures.crash.clean) in
-    c.in_ok-check_ready.ensures.texts clean1
-
-pub returns-in_err-check_ready-clause-caused : goal.returns-in_err-check_ready-clause-caused
-returns-in_err-check_ready-clause-caused g c clean =
-    let told : c.from_residual.result ≡ Err c.in_err-check_ready.field-0.0 = search rules in
-    rw told (c.in_err-check_ready.ensures.caused clean)
-
-pub returns-in_err-database-clause-caused : goal.returns-in_err-database-clause-caused
-returns-in_err-database-clause-caused g c clean =
-    let s0 = state g.S.Store c.args.connection.now in
-    let s1 = state g.S.Store c.check_ready.new.connection in
-    let clean1 : HasCleanDisk s1 = omega (arith, c.existing_database.ensures.crash.clean) in
-    let refusal = c.in_err-database.field-0.0 in
-    let told : c.from_residual-in_err-database.result ≡ Err refusal = search rules in
-    let looked = accepted_leaves s0 s1 c.check_ready.ensures.crash (c.in_ok-check_ready.ensures.open clean1) (c.check_ready.ensures.same clean1) in
-    rw told (refusal_after s0 s1 (state g.S.Store c.existing_database.new.connection) looked refusal (c.in_err-database.ensures.caused clean))
-
-pub returns-in_err-kept-clause-caused : goal.returns-in_err-kept-clause-caused
-returns-in_err-kept-clause-caused g c clean =
-    let s0 = state g.S.Store c.args.connection.now in
-    let s1 = state g.S.Store c.check_ready.new.connection in
-    let s2 = state g.S.Store c.existing_database.new.connection in
-    let clean2 : HasCleanDisk s2 = omega (arith, c.record_count.ensures.call.crash.clean) in
-    let clean1 : HasCleanDisk s1 = omega (arith, clean2, c.existing_database.ensures.crash.clean) in
-    let fault = c.in_err-kept.field-0.0 in
-    let told : c.from_residual-in_err-kept.result ≡ Err (register_refusal fault) = search rules in
-    let looked = accepted_leaves s0 s1 c.check_ready.ensures.crash (c.in_ok-check_ready.ensures.open clean1) (c.check_ready.ensures.same clean1) in
-    let found = accepted_leaves s1 s2 c.existing_database.ensures.crash (c.in_ok-database.ensures.found clean2) (c.existing_database.ensures.same clean2) in
-    rw told (fault_after s0 s2 (state g.S.Store c.record_count.new.conn) (leaves_then s0 s1 s2 looked found) fault clean c.in_err-kept.ensures.refused)
-
-pub returns-in_err-holdings-clause-caused : goal.returns-in_err-holdings-clause-caused
-returns-in_err-holdings-clause-caused g c clean =
-    let s0 = state g.S.Store c.args.connection.now in
-    let s1 = state g.S.Store c.check_ready.new.connection in
-    let s2 = state g.S.Store c.existing_database.new.connection in
-    let s3 = state g.S.Store c.record_count.new.conn in
-    let clean3 : HasCleanDisk s3 = omega (arith, c.holdings_of.ensures.crash.clean) in
-    let clean2 : HasCleanDisk s2 = omega (arith, clean3, c.record_count.ensures.call.crash.clean) in
-    let clean1 : HasCleanDisk s1 = omega (arith, clean2, c.existing_database.ensures.crash.clean) in
-    let refusal = c.in_err-holdings.field-0.0 in
-    let told : c.from_residual-in_err-holdings.result ≡ Err refusal = search rules in
-    let looked = accepted_leaves s0 s1 c.check_ready.ensures.crash (c.in_ok-check_ready.ensures.open clean1) (c.check_ready.ensures.same clean1) in
-    let found = accepted_leaves s1 s2 c.existing_database.ensures.crash (c.in_ok-database.ensures.found clean2) (c.existing_database.ensures.same clean2) in
-    let counted : LeavesAll s2 s3 = record { survives = c.record_count.ensures.call.crash; opened = λ _. (c.in_ok-kept.ensures.call.ok clean3).0.is_open; nothing = c.record_count.ensures.call.same clean3 c.existing_database.ensures.idle } in
-    rw told (refusal_after s0 s3 (state g.S.Store c.holdings_of.new.connection) (leaves_then s0 s2 s3 (leaves_then s0 s1 s2 looked found) counted) refusal (c.in_err-holdings.ensures.caused clean))

@@ -1,17 +1,17 @@
-use Rattle.std.proofs.Common.{◌≡◌, Option, None, Result, Err, rules, arith, sym, ap, subst, inl, inr}
+use Rattle.std.proofs.Common.{◌≡◌, Option, Result, Err, rules, arith, sym, ap, subst, inl, inr}
 use Rattle.sqlite.specs.State.{HasCleanDisk}
 use Rattle.sqlite.specs.Held.{state}
 use Rattle.zeb_register.specs.declared.RegFault.{RegFault}
 use Rattle.zeb_register.specs.declared.RegFault.TheVariants as register
 use Rattle.zeb_register.specs.declared.catalog.Database.{Database}
-use Rattle.zeb_register.specs.Catalog.{IsDatabaseOf}
 use Rattle.zeb_change.specs.declared.refusals.Refusal.TheVariants.{Exists}
 use Rattle.zeb_image.specs.NameOf.{name_bytes}
 use Rattle.zeb_change.specs.Outcomes.{register_refusal}
 use Rattle.zeb_engine.specs.Steps.{turned, created}
 use Rattle.zeb_engine.specs.Works.{IsReady, Serves}
 use Rattle.zeb_engine.proofs.Crashing.{survives_after}
-use Rattle.zeb_engine.proofs.ListedDatabases.{fault_fails, counted, row_named, none_named, row_found}
+use Rattle.zeb_engine.proofs.ListedDatabases.{fault_fails, counted, row_named, row_found}
+use Rattle.zeb_engine.proofs.NamedDatabases.{free_there}
 use Rattle.zeb_engine.proofs.Serving.{keeps_still, early_serves}
 use Rattle.zeb_engine.proofs.Turns.{step_exists}
 use Rattle.zeb_engine.proofs.ReadyImages.{image_some}
@@ -55,13 +55,8 @@ returns-in-None-clause-serves g c clean k before fits keeps =
     let name = name_bytes c.args.name.now in
     let first : HasCleanDisk mid = omega (arith, c.transact.ensures.survives.clean) in
     let still = c.in_ok-found.ensures.call.ok first in
-    let at = keeps still.0.was_open in
-    let ready = fits still.0.was_open in
-    let all = image_some k old.now.trees before ready.0 ready.1 at.0.1 in
-    let value = c.in_ok-found.ensures.value first at.0.0 in
-    let there : IsDatabaseOf old.now.trees name None = subst (λ n. IsDatabaseOf old.now.trees n None) c.as_str.ensures (subst (IsDatabaseOf old.now.trees c.as_str.result.now) c.in-None.is value) in
-    let none = none_named old.now.trees ready.0 all.1.image.lists.id_of all.1.image.lists.listed name there in
-    c.transact.ensures.serves clean k still.0.is_open before (λ _. (ready.0, ready.1, none)) (keeps_still before old mid (c.database_of.ensures.call.same first c.requires.idle) keeps)
+    let free = free_there k old before name c.as_str.result.now c.in_ok-found.found c.as_str.ensures c.in-None.is (fits still.0.was_open) (keeps still.0.was_open).0 (c.in_ok-found.ensures.value first) in
+    c.transact.ensures.serves clean k still.0.is_open before (λ _. free) (keeps_still before old mid (c.database_of.ensures.call.same first c.requires.idle) keeps)
 
 pub returns-in-None-clause-survives : goal.returns-in-None-clause-survives
 returns-in-None-clause-survives g c =
@@ -72,10 +67,5 @@ returns-in-None-clause-survives g c =
     survives_after old mid new _ _ c.database_of.ensures.call.crash c.transact.ensures.survives (λ clean db made k before fits keeps.
     let first : HasCleanDisk mid = omega (arith, c.transact.ensures.survives.clean) in
     let still = c.in_ok-found.ensures.call.ok first in
-    let at = keeps still.0.was_open in
-    let ready = fits still.0.was_open in
-    let all = image_some k old.now.trees before ready.0 ready.1 at.0.1 in
-    let value = c.in_ok-found.ensures.value first at.0.0 in
-    let there : IsDatabaseOf old.now.trees name None = subst (λ n. IsDatabaseOf old.now.trees n None) c.as_str.ensures (subst (IsDatabaseOf old.now.trees c.as_str.result.now) c.in-None.is value) in
-    let none = none_named old.now.trees ready.0 all.1.image.lists.id_of all.1.image.lists.listed name there in
-    made k still.0.is_open before (λ _. (ready.0, ready.1, none)) (keeps_still before old mid (c.database_of.ensures.call.same first c.requires.idle) keeps))
+    let free = free_there k old before name c.as_str.result.now c.in_ok-found.found c.as_str.ensures c.in-None.is (fits still.0.was_open) (keeps still.0.was_open).0 (c.in_ok-found.ensures.value first) in
+    made k still.0.is_open before (λ _. free) (keeps_still before old mid (c.database_of.ensures.call.same first c.requires.idle) keeps))

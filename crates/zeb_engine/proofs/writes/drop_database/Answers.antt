@@ -1,17 +1,14 @@
-use Rattle.std.proofs.Common.{◌≡◌, Err, rules, arith, sym, subst, inl, inr, pos, IsTrue}
-use Rattle.sqlite.specs.Effect.{Database as Contents}
+use Rattle.std.proofs.Common.{◌≡◌, Err, rules, arith, sym, subst, inl, inr}
 use Rattle.sqlite.specs.State.{HasCleanDisk}
 use Rattle.sqlite.specs.Held.{state}
-use Rattle.zeb_register.specs.declared.catalog.Database.{Database}
-use Rattle.zeb_register.specs.Store.{HasDatabase}
 use Rattle.zeb_change.specs.Refused.{why_of}
-use Rattle.zeb_change.specs.Base.{Base}
 use Rattle.zeb_image.specs.NameOf.{name_bytes}
 use Rattle.zeb_engine.specs.Steps.{turned, dropped}
 use Rattle.zeb_engine.specs.Works.{IsReady, Serves}
 use Rattle.zeb_engine.proofs.Crashing.{survives_after}
 use Rattle.zeb_engine.proofs.Serving.{keeps_still, early_serves}
-use Rattle.zeb_engine.proofs.Turns.{step_missing, existing_known}
+use Rattle.zeb_engine.proofs.NamedDatabases.{known_there}
+use Rattle.zeb_engine.proofs.Turns.{step_missing}
 use Rattle.zeb_engine.proofs.writes.drop_database.Goals as goal
 
 pub returns-in_err-database-clause-serves : goal.returns-in_err-database-clause-serves
@@ -39,11 +36,8 @@ returns-clause-serves g c clean k home before fits keeps =
     let first : HasCleanDisk mid = omega (arith, c.transact.ensures.survives.clean) in
     let opened = (c.in_ok-database.ensures.found first).0 in
     let ready = fits opened in
-    let met = c.in_ok-database.ensures.exists first opened k before ready.0 ready.1 keeps in
-    let known = existing_known {X = Database} (λ (base : Base) (found : Database). HasDatabase old.now.trees found.id.0 base.name (pos base.last) × (found.last ≡ base.last) × IsTrue mid.is_open) name ready.0 c.in_ok-database.database met in
-    let nothing = c.existing_database.ensures.same first in
-    let row = subst (λ (d : Contents). HasDatabase d.trees c.in_ok-database.database.id.0 known.0.name (pos known.0.last)) (sym (nothing known.2.2).1) known.2.0 in
-    c.transact.ensures.serves clean k known.2.2 before (λ _. (home, (ready.0, known.0, ready.1, known.1, row))) (keeps_still before old mid nothing keeps)
+    let known = known_there k old mid before name c.in_ok-database.database ready (c.existing_database.ensures.same first) (c.in_ok-database.ensures.exists first opened k before ready.0 ready.1 keeps) in
+    c.transact.ensures.serves clean k known.0 before (λ _. (home, known.1)) (keeps_still before old mid (c.existing_database.ensures.same first) keeps)
 
 pub returns-clause-survives : goal.returns-clause-survives
 returns-clause-survives g c =
@@ -55,8 +49,5 @@ returns-clause-survives g c =
     let first : HasCleanDisk mid = omega (arith, c.transact.ensures.survives.clean) in
     let opened = (c.in_ok-database.ensures.found first).0 in
     let ready = fits opened in
-    let met = c.in_ok-database.ensures.exists first opened k before ready.0 ready.1 keeps in
-    let known = existing_known {X = Database} (λ (base : Base) (found : Database). HasDatabase old.now.trees found.id.0 base.name (pos base.last) × (found.last ≡ base.last) × IsTrue mid.is_open) name ready.0 c.in_ok-database.database met in
-    let nothing = c.existing_database.ensures.same first in
-    let row = subst (λ (d : Contents). HasDatabase d.trees c.in_ok-database.database.id.0 known.0.name (pos known.0.last)) (sym (nothing known.2.2).1) known.2.0 in
-    made k known.2.2 before (λ _. (home, (ready.0, known.0, ready.1, known.1, row))) (keeps_still before old mid nothing keeps))
+    let known = known_there k old mid before name c.in_ok-database.database ready (c.existing_database.ensures.same first) (c.in_ok-database.ensures.exists first opened k before ready.0 ready.1 keeps) in
+    made k known.0 before (λ _. (home, known.1)) (keeps_still before old mid (c.existing_database.ensures.same first) keeps))

@@ -71,10 +71,8 @@ returns-in-Find-clause-serves g c clean =
     let many = c.in-Find.count-1-own.given.0.1.1.1.0 in
     let same_name : of ≡ c.in-Find.database = search rules in
     let same_query : c.in-Find.query-1-own.given.0.1.0 ≡ c.in-Find.query = search rules in
-    let same_first : from ≡ c.in-Find.first = search rules in
-    let same_count : many ≡ c.in-Find.count = search rules in
     rw c.in-Find.is (find_serves k old new c.find.result c.in-Find.database c.in-Find.query c.in-Find.first c.in-Find.count (name_bytes of) c.as_str.result.now from many
-    (ap name_bytes same_name) (c.as_str.ensures.value ∙ ap string_bytes same_query) same_first same_count (c.find.ensures.serves clean))
+    (ap name_bytes same_name) (c.as_str.ensures.value ∙ ap string_bytes same_query) (search rules) (search rules) (c.find.ensures.serves clean))
 
 pub returns-in-Check-clause-serves : goal.returns-in-Check-clause-serves
 returns-in-Check-clause-serves g c clean =
@@ -121,10 +119,8 @@ returns-in-Scan-clause-serves g c clean =
     let at = c.in-Scan.position-1-own.given.0.1.1.1.0 in
     let same_name : of ≡ c.in-Scan.database = search rules in
     let same_query : c.in-Scan.query-in-Scan-1-own.given.0.1.0 ≡ c.in-Scan.query = search rules in
-    let same_number : many ≡ c.in-Scan.number = search rules in
-    let same_position : at ≡ c.in-Scan.position = search rules in
     rw c.in-Scan.is (scan_serves k old new c.scan.result c.in-Scan.database c.in-Scan.query c.in-Scan.number c.in-Scan.position (name_bytes of) c.as_str-in-Scan.result.now many at
-    (ap name_bytes same_name) (c.as_str-in-Scan.ensures.value ∙ ap string_bytes same_query) same_number same_position (c.scan.ensures.serves clean))
+    (ap name_bytes same_name) (c.as_str-in-Scan.ensures.value ∙ ap string_bytes same_query) (search rules) (search rules) (c.scan.ensures.serves clean))
 
 pub returns-in-Scan-clause-alone : goal.returns-in-Scan-clause-alone
 returns-in-Scan-clause-alone g c clean =
@@ -134,10 +130,8 @@ returns-in-Scan-clause-alone g c clean =
     let at = c.in-Scan.position-1-own.given.0.1.1.1.0 in
     let same_name : of ≡ c.in-Scan.database = search rules in
     let same_query : c.in-Scan.query-in-Scan-1-own.given.0.1.0 ≡ c.in-Scan.query = search rules in
-    let same_number : many ≡ c.in-Scan.number = search rules in
-    let same_position : at ≡ c.in-Scan.position = search rules in
     rw c.in-Scan.is (scan_alone g.L.Layout.format c.args.self.now.profile old c.scan.result c.in-Scan.database c.in-Scan.query c.in-Scan.number c.in-Scan.position (name_bytes of) c.as_str-in-Scan.result.now many at
-    (ap name_bytes same_name) (c.as_str-in-Scan.ensures.value ∙ ap string_bytes same_query) same_number same_position (c.scan.ensures.alone clean))
+    (ap name_bytes same_name) (c.as_str-in-Scan.ensures.value ∙ ap string_bytes same_query) (search rules) (search rules) (c.scan.ensures.alone clean))
 
 pub returns-in-Init-clause-begun : goal.returns-in-Init-clause-begun
 returns-in-Init-clause-begun g c clean is =
@@ -156,10 +150,8 @@ returns-in-Find-clause-alone g c clean =
     let many = c.in-Find.count-1-own.given.0.1.1.1.0 in
     let same_name : of ≡ c.in-Find.database = search rules in
     let same_query : c.in-Find.query-1-own.given.0.1.0 ≡ c.in-Find.query = search rules in
-    let same_first : from ≡ c.in-Find.first = search rules in
-    let same_count : many ≡ c.in-Find.count = search rules in
     rw c.in-Find.is (find_alone g.L.Layout.format c.args.self.now.profile old c.find.result c.in-Find.database c.in-Find.query c.in-Find.first c.in-Find.count (name_bytes of) c.as_str.result.now from many
-    (ap name_bytes same_name) (c.as_str.ensures.value ∙ ap string_bytes same_query) same_first same_count (c.find.ensures.alone clean) (c.find.ensures.refused clean))
+    (ap name_bytes same_name) (c.as_str.ensures.value ∙ ap string_bytes same_query) (search rules) (search rules) (c.find.ensures.alone clean) (c.find.ensures.refused clean))
 
 pub returns-in-Init-clause-alone : goal.returns-in-Init-clause-alone
 returns-in-Init-clause-alone g c clean = rw c.in-Init.is tt
@@ -413,11 +405,9 @@ pub returns-in-Scan-clause-read_work : goal.returns-in-Scan-clause-read_work
 returns-in-Scan-clause-read_work g c clean =
     let many = c.in-Scan.number-1-own.given.0.1.1.0 in
     let at = c.in-Scan.position-1-own.given.0.1.1.1.0 in
-    let same_number : many ≡ c.in-Scan.number = search rules in
-    let same_position : at ≡ c.in-Scan.position = search rules in
     let fresh : c.default-self.result ≡ no_work = search rules in
     rw c.in-Scan.is (scan_command_reads g.L.Layout.format g.L.Layout.row_work g.L.Layout.block_rows c.args.self.now.profile (state g.S.Store c.args.self.now.connection) c.scan.result c.in-Scan.database c.in-Scan.query c.in-Scan.number c.in-Scan.position many at
-    c.default-self.result c.scan.new.self.work fresh same_number same_position (c.scan.ensures.work clean))
+    c.default-self.result c.scan.new.self.work fresh (search rules) (search rules) (c.scan.ensures.work clean))
 
 pub returns-in-Init-clause-read_work : goal.returns-in-Init-clause-read_work
 returns-in-Init-clause-read_work g c clean = rw c.in-Init.is tt

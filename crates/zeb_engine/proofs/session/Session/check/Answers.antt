@@ -11,8 +11,8 @@ use Rattle.zeb_engine.specs.Steps.{checked, ready}
 use Rattle.zeb_engine.specs.Works.{Always, Serves}
 use Rattle.zeb_engine.proofs.Checks.{damage_serves, tells_none, tells_some, unready_tells}
 use Rattle.zeb_engine.proofs.Commanding.{ready_met, unready_checks}
-use Rattle.zeb_engine.proofs.ReadyTexts.{fault_never, ready_then}
-use Rattle.zeb_engine.proofs.StoreCauses.{accepted_leaves, fault_after}
+use Rattle.zeb_engine.proofs.ReadyTexts.{fault_never, passed_texts, ready_then}
+use Rattle.zeb_engine.proofs.StoreCauses.{accepted_leaves, fault_after, passed_cause}
 use Rattle.zeb_engine.proofs.session.Session.check.Goals as goal
 
 pub returns-in_err-check_ready-clause-serves : goal.returns-in_err-check_ready-clause-serves
@@ -27,9 +27,7 @@ returns-in_err-check_ready-clause-serves g c clean =
     (unready_checks g.L.Layout.format k old new refusal (c.check_ready.ensures.same clean) (λ before keeps. c.in_err-check_ready.ensures.ready clean limits before keeps))
 
 pub returns-in_err-check_ready-clause-ready : goal.returns-in_err-check_ready-clause-ready
-returns-in_err-check_ready-clause-ready g c clean =
-    let told : c.from_residual.result ≡ Err c.in_err-check_ready.field-0.0 = search rules in
-    rw told (c.in_err-check_ready.ensures.texts clean)
+returns-in_err-check_ready-clause-ready g c clean = passed_texts (version_of g.L.Layout.format) c.args.self.now.profile (state g.S.Store c.args.self.now.connection) c.in_err-check_ready.field-0.0 c.from_residual.result (search rules) (c.in_err-check_ready.ensures.texts clean)
 
 pub returns-in_err-check_ready-clause-checked : goal.returns-in_err-check_ready-clause-checked
 returns-in_err-check_ready-clause-checked g c clean store texts =
@@ -52,14 +50,13 @@ returns-in_err-is_image-clause-ready g c clean =
 
 pub returns-then-branch-clause-checked : goal.returns-then-branch-clause-checked
 returns-then-branch-clause-checked g c clean store texts =
-    let own = version_of g.L.Layout.format in
-    let k = conditions own c.args.self.now.profile c.args.self.now.limits in
+    let k = conditions (version_of g.L.Layout.format) c.args.self.now.profile c.args.self.now.limits in
     let old = state g.S.Store c.args.self.now.connection in
     let mid = state g.S.Store c.check_ready.new.connection in
     let first : HasCleanDisk mid = omega (arith, c.is_image.ensures.call.crash.clean) in
     let still = (c.check_ready.ensures.same first (c.in_ok-is_image.ensures.call.ok clean).0).1 in
     let yes : IsTrue c.in_ok-is_image.field-0 = search rules in
-    tells_some k own old mid still c.in_ok-is_image.field-0 (c.in_ok-is_image.ensures.value clean (store_same old mid still store)) yes
+    tells_some k (version_of g.L.Layout.format) old mid still c.in_ok-is_image.field-0 (c.in_ok-is_image.ensures.value clean (store_same old mid still store)) yes
 
 pub returns-else-branch-clause-serves : goal.returns-else-branch-clause-serves
 returns-else-branch-clause-serves g c clean =
@@ -80,19 +77,16 @@ returns-else-branch-clause-ready g c clean store =
 
 pub returns-else-branch-clause-checked : goal.returns-else-branch-clause-checked
 returns-else-branch-clause-checked g c clean store texts =
-    let own = version_of g.L.Layout.format in
-    let k = conditions own c.args.self.now.profile c.args.self.now.limits in
+    let k = conditions (version_of g.L.Layout.format) c.args.self.now.profile c.args.self.now.limits in
     let old = state g.S.Store c.args.self.now.connection in
     let mid = state g.S.Store c.check_ready.new.connection in
     let first : HasCleanDisk mid = omega (arith, c.is_image.ensures.call.crash.clean) in
     let still = (c.check_ready.ensures.same first (c.in_ok-is_image.ensures.call.ok clean).0).1 in
     let no : c.in_ok-is_image.field-0 ≡ false = search rules in
-    tells_none k own old mid still c.in_ok-is_image.field-0 (c.in_ok-is_image.ensures.value clean (store_same old mid still store)) texts no
+    tells_none k (version_of g.L.Layout.format) old mid still c.in_ok-is_image.field-0 (c.in_ok-is_image.ensures.value clean (store_same old mid still store)) texts no
 
 pub returns-in_err-check_ready-clause-caused : goal.returns-in_err-check_ready-clause-caused
-returns-in_err-check_ready-clause-caused g c clean =
-    let told : c.from_residual.result ≡ Err c.in_err-check_ready.field-0.0 = search rules in
-    rw told (c.in_err-check_ready.ensures.caused clean)
+returns-in_err-check_ready-clause-caused g c clean = passed_cause (state g.S.Store c.args.self.now.connection) (state g.S.Store c.check_ready.new.connection) c.in_err-check_ready.field-0.0 c.from_residual.result (search rules) (c.in_err-check_ready.ensures.caused clean)
 
 pub returns-in_err-is_image-clause-caused : goal.returns-in_err-is_image-clause-caused
 returns-in_err-is_image-clause-caused g c clean =

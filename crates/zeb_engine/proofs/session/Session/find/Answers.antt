@@ -17,10 +17,10 @@ use Rattle.zeb_engine.proofs.Asked.{alone_after, ready_asked, refused_after, unr
 use Rattle.zeb_engine.proofs.AskedReads.{told_after}
 use Rattle.zeb_engine.proofs.Commanding.{ready_met}
 use Rattle.zeb_engine.proofs.Serving.{keeps_still}
-use Rattle.zeb_engine.proofs.StoreCauses.{accepted_leaves, cause_after}
+use Rattle.zeb_engine.proofs.StoreCauses.{accepted_leaves, cause_after, passed_cause}
 use Rattle.zeb_engine.proofs.session.Session.find.Goals as goal
 use Rattle.zeb_register.specs.Formats.{version_of}
-use Rattle.zeb_engine.proofs.ReadyTexts.{ready_then, unready_fails}
+use Rattle.zeb_engine.proofs.ReadyTexts.{passed_texts, ready_then, unready_fails}
 
 pub returns-in_err-check_ready-clause-serves : goal.returns-in_err-check_ready-clause-serves
 returns-in_err-check_ready-clause-serves g c clean =
@@ -84,9 +84,7 @@ returns-clause-reads g c clean =
     nothing_then old mid (state g.S.Store c.find.new.connection) (c.check_ready.ensures.same clean1) (c.find.ensures.same clean)
 
 pub returns-in_err-check_ready-clause-ready : goal.returns-in_err-check_ready-clause-ready
-returns-in_err-check_ready-clause-ready g c clean =
-    let told : c.from_residual.result ≡ Err c.in_err-check_ready.field-0.0 = search rules in
-    rw told (c.in_err-check_ready.ensures.texts clean)
+returns-in_err-check_ready-clause-ready g c clean = passed_texts (version_of g.L.Layout.format) c.args.self.now.profile (state g.S.Store c.args.self.now.connection) c.in_err-check_ready.field-0.0 c.from_residual.result (search rules) (c.in_err-check_ready.ensures.texts clean)
 
 pub returns-clause-ready : goal.returns-clause-ready
 returns-clause-ready g c clean =
@@ -105,14 +103,12 @@ returns-clause-work g c clean =
     (c.check_ready.ensures.same clean1) (c.find.ensures.open clean) (c.find.ensures.work clean)
 
 pub returns-in_err-check_ready-clause-caused : goal.returns-in_err-check_ready-clause-caused
-returns-in_err-check_ready-clause-caused g c clean =
-    let told : c.from_residual.result ≡ Err c.in_err-check_ready.field-0.0 = search rules in
-    rw told (c.in_err-check_ready.ensures.caused clean)
+returns-in_err-check_ready-clause-caused g c clean = passed_cause (state g.S.Store c.args.self.now.connection) (state g.S.Store c.check_ready.new.connection) c.in_err-check_ready.field-0.0 c.from_residual.result (search rules) (c.in_err-check_ready.ensures.caused clean)
 
 pub returns-clause-caused : goal.returns-clause-caused
 returns-clause-caused g c clean =
-    let old = state g.S.Store c.args.self.now.connection in
     let mid = state g.S.Store c.check_ready.new.connection in
     let clean1 : HasCleanDisk mid = omega (arith, c.find.ensures.crash.clean) in
+    let old = state g.S.Store c.args.self.now.connection in
     let looked = accepted_leaves old mid c.check_ready.ensures.crash (c.in_ok-check_ready.ensures.open clean1) (c.check_ready.ensures.same clean1) in
     cause_after old mid (state g.S.Store c.find.new.connection) looked c.find.result (c.find.ensures.caused clean)

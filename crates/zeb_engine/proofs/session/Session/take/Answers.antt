@@ -8,14 +8,13 @@ use Rattle.zeb_engine.proofs.Commanding.{ready_kept, unready_serves}
 use Rattle.zeb_engine.proofs.Crashing.{survives_after}
 use Rattle.zeb_engine.proofs.session.Session.take.Goals as goal
 use Rattle.zeb_register.specs.Formats.{version_of}
-use Rattle.zeb_engine.proofs.ReadyTexts.{ready_then}
+use Rattle.zeb_engine.proofs.ReadyTexts.{passed_texts, ready_then}
 
 pub returns-in_err-check_ready-clause-serves : goal.returns-in_err-check_ready-clause-serves
 returns-in_err-check_ready-clause-serves g c clean =
     let held = c.args.self.now in
-    let refusal = c.in_err-check_ready.field-0.0 in
-    let told : c.from_residual.result ≡ Err refusal = search rules in
-    rw told (unready_serves g.L.Layout.format (conditions (version_of g.L.Layout.format) held.profile held.limits) (state g.S.Store held.connection) (state g.S.Store c.check_ready.new.connection) refusal (c.check_ready.ensures.same clean)
+    let told : c.from_residual.result ≡ Err c.in_err-check_ready.field-0.0 = search rules in
+    rw told (unready_serves g.L.Layout.format (conditions (version_of g.L.Layout.format) held.profile held.limits) (state g.S.Store held.connection) (state g.S.Store c.check_ready.new.connection) c.in_err-check_ready.field-0.0 (c.check_ready.ensures.same clean)
     (λ before keeps. c.in_err-check_ready.ensures.ready clean held.limits before keeps) (dropped (name_bytes c.args.name.now)))
 
 pub returns-clause-serves : goal.returns-clause-serves
@@ -38,9 +37,7 @@ returns-clause-survives g c =
     made k refl before (λ _. (met.0, met.1)) met.3)
 
 pub returns-in_err-check_ready-clause-ready : goal.returns-in_err-check_ready-clause-ready
-returns-in_err-check_ready-clause-ready g c clean =
-    let told : c.from_residual.result ≡ Err c.in_err-check_ready.field-0.0 = search rules in
-    rw told (c.in_err-check_ready.ensures.texts clean)
+returns-in_err-check_ready-clause-ready g c clean = passed_texts (version_of g.L.Layout.format) c.args.self.now.profile (state g.S.Store c.args.self.now.connection) c.in_err-check_ready.field-0.0 c.from_residual.result (search rules) (c.in_err-check_ready.ensures.texts clean)
 
 pub returns-clause-ready : goal.returns-clause-ready
 returns-clause-ready g c clean =
