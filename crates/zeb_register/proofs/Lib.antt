@@ -50,8 +50,6 @@ pub mod RecordLemmas
 pub mod RecordReadings
 pub mod Refusals
 pub mod WriteRefusals
-pub mod Refusals
-pub mod WriteRefusals
 pub mod Alike
 pub mod Told
 pub mod ExpectedStatements
