@@ -21,6 +21,7 @@ use Rattle.zeb_register.proofs.RowLemmas.{null_of, spread, code_at, int_of, text
 use Rattle.zeb_register.proofs.Selects.{IsSelected, selects, list_so}
 use Rattle.zeb_register.proofs.Calls.{IsSilent}
 use Rattle.zeb_register.proofs.Refusals.{IsWhole, IsFit, IsReasonedQuery, why_refused}
+use Rattle.zeb_register.proofs.WriteRefusals.{IsReasonedWrite, why_delete_refused}
 use Rattle.sqlite.specs.Order.{Row, column}
 use Rattle.sqlite.specs.Tree.{Trees}
 use Rattle.sqlite_rules.specs.Lists.{Has}
@@ -137,6 +138,16 @@ cuts id old new count store ran =
       λ h. let was = (each (Int i ∷ Null ∷ Text name ∷ Int last ∷ [])).0 h in (was.0, λ same. was.1 (ap Int same, tt)),
       λ h. (each (Int i ∷ Null ∷ Text name ∷ Int last ∷ [])).1 (h.0, λ m. h.1 (let e : i ≡ id = let f = m.0 in cc in e)),
     )) (deletes store_schema 1 databases databases_static cut_text (Int id ∷ []) wheres cut_is cut_plain refl old new count store ran)
+
+cut_whole : IsWhole cut_text 1 (understood store_schema cut_text)
+unfolding understood everything
+cut_whole = (omega arith, refl)
+
+cut_fit : (id : ℤ) → IsFit (alone (reading 2 (equals 0 0 ∷ []) (shows (0 ∷ [])) [] no_limit)) (Int id ∷ [])
+cut_fit id trees mistyped = absurd (let t : true ≡ false = mistyped in cc)
+
+pub cut_refused : (id : ℤ) → IsReasonedWrite cut_text (Int id ∷ [])
+cut_refused id = why_delete_refused cut_text (Int id ∷ []) 1 databases databases_static (equals 0 0 ∷ []) cut_is cut_plain cut_whole (cut_fit id)
 
 -- ---- SELECT by name
 

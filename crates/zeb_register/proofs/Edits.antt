@@ -26,7 +26,7 @@ use Rattle.zeb_register.specs.Sql.{IsKeyed}
 abbrev pub Lacks : List ℤ → Row → Type 0
 Lacks ids r = (id : ℤ) → Has ids id → has_rowid id r ≡ false
 
-left_has : (ids : List ℤ) (rows : List Row) (r : Row) → Has (without_all rows ids) r ↔ (Has rows r × Lacks ids r)
+pub left_has : (ids : List ℤ) (rows : List Row) (r : Row) → Has (without_all rows ids) r ↔ (Has rows r × Lacks ids r)
 left_has [] rows r = (λ h. (h, λ id none. absurd none), λ h. h.0)
 left_has (id ∷ ids) rows r =
     let later = left_has ids (without_rowid id rows) r in (

@@ -49,6 +49,7 @@ pub mod PackedChanges
 pub mod RecordLemmas
 pub mod RecordReadings
 pub mod Refusals
+pub mod WriteRefusals
 pub mod Alike
 pub mod Told
 pub mod ExpectedStatements

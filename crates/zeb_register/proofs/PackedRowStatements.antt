@@ -1,5 +1,5 @@
 -- The statements on one row of the packed tables, each with what it is compiled to.
-use Rattle.std.proofs.Common.{◌≡◌, ◌∙◌, ℕ, ℤ, false, List, [], ◌∷◌, ap, ap₂, codes, drop, inl, inr, refl, sym, subst, Ok}
+use Rattle.std.proofs.Common.{◌≡◌, ◌∙◌, ℕ, ℤ, false, List, [], ◌∷◌, ap, ap₂, codes, drop, inl, inr, refl, sym, subst, Ok, arith, true}
 use Rattle.sqlite.specs.declared.types.Value.{Value}
 use Rattle.sqlite.specs.declared.types.Value.TheVariants.{Null, Int, Text, Blob}
 use Rattle.sqlite.specs.Order.{Row}
@@ -19,6 +19,8 @@ use Rattle.zeb_register.proofs.Calls.{IsSilent}
 use Rattle.zeb_register.proofs.PackedStatements.{blocks_keys, dict_keys}
 use Rattle.zeb_register.proofs.PostingStatements.{blocks, blocks_static, dict, dict_static}
 use Rattle.zeb_register.proofs.Prefix.{IsAfter, lists_after}
+use Rattle.zeb_register.proofs.Refusals.{IsFit, IsWhole}
+use Rattle.zeb_register.proofs.WriteRefusals.{IsReasonedWrite, why_delete_refused}
 use Rattle.zeb_register.proofs.Selects.{list_so}
 use Rattle.zeb_register.proofs.StatementForms.{Condition, alone, equals, keyed_from, no_limit, reading, shows}
 use Rattle.zeb_register.proofs.Writes.{RemakesRows, changed_so, deletes, gains, inserts, loses, updates}
@@ -138,6 +140,16 @@ removes_block db idx reg term block old new count store ran =
       λ m. (m.0, (m.1, (m.2, (m.3, (m.4, tt))))),
     )) (deletes store_schema 4 blocks blocks_static remove_block_text key block_wheres remove_block_is remove_block_plain refl old new count store ran)
 
+remove_block_whole : IsWhole remove_block_text 5 (understood store_schema remove_block_text)
+unfolding understood everything
+remove_block_whole = (omega arith, refl)
+
+remove_block_fit : (db idx reg : ℤ) (term : List ℕ) (block : ℤ) → IsFit (alone (reading 9 block_wheres (shows (0 ∷ [])) [] no_limit)) (block_key db idx reg term block)
+remove_block_fit db idx reg term block trees mistyped = absurd (let t : true ≡ false = mistyped in cc)
+
+pub remove_block_refused : (db idx reg : ℤ) (term : List ℕ) (block : ℤ) → IsReasonedWrite remove_block_text (block_key db idx reg term block)
+remove_block_refused db idx reg term block = why_delete_refused remove_block_text (block_key db idx reg term block) 4 blocks blocks_static block_wheres remove_block_is remove_block_plain remove_block_whole (remove_block_fit db idx reg term block)
+
 abbrev pub remove_dict_text : List ℕ
 remove_dict_text = codes "DELETE FROM dict WHERE db = ?1 AND idx = ?2 AND reg = ?3 AND term = ?4"
 
@@ -160,6 +172,16 @@ removes_dict db idx reg term old new count store ran =
       λ m. (m.0, m.1.0, m.1.1.0, m.1.1.1.0),
       λ m. (m.0, (m.1, (m.2, (m.3, tt)))),
     )) (deletes store_schema 5 dict dict_static remove_dict_text key dict_wheres remove_dict_is remove_dict_plain refl old new count store ran)
+
+remove_dict_whole : IsWhole remove_dict_text 4 (understood store_schema remove_dict_text)
+unfolding understood everything
+remove_dict_whole = (omega arith, refl)
+
+remove_dict_fit : (db idx reg : ℤ) (term : List ℕ) → IsFit (alone (reading 11 dict_wheres (shows (0 ∷ [])) [] no_limit)) (key_of db idx reg term)
+remove_dict_fit db idx reg term trees mistyped = absurd (let t : true ≡ false = mistyped in cc)
+
+pub remove_dict_refused : (db idx reg : ℤ) (term : List ℕ) → IsReasonedWrite remove_dict_text (key_of db idx reg term)
+remove_dict_refused db idx reg term = why_delete_refused remove_dict_text (key_of db idx reg term) 5 dict dict_static dict_wheres remove_dict_is remove_dict_plain remove_dict_whole (remove_dict_fit db idx reg term)
 
 -- ---- UPDATE
 

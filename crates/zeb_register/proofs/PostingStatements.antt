@@ -20,6 +20,7 @@ use Rattle.zeb_register.proofs.Selects.{list_so}
 use Rattle.zeb_register.proofs.Prefix.{IsAfter, lists_after}
 use Rattle.zeb_register.proofs.Calls.{IsSilent}
 use Rattle.zeb_register.proofs.Refusals.{IsFit, IsReasonedQuery, IsWhole, why_refused}
+use Rattle.zeb_register.proofs.WriteRefusals.{IsReasonedWrite, why_delete_refused}
 use Rattle.sqlite.specs.Order.{Row}
 
 abbrev pub postings : Table
@@ -44,6 +45,16 @@ takes db old new count store ran =
     let wheres = equals 1 0 ∷ [] in
     loses store_schema 7 old new (Int db ∷ []) wheres (IsPostingIn db) (λ id columns. (λ m. m.0, λ p. (p, tt)))
     (deletes store_schema 3 postings postings_static take_text (Int db ∷ []) wheres take_is take_plain refl old new count store ran)
+
+take_whole : IsWhole take_text 1 (understood store_schema take_text)
+unfolding understood everything
+take_whole = (omega arith, refl)
+
+take_fit : (db : ℤ) → IsFit (alone (reading 7 (equals 1 0 ∷ []) (shows (0 ∷ [])) [] no_limit)) (Int db ∷ [])
+take_fit db trees mistyped = absurd (let t : true ≡ false = mistyped in cc)
+
+pub take_refused : (db : ℤ) → IsReasonedWrite take_text (Int db ∷ [])
+take_refused db = why_delete_refused take_text (Int db ∷ []) 3 postings postings_static (equals 1 0 ∷ []) take_is take_plain take_whole (take_fit db)
 
 -- ---- the same of the tables of packed registers
 
@@ -70,6 +81,16 @@ takes_blocks db old new count store ran =
     loses store_schema 9 old new (Int db ∷ []) wheres (IsPostingIn db) (λ id columns. (λ m. m.0, λ p. (p, tt)))
     (deletes store_schema 4 blocks blocks_static blocks_text (Int db ∷ []) wheres blocks_is blocks_plain refl old new count store ran)
 
+blocks_whole : IsWhole blocks_text 1 (understood store_schema blocks_text)
+unfolding understood everything
+blocks_whole = (omega arith, refl)
+
+blocks_fit : (db : ℤ) → IsFit (alone (reading 9 (equals 1 0 ∷ []) (shows (0 ∷ [])) [] no_limit)) (Int db ∷ [])
+blocks_fit db trees mistyped = absurd (let t : true ≡ false = mistyped in cc)
+
+pub blocks_refused : (db : ℤ) → IsReasonedWrite blocks_text (Int db ∷ [])
+blocks_refused db = why_delete_refused blocks_text (Int db ∷ []) 4 blocks blocks_static (equals 1 0 ∷ []) blocks_is blocks_plain blocks_whole (blocks_fit db)
+
 abbrev pub dict : Table
 dict = record dict_table { tree = 11 }
 
@@ -92,6 +113,16 @@ takes_dict db old new count store ran =
     let wheres = equals 1 0 ∷ [] in
     loses store_schema 11 old new (Int db ∷ []) wheres (IsPostingIn db) (λ id columns. (λ m. m.0, λ p. (p, tt)))
     (deletes store_schema 5 dict dict_static dict_text (Int db ∷ []) wheres dict_is dict_plain refl old new count store ran)
+
+dict_whole : IsWhole dict_text 1 (understood store_schema dict_text)
+unfolding understood everything
+dict_whole = (omega arith, refl)
+
+dict_fit : (db : ℤ) → IsFit (alone (reading 11 (equals 1 0 ∷ []) (shows (0 ∷ [])) [] no_limit)) (Int db ∷ [])
+dict_fit db trees mistyped = absurd (let t : true ≡ false = mistyped in cc)
+
+pub dict_refused : (db : ℤ) → IsReasonedWrite dict_text (Int db ∷ [])
+dict_refused db = why_delete_refused dict_text (Int db ∷ []) 5 dict dict_static (equals 1 0 ∷ []) dict_is dict_plain dict_whole (dict_fit db)
 
 -- ---- INSERT
 
@@ -251,3 +282,13 @@ lifts db idx reg term sysno old new count store ran =
       λ m. (m.0, m.1.0, m.1.1.0, m.1.1.1.0, m.1.1.1.1.0),
       λ p. (p.0, (p.1, (p.2, (p.3, (p.4, tt))))),
     )) (deletes store_schema 3 postings postings_static lift_text (place_key db idx reg term sysno) lift_wheres lift_is lift_plain refl old new count store ran)
+
+lift_whole : IsWhole lift_text 5 (understood store_schema lift_text)
+unfolding understood everything
+lift_whole = (omega arith, refl)
+
+lift_fit : (db idx reg : ℤ) (term : List ℕ) (sysno : ℤ) → IsFit (alone (reading 7 lift_wheres (shows (0 ∷ [])) [] no_limit)) (place_key db idx reg term sysno)
+lift_fit db idx reg term sysno trees mistyped = absurd (let t : true ≡ false = mistyped in cc)
+
+pub lift_refused : (db idx reg : ℤ) (term : List ℕ) (sysno : ℤ) → IsReasonedWrite lift_text (place_key db idx reg term sysno)
+lift_refused db idx reg term sysno = why_delete_refused lift_text (place_key db idx reg term sysno) 3 postings postings_static lift_wheres lift_is lift_plain lift_whole (lift_fit db idx reg term sysno)

@@ -23,6 +23,7 @@ use Rattle.zeb_register.proofs.Selects.{IsSelected, selects, list_so}
 use Rattle.zeb_register.proofs.Prefix.{IsAfter, lists_after}
 use Rattle.zeb_register.proofs.Calls.{IsSilent}
 use Rattle.zeb_register.proofs.Refusals.{IsWhole, IsFit, IsReasonedQuery, why_refused}
+use Rattle.zeb_register.proofs.WriteRefusals.{IsReasonedWrite, why_delete_refused}
 use Rattle.sqlite.specs.Order.{Row, column}
 use Rattle.sqlite_rules.specs.Lists.{Has}
 
@@ -93,6 +94,16 @@ removes db sysno old new count store ran =
     loses store_schema 4 old new (Int db ∷ Int sysno ∷ []) number_wheres (HasNumber db sysno) (λ id columns. (λ m. (m.0, m.1.0), λ p. (p.0, (p.1, tt))))
     (deletes store_schema 2 records records_static remove_text (Int db ∷ Int sysno ∷ []) number_wheres remove_is remove_plain refl old new count store ran)
 
+remove_whole : IsWhole remove_text 2 (understood store_schema remove_text)
+unfolding understood everything
+remove_whole = (omega arith, refl)
+
+remove_fit : (db sysno : ℤ) → IsFit (alone (reading 4 number_wheres (shows (0 ∷ [])) [] no_limit)) (Int db ∷ Int sysno ∷ [])
+remove_fit db sysno trees mistyped = absurd (let t : true ≡ false = mistyped in cc)
+
+pub remove_refused : (db sysno : ℤ) → IsReasonedWrite remove_text (Int db ∷ Int sysno ∷ [])
+remove_refused db sysno = why_delete_refused remove_text (Int db ∷ Int sysno ∷ []) 2 records records_static number_wheres remove_is remove_plain remove_whole (remove_fit db sysno)
+
 abbrev pub clear_text : List ℕ
 clear_text = codes "DELETE FROM records WHERE db = ?1"
 
@@ -109,6 +120,16 @@ clears db old new count store ran =
     let wheres = equals 1 0 ∷ [] in
     loses store_schema 4 old new (Int db ∷ []) wheres (IsRecordIn db) (λ id columns. (λ m. m.0, λ p. (p, tt)))
     (deletes store_schema 2 records records_static clear_text (Int db ∷ []) wheres clear_is clear_plain refl old new count store ran)
+
+clear_whole : IsWhole clear_text 1 (understood store_schema clear_text)
+unfolding understood everything
+clear_whole = (omega arith, refl)
+
+clear_fit : (db : ℤ) → IsFit (alone (reading 4 (equals 1 0 ∷ []) (shows (0 ∷ [])) [] no_limit)) (Int db ∷ [])
+clear_fit db trees mistyped = absurd (let t : true ≡ false = mistyped in cc)
+
+pub clear_refused : (db : ℤ) → IsReasonedWrite clear_text (Int db ∷ [])
+clear_refused db = why_delete_refused clear_text (Int db ∷ []) 2 records records_static (equals 1 0 ∷ []) clear_is clear_plain clear_whole (clear_fit db)
 
 -- ---- SELECT
 

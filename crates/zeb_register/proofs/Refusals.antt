@@ -46,13 +46,17 @@ pub not_late : (sql : List ℕ) (params : Row) (old new : State) (e : Error) →
 not_late sql params old new e inside (inl failed) = failed
 not_late sql params old new e inside (inr late) = absurd (let ended : true ≡ false = sym inside ∙ late.3 in cc)
 
-by_cause : (old new : State) (kind : StoreError) → fault_of (store_error kind) ≡ Store → HasCause old new ⊥ kind → MayRefuse old new
-by_cause old new cause.OutOfMemory told h = absurd cc
-by_cause old new cause.Io told h = inr (inl h)
-by_cause old new cause.Corrupt told h = inr (inl h)
-by_cause old new cause.Full told h = inr (inl h)
-by_cause old new cause.Broken told h = inl h
-by_cause old new cause.Unstorable told h = absurd h
+-- a failure of the store has a cause, or what the statement writes is too big for it
+pub by_cause : (old new : State) (TooBig : Type 0) (kind : StoreError) → fault_of (store_error kind) ≡ Store → HasCause old new TooBig kind → MayRefuse old new ⊎ TooBig
+by_cause old new TooBig cause.OutOfMemory told h = absurd cc
+by_cause old new TooBig cause.Io told h = inl (inr (inl h))
+by_cause old new TooBig cause.Corrupt told h = inl (inr (inl h))
+by_cause old new TooBig cause.Full told h = inl (inr (inl h))
+by_cause old new TooBig cause.Broken told h = inl (inl h)
+by_cause old new TooBig cause.Unstorable told h = inr h
+
+pub without_size : (old new : State) (kind : StoreError) → fault_of (store_error kind) ≡ Store → HasCause old new ⊥ kind → MayRefuse old new
+without_size old new kind told h = elim (by_cause old new ⊥ kind told h) [ inl why ↦ why | inr none ↦ absurd none ]
 
 module _ (sql : List ℕ) (params : Row) (query : Query) (names : List (List ℕ))
     (is : command_of (understood store_schema sql) ≡ Select (alone query) names)
@@ -71,7 +75,7 @@ module _ (sql : List ℕ) (params : Row) (query : Query) (names : List (List ℕ
         | inr (inl count) ↦ absurd (count.0 fits.1)
         | inr (inr clock) ↦ absurd (clock.0 (subst IsPlain known plain).1)
       ]
-  why_query_refused e told (inl (inr failed)) = by_cause old new failed.0 (ap fault_of (sym failed.1) ∙ told) failed.2
+  why_query_refused e told (inl (inr failed)) = without_size old new failed.0 (ap fault_of (sym failed.1) ∙ told) failed.2
   why_query_refused e told (inr h) =
       let known = sym h.1.is ∙ ap (λ s. understood s sql) store.is in
       let bare = subst IsPlain (sym known) plain in

@@ -3,7 +3,7 @@
 ghost use Rattle.std.specs.Prelude.{◌≡◌, ◌≢◌, OnOk};
 ghost use Rattle.sqlite.specs.Held.{state};
 ghost use Rattle.zeb_register.specs.Calls.{GoesOn, Inside};
-ghost use Rattle.zeb_register.specs.Clauses.{InStore};
+ghost use Rattle.zeb_register.specs.Clauses.{InStore, IsReasonedInside};
 ghost use Rattle.zeb_register.specs.Content.{Content, IsWithout, TakesWhole};
 ghost use Rattle.zeb_register.specs.Formats.{Format, holds_in};
 ghost use Rattle.zeb_register.specs.RowPlaces.{DropsRegisters};
@@ -27,6 +27,7 @@ pub(crate) fn database_drop_whole<S: Alter>(
         (TakesWhole db.0 (state S.Store tx.old.conn.now) (state S.Store tx.new.conn.now) × ((format : Format) (before after : Content)
         → holds_in format trees before → IsWithout db.0 before after → holds_in format (state S.Store tx.new.conn.now).now.trees after))) }
     ensures honest { result ≢ Err RegFault.Damaged }
+    ensures refused { IsReasonedInside (state S.Store tx.old.conn.now) (state S.Store tx.new.conn.now) result }
 {
     registers_drop(tx, db)?;
     records_drop(tx, db)?;
@@ -39,6 +40,7 @@ fn registers_drop<S: Alter>(tx: &mut Transaction<'_, S>, db: DatabaseId) -> Resu
     ensures call { Inside (state S.Store tx.old.conn.now) (state S.Store tx.new.conn.now) result
         (λ _ a b. GoesOn a b × (IsStore a → DropsRegisters db.0 a b)) }
     ensures honest { result ≢ Err RegFault.Damaged }
+    ensures refused { IsReasonedInside (state S.Store tx.old.conn.now) (state S.Store tx.new.conn.now) result }
 {
     postings_clear(tx, db.column())?;
     blocks_clear(tx, db.column())?;

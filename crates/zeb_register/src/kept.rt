@@ -74,6 +74,7 @@ pub fn record_take<S: Alter>(
     ensures call { Writes records_tree (Loses (HasNumber db.0 (pos sysno)))
         (state S.Store tx.old.conn.now) (state S.Store tx.new.conn.now) result }
     ensures honest { result ≢ Err RegFault.Damaged }
+    ensures refused { sysno < 2 ^ 63 → IsReasonedInside (state S.Store tx.old.conn.now) (state S.Store tx.new.conn.now) result }
 {
     let sysno = stored(sysno)?;
     record_remove(tx, db.column(), sysno)?;
@@ -267,6 +268,7 @@ pub(crate) fn records_drop<S: Alter>(
     ensures same { tx.new.conn.ghost_name ≡ tx.old.conn.ghost_name }
     ensures call { Writes records_tree (Loses (IsRecordIn db.0)) (state S.Store tx.old.conn.now) (state S.Store tx.new.conn.now) result }
     ensures honest { result ≢ Err RegFault.Damaged }
+    ensures refused { IsReasonedInside (state S.Store tx.old.conn.now) (state S.Store tx.new.conn.now) result }
 {
     records_clear(tx, db.column())?;
     Ok(())

@@ -5,7 +5,8 @@ ghost use Rattle.sqlite.specs.Held.{state};
 ghost use Rattle.sqlite.specs.State.{IsUnchanged};
 ghost use Rattle.sqlite_rules.specs.Lists.{Has};
 ghost use Rattle.zeb_register.specs.Calls.{GoesOn, Inside, Reading};
-ghost use Rattle.zeb_register.specs.Clauses.{ChangesHeld, DamagedHeld, FindsHeld, InStore, IsHonestStorable, IsReasoned, TellsHeld, TellsWhether};
+ghost use Rattle.zeb_register.specs.Clauses.{ChangesHeld, DamagedHeld, FindsHeld, InStore, IsHonestStorable};
+ghost use Rattle.zeb_register.specs.Clauses.{IsReasoned, IsReasonedInside, TellsHeld, TellsWhether};
 ghost use Rattle.sqlite.specs.Tree.{Trees};
 ghost use Rattle.zeb_register.specs.Content.{Content, IsRising, IsChangedAt, IsWithout};
 ghost use Rattle.zeb_register.specs.Formats.{Format, holds_in, version_of};
@@ -149,7 +150,8 @@ pub trait Layout {
             (TakesWhole db.0 (state S.Store tx.old.conn.now) (state S.Store tx.new.conn.now)
             × ((before after : Content) → holds_in format trees before → IsWithout db.0 before after
             → holds_in format (state S.Store tx.new.conn.now).now.trees after))) }
-        ensures honest { result ≢ Err RegFault.Damaged };
+        ensures honest { result ≢ Err RegFault.Damaged }
+        ensures refused { IsReasonedInside (state S.Store tx.old.conn.now) (state S.Store tx.new.conn.now) result };
 
     /// The postings of a key, rising.
     fn key_list<S: Alter>(

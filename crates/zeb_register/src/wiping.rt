@@ -4,6 +4,7 @@ ghost use Rattle.std.specs.Prelude.{◌≡◌, ◌≢◌};
 ghost use Rattle.sqlite.specs.Held.{state};
 ghost use Rattle.zeb_register.specs.Store.{IsStore, IsEmptyStore, LacksLists, LacksRegisters, KeepsLists};
 ghost use Rattle.zeb_register.specs.Calls.{GoesOn, Inside};
+ghost use Rattle.zeb_register.specs.Clauses.{IsReasonedInside};
 
 use crate::RegFault;
 use crate::statements::wipes::{
@@ -17,6 +18,7 @@ pub fn wipe<S: Alter>(tx: &mut Transaction<'_, S>) -> Result<(), RegFault>
     ensures call { Inside (state S.Store tx.old.conn.now) (state S.Store tx.new.conn.now) result
         (λ _ a b. GoesOn a b × (IsStore a → IsEmptyStore b)) }
     ensures honest { result ≢ Err RegFault.Damaged }
+    ensures refused { IsReasonedInside (state S.Store tx.old.conn.now) (state S.Store tx.new.conn.now) result }
 {
     lists_wipe(tx)?;
     registers_wipe(tx)
@@ -28,6 +30,7 @@ fn lists_wipe<S: Alter>(tx: &mut Transaction<'_, S>) -> Result<(), RegFault>
     ensures call { Inside (state S.Store tx.old.conn.now) (state S.Store tx.new.conn.now) result
         (λ _ a b. GoesOn a b × (IsStore a → IsStore b × LacksLists b.now.trees)) }
     ensures honest { result ≢ Err RegFault.Damaged }
+    ensures refused { IsReasonedInside (state S.Store tx.old.conn.now) (state S.Store tx.new.conn.now) result }
 {
     meta_wipe(tx)?;
     databases_wipe(tx)?;
@@ -41,6 +44,7 @@ pub fn registers_wipe<S: Alter>(tx: &mut Transaction<'_, S>) -> Result<(), RegFa
     ensures call { Inside (state S.Store tx.old.conn.now) (state S.Store tx.new.conn.now) result
         (λ _ a b. GoesOn a b × (IsStore a → IsStore b × LacksRegisters b.now.trees × KeepsLists a.now.trees b.now.trees)) }
     ensures honest { result ≢ Err RegFault.Damaged }
+    ensures refused { IsReasonedInside (state S.Store tx.old.conn.now) (state S.Store tx.new.conn.now) result }
 {
     postings_wipe(tx)?;
     blocks_wipe(tx)?;

@@ -92,6 +92,7 @@ pub(crate) fn last_set<S: Alter>(
 pub(crate) fn database_cut<S: Alter>(tx: &mut Transaction<'_, S>, id: i64) -> Result<usize, Error>
     ensures same { tx.new.conn.ghost_name ≡ tx.old.conn.ghost_name }
     ensures call { Writes databases_tree (TakesDatabase id) (state S.Store tx.old.conn.now) (state S.Store tx.new.conn.now) result }
+    ensures refused { IsReasonedErrorInside (state S.Store tx.old.conn.now) (state S.Store tx.new.conn.now) result }
 {
     tx.execute("DELETE FROM databases WHERE id = ?1", params![id])
 }

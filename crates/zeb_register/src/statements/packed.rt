@@ -6,12 +6,13 @@ ghost use Rattle.zeb_register.specs.Sql.{Loses};
 ghost use Rattle.sqlite.specs.declared.types.Value.TheVariants.{Text};
 ghost use Rattle.zeb_register.specs.Store.{blocks_tree, dict_tree, IsPostingIn, IsRest};
 ghost use Rattle.zeb_register.specs.Calls.{Reading};
-ghost use Rattle.zeb_register.specs.Clauses.{IsReasonedError, Writes};
+ghost use Rattle.zeb_register.specs.Clauses.{IsReasonedError, IsReasonedErrorInside, Writes};
 ghost use Rattle.zeb_register.specs.KeyColumns.{register_columns};
 ghost use Rattle.zeb_register.specs.PackedBlocks.{IsRestBefore, IsRestFrom};
 ghost use Rattle.zeb_register.specs.PackedRows.{ListsFirst, ListsLast};
 ghost use Rattle.zeb_register.specs.RowStatements.{Lists};
 
+use crate::RegFault;
 use crate::statements::keys::RegisterOf;
 use sqlite::{Alter, Connection, Error, Row, Transaction, params};
 
@@ -100,6 +101,7 @@ pub(crate) fn dict_rows_before<S: Alter>(
 pub(crate) fn blocks_clear<S: Alter>(tx: &mut Transaction<'_, S>, db: i64) -> Result<usize, Error>
     ensures same { tx.new.conn.ghost_name ≡ tx.old.conn.ghost_name }
     ensures call { Writes blocks_tree (Loses (IsPostingIn db)) (state S.Store tx.old.conn.now) (state S.Store tx.new.conn.now) result }
+    ensures refused { IsReasonedErrorInside (state S.Store tx.old.conn.now) (state S.Store tx.new.conn.now) result }
 {
     tx.execute("DELETE FROM blocks WHERE db = ?1", params![db])
 }
@@ -107,6 +109,7 @@ pub(crate) fn blocks_clear<S: Alter>(tx: &mut Transaction<'_, S>, db: i64) -> Re
 pub(crate) fn dict_clear<S: Alter>(tx: &mut Transaction<'_, S>, db: i64) -> Result<usize, Error>
     ensures same { tx.new.conn.ghost_name ≡ tx.old.conn.ghost_name }
     ensures call { Writes dict_tree (Loses (IsPostingIn db)) (state S.Store tx.old.conn.now) (state S.Store tx.new.conn.now) result }
+    ensures refused { IsReasonedErrorInside (state S.Store tx.old.conn.now) (state S.Store tx.new.conn.now) result }
 {
     tx.execute("DELETE FROM dict WHERE db = ?1", params![db])
 }

@@ -10,7 +10,7 @@ ghost use Rattle.zeb_register.specs.Sql.{Loses};
 ghost use Rattle.zeb_register.specs.RowStatements.{Gains, Lists, ListsInside};
 ghost use Rattle.zeb_register.specs.Store.{postings_tree, IsPostingIn, IsRest};
 ghost use Rattle.zeb_register.specs.Calls.{Inside, Reading};
-ghost use Rattle.zeb_register.specs.Clauses.{Writes};
+ghost use Rattle.zeb_register.specs.Clauses.{IsReasonedErrorInside, Writes};
 ghost use Rattle.zeb_register.specs.Clauses.{IsReasonedError};
 ghost use Rattle.zeb_register.specs.KeyColumns.{HasTermOf, IsOfNumbered, numbered_columns, register_columns};
 ghost use Rattle.zeb_register.specs.RowTerms.{ShowsLeast, ShowsGreatest, Reads};
@@ -94,6 +94,7 @@ pub(crate) fn places_lift<S: Alter>(
     ensures same { tx.new.conn.ghost_name ≡ tx.old.conn.ghost_name }
     ensures call { Writes postings_tree (Loses (IsOfNumbered at.entry number))
         (state S.Store tx.old.conn.now) (state S.Store tx.new.conn.now) result }
+    ensures refused { IsReasonedErrorInside (state S.Store tx.old.conn.now) (state S.Store tx.new.conn.now) result }
 {
     let db = at.db.column();
     let reg = u32::from(at.key.register.code());
@@ -127,6 +128,7 @@ pub(crate) fn posting_put<S: Alter>(
 pub(crate) fn postings_clear<S: Alter>(tx: &mut Transaction<'_, S>, db: i64) -> Result<usize, Error>
     ensures same { tx.new.conn.ghost_name ≡ tx.old.conn.ghost_name }
     ensures call { Writes postings_tree (Loses (IsPostingIn db)) (state S.Store tx.old.conn.now) (state S.Store tx.new.conn.now) result }
+    ensures refused { IsReasonedErrorInside (state S.Store tx.old.conn.now) (state S.Store tx.new.conn.now) result }
 {
     tx.execute("DELETE FROM postings WHERE db = ?1", params![db])
 }

@@ -38,6 +38,7 @@ pub(crate) fn record_remove<S: Alter>(
 ) -> Result<usize, Error>
     ensures same { tx.new.conn.ghost_name ≡ tx.old.conn.ghost_name }
     ensures call { Writes records_tree (Loses (HasNumber db sysno)) (state S.Store tx.old.conn.now) (state S.Store tx.new.conn.now) result }
+    ensures refused { IsReasonedErrorInside (state S.Store tx.old.conn.now) (state S.Store tx.new.conn.now) result }
 {
     tx.execute(
         "DELETE FROM records WHERE db = ?1 AND sysno = ?2",
@@ -48,6 +49,7 @@ pub(crate) fn record_remove<S: Alter>(
 pub(crate) fn records_clear<S: Alter>(tx: &mut Transaction<'_, S>, db: i64) -> Result<usize, Error>
     ensures same { tx.new.conn.ghost_name ≡ tx.old.conn.ghost_name }
     ensures call { Writes records_tree (Loses (IsRecordIn db)) (state S.Store tx.old.conn.now) (state S.Store tx.new.conn.now) result }
+    ensures refused { IsReasonedErrorInside (state S.Store tx.old.conn.now) (state S.Store tx.new.conn.now) result }
 {
     tx.execute("DELETE FROM records WHERE db = ?1", params![db])
 }

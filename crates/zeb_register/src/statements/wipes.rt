@@ -3,13 +3,15 @@
 ghost use Rattle.std.specs.Prelude.{◌≡◌};
 ghost use Rattle.sqlite.specs.Held.{state};
 ghost use Rattle.zeb_register.specs.RowStatements.{Empties};
-ghost use Rattle.zeb_register.specs.Clauses.{Writes};
+ghost use Rattle.zeb_register.specs.Clauses.{IsReasonedErrorInside, Writes};
 
+use crate::RegFault;
 use sqlite::{Alter, Error, Transaction};
 
 pub(crate) fn meta_wipe<S: Alter>(tx: &mut Transaction<'_, S>) -> Result<usize, Error>
     ensures same { tx.new.conn.ghost_name ≡ tx.old.conn.ghost_name }
     ensures call { Writes 0 Empties (state S.Store tx.old.conn.now) (state S.Store tx.new.conn.now) result }
+    ensures refused { IsReasonedErrorInside (state S.Store tx.old.conn.now) (state S.Store tx.new.conn.now) result }
 {
     tx.execute("DELETE FROM meta", &[])
 }
@@ -17,6 +19,7 @@ pub(crate) fn meta_wipe<S: Alter>(tx: &mut Transaction<'_, S>) -> Result<usize, 
 pub(crate) fn databases_wipe<S: Alter>(tx: &mut Transaction<'_, S>) -> Result<usize, Error>
     ensures same { tx.new.conn.ghost_name ≡ tx.old.conn.ghost_name }
     ensures call { Writes 2 Empties (state S.Store tx.old.conn.now) (state S.Store tx.new.conn.now) result }
+    ensures refused { IsReasonedErrorInside (state S.Store tx.old.conn.now) (state S.Store tx.new.conn.now) result }
 {
     tx.execute("DELETE FROM databases", &[])
 }
@@ -24,6 +27,7 @@ pub(crate) fn databases_wipe<S: Alter>(tx: &mut Transaction<'_, S>) -> Result<us
 pub(crate) fn records_wipe<S: Alter>(tx: &mut Transaction<'_, S>) -> Result<usize, Error>
     ensures same { tx.new.conn.ghost_name ≡ tx.old.conn.ghost_name }
     ensures call { Writes 4 Empties (state S.Store tx.old.conn.now) (state S.Store tx.new.conn.now) result }
+    ensures refused { IsReasonedErrorInside (state S.Store tx.old.conn.now) (state S.Store tx.new.conn.now) result }
 {
     tx.execute("DELETE FROM records", &[])
 }
@@ -31,6 +35,7 @@ pub(crate) fn records_wipe<S: Alter>(tx: &mut Transaction<'_, S>) -> Result<usiz
 pub(crate) fn postings_wipe<S: Alter>(tx: &mut Transaction<'_, S>) -> Result<usize, Error>
     ensures same { tx.new.conn.ghost_name ≡ tx.old.conn.ghost_name }
     ensures call { Writes 7 Empties (state S.Store tx.old.conn.now) (state S.Store tx.new.conn.now) result }
+    ensures refused { IsReasonedErrorInside (state S.Store tx.old.conn.now) (state S.Store tx.new.conn.now) result }
 {
     tx.execute("DELETE FROM postings", &[])
 }
@@ -38,6 +43,7 @@ pub(crate) fn postings_wipe<S: Alter>(tx: &mut Transaction<'_, S>) -> Result<usi
 pub(crate) fn blocks_wipe<S: Alter>(tx: &mut Transaction<'_, S>) -> Result<usize, Error>
     ensures same { tx.new.conn.ghost_name ≡ tx.old.conn.ghost_name }
     ensures call { Writes 9 Empties (state S.Store tx.old.conn.now) (state S.Store tx.new.conn.now) result }
+    ensures refused { IsReasonedErrorInside (state S.Store tx.old.conn.now) (state S.Store tx.new.conn.now) result }
 {
     tx.execute("DELETE FROM blocks", &[])
 }
@@ -45,6 +51,7 @@ pub(crate) fn blocks_wipe<S: Alter>(tx: &mut Transaction<'_, S>) -> Result<usize
 pub(crate) fn dict_wipe<S: Alter>(tx: &mut Transaction<'_, S>) -> Result<usize, Error>
     ensures same { tx.new.conn.ghost_name ≡ tx.old.conn.ghost_name }
     ensures call { Writes 11 Empties (state S.Store tx.old.conn.now) (state S.Store tx.new.conn.now) result }
+    ensures refused { IsReasonedErrorInside (state S.Store tx.old.conn.now) (state S.Store tx.new.conn.now) result }
 {
     tx.execute("DELETE FROM dict", &[])
 }

@@ -1,7 +1,7 @@
 use Rattle.std.proofs.Common.{rules}
 use Rattle.std.proofs.Math.Facts.{to_z-of_z}
 use Rattle.zeb_register.proofs.Calls.{alters, refused_keeps}
-use Rattle.zeb_register.proofs.PostingStatements.{takes_blocks}
+use Rattle.zeb_register.proofs.PostingStatements.{blocks_refused, takes_blocks}
 use Rattle.zeb_register.proofs.statements.packed.blocks_clear.Goals as goal
 
 pub returns-clause-call : goal.returns-clause-call
@@ -10,3 +10,6 @@ returns-clause-call g c = record {
   err = λ clean inside. refused_keeps _ _ _ _ c.execute.result (c.execute.ensures.runs clean inside);
   crash = search rules;
 }
+
+pub returns-clause-refused : goal.returns-clause-refused
+returns-clause-refused g c clean inside store = blocks_refused c.args.db _ _ c.execute.result store (simp (c.params-to_sql.ensures, to_z-of_z, c.ranges.db) at (c.execute.ensures.runs clean inside))

@@ -1,6 +1,6 @@
 use Rattle.std.proofs.Common.{rules}
 use Rattle.zeb_register.proofs.Calls.{alters, refused_keeps}
-use Rattle.zeb_register.proofs.WipeStatements.{databases_emptied}
+use Rattle.zeb_register.proofs.WipeStatements.{databases_emptied, databases_refused}
 use Rattle.zeb_register.proofs.statements.wipes.databases_wipe.Goals as goal
 
 pub returns-clause-call : goal.returns-clause-call
@@ -9,3 +9,6 @@ returns-clause-call g c = record {
   err = λ clean inside. refused_keeps _ _ _ _ c.execute.result (c.execute.ensures.runs clean inside);
   crash = search rules;
 }
+
+pub returns-clause-refused : goal.returns-clause-refused
+returns-clause-refused g c clean inside store = databases_refused _ _ c.execute.result store (c.execute.ensures.runs clean inside)
