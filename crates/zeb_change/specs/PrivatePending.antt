@@ -11,6 +11,10 @@ use Rattle.zeb_change.specs.declared.pending.Pending.{Pending}
 use Rattle.zeb_change.specs.NoteWords.{KeyChange}
 use Rattle.zeb_change.specs.Noted.{AreNoted, LeadsList, notes_at, noted_count}
 
+-- a change as a layout takes it
+abbrev pub change_in : RecordChange → KeyChange
+change_in change = record { sysno = change.sysno; old = change.old.now; new = change.new.now }
+
 -- no change of the key is noted
 abbrev pub IsNotNoted : Key → Pending → Type 0
 IsNotNoted key pending = notes_at pending key ≡ None

@@ -4,10 +4,11 @@ ghost use Rattle.std.specs.Prelude.{◌≡◌, ◌+◌, ◌++◌, [], List, IfOk
 ghost use Rattle.zeb_change.specs.NoteWords.{KeyChange, change_words};
 ghost use Rattle.zeb_change.specs.Noted.{IsNotedIn};
 ghost use Rattle.zeb_change.specs.PrivateNotes.{TakesChange, counts_in, places_in};
+ghost use Rattle.zeb_change.specs.PrivatePending.{change_in};
 
 use crate::words::{put_number, put_places, take_number, take_places};
 use std::alloc::{AllocError, Global};
-use zeb_register::Place;
+use zeb_register::{Place, RecordChange};
 
 /// A record, and how many places of a key stood there and stand there then.
 #[derive(Clone, Copy)]
@@ -37,24 +38,18 @@ impl KeyNotes {
         }
     }
 
-    /// Notes one more change, of places that stood in a record and of those that stand there then; answers how many bytes more are taken.
-    pub(crate) fn note(
-        &mut self,
-        sysno: u64,
-        old: &[Place],
-        new: &[Place],
-    ) -> Result<usize, AllocError>
+    /// Notes one more change; answers how many bytes more are taken.
+    pub(crate) fn note(&mut self, change: RecordChange<'_>) -> Result<usize, AllocError>
         ensures count { OnOk result (self.new.count ≡ self.old.count + 1) }
-        ensures words { OnOk result (self.new.words.items
-            ≡ self.old.words.items ++ change_words (record { sysno = sysno; old = old.now; new = new.now })) }
+        ensures words { OnOk result (self.new.words.items ≡ self.old.words.items ++ change_words (change_in change.entry)) }
     {
         let room = self.words.capacity();
         self.count = self.count.checked_add(1).ok_or(AllocError)?;
-        put_number(&mut self.words, sysno)?;
-        put_number(&mut self.words, old.len() as u64)?;
-        put_number(&mut self.words, new.len() as u64)?;
-        put_places(&mut self.words, old)?;
-        put_places(&mut self.words, new)?;
+        put_number(&mut self.words, change.sysno)?;
+        put_number(&mut self.words, change.old.len() as u64)?;
+        put_number(&mut self.words, change.new.len() as u64)?;
+        put_places(&mut self.words, change.old)?;
+        put_places(&mut self.words, change.new)?;
         Ok(self.words.capacity().saturating_sub(room).saturating_mul(2))
     }
 

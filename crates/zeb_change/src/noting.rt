@@ -12,6 +12,7 @@ use crate::changed_keys::changed_keys;
 use crate::pending::Pending;
 use std::alloc::{AllocError, Global};
 use zeb_extract::Occurrence;
+use zeb_register::RecordChange;
 
 /// Notes what becomes of just those keys whose places differ between two rising lists of occurrences, in the record with this number: the
 /// elder list stands in the registers once what was noted before is written, and the newer one is to stand there. Where there is no elder
@@ -37,7 +38,12 @@ pub fn note_keys(
 {
     let changed_keys = changed_keys(alloc, elder, newer)?;
     for changed in changed_keys {
-        pending.note(changed.key, sysno, &changed.old, &changed.new)?;
+        let change = RecordChange {
+            sysno,
+            old: &changed.old,
+            new: &changed.new,
+        };
+        pending.note(changed.key, change)?;
     }
     Ok(())
 }

@@ -2,13 +2,13 @@
 
 ghost use Rattle.std.specs.Prelude.{◌≤◌, ◌↔◌, IsTrue, OnOk, IfNone, IfSome};
 ghost use Rattle.zeb_change.specs.Noted.{IsNothingNoted};
-ghost use Rattle.zeb_change.specs.PrivatePending.{IsNotNoted, IsNotedAlso, IsTakenOut};
+ghost use Rattle.zeb_change.specs.PrivatePending.{IsNotNoted, IsNotedAlso, IsTakenOut, change_in};
 
 use crate::key_notes::KeyNotes;
 use std::alloc::{AllocError, Global};
 use std::collections::BTreeMap;
 use zeb_extract::{Key, order_is_by_parts};
-use zeb_register::Place;
+use zeb_register::RecordChange;
 
 /// How many bytes may be noted before they are written: 64 MB.
 const MOST_WEIGHT: usize = 67_108_864;
@@ -46,42 +46,28 @@ impl Pending {
         self.weight >= MOST_WEIGHT
     }
 
-    /// Notes one more change of a key, behind those that are noted of it: the places that stood in a record, and those that stand there
-    /// then.
-    pub(crate) fn note(
-        &mut self,
-        key: &Key,
-        sysno: u64,
-        old: &[Place],
-        new: &[Place],
-    ) -> Result<(), AllocError>
-        ensures { OnOk result (IsNotedAlso key.now (record { sysno = sysno; old = old.now; new = new.now }) self.old self.new) }
+    /// Notes one more change of a key, behind those that are noted of it.
+    pub(crate) fn note(&mut self, key: &Key, change: RecordChange<'_>) -> Result<(), AllocError>
+        ensures { OnOk result (IsNotedAlso key.now (change_in change.entry) self.old self.new) }
     {
         order_is_by_parts();
         match self.notes.get_mut(key) {
             Some(notes) => {
-                let more = notes.note(sysno, old, new)?;
+                let more = notes.note(change)?;
                 self.weight = self.weight.saturating_add(more);
                 Ok(())
             }
-            None => self.note_first(key, sysno, old, new),
+            None => self.note_first(key, change),
         }
     }
 
     /// Notes the first change of a key.
-    fn note_first(
-        &mut self,
-        key: &Key,
-        sysno: u64,
-        old: &[Place],
-        new: &[Place],
-    ) -> Result<(), AllocError>
-        ensures { IsNotNoted key.now self.old
-            → OnOk result (IsNotedAlso key.now (record { sysno = sysno; old = old.now; new = new.now }) self.old self.new) }
+    fn note_first(&mut self, key: &Key, change: RecordChange<'_>) -> Result<(), AllocError>
+        ensures { IsNotNoted key.now self.old → OnOk result (IsNotedAlso key.now (change_in change.entry) self.old self.new) }
     {
         order_is_by_parts();
         let mut notes = KeyNotes::new(self.alloc);
-        let more = notes.note(sysno, old, new)?;
+        let more = notes.note(change)?;
         self.notes.insert(key.clone()?, notes)?;
         let term = key.term.as_str().len();
         self.weight = self

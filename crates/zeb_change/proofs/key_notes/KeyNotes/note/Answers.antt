@@ -1,3 +1,4 @@
+use Rattle.zeb_change.specs.PrivatePending.{change_in}
 use Rattle.zeb_change.proofs.NoteWords.{parts_put}
 use Rattle.zeb_change.proofs.key_notes.KeyNotes.note.Goals as goal
 
@@ -8,4 +9,4 @@ returns-clause-words c = rw (
   c.in_ok-put_number-3.ensures,
   c.in_ok-put_number-2.ensures,
   c.in_ok-put_number.ensures,
-) (parts_put c.args.self.now.words.items (record { sysno = c.args.sysno; old = c.args.old.now; new = c.args.new.now }))
+) (parts_put c.args.self.now.words.items (change_in c.args.change))

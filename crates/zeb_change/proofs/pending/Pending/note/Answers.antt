@@ -4,21 +4,21 @@ use Rattle.zeb_extract.specs.declared.keys.Key.{Key}
 use Rattle.zeb_extract.specs.Order.{key_order}
 use Rattle.zeb_change.specs.declared.key_notes.KeyNotes.{KeyNotes}
 use Rattle.zeb_change.specs.declared.pending.Pending.{Pending}
-use Rattle.zeb_change.specs.NoteWords.{KeyChange}
+use Rattle.zeb_change.specs.PrivatePending.{change_in}
 use Rattle.zeb_change.proofs.NotedChanges.{absent, behind, noted_by}
 use Rattle.zeb_change.proofs.CostLemmas.{ok_so}
 use Rattle.zeb_change.proofs.pending.Pending.note.Goals as goal
 
 pub returns-in_ok-more-in-Some : goal.returns-in_ok-more-in-Some
 returns-in_ok-more-in-Some c =
-    let change : KeyChange = record { sysno = c.args.sysno; old = c.args.old.now; new = c.args.new.now } in
+    let change = change_in c.args.change in
     let new : Pending = record { alloc = c.args.self.now.alloc; notes = c.get_mut.follows.lender c.note.new.self; weight = c.saturating_add-self.result } in
     behind _ c.order_is_by_parts.ensures.keys c.args.key.now change c.in-Some.notes.now c.note.new.self c.args.self.now new (sym c.in-Some.ensures.value)
     c.in_ok-more-in-Some.ensures.count c.in_ok-more-in-Some.ensures.words (c.get_mut.follows.holds c.note.new.self)
 
 pub returns-in-None : goal.returns-in-None
 returns-in-None c =
-    let change : KeyChange = record { sysno = c.args.sysno; old = c.args.old.now; new = c.args.new.now } in
+    let change = change_in c.args.change in
     let none = absent _ c.order_is_by_parts.ensures.keys c.args.key.now c.args.self.now (sym c.in-None.ensures.value) in
     let same = c.get_mut.follows.holds-at-none in
     let between : Pending = record { alloc = c.args.self.now.alloc; notes = c.get_mut.follows.lender-at-none; weight = c.args.self.now.weight } in

@@ -1,14 +1,14 @@
 use Rattle.std.proofs.Common.{◌≡◌, ◌∙◌, ◌++◌, List, ℕ, ap, arith, subst, sym}
 use Rattle.zeb_extract.specs.declared.keys.Key.{Key}
 use Rattle.zeb_change.specs.declared.pending.Pending.{Pending}
-use Rattle.zeb_change.specs.NoteWords.{KeyChange, change_words}
-use Rattle.zeb_change.specs.PrivatePending.{IsNotNoted, IsNotedAlso}
+use Rattle.zeb_change.specs.NoteWords.{change_words}
+use Rattle.zeb_change.specs.PrivatePending.{IsNotNoted, IsNotedAlso, change_in}
 use Rattle.zeb_change.proofs.NotedChanges.{first}
 use Rattle.zeb_change.proofs.pending.Pending.note_first.Goals as goal
 
 pub returns : goal.returns
 returns c none =
-    let change : KeyChange = record { sysno = c.args.sysno; old = c.args.old.now; new = c.args.new.now } in
+    let change = change_in c.args.change in
     let copy = c.in_ok-clone.ensures.cases in
     let same : c.in_ok-clone.field-0 ≡ c.args.key.now = λ i. record { index = copy.0 i; register = copy.1.0 i; term = copy.1.1 i } in
     let one : c.note.new.self.count ≡ 1 = omega (arith, c.in_ok-more.ensures.count, c.new-notes.ensures.0) in
