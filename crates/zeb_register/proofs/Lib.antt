@@ -50,6 +50,7 @@ pub mod RecordLemmas
 pub mod RecordReadings
 pub mod Refusals
 pub mod WriteRefusals
+pub mod InsertRefusals
 pub mod Alike
 pub mod Told
 pub mod ExpectedStatements

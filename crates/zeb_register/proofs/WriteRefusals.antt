@@ -145,13 +145,13 @@ keeps_fewer schema db tree rows fewer keeps = keeps_from Unique schema (with_tre
 unbound : AllByRecursion (λ t. t.references ≡ []) store_schema.tables
 unbound = (refl, (refl, (refl, (refl, (refl, (refl, tt))))))
 
-unbound_at : (table : Table) → Has store_schema.tables table → table.references ≡ []
+pub unbound_at : (table : Table) → Has store_schema.tables table → table.references ≡ []
 unbound_at table = λ listed. all_has (λ (t : Table). t.references ≡ []) store_schema.tables table unbound listed
 
 refers : (db : Trees) → Refers All store_schema db
 refers db = refers_from All store_schema db (λ t ref row listed known is here. absurd (subst (λ l. Has l ref) (unbound_at t listed) known))
 
-referred : (table : Table) → table.references ≡ [] → (adds removes : Bool) → references_fit store_schema table adds removes ≡ true
+pub referred : (table : Table) → table.references ≡ [] → (adds removes : Bool) → references_fit store_schema table adds removes ≡ true
 referred table none true true = rw none
 referred table none true false = rw none
 referred table none false true = refl
@@ -159,11 +159,11 @@ referred table none false false = refl
 
 -- ---- a step that sets nothing off
 
-settled : (n : ℕ) (next : Trees) (why : Option Refusal) → ¬ Leads store_schema Enforced n next [] (Err why)
+pub settled : (n : ℕ) (next : Trees) (why : Option Refusal) → ¬ Leads store_schema Enforced n next [] (Err why)
 settled zero next why h = let e = h.1 in cc
 settled (suc n) next why h = omega (arith, ap length h.2, length-append h.0 (h.1 ∷ []))
 
-concluded : (task : Task) → task.schema ≡ store_schema → (old : State) (w : Written) (stop : Option Error) → ¬ Concludes task (mode_of old) None w (Err stop)
+pub concluded : (task : Task) → task.schema ≡ store_schema → (old : State) (w : Written) (stop : Option Error) → ¬ Concludes task (mode_of old) None w (Err stop)
 concluded task is old w stop (inl broken) = broken.1.0 (rw is (refers w.trees))
 concluded task is old w stop (inr (_, tested, inl none)) = let e = none.1 in cc
 concluded task is old w stop (inr (_, tested, inr (rows, shown, given))) = cc
@@ -191,10 +191,10 @@ module _ (db : Trees) (table : Table) (ids : List ℤ) (keeps : Keeps Unique sto
   removed free why (inr (inl big)) = big.1
   removed free why (inr (inr (next, applies, (n, leads)))) = settled n next why (rw free at leads)
 
-differs : {A E : Type 0} {a : A} {b : E} → ¬ ◌≡◌ {A = Result A E} (Err b) (Ok a)
+pub differs : {A E : Type 0} {a : A} {b : E} → ¬ ◌≡◌ {A = Result A E} (Err b) (Ok a)
 differs e = cc
 
-same_stop : {A E : Type 0} {a b : E} → ◌≡◌ {A = Result A E} (Err a) (Err b) → a ≡ b
+pub same_stop : {A E : Type 0} {a b : E} → ◌≡◌ {A = Result A E} (Err a) (Err b) → a ≡ b
 same_stop e = cc
 
 module _ (old : State) (params : Row) (at : ℕ) (table : Table) (static : IsPlainTable store_schema at table) (store : IsStore old) (text : List ℕ) where

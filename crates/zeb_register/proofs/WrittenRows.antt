@@ -93,13 +93,13 @@ pub record IsReplaced (schema : Schema) (keys : Keys) (db next : Trees) (table :
   pub cleared : IsCleared schema keys db table found mid
   pub put : Applies schema keys mid (record { table = table; gone = []; news = new ∷ [] }) next
 
-not_stamped : (table : Table) (params : Row) → table.stamps.terms ≡ [] → stamped table params ≡ params
+pub not_stamped : (table : Table) (params : Row) → table.stamps.terms ≡ [] → stamped table params ≡ params
 not_stamped table params unstamped = rw (unstamped, append-nil)
 
-not_counted : (task : Task) (mid : Trees) (counter : Option Row) (top : ℤ) (out : Outcome Trees) → task.table.is_counted ≡ false → Counts task mid counter top out → out ≡ Ok mid
+pub not_counted : (task : Task) (mid : Trees) (counter : Option Row) (top : ℤ) (out : Outcome Trees) → task.table.is_counted ≡ false → Counts task mid counter top out → out ≡ Ok mid
 not_counted task mid counter top out uncounted h = rw uncounted at h
 
-not_above : (table : Table) (top : ℤ) → table.is_counted ≡ false → rowids_for table top ≡ Chosen
+pub not_above : (table : Table) (top : ℤ) → table.is_counted ≡ false → rowids_for table top ≡ Chosen
 not_above table top uncounted = rw uncounted
 
 module _ (task : Task) (columns : Row) (id : ℤ) (none : (olds news : List Row) → works task.schema task.keys 0 task.table.tree olds news ≡ []) (kept : keeps_all task.table.columns columns ≡ true) where
