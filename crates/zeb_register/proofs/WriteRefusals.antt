@@ -1,5 +1,5 @@
 -- Why a statement that writes rows, and fits the tables, is refused inside a transaction.
-use Rattle.std.proofs.Common.{◌≡◌, ◌⊎◌, ◌∙◌, ◌&&◌, ◌||◌, ℕ, zero, suc, arith, ℤ, List, [], ◌∷◌, ◌++◌, ◌==◌, nat_lt, length, length-append, Ok, Err, Result, Option, inl, inr, None, Some, Bool, true, false, refl, sym, ap, subst, append-nil, eqb-true}
+use Rattle.std.proofs.Common.{◌≡◌, ◌⊎◌, ◌∙◌, ◌||◌, ℕ, zero, suc, arith, ℤ, List, [], ◌∷◌, ◌==◌, nat_lt, length, length-append, Ok, Err, Result, Option, inl, inr, None, Some, Bool, true, false, refl, sym, ap, subst, append-nil, eqb-true}
 use Rattle.std.specs.Prelude.{IfErr}
 use Rattle.std.specs.List.{AllByRecursion}
 use Rattle.std.proofs.lemmas.Bool.{cases_Bool, both_ways, and_from, and_parts, not-true, not_from_false, false_from_ne_true}
