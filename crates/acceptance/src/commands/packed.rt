@@ -1,7 +1,7 @@
 //! What packed tables hold after commands, and what commands answer where they are damaged.
 
 use super::statements::{Statement, TableRow, tables_answer};
-use super::{BOOKS, Row, Step, adopted, answers};
+use super::{BOOKS, Row, Step, run};
 use sqlite::{Connection, MemStore};
 use std::alloc::AllocGlobal;
 use std::process::Abort;
@@ -241,30 +241,12 @@ const CASES: [Case; 14] = [
     VERSION,
 ];
 
-/// Runs commands over a connection, which is given back.
-fn commanded(
-    rt: &(impl Abort + AllocGlobal),
-    connection: Connection<MemStore>,
-    rows: &[Row<'_>],
-) -> Result<Connection<MemStore>, Fail> {
-    let Ok(mut session) = adopted::<MemStore, Blocks>(
-        rt.alloc(),
-        connection,
-        BOOKS,
-        Limits::GREATEST,
-    ) else {
-        return Err(Fail::new("the register is refused"));
-    };
-    answers(rt, &mut session, rows)?;
-    Ok(session.release())
-}
-
 fn run_case(rt: &(impl Abort + AllocGlobal), case: &Case) -> Result<(), Fail> {
     let (before, rows, after) = case;
     let new = Connection::open_in_memory(rt.alloc())?;
-    let mut connection = commanded(rt, new, BEGUN)?;
+    let mut connection = run::<MemStore, Blocks>(rt, new, Limits::GREATEST, BOOKS, BEGUN)?;
     tables_answer(rt, &mut connection, before)?;
-    let mut connection = commanded(rt, connection, rows)?;
+    let mut connection = run::<MemStore, Blocks>(rt, connection, Limits::GREATEST, BOOKS, rows)?;
     tables_answer(rt, &mut connection, after)
 }
 

@@ -2,7 +2,7 @@
 //! whole tables doesn't.
 
 use super::streams::{Maker, TOMES, opened_under};
-use super::{BOOKS, Row, Step, adopted, answers, name};
+use super::{BOOKS, Row, Step, name, run};
 use sqlite::{Connection, MemStore};
 use std::alloc::{AllocGlobal, Global};
 use std::process::Abort;
@@ -93,16 +93,7 @@ fn under(
     let least = whole.least_limit(rt.alloc(), &mut connection);
     assert!(rt; least < MANY);
     connection.set_step_limit(Some(least.saturating_sub(1)));
-    let Ok(mut session) = adopted::<MemStore, Blocks>(
-        rt.alloc(),
-        connection,
-        BOOKS,
-        Limits::GREATEST,
-    ) else {
-        return Err(Fail::new("the register is refused"));
-    };
-    answers(rt, &mut session, rows)?;
-    Ok(session.release())
+    run::<MemStore, Blocks>(rt, connection, Limits::GREATEST, BOOKS, rows)
 }
 
 #[test]
