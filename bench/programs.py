@@ -137,9 +137,45 @@ class Ours:
         """What a session without a line takes: the least of three."""
         return min((self.batch([]) for _ in range(3)), key=lambda it: it.processor)
 
-    def seconds(self, lines, opening):
-        """The mean processor seconds of a line, the opening left out."""
-        return max(self.batch(lines * REPEATS).processor - opening.processor, 0.0) / (REPEATS * len(lines))
+    def session(self):
+        return Shell(self.program, self.folder)
+
+
+def processor_of(process):
+    """The processor's seconds that a process of one thread has taken."""
+    return int(pathlib.Path(f"/proc/{process.pid}/schedstat").read_text(encoding="utf-8").split()[0]) / 1e9
+
+
+class Shell:
+    """A session of this program over pipes."""
+
+    # No command: its answer is the end of the answers to the lines before it.
+    LAST = "last"
+
+    def __init__(self, program, folder):
+        self.process = subprocess.Popen([program, "shell"], cwd=folder, stdin=subprocess.PIPE, stdout=subprocess.PIPE, text=True)
+        # Waits for the register to be open.
+        self.asked([])
+
+    def asked(self, lines):
+        """Asks all lines, and reads their answers meanwhile, since a pipe holds few."""
+        text = "".join(it + "\n" for it in [*lines, self.LAST])
+        writing = threading.Thread(target=lambda: (self.process.stdin.write(text), self.process.stdin.flush()), daemon=True)
+        writing.start()
+        while not (line := self.process.stdout.readline()).startswith("zebraidx: bad line"):
+            if not line:
+                raise SystemExit("the shell ended")
+        writing.join()
+
+    def seconds(self, lines):
+        """The mean processor seconds of a line."""
+        before = processor_of(self.process)
+        self.asked(lines * REPEATS)
+        return (processor_of(self.process) - before) / (REPEATS * len(lines))
+
+    def close(self):
+        self.process.stdin.close()
+        self.process.wait()
 
 
 SETTINGS = """profilePath: {folder}:/usr/share/idzebra-2.0/tab
@@ -235,9 +271,11 @@ class Server:
         return [hits_of(it) for it in answers]
 
     def seconds(self, lines):
-        """The mean seconds of a line by yaz-client's clock, in one session."""
+        """The mean seconds of a line in one session: of the server's processor, and by yaz-client's clock, which has both programs in it."""
+        before = processor_of(self.server)
         answers = self.asked(lines * REPEATS)
-        return sum(seconds for _, seconds in answers) / len(answers)
+        processor = processor_of(self.server) - before
+        return processor / len(answers), sum(seconds for _, seconds in answers) / len(answers)
 
     def opening(self):
         """Seconds from the connection to the answer of a first find."""
