@@ -62,7 +62,8 @@ fn elder_occurrences(
     elder: &Elder,
 ) -> Result<Vec<Occurrence>, Refusal>
     ensures found { IfOk result (λ found. AreOccurrencesOf setting.now.profile.now elder.now.bytes.items found.items) }
-    ensures sound { IfOk result (λ _. IsKept setting.now.profile.now (record { sysno = 0; ident = ident.now; bytes = elder.now.bytes.items })) }
+    ensures sound { IfOk result (λ _. IsKept setting.now.profile.now
+        (record { sysno = 0; ident = ident.now; bytes = elder.now.bytes.items })) }
     ensures fails { IfErr result (λ refusal. IsKept setting.now.profile.now
         (record { sysno = 0; ident = ident.now; bytes = elder.now.bytes.items }) → refusal ≡ Refusal.Memory) }
     ensures unread { NoReadFault result }

@@ -54,7 +54,8 @@ pub fn spaces_go_from_both_ends()
 pub fn moby_dick_has_its_date()
     ensures profile { profile_of date_text ≡ Ok date_profile }
     ensures found { IsOccurrence (unit_targets date_profile) moby_dick (date_at 4 (codes "000000000000001851")) }
-    ensures no_other { (o : Occurrence) → IsOccurrence (unit_targets date_profile) moby_dick o → o ≡ date_at 4 (codes "000000000000001851") }
+    ensures no_other { (o : Occurrence) → IsOccurrence (unit_targets date_profile) moby_dick o
+        → o ≡ date_at 4 (codes "000000000000001851") }
     ensures not_elsewhere { ¬ (IsOccurrence (unit_targets date_profile) moby_dick (date_at 3 (codes "000000000000001851"))) }
 {}
 

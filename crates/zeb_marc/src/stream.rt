@@ -119,7 +119,8 @@ fn fill<R: Source>(source: &mut R, part: &mut [u8]) -> Result<(), MarcFault>
 fn read_slice<R: Source>(source: &mut R, room: &mut [u8], first: u8) -> Result<usize, MarcFault>
     requires { length room.old ≡ 99999 }
     ensures fails { FailsIf result (R.has_failed source.old) (R.has_failed source.new) }
-    ensures told { (text : List ℕ) → R.remaining source.old ≡ Some text → SliceGives (first ∷ text) result room.new (R.remaining source.new) }
+    ensures told { (text : List ℕ) → R.remaining source.old ≡ Some text
+        → SliceGives (first ∷ text) result room.new (R.remaining source.new) }
     ensures sound { MatchResult result (λ n. (n ≤ 99999) × IsSlice (take n room.new)) IsStreamFault }
 {
     room[0] = first;

@@ -131,7 +131,8 @@ fn ties_unknown(
 
 /// The keys of the names of all targets.
 fn target_keys(alloc: Global, placed: &[Placed]) -> Result<BTreeSet<String>, AllocError>
-    ensures { IfOk result (λ keys. (directive : Told) → ties_beside keys directive ≡ ties_unknown_index (directives_in placed.now) directive) }
+    ensures { IfOk result (λ keys. (directive : Told)
+        → ties_beside keys directive ≡ ties_unknown_index (directives_in placed.now) directive) }
 {
     let mut keys: BTreeSet<String> = BTreeSet::new(alloc);
     for line in placed {

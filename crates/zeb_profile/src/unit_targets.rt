@@ -25,7 +25,8 @@ impl<'a> Targets<'a> {
     /// The targets of the `melm` line, and then those of the `all` line that are not among them.
     pub(crate) fn new(names: &'a [Name], melm: &'a [Target], all: &'a [Target]) -> Targets<'a>
         requires { length names.now < 2 ^ 32 }
-        ensures { let pair = pair_of names.now in targets_left result ≡ map pair melm.now ++ further_pairs (map pair melm.now) (map pair all.now) }
+        ensures { let pair = pair_of names.now in
+            targets_left result ≡ map pair melm.now ++ further_pairs (map pair melm.now) (map pair all.now) }
     {
         Targets {
             names,

@@ -12,8 +12,8 @@ use crate::{DistanceRelation, Operator, Order, Relation};
 
 /// The two profiles of the examples, each read from a text.
 pub fn profiles_at_examples()
-    ensures sample { profile_of (codes "store x\nidentifier 001\natt 4 Title\natt 31 Date\natt 1016 Any\nmelm 245 Title,Title:p\nmelm 260$c Date:n\nall Any")
-        ≡ Ok sample_profile }
+    ensures sample { profile_of (codes "store x\nidentifier 001\natt 4 Title\natt 31 Date\natt 1016 Any\n"
+        ++ codes "melm 245 Title,Title:p\nmelm 260$c Date:n\nall Any") ≡ Ok sample_profile }
     ensures titles { profile_of (codes "store x\nidentifier 001\natt 4 Title\nmelm 245 Title") ≡ Ok titles_alone }
 {}
 

@@ -194,7 +194,8 @@ fn scanning<'a>(alloc: Global) -> Result<Command<'a>, AllocError>
 
 /// The option `--name` with a whole number.
 fn number<'a>(alloc: Global, name: &'a str, parser: ValueParser<'a>, help: &'a str) -> Arg<'a>
-    ensures rule { rule_of result ≡ record (new_rule name.entry.now) { long = Some name.entry.now; value_names = 1; parser = Some parser.entry } }
+    ensures rule { rule_of result
+        ≡ record (new_rule name.entry.now) { long = Some name.entry.now; value_names = 1; parser = Some parser.entry } }
     ensures local { result.global ≡ false }
 {
     Arg::new(alloc, name)
