@@ -11,13 +11,14 @@
 # make cost       the gate, with the processor minutes of each crate written into docs/TESTING.md
 # make bench      times of the register's calls and of an update's statements, and how commands grow: RECORDS=1000 for fewer than 10,000
 # make bench-zebra  this program beside Zebra, in times and in hits; installs Debian's idzebra-2.0: RECORDS=10000 for more than 2,000
+# make bench-larger  100,000 records in one register, 10,000 in a command: updates, openings and sizes; RECORDS=20000 for fewer
 # make man        the manual pages in bin/man, from docs/MANUAL.md and VERSION; installs Debian's lowdown where it isn't there
 # make install    PREFIX=/usr/local: the program, its manual and pages, examples, completions of bash and zsh; make uninstall takes them away
 # make clean      removes what these made
 PREFIX ?= /usr/local
 SOURCES := crates.txt $(wildcard crates/*/src/*.rt crates/*/src/*/*.rt crates/*/specs/*.antt crates/*/specs/*/*.antt)
 
-.PHONY: all help run quick check words session real examples hostile edits cost bench bench-zebra man install uninstall clean
+.PHONY: all help run quick check words session real examples hostile edits cost bench bench-zebra bench-larger man install uninstall clean
 all: bin/zebraidx
 
 help:
@@ -74,6 +75,9 @@ bench: bin/zebraidx
 
 bench-zebra: bin/zebraidx
 	@bench/zebra $(RECORDS)
+
+bench-larger: bin/zebraidx
+	@bench/larger $(RECORDS)
 
 man:
 	@tools/man bin/man
