@@ -15,8 +15,7 @@ ghost use Rattle.zeb_register.specs.Sql.{IsListOf};
 ghost use Rattle.zeb_register.specs.Tallies.{Rises};
 
 use crate::packed::counted;
-use crate::registers::Work;
-use crate::statements::keys::RegisterOf;
+use crate::registers::{RegisterOf, Work};
 use crate::statements::packed::block_rows;
 use crate::values::read;
 use crate::{DatabaseId, RegFault};

@@ -41,6 +41,14 @@ pub struct TermCount {
     pub records: u64,
 }
 
+/// A register of a database: `register` of the index whose number is `index`.
+#[derive(Clone, Copy, Debug)]
+pub struct RegisterOf {
+    pub db: DatabaseId,
+    pub index: u32,
+    pub register: Register,
+}
+
 /// How much a register of a database holds: its distinct terms, and its postings.
 #[derive(Clone, Copy, Debug, Default, PartialEq, Eq)]
 pub struct Totals {

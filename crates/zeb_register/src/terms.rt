@@ -15,8 +15,7 @@ ghost use Rattle.zeb_register.specs.RowTerms.{IsInRecord, IsShown, ShowsOccurren
 ghost use Rattle.zeb_register.specs.RowTerms.{IsLeastTerm, IsGreatestTerm};
 
 use crate::plain::postings_under;
-use crate::registers::TermCount;
-use crate::statements::keys::RegisterOf;
+use crate::registers::{RegisterOf, TermCount};
 use crate::statements::postings::{rows_before, rows_from};
 use crate::values::read;
 use crate::{DatabaseId, RegFault};
