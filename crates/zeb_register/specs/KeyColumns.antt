@@ -5,7 +5,7 @@ use Rattle.sqlite.specs.Order.{Row}
 use Rattle.sqlite.specs.Tree.{Trees}
 use Rattle.zeb_profile.specs.Indexes.{register_code}
 use Rattle.zeb_register.specs.declared.statements.keys.KeyOf.{KeyOf}
-use Rattle.zeb_register.specs.declared.statements.keys.RegisterOf.{RegisterOf}
+use Rattle.zeb_register.specs.declared.registers.RegisterOf.{RegisterOf}
 use Rattle.zeb_register.specs.PackedChanges.{IsBlockOf, IsDictIn}
 use Rattle.zeb_register.specs.PlainRows.{key_row, register_front}
 use Rattle.zeb_register.specs.RowTerms.{HasTerm}

@@ -23,16 +23,14 @@ use crate::packed_agreeing::packed_agree;
 use crate::packed_parts::check_changes;
 use crate::packed_runs::{changes_put, count_rows};
 use crate::packed_totals::term_postings;
-use crate::registers::{Layout, Place, RecordChange, TermCount, Totals, Work};
+use crate::registers::{Layout, Place, RecordChange, RegisterOf, TermCount, Totals, Work};
 use crate::statements::inside::nothing_inside;
-use crate::statements::keys::RegisterOf;
 use crate::statements::packed::{block_rows, dict_rows, dict_rows_before, dict_rows_from};
 use crate::{DatabaseId, Expected, RegFault};
 use sqlite::{Alter, Connection, Transaction};
 use std::alloc::Global;
 use zeb_blocks::Posting;
 use zeb_extract::Key;
-use zeb_profile::Register;
 
 /// The layout with one row of `blocks` for each key and each 256 system numbers in which it has a posting, one row of `dict` for each key,
 /// and no row of `postings`.
@@ -134,28 +132,21 @@ impl Layout for Blocks {
         alloc: Global,
         conn: &mut Connection<S>,
         work: &mut Work,
-        db: DatabaseId,
-        index: u32,
-        register: Register,
+        at: RegisterOf,
     ) -> Result<Vec<TermCount>, RegFault>
         ensures call { Reading (state S.Store conn.old) (state S.Store conn.new) result (λ _. IsUnchanged) }
         ensures value { TellsHeld HoldsBlocks (state S.Store conn.old) (state S.Store conn.new) result
-            (λ content list. AreTermsOf (posted content db.0) index register list.items) }
+            (λ content list. AreTermsOf (posted content at.db.0) at.index at.register list.items) }
         ensures honest { IsHonestStorable HoldsBlocks (state S.Store conn.old) (state S.Store conn.new) result }
         ensures refused { IsReasoned (state S.Store conn.old) (state S.Store conn.new) result }
         ensures shown { Tells (state S.Store conn.old) (state S.Store conn.new) result (λ trees list. (rows : List Columns)
-            × IsListOf (IsRest dict_tree (register_front db.0 index register) trees) rows × AreShown list.items rows) }
+            × IsListOf (IsRest dict_tree (register_front at.db.0 at.index at.register) trees) rows × AreShown list.items rows) }
         ensures sound { OnStore (state S.Store conn.old) (state S.Store conn.new) (λ trees. OnOk result
-            (AreAllCounted trees (register_front db.0 index register))) }
+            (AreAllCounted trees (register_front at.db.0 at.index at.register))) }
         ensures damaged { IsHonest (state S.Store conn.old) (state S.Store conn.new) result
-            (λ trees. AreAllCounted trees (register_front db.0 index register)) }
+            (λ trees. AreAllCounted trees (register_front at.db.0 at.index at.register)) }
         ensures counted { IfOk result (λ list. Works (length list.items) 0 0 0 work.old work.new) }
     {
-        let at = RegisterOf {
-            db,
-            index,
-            register,
-        };
         let rows = dict_rows(conn, at)?;
         let counts = counts_in(alloc, &rows)?;
         work.dict_read = counted(work.dict_read, counts.len());
@@ -167,29 +158,22 @@ impl Layout for Blocks {
         alloc: Global,
         conn: &mut Connection<S>,
         work: &mut Work,
-        db: DatabaseId,
-        index: u32,
-        register: Register,
+        at: RegisterOf,
         start: &str,
         n: u64,
     ) -> Result<Vec<TermCount>, RegFault>
         ensures call { Reading (state S.Store conn.old) (state S.Store conn.new) result (λ _. IsUnchanged) }
         ensures value { TellsHeld HoldsBlocks (state S.Store conn.old) (state S.Store conn.new) result
-            (λ content list. AreTermsFrom (posted content db.0) index register start.now n list.items) }
+            (λ content list. AreTermsFrom (posted content at.db.0) at.index at.register start.now n list.items) }
         ensures honest { IsHonestStorable HoldsBlocks (state S.Store conn.old) (state S.Store conn.new) result }
         ensures refused { IsReasoned (state S.Store conn.old) (state S.Store conn.new) result }
         ensures sound { OnStore (state S.Store conn.old) (state S.Store conn.new) (λ trees. OnOk result
-            (AreFromCounted trees (register_front db.0 index register) start.now n)) }
+            (AreFromCounted trees (register_front at.db.0 at.index at.register) start.now n)) }
         ensures damaged { IsHonest (state S.Store conn.old) (state S.Store conn.new) result
-            (λ trees. AreFromCounted trees (register_front db.0 index register) start.now n) }
+            (λ trees. AreFromCounted trees (register_front at.db.0 at.index at.register) start.now n) }
         ensures counted { IfOk result (λ list. Works (length list.items) 0 0 0 work.old work.new) }
     {
         let limit = limit_of(n);
-        let at = RegisterOf {
-            db,
-            index,
-            register,
-        };
         let rows = dict_rows_from(conn, at, start, limit)?;
         let counts = counts_in(alloc, &rows)?;
         work.dict_read = counted(work.dict_read, counts.len());
@@ -201,29 +185,22 @@ impl Layout for Blocks {
         alloc: Global,
         conn: &mut Connection<S>,
         work: &mut Work,
-        db: DatabaseId,
-        index: u32,
-        register: Register,
+        at: RegisterOf,
         start: &str,
         n: u64,
     ) -> Result<Vec<TermCount>, RegFault>
         ensures call { Reading (state S.Store conn.old) (state S.Store conn.new) result (λ _. IsUnchanged) }
         ensures value { TellsHeld HoldsBlocks (state S.Store conn.old) (state S.Store conn.new) result
-            (λ content list. AreTermsBefore (posted content db.0) index register start.now n list.items) }
+            (λ content list. AreTermsBefore (posted content at.db.0) at.index at.register start.now n list.items) }
         ensures honest { IsHonestStorable HoldsBlocks (state S.Store conn.old) (state S.Store conn.new) result }
         ensures refused { IsReasoned (state S.Store conn.old) (state S.Store conn.new) result }
         ensures sound { OnStore (state S.Store conn.old) (state S.Store conn.new) (λ trees. OnOk result
-            (AreBeforeCounted trees (register_front db.0 index register) start.now n)) }
+            (AreBeforeCounted trees (register_front at.db.0 at.index at.register) start.now n)) }
         ensures damaged { IsHonest (state S.Store conn.old) (state S.Store conn.new) result
-            (λ trees. AreBeforeCounted trees (register_front db.0 index register) start.now n) }
+            (λ trees. AreBeforeCounted trees (register_front at.db.0 at.index at.register) start.now n) }
         ensures counted { IfOk result (λ list. Works (length list.items) 0 0 0 work.old work.new) }
     {
         let limit = limit_of(n);
-        let at = RegisterOf {
-            db,
-            index,
-            register,
-        };
         let rows = dict_rows_before(conn, at, start, limit)?;
         let mut counts = counts_in(alloc, &rows)?;
         counts.reverse();
@@ -237,29 +214,28 @@ impl Layout for Blocks {
         alloc: Global,
         conn: &mut Connection<S>,
         work: &mut Work,
-        db: DatabaseId,
-        index: u32,
-        register: Register,
+        at: RegisterOf,
     ) -> Result<Totals, RegFault>
         ensures call { Reading (state S.Store conn.old) (state S.Store conn.new) result (λ _. IsUnchanged) }
         ensures value { TellsHeld HoldsBlocks (state S.Store conn.old) (state S.Store conn.new) result
-            (λ content sums. AreTotals (posted content db.0) index register sums) }
+            (λ content sums. AreTotals (posted content at.db.0) at.index at.register sums) }
         ensures honest { IsHonestStorable HoldsBlocks (state S.Store conn.old) (state S.Store conn.new) result }
         ensures refused { IsReasoned (state S.Store conn.old) (state S.Store conn.new) result }
         ensures sound { OnStore (state S.Store conn.old) (state S.Store conn.new) (λ trees. OnOk result
-            (IsRegisterSound trees db.0 index register)) }
+            (IsRegisterSound trees at.db.0 at.index at.register)) }
         ensures damaged { IsHonest (state S.Store conn.old) (state S.Store conn.new) result
-            (λ trees. IsRegisterSound trees db.0 index register) }
+            (λ trees. IsRegisterSound trees at.db.0 at.index at.register) }
         ensures work { TellsHeld HoldsBlocks (state S.Store conn.old) (state S.Store conn.new) result
-            (λ content _. (all : List TermCount) → AreTermsOf (posted content db.0) index register all → Works (1 * length all) 0
-            (sum_by (λ t. blocks_of (content db.0 (key_in index register t.term))) all) 0 work.old work.new) }
+            (λ content _. (all : List TermCount) → AreTermsOf (posted content at.db.0) at.index at.register all
+            → Works (1 * length all) 0 (sum_by (λ t. blocks_of (content at.db.0 (key_in at.index at.register t.term))) all) 0
+            work.old work.new) }
         ensures counted { OnStore (state S.Store conn.old) (state S.Store conn.new) (λ trees. OnOk result
-            (CountsRegister trees db.0 index register work.old work.new)) }
+            (CountsRegister trees at.db.0 at.index at.register work.old work.new)) }
     {
-        let terms = Self::terms_of(alloc, conn, work, db, index, register)?;
+        let terms = Self::terms_of(alloc, conn, work, at)?;
         let mut occurrences: u64 = 0;
         for term in &terms {
-            let more = term_postings(conn, work, db, index, register, term.term.as_str())?;
+            let more = term_postings(conn, work, at, term.term.as_str())?;
             occurrences = occurrences.saturating_add(more);
         }
         Ok(Totals {

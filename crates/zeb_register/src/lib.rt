@@ -50,7 +50,7 @@ pub use meta::{meta_of, meta_put};
 pub use occurring::{OccurrenceSet, occurrences_have_one_list_of_terms};
 pub use plain::Rows;
 pub use registers::{
-    Layout, Place, RecordChange, TermCount, Totals, Work, contents_change,
+    Layout, Place, RecordChange, RegisterOf, TermCount, Totals, Work, contents_change,
     registers_hold_one_content,
 };
 pub use schema::{is_bare_schema, is_store_schema};

@@ -14,48 +14,39 @@ ghost use Rattle.zeb_register.specs.PlainRows.{key_row};
 ghost use Rattle.zeb_register.specs.Sql.{IsListOf};
 ghost use Rattle.zeb_register.specs.Tallies.{Rises};
 
+use crate::RegFault;
 use crate::packed::counted;
-use crate::registers::Work;
-use crate::statements::keys::RegisterOf;
+use crate::registers::{RegisterOf, Work};
 use crate::statements::packed::block_rows;
 use crate::values::read;
-use crate::{DatabaseId, RegFault};
 use sqlite::{Alter, Connection, Row};
 use zeb_blocks::Postings;
-use zeb_profile::Register;
 
 /// How many postings a term has. `Damaged` where a row of its blocks spells none. `work` counts these rows.
 pub(crate) fn term_postings<S: Alter>(
     conn: &mut Connection<S>,
     work: &mut Work,
-    db: DatabaseId,
-    index: u32,
-    register: Register,
+    at: RegisterOf,
     term: &str,
 ) -> Result<u64, RegFault>
     ensures call { Reading (state S.Store conn.old) (state S.Store conn.new) result (λ _. IsUnchanged) }
     ensures value { TellsHeld HoldsBlocks (state S.Store conn.old) (state S.Store conn.new) result
-        (λ content count. count ≡ capped (length (content db.0 (key_in index register term.now)))) }
+        (λ content count. count ≡ capped (length (content at.db.0 (key_in at.index at.register term.now)))) }
     ensures honest { IsHonestOfHeld HoldsBlocks (state S.Store conn.old) (state S.Store conn.new) result }
     ensures refused { IsReasoned (state S.Store conn.old) (state S.Store conn.new) result }
     ensures sound { OnStore (state S.Store conn.old) (state S.Store conn.new) (λ trees. OnOk result
-        (AreAllSpelled trees (key_row db.0 (key_in index register term.now)))) }
+        (AreAllSpelled trees (key_row at.db.0 (key_in at.index at.register term.now)))) }
     ensures damaged { IsHonest (state S.Store conn.old) (state S.Store conn.new) result
-        (λ trees. AreAllSpelled trees (key_row db.0 (key_in index register term.now))) }
+        (λ trees. AreAllSpelled trees (key_row at.db.0 (key_in at.index at.register term.now))) }
     ensures counted { OnStore (state S.Store conn.old) (state S.Store conn.new) (λ trees. OnOk result ((rows : List Columns)
-        → IsListOf (IsBlockUnder trees db.0 index register term.now) rows
+        → IsListOf (IsBlockUnder trees at.db.0 at.index at.register term.now) rows
         → Rises (length rows) work.old.block_read work.new.block_read)) }
     ensures blocks { OnStore (state S.Store conn.old) (state S.Store conn.new) (λ trees. OnOk result ((content : Content)
         → HoldsBlocks trees content
-        → Rises (blocks_of (content db.0 (key_in index register term.now))) work.old.block_read work.new.block_read)) }
+        → Rises (blocks_of (content at.db.0 (key_in at.index at.register term.now))) work.old.block_read work.new.block_read)) }
     ensures others { work.new ≡ record work.old { block_read = work.new.block_read } }
     ensures fits { OnOk result (work.new.block_read < 2 ^ 64) }
 {
-    let at = RegisterOf {
-        db,
-        index,
-        register,
-    };
     let rows = block_rows(conn, at, term)?;
     let count = rows_postings(&rows)?;
     work.block_read = counted(work.block_read, rows.len());

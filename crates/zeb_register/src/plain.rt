@@ -13,9 +13,8 @@ ghost use Rattle.zeb_register.specs.RowPlaces.{first_three, IsThreeNumbers};
 use crate::agreeing::{lists_beside, rows_agree};
 use crate::dropping::database_drop_whole;
 use crate::plain_changes::key_change_plain;
-use crate::registers::{Layout, Place, RecordChange, TermCount, Totals, Work};
+use crate::registers::{Layout, Place, RecordChange, RegisterOf, TermCount, Totals, Work};
 use crate::statements::inside::nothing_inside;
-use crate::statements::keys::RegisterOf;
 use crate::statements::postings::{nothing_of, posting_rows, register_rows};
 use crate::terms::{count_terms, term_before, term_count, term_from, text_above};
 use crate::values::read;
@@ -24,7 +23,6 @@ use sqlite::{Alter, Connection, Row, Transaction};
 use std::alloc::Global;
 use zeb_blocks::Posting;
 use zeb_extract::Key;
-use zeb_profile::Register;
 
 /// The layout with one row of `postings` for each posting, and no row of `blocks` or `dict`. It counts no work.
 #[derive(Clone, Copy, Debug, PartialEq, Eq)]
@@ -85,22 +83,20 @@ impl Layout for Rows {
         db: DatabaseId,
         key: &Key,
     ) -> Result<Vec<Posting>, RegFault> {
-        postings_under(alloc, conn, db, key.index, key.register, key.term.as_str())
+        let at = RegisterOf {
+            db,
+            index: key.index,
+            register: key.register,
+        };
+        postings_under(alloc, conn, at, key.term.as_str())
     }
 
     fn terms_of<S: Alter>(
         alloc: Global,
         conn: &mut Connection<S>,
         _work: &mut Work,
-        db: DatabaseId,
-        index: u32,
-        register: Register,
+        at: RegisterOf,
     ) -> Result<Vec<TermCount>, RegFault> {
-        let at = RegisterOf {
-            db,
-            index,
-            register,
-        };
         let rows = register_rows(conn, at)?;
         count_terms(alloc, &rows)
     }
@@ -109,9 +105,7 @@ impl Layout for Rows {
         alloc: Global,
         conn: &mut Connection<S>,
         _work: &mut Work,
-        db: DatabaseId,
-        index: u32,
-        register: Register,
+        at: RegisterOf,
         start: &str,
         n: u64,
     ) -> Result<Vec<TermCount>, RegFault> {
@@ -120,10 +114,10 @@ impl Layout for Rows {
         // A closed connection is refused also where no term is asked for.
         nothing_of(conn)?;
         for _done in 0..n {
-            let Some(term) = term_from(conn, db, index, register, &next)? else {
+            let Some(term) = term_from(conn, at, &next)? else {
                 break;
             };
-            let count = term_count(alloc, conn, db, index, register, term)?;
+            let count = term_count(alloc, conn, at, term)?;
             next = text_above(alloc, count.term.as_str())?;
             counts.push(count)?;
         }
@@ -134,9 +128,7 @@ impl Layout for Rows {
         alloc: Global,
         conn: &mut Connection<S>,
         _work: &mut Work,
-        db: DatabaseId,
-        index: u32,
-        register: Register,
+        at: RegisterOf,
         start: &str,
         n: u64,
     ) -> Result<Vec<TermCount>, RegFault> {
@@ -145,10 +137,10 @@ impl Layout for Rows {
         // A closed connection is refused also where no term is asked for.
         nothing_of(conn)?;
         for _done in 0..n {
-            let Some(term) = term_before(conn, db, index, register, &above)? else {
+            let Some(term) = term_before(conn, at, &above)? else {
                 break;
             };
-            let count = term_count(alloc, conn, db, index, register, term)?;
+            let count = term_count(alloc, conn, at, term)?;
             above = String::from_str(alloc, count.term.as_str())?;
             counts.push(count)?;
         }
@@ -160,15 +152,8 @@ impl Layout for Rows {
         alloc: Global,
         conn: &mut Connection<S>,
         _work: &mut Work,
-        db: DatabaseId,
-        index: u32,
-        register: Register,
+        at: RegisterOf,
     ) -> Result<Totals, RegFault> {
-        let at = RegisterOf {
-            db,
-            index,
-            register,
-        };
         let rows = register_rows(conn, at)?;
         let counts = count_terms(alloc, &rows)?;
         Ok(Totals {
@@ -193,22 +178,15 @@ impl Layout for Rows {
 pub(crate) fn postings_under<S: Alter>(
     alloc: Global,
     conn: &mut Connection<S>,
-    db: DatabaseId,
-    index: u32,
-    register: Register,
+    at: RegisterOf,
     term: &str,
 ) -> Result<Vec<Posting>, RegFault>
     ensures call { Reading (state S.Store conn.old) (state S.Store conn.new) result (λ _. IsUnchanged) }
     ensures value { TellsHeld HoldsRows (state S.Store conn.old) (state S.Store conn.new) result
-        (λ content list. list.items ≡ content db.0 (key_in index register term.now)) }
+        (λ content list. list.items ≡ content at.db.0 (key_in at.index at.register term.now)) }
     ensures honest { IsHonestOfHeld HoldsRows (state S.Store conn.old) (state S.Store conn.new) result }
     ensures refused { IsReasoned (state S.Store conn.old) (state S.Store conn.new) result }
 {
-    let at = RegisterOf {
-        db,
-        index,
-        register,
-    };
     let rows = posting_rows(conn, at, term)?;
     postings_of(alloc, &rows)
 }

@@ -41,6 +41,14 @@ pub struct TermCount {
     pub records: u64,
 }
 
+/// A register of a database: `register` of the index whose number is `index`.
+#[derive(Clone, Copy, Debug)]
+pub struct RegisterOf {
+    pub db: DatabaseId,
+    pub index: u32,
+    pub register: Register,
+}
+
 /// How much a register of a database holds: its distinct terms, and its postings.
 #[derive(Clone, Copy, Debug, Default, PartialEq, Eq)]
 pub struct Totals {
@@ -175,13 +183,11 @@ pub trait Layout {
         alloc: Global,
         conn: &mut Connection<S>,
         work: &mut Work,
-        db: DatabaseId,
-        index: u32,
-        register: Register,
+        at: RegisterOf,
     ) -> Result<Vec<TermCount>, RegFault>
         ensures call { Reading (state S.Store conn.old) (state S.Store conn.new) result (λ _. IsUnchanged) }
         ensures value { TellsHeld (holds_in format) (state S.Store conn.old) (state S.Store conn.new) result
-            (λ content list. AreTermsOf (posted content db.0) index register list.items) }
+            (λ content list. AreTermsOf (posted content at.db.0) at.index at.register list.items) }
         ensures honest { IsHonestStorable (holds_in format) (state S.Store conn.old) (state S.Store conn.new) result }
         ensures refused { IsReasoned (state S.Store conn.old) (state S.Store conn.new) result }
         ensures work { TellsHeld (holds_in format) (state S.Store conn.old) (state S.Store conn.new) result
@@ -193,15 +199,13 @@ pub trait Layout {
         alloc: Global,
         conn: &mut Connection<S>,
         work: &mut Work,
-        db: DatabaseId,
-        index: u32,
-        register: Register,
+        at: RegisterOf,
         start: &str,
         n: u64,
     ) -> Result<Vec<TermCount>, RegFault>
         ensures call { Reading (state S.Store conn.old) (state S.Store conn.new) result (λ _. IsUnchanged) }
         ensures value { TellsHeld (holds_in format) (state S.Store conn.old) (state S.Store conn.new) result
-            (λ content list. AreTermsFrom (posted content db.0) index register start.now n list.items) }
+            (λ content list. AreTermsFrom (posted content at.db.0) at.index at.register start.now n list.items) }
         ensures honest { IsHonestStorable (holds_in format) (state S.Store conn.old) (state S.Store conn.new) result }
         ensures refused { IsReasoned (state S.Store conn.old) (state S.Store conn.new) result }
         ensures work { TellsHeld (holds_in format) (state S.Store conn.old) (state S.Store conn.new) result
@@ -213,15 +217,13 @@ pub trait Layout {
         alloc: Global,
         conn: &mut Connection<S>,
         work: &mut Work,
-        db: DatabaseId,
-        index: u32,
-        register: Register,
+        at: RegisterOf,
         start: &str,
         n: u64,
     ) -> Result<Vec<TermCount>, RegFault>
         ensures call { Reading (state S.Store conn.old) (state S.Store conn.new) result (λ _. IsUnchanged) }
         ensures value { TellsHeld (holds_in format) (state S.Store conn.old) (state S.Store conn.new) result
-            (λ content list. AreTermsBefore (posted content db.0) index register start.now n list.items) }
+            (λ content list. AreTermsBefore (posted content at.db.0) at.index at.register start.now n list.items) }
         ensures honest { IsHonestStorable (holds_in format) (state S.Store conn.old) (state S.Store conn.new) result }
         ensures refused { IsReasoned (state S.Store conn.old) (state S.Store conn.new) result }
         ensures work { TellsHeld (holds_in format) (state S.Store conn.old) (state S.Store conn.new) result
@@ -233,18 +235,17 @@ pub trait Layout {
         alloc: Global,
         conn: &mut Connection<S>,
         work: &mut Work,
-        db: DatabaseId,
-        index: u32,
-        register: Register,
+        at: RegisterOf,
     ) -> Result<Totals, RegFault>
         ensures call { Reading (state S.Store conn.old) (state S.Store conn.new) result (λ _. IsUnchanged) }
         ensures value { TellsHeld (holds_in format) (state S.Store conn.old) (state S.Store conn.new) result
-            (λ content sums. AreTotals (posted content db.0) index register sums) }
+            (λ content sums. AreTotals (posted content at.db.0) at.index at.register sums) }
         ensures honest { IsHonestStorable (holds_in format) (state S.Store conn.old) (state S.Store conn.new) result }
         ensures refused { IsReasoned (state S.Store conn.old) (state S.Store conn.new) result }
         ensures work { TellsHeld (holds_in format) (state S.Store conn.old) (state S.Store conn.new) result
-            (λ content _. (all : List TermCount) → AreTermsOf (posted content db.0) index register all → Works (row_work * length all) 0
-            (sum_by (λ t. block_rows (content db.0 (key_in index register t.term))) all) 0 work.old work.new) }
+            (λ content _. (all : List TermCount) → AreTermsOf (posted content at.db.0) at.index at.register all
+            → Works (row_work * length all) 0 (sum_by (λ t. block_rows (content at.db.0 (key_in at.index at.register t.term))) all) 0
+            work.old work.new) }
         ensures no_work { row_work ≡ 0 → work.new ≡ work.old };
 
     /// Whether the tables hold just what is expected, in this layout. Unreadable rows are not expected. It changes nothing.

@@ -14,17 +14,15 @@ ghost use Rattle.zeb_register.specs.Occurring.{IsCount, AreCounts, TermIn};
 ghost use Rattle.zeb_register.specs.RowTerms.{IsInRecord, IsShown, ShowsOccurrence, IsOccurrenceRow, ShowsTerm, IsTermRow, IsCountedIn};
 ghost use Rattle.zeb_register.specs.RowTerms.{IsLeastTerm, IsGreatestTerm};
 
+use crate::RegFault;
 use crate::plain::postings_under;
-use crate::registers::TermCount;
-use crate::statements::keys::RegisterOf;
+use crate::registers::{RegisterOf, TermCount};
 use crate::statements::postings::{rows_before, rows_from};
 use crate::values::read;
-use crate::{DatabaseId, RegFault};
 use sqlite::{Alter, Connection, Row};
 use std::alloc::{AllocError, Global};
 use zeb_blocks::Posting;
 use zeb_extract::Term;
-use zeb_profile::Register;
 
 /// The terms of rows that rise by term and then by record, each with the number of its records.
 pub(crate) fn count_terms(alloc: Global, rows: &[Row]) -> Result<Vec<TermCount>, RegFault>
@@ -96,18 +94,17 @@ fn records_in(list: &[Posting]) -> u64
 pub(crate) fn term_count<S: Alter>(
     alloc: Global,
     conn: &mut Connection<S>,
-    db: DatabaseId,
-    index: u32,
-    register: Register,
+    at: RegisterOf,
     term: String,
 ) -> Result<TermCount, RegFault>
     ensures call { Reading (state S.Store conn.old) (state S.Store conn.new) result (λ _. IsUnchanged) }
     ensures value { TellsHeld HoldsRows (state S.Store conn.old) (state S.Store conn.new) result
-        (λ content t. (t.term ≡ string_bytes term) × IsCount (TermIn (posted content db.0) index register (string_bytes term)) t.records) }
+        (λ content t. (t.term ≡ string_bytes term)
+        × IsCount (TermIn (posted content at.db.0) at.index at.register (string_bytes term)) t.records) }
     ensures honest { IsHonestOfHeld HoldsRows (state S.Store conn.old) (state S.Store conn.new) result }
     ensures refused { IsReasoned (state S.Store conn.old) (state S.Store conn.new) result }
 {
-    let list = postings_under(alloc, conn, db, index, register, term.as_str())?;
+    let list = postings_under(alloc, conn, at, term.as_str())?;
     let records = records_in(&list);
     Ok(TermCount {
         term: Term::new(term),
@@ -139,22 +136,15 @@ fn term_of(rows: &[Row]) -> Result<Option<String>, RegFault>
 /// The least term of the register that is not below `start`.
 pub(crate) fn term_from<S: Alter>(
     conn: &mut Connection<S>,
-    db: DatabaseId,
-    index: u32,
-    register: Register,
+    at: RegisterOf,
     start: &str,
 ) -> Result<Option<String>, RegFault>
     ensures call { Reading (state S.Store conn.old) (state S.Store conn.new) result (λ _. IsUnchanged) }
     ensures value { TellsHeld HoldsRows (state S.Store conn.old) (state S.Store conn.new) result
-        (λ content term. IsLeastTerm (TermIn (posted content db.0) index register) start.now term) }
+        (λ content term. IsLeastTerm (TermIn (posted content at.db.0) at.index at.register) start.now term) }
     ensures honest { IsHonestStorable HoldsRows (state S.Store conn.old) (state S.Store conn.new) result }
     ensures refused { IsReasoned (state S.Store conn.old) (state S.Store conn.new) result }
 {
-    let at = RegisterOf {
-        db,
-        index,
-        register,
-    };
     let rows = rows_from(conn, at, start)?;
     term_of(&rows)
 }
@@ -162,22 +152,15 @@ pub(crate) fn term_from<S: Alter>(
 /// The greatest term of the register that is below `start`.
 pub(crate) fn term_before<S: Alter>(
     conn: &mut Connection<S>,
-    db: DatabaseId,
-    index: u32,
-    register: Register,
+    at: RegisterOf,
     start: &str,
 ) -> Result<Option<String>, RegFault>
     ensures call { Reading (state S.Store conn.old) (state S.Store conn.new) result (λ _. IsUnchanged) }
     ensures value { TellsHeld HoldsRows (state S.Store conn.old) (state S.Store conn.new) result
-        (λ content term. IsGreatestTerm (TermIn (posted content db.0) index register) start.now term) }
+        (λ content term. IsGreatestTerm (TermIn (posted content at.db.0) at.index at.register) start.now term) }
     ensures honest { IsHonestStorable HoldsRows (state S.Store conn.old) (state S.Store conn.new) result }
     ensures refused { IsReasoned (state S.Store conn.old) (state S.Store conn.new) result }
 {
-    let at = RegisterOf {
-        db,
-        index,
-        register,
-    };
     let rows = rows_before(conn, at, start)?;
     term_of(&rows)
 }

@@ -13,13 +13,12 @@ ghost use Rattle.zeb_search.specs.PrivateTerms.{AreTaken, HasWanted, IsWanted, L
 ghost use Rattle.zeb_search.specs.Untouched.{IsUntouched};
 
 use crate::ranges::text_above;
-use crate::registers::RegisterOf;
 use crate::terms::Wanted;
 use sqlite::{Alter, Connection};
 use std::alloc::{AllocError, Global};
 use zeb_extract::Key;
 use zeb_profile::Register;
-use zeb_register::{Layout, RegFault, TermCount, Work};
+use zeb_register::{Layout, RegFault, RegisterOf, TermCount, Work};
 
 /// How many terms of a register are read at first. Most patterns match few terms, and each term that is read costs as much as a short
 /// list of postings.
@@ -80,15 +79,15 @@ fn terms_wanted<S: Alter, L: Layout>(
 ) -> Result<Vec<TermCount>, RegFault>
     ensures call { Reading (state S.Store connection.old) (state S.Store connection.new) result (λ _. IsUntouched) }
     ensures value { TellsHeld (holds_in L.format) (state S.Store connection.old) (state S.Store connection.new) result
-        (λ content terms. HasWanted (posted content of.database.0) of.index of.register wanted.entry terms.items) }
+        (λ content terms. HasWanted (posted content of.db.0) of.index of.register wanted.entry terms.items) }
     ensures honest { IsHonestStorable (holds_in L.format) (state S.Store connection.old) (state S.Store connection.new) result }
     ensures refused { IsReasoned (state S.Store connection.old) (state S.Store connection.new) result }
-    ensures work { OnOk result (Counted L.format (λ content. RegisterDict L.row_work content of.database.0 of.index of.register) NoRows
+    ensures work { OnOk result (Counted L.format (λ content. RegisterDict L.row_work content of.db.0 of.index of.register) NoRows
         (state S.Store connection.old) (state S.Store connection.new) work.old work.new) }
     ensures no_work { L.row_work ≡ 0 → work.new ≡ work.old }
 {
     if wanted.spans_register() {
-        return L::terms_of(alloc, connection, work, of.database, of.index, of.register);
+        return L::terms_of(alloc, connection, work, of.db, of.index, of.register);
     }
     let mut terms = Vec::new(alloc);
     let mut start = wanted.start(alloc)?;
@@ -98,7 +97,7 @@ fn terms_wanted<S: Alter, L: Layout>(
             alloc,
             connection,
             work,
-            of.database,
+            of.db,
             of.index,
             of.register,
             start.as_str(),
@@ -126,11 +125,11 @@ pub(crate) fn keys_wanted<S: Alter, L: Layout>(
 ) -> Result<Vec<Key>, RegFault>
     ensures call { Reading (state S.Store connection.old) (state S.Store connection.new) result (λ _. IsUntouched) }
     ensures value { TellsHeld (holds_in L.format) (state S.Store connection.old) (state S.Store connection.new) result
-        (λ content keys. AreKeysOf (posted content of.database.0) of.index of.register (IsWanted wanted.entry) keys.items) }
+        (λ content keys. AreKeysOf (posted content of.db.0) of.index of.register (IsWanted wanted.entry) keys.items) }
     ensures honest { IsHonestStorable (holds_in L.format) (state S.Store connection.old) (state S.Store connection.new) result }
     ensures refused { IsReasoned (state S.Store connection.old) (state S.Store connection.new) result }
     ensures work { OnOk result (Counted L.format
-        (λ content. EntryDict L.row_work content of.database.0 (NamesEntry wanted.entry) of.index of.register) NoRows
+        (λ content. EntryDict L.row_work content of.db.0 (NamesEntry wanted.entry) of.index of.register) NoRows
         (state S.Store connection.old) (state S.Store connection.new) work.old work.new) }
     ensures no_work { L.row_work ≡ 0 → work.new ≡ work.old }
 {

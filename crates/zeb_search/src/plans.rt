@@ -19,14 +19,14 @@ ghost use Rattle.zeb_search.specs.Untouched.{IsUntouched};
 use crate::distances::near;
 use crate::lists::joined;
 use crate::postings::{numbers_wanted, places_of_words};
-use crate::registers::{IndexOf, RegisterOf};
+use crate::registers::IndexOf;
 use crate::terms::Wanted;
 use crate::words::{all_words_hits, any_word_hits, phrase_hits};
 use sqlite::{Alter, Connection};
 use std::alloc::Global;
 use zeb_profile::Register;
 use zeb_query::{NearPlan, Plan, TermPlan};
-use zeb_register::{DatabaseId, Layout, RegFault, Work, ident_of};
+use zeb_register::{DatabaseId, Layout, RegFault, RegisterOf, Work, ident_of};
 
 /// The numbers of the records of a database on which a plan holds, rising and each once. The registers alone decide, and of a system
 /// number that the plan names whether a record has it.
@@ -91,7 +91,7 @@ fn term_hits<S: Alter, L: Layout>(
         TermPlan::RecordNumber(number) => record_hits(alloc, connection, database, *number),
         TermPlan::Always { index, register } => {
             let of = RegisterOf {
-                database,
+                db: database,
                 index: *index,
                 register: *register,
             };
@@ -103,7 +103,7 @@ fn term_hits<S: Alter, L: Layout>(
             number,
         } => {
             let of = RegisterOf {
-                database,
+                db: database,
                 index: *index,
                 register: Register::Number,
             };
@@ -118,7 +118,7 @@ fn term_hits<S: Alter, L: Layout>(
         } => match start {
             Some(start) => {
                 let of = RegisterOf {
-                    database,
+                    db: database,
                     index: *index,
                     register: *register,
                 };
@@ -130,7 +130,7 @@ fn term_hits<S: Alter, L: Layout>(
         TermPlan::Complete { index, pattern } => match pattern {
             Some(pattern) => {
                 let of = RegisterOf {
-                    database,
+                    db: database,
                     index: *index,
                     register: Register::Phrase,
                 };
@@ -144,21 +144,21 @@ fn term_hits<S: Alter, L: Layout>(
             first,
         } => {
             let of = IndexOf {
-                database,
+                db: database,
                 index: *index,
             };
             phrase_hits::<S, L>(alloc, connection, work, of, patterns.as_slice(), *first)
         }
         TermPlan::AllWords { index, patterns } => {
             let of = IndexOf {
-                database,
+                db: database,
                 index: *index,
             };
             all_words_hits::<S, L>(alloc, connection, work, of, patterns.as_slice())
         }
         TermPlan::AnyWord { index, patterns } => {
             let of = IndexOf {
-                database,
+                db: database,
                 index: *index,
             };
             any_word_hits::<S, L>(alloc, connection, work, of, patterns.as_slice())
@@ -207,7 +207,7 @@ fn near_hits<S: Alter, L: Layout>(
     ensures no_work { L.row_work ≡ 0 → work.new ≡ work.old }
 {
     let of = IndexOf {
-        database,
+        db: database,
         index: plan.index,
     };
     let left = places_of_words::<S, L>(alloc, connection, work, of, &plan.left)?;

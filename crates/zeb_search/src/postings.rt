@@ -17,13 +17,13 @@ ghost use Rattle.zeb_search.specs.Untouched.{IsUntouched};
 
 use crate::keys::keys_wanted;
 use crate::lists::{numbers_of, postings_in_order};
-use crate::registers::{IndexOf, RegisterOf};
+use crate::registers::IndexOf;
 use crate::terms::Wanted;
 use sqlite::{Alter, Connection};
 use std::alloc::Global;
 use zeb_extract::Key;
 use zeb_profile::Register;
-use zeb_register::{DatabaseId, Layout, Posting, RegFault, Work};
+use zeb_register::{DatabaseId, Layout, Posting, RegFault, RegisterOf, Work};
 use zeb_text::Pattern;
 
 /// The postings of the keys, in order and each once.
@@ -61,17 +61,17 @@ pub(crate) fn numbers_wanted<S: Alter, L: Layout>(
 ) -> Result<Vec<u64>, RegFault>
     ensures call { Reading (state S.Store connection.old) (state S.Store connection.new) result (λ _. IsUntouched) }
     ensures value { TellsHeld (holds_in L.format) (state S.Store connection.old) (state S.Store connection.new) result
-        (λ content hits. AreNumbers (HasEntry (posted content of.database.0) of.index of.register (IsWanted wanted.entry)) hits.items) }
+        (λ content hits. AreNumbers (HasEntry (posted content of.db.0) of.index of.register (IsWanted wanted.entry)) hits.items) }
     ensures honest { IsHonestStorable (holds_in L.format) (state S.Store connection.old) (state S.Store connection.new) result }
     ensures refused { IsReasoned (state S.Store connection.old) (state S.Store connection.new) result }
     ensures work { OnOk result (Counted L.format
-        (λ content. EntryDict L.row_work content of.database.0 (NamesEntry wanted.entry) of.index of.register)
-        (λ content. EntryRows L.block_rows content of.database.0 of.index of.register (IsWanted wanted.entry))
+        (λ content. EntryDict L.row_work content of.db.0 (NamesEntry wanted.entry) of.index of.register)
+        (λ content. EntryRows L.block_rows content of.db.0 of.index of.register (IsWanted wanted.entry))
         (state S.Store connection.old) (state S.Store connection.new) work.old work.new) }
     ensures no_work { L.row_work ≡ 0 → work.new ≡ work.old }
 {
     let keys = keys_wanted::<S, L>(alloc, connection, work, of, wanted)?;
-    let postings = postings_of::<S, L>(alloc, connection, work, of.database, &keys)?;
+    let postings = postings_of::<S, L>(alloc, connection, work, of.db, &keys)?;
     Ok(numbers_of(alloc, &postings)?)
 }
 
@@ -85,18 +85,18 @@ pub(crate) fn places_of_words<S: Alter, L: Layout>(
 ) -> Result<Vec<Posting>, RegFault>
     ensures call { Reading (state S.Store connection.old) (state S.Store connection.new) result (λ _. IsUntouched) }
     ensures value { TellsHeld (holds_in L.format) (state S.Store connection.old) (state S.Store connection.new) result
-        (λ content list. ArePostings (λ p. HasWord (posted content of.database.0) of.index pattern.now p.sysno p.seq p.pos) list.items) }
+        (λ content list. ArePostings (λ p. HasWord (posted content of.db.0) of.index pattern.now p.sysno p.seq p.pos) list.items) }
     ensures honest { IsHonestStorable (holds_in L.format) (state S.Store connection.old) (state S.Store connection.new) result }
     ensures refused { IsReasoned (state S.Store connection.old) (state S.Store connection.new) result }
-    ensures work { OnOk result (CountedMatches L.format L.row_work L.block_rows of.database.0 of.index pattern.now
+    ensures work { OnOk result (CountedMatches L.format L.row_work L.block_rows of.db.0 of.index pattern.now
         (state S.Store connection.old) (state S.Store connection.new) work.old work.new) }
     ensures no_work { L.row_work ≡ 0 → work.new ≡ work.old }
 {
     let words = RegisterOf {
-        database: of.database,
+        db: of.db,
         index: of.index,
         register: Register::Word,
     };
     let keys = keys_wanted::<S, L>(alloc, connection, work, words, Wanted::Matching(pattern))?;
-    postings_of::<S, L>(alloc, connection, work, of.database, &keys)
+    postings_of::<S, L>(alloc, connection, work, of.db, &keys)
 }

@@ -12,8 +12,7 @@ ghost use Rattle.zeb_register.specs.PackedBlocks.{IsRestBefore, IsRestFrom};
 ghost use Rattle.zeb_register.specs.PackedRows.{ListsFirst, ListsLast};
 ghost use Rattle.zeb_register.specs.RowStatements.{Lists};
 
-use crate::RegFault;
-use crate::statements::keys::RegisterOf;
+use crate::{RegFault, RegisterOf};
 use sqlite::{Alter, Connection, Error, Row, Transaction, params};
 
 /// The blocks of a key: the number of each, and its bytes.

@@ -15,8 +15,8 @@ ghost use Rattle.zeb_register.specs.Clauses.{IsReasonedError};
 ghost use Rattle.zeb_register.specs.KeyColumns.{HasTermOf, IsOfNumbered, numbered_columns, register_columns};
 ghost use Rattle.zeb_register.specs.RowTerms.{ShowsLeast, ShowsGreatest, Reads};
 
-use crate::RegFault;
-use crate::statements::keys::{KeyOf, RegisterOf};
+use crate::statements::keys::KeyOf;
+use crate::{RegFault, RegisterOf};
 use sqlite::{Alter, Connection, Error, Row, Transaction, params};
 
 /// Reads nothing. It is refused where the connection is closed.

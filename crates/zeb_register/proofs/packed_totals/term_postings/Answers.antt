@@ -15,7 +15,7 @@ returns-clause-value g c clean store content holds =
     let items = c.in_ok-rows.rows.items in
     let it = c.in_ok-count.ensures.ok in
     let spelled : AreSpelled items it.0 = subst (λ rows. AreSpelled rows it.0) c.deref.ensures.value it.1 in
-    let same = key_read trees content c.args.db.0 (key_in c.args.index c.args.register c.args.term.now) holds items ((c.in_ok-rows.ensures.call.ok clean).1 store) it.0 spelled in
+    let same = key_read trees content c.args.at.db.0 (key_in c.args.at.index c.args.at.register c.args.term.now) holds items ((c.in_ok-rows.ensures.call.ok clean).1 store) it.0 spelled in
     it.2 ∙ ap (λ (list : List Posting). capped (length list)) same
 
 pub returns-clause-blocks : goal.returns-clause-blocks
@@ -23,17 +23,17 @@ returns-clause-blocks g c clean store content holds =
     let trees = (state g.S.Store c.args.conn.now).now.trees in
     let items = c.in_ok-rows.rows.items in
     let are = (c.in_ok-rows.ensures.call.ok clean).1 store in
-    let key = key_in c.args.index c.args.register c.args.term.now in
-    let list = content c.args.db.0 key in
-    let many : length items ≡ blocks_of list = key_blocks trees content c.args.db.0 key holds items are list (key_spelled trees content c.args.db.0 key holds items are) in
+    let key = key_in c.args.at.index c.args.at.register c.args.term.now in
+    let list = content c.args.at.db.0 key in
+    let many : length items ≡ blocks_of list = key_blocks trees content c.args.at.db.0 key holds items are list (key_spelled trees content c.args.at.db.0 key holds items are) in
     subst (λ k. Rises k c.args.work.now.block_read c.counted-work.result) (c.len.ensures ∙ c.in_ok-rows.rows.ok.0 ∙ many) c.counted-work.ensures.rises
 
 pub returns-in_err-count-clause-honest : goal.returns-in_err-count-clause-honest
 returns-in_err-count-clause-honest g c clean store is content holds =
     let trees = (state g.S.Store c.args.conn.now).now.trees in
-    let key = key_in c.args.index c.args.register c.args.term.now in
-    let list = content c.args.db.0 key in
-    let spelled = key_spelled trees content c.args.db.0 key holds c.in_ok-rows.rows.items ((c.in_ok-rows.ensures.call.ok clean).1 store) in
+    let key = key_in c.args.at.index c.args.at.register c.args.term.now in
+    let list = content c.args.at.db.0 key in
+    let spelled = key_spelled trees content c.args.at.db.0 key holds c.in_ok-rows.rows.items ((c.in_ok-rows.ensures.call.ok clean).1 store) in
     c.in_err-count.ensures.honest (search rules) list (subst (λ rows. AreSpelled rows list) (sym c.deref.ensures.value) spelled)
 
 pub returns-clause-sound : goal.returns-clause-sound

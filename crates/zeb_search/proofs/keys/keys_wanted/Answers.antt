@@ -13,7 +13,7 @@ use Rattle.zeb_search.proofs.keys.keys_wanted.Goals as goal
 
 pub returns-in-Some-clause-value : goal.returns-in-Some-clause-value
 returns-in-Some-clause-value g c clean store content has =
-    let O = posted content c.args.of.database.0 in
+    let O = posted content c.args.of.db.0 in
     let one : (term : List ℕ) → IsWanted c.args.wanted term ↔ (term ≡ c.in-Some.term) = search rules in
     let key : Key = key_in c.args.of.index c.args.of.register c.in-Some.term in
     let keys : c.push.new.self.items ≡ key ∷ [] = c.in_ok-push.ensures.items ∙ ap (λ (l : List Key). l ++ key ∷ []) c.new-keys.ensures.items in
@@ -21,18 +21,18 @@ returns-in-Some-clause-value g c clean store content has =
 
 pub returns-clause-value : goal.returns-clause-value
 returns-clause-value g c clean store content has =
-    keys_are (posted content c.args.of.database.0) c.args.of.index c.args.of.register c.args.wanted c.in_ok-terms.terms.items c.in_ok-keys_of.field-0.items
+    keys_are (posted content c.args.of.db.0) c.args.of.index c.args.of.register c.args.wanted c.in_ok-terms.terms.items c.in_ok-keys_of.field-0.items
     (c.in_ok-terms.ensures.value clean store content has) c.in_ok-keys_of.ensures
 
 pub returns-in-Some-clause-work : goal.returns-in-Some-clause-work
 returns-in-Some-clause-work g c =
     let named : NamesEntry c.args.wanted = search rules in
-    counted_still g.L.Layout.format (λ content. EntryDict g.L.Layout.row_work content c.args.of.database.0 (NamesEntry c.args.wanted) c.args.of.index c.args.of.register) NoRows (state g.S.Store c.args.connection.now) c.args.work.now
+    counted_still g.L.Layout.format (λ content. EntryDict g.L.Layout.row_work content c.args.of.db.0 (NamesEntry c.args.wanted) c.args.of.index c.args.of.register) NoRows (state g.S.Store c.args.connection.now) c.args.work.now
     (λ content. inl (named, refl)) (λ content. refl)
 
 pub returns-clause-work : goal.returns-clause-work
 returns-clause-work g c =
     let unnamed : ¬ NamesEntry c.args.wanted = search rules in
-    counted_for g.L.Layout.format (λ content. RegisterDict g.L.Layout.row_work content c.args.of.database.0 c.args.of.index c.args.of.register)
-    (λ content. EntryDict g.L.Layout.row_work content c.args.of.database.0 (NamesEntry c.args.wanted) c.args.of.index c.args.of.register) NoRows NoRows (state g.S.Store c.args.connection.now)
+    counted_for g.L.Layout.format (λ content. RegisterDict g.L.Layout.row_work content c.args.of.db.0 c.args.of.index c.args.of.register)
+    (λ content. EntryDict g.L.Layout.row_work content c.args.of.db.0 (NamesEntry c.args.wanted) c.args.of.index c.args.of.register) NoRows NoRows (state g.S.Store c.args.connection.now)
     (state g.S.Store c.terms_wanted.new.connection) c.args.work.now c.terms_wanted.new.work (λ content n all. inr (unnamed, all)) (λ content n none. none) c.in_ok-terms.ensures.work

@@ -20,8 +20,8 @@ pub pages-init : goal.pages-init
 pages-init g c = record {
   read = read_still (state g.S.Store c.args.connection.now);
   found = λ clean store content has.
-      subst (λ (l : List TermCount). HasUpTo (posted content c.args.of.database.0) c.args.of.index c.args.of.register c.args.wanted l (string_bytes c.in_ok-start.start)) (sym c.new-terms.ensures.items)
-      (none_so_far (posted content c.args.of.database.0) c.args.of.index c.args.of.register c.args.wanted (string_bytes c.in_ok-start.start) c.in_ok-start.ensures);
+      subst (λ (l : List TermCount). HasUpTo (posted content c.args.of.db.0) c.args.of.index c.args.of.register c.args.wanted l (string_bytes c.in_ok-start.start)) (sym c.new-terms.ensures.items)
+      (none_so_far (posted content c.args.of.db.0) c.args.of.index c.args.of.register c.args.wanted (string_bytes c.in_ok-start.start) c.in_ok-start.ensures);
   counted = counted_still g.L.Layout.format (λ content n. n ≡ g.L.Layout.row_work * length c.new-terms.result.items) NoRows (state g.S.Store c.args.connection.now) c.args.work.now
       (λ content. omega (arith, ap (λ (l : List TermCount). g.L.Layout.row_work * length l) c.new-terms.ensures.items)) (λ content. refl);
   no_work = λ _. refl;
@@ -41,8 +41,8 @@ pages-preserved g c =
     record {
       read = read_then old now new c.pages.invariant.read (one_read now new c.in_ok-page.page c.in_ok-page.ensures.call);
       found = λ clean store content has.
-          let O = posted content c.args.of.database.0 in
-          let told = pages_told g.L.Layout.format c.args.of.database.0 c.args.of.index c.args.of.register c.args.wanted old now new c.pages.invariant.read c.terms_from.ensures.call.crash terms _ start c.as_str.ensures.value
+          let O = posted content c.args.of.db.0 in
+          let told = pages_told g.L.Layout.format c.args.of.db.0 c.args.of.index c.args.of.register c.args.wanted old now new c.pages.invariant.read c.terms_from.ensures.call.crash terms _ start c.as_str.ensures.value
           c.pages.page_terms page c.pages.invariant.found c.in_ok-page.ensures.value clean store content has in
           subst (λ (l : List TermCount). HasUpTo O c.args.of.index c.args.of.register c.args.wanted l (string_bytes c.in-Some.next)) (sym c.in_ok-append.ensures.items)
           (next_page O c.args.of.index c.args.of.register c.args.wanted terms start c.pages.page_terms page c.pages.invariant.some told.0 told.1 c.in-Some.next leads);
@@ -70,8 +70,8 @@ returns-in-None-clause-value g c clean store content has =
     let page = c.in_ok-page.page.items in
     let terms = c.pages.terms.items in
     let start = string_bytes c.pages.start in
-    let O = posted content c.args.of.database.0 in
-    let told = pages_told g.L.Layout.format c.args.of.database.0 c.args.of.index c.args.of.register c.args.wanted old now new c.pages.invariant.read c.terms_from.ensures.call.crash terms _ start c.as_str.ensures.value
+    let O = posted content c.args.of.db.0 in
+    let told = pages_told g.L.Layout.format c.args.of.db.0 c.args.of.index c.args.of.register c.args.wanted old now new c.pages.invariant.read c.terms_from.ensures.call.crash terms _ start c.as_str.ensures.value
     c.pages.page_terms page c.pages.invariant.found c.in_ok-page.ensures.value clean store content has in
     let ends : LeadsTo c.args.wanted page None =
     subst (LeadsTo c.args.wanted page) c.in-None.is (subst (λ (l : List TermCount). LeadsTo c.args.wanted l c.in_ok-next.next) c.deref.ensures.value c.in_ok-next.ensures) in
@@ -88,13 +88,13 @@ returns-in-None-clause-work g c =
     let all = c.append.new.self.items in
     let start = string_bytes c.pages.start in
     let row_work = g.L.Layout.row_work in
-    let db = c.args.of.database.0 in
+    let db = c.args.of.db.0 in
     let index = c.args.of.index in
     let register = c.args.of.register in
     counted_within g.L.Layout.format (λ content n. n ≡ row_work * length all) (λ content. RegisterDict row_work content db index register) NoRows old new c.args.work.now c.terms_from.new.work
     (λ clean store content has n is.
     let O = posted content db in
-    let told = pages_told g.L.Layout.format c.args.of.database.0 c.args.of.index c.args.of.register c.args.wanted old now new c.pages.invariant.read c.terms_from.ensures.call.crash terms _ start c.as_str.ensures.value
+    let told = pages_told g.L.Layout.format c.args.of.db.0 c.args.of.index c.args.of.register c.args.wanted old now new c.pages.invariant.read c.terms_from.ensures.call.crash terms _ start c.as_str.ensures.value
     c.pages.page_terms page c.pages.invariant.found c.in_ok-page.ensures.value clean store content has in
     within_register row_work content db index register all told.0.all n
     (subst TermsRise (sym c.in_ok-append.ensures.items) (more_rises O index register c.args.wanted terms start c.pages.page_terms page c.pages.invariant.some told.0 told.1))
@@ -114,9 +114,9 @@ returns-in_err-page-clause-refused g c =
 
 pub returns-then-spans_register-clause-value : goal.returns-then-spans_register-clause-value
 returns-then-spans_register-clause-value g c clean store =
-    IfOk-weaker c.terms_of.result _ _ (λ terms are content has. all_has_wanted (posted content c.args.of.database.0) c.args.of.index c.args.of.register c.args.wanted terms.items (are content has)) (c.terms_of.ensures.value clean store)
+    IfOk-weaker c.terms_of.result _ _ (λ terms are content has. all_has_wanted (posted content c.args.of.db.0) c.args.of.index c.args.of.register c.args.wanted terms.items (are content has)) (c.terms_of.ensures.value clean store)
 
 pub returns-then-spans_register-clause-work : goal.returns-then-spans_register-clause-work
 returns-then-spans_register-clause-work g c =
-    if_ok_counted c.terms_of.result g.L.Layout.format g.L.Layout.row_work c.args.of.database.0 c.args.of.index c.args.of.register (state g.S.Store c.args.connection.now) (state g.S.Store c.terms_of.new.conn)
+    if_ok_counted c.terms_of.result g.L.Layout.format g.L.Layout.row_work c.args.of.db.0 c.args.of.index c.args.of.register (state g.S.Store c.args.connection.now) (state g.S.Store c.terms_of.new.conn)
     c.args.work.now c.terms_of.new.work c.terms_of.ensures.value c.terms_of.ensures.work

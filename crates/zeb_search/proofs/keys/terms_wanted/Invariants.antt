@@ -16,7 +16,7 @@ invariant-pages g l =
     record {
       read : IsRead old now;
       found : HasCleanDisk now → IsStore old → (content : Content) → holds_in g.L.Layout.format old.now.trees content
-          → HasUpTo (posted content l.fn.of.database.0) l.of.index l.of.register l.wanted l.terms.items (string_bytes l.start);
+          → HasUpTo (posted content l.fn.of.db.0) l.of.index l.of.register l.wanted l.terms.items (string_bytes l.start);
       counted : Counted g.L.Layout.format (λ content n. n ≡ g.L.Layout.row_work * length l.terms.items) NoRows old now l.fn.work l.work;
       no_work : g.L.Layout.row_work ≡ 0 → l.work ≡ l.fn.work;
       some : 1 ≤ l.page_terms;

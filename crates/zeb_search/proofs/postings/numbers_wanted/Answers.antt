@@ -14,7 +14,7 @@ pub returns-clause-value : goal.returns-clause-value
 returns-clause-value g c clean store content has =
     let old = state g.S.Store c.args.connection.now in
     let mid = state g.S.Store c.keys_wanted.new.connection in
-    let db = c.args.of.database.0 in
+    let db = c.args.of.db.0 in
     let keys = c.in_ok-keys.keys.items in
     let postings = c.in_ok-postings.postings.items in
     let new = state g.S.Store c.postings_of.new.connection in
@@ -29,7 +29,7 @@ pub returns-clause-work : goal.returns-clause-work
 returns-clause-work g c =
     let old = state g.S.Store c.args.connection.now in
     let mid = state g.S.Store c.keys_wanted.new.connection in
-    keys_counted g.L.Layout.format (λ content. EntryDict g.L.Layout.row_work content c.args.of.database.0 (NamesEntry c.args.wanted) c.args.of.index c.args.of.register) g.L.Layout.block_rows c.args.of.database.0 c.args.of.index c.args.of.register (IsWanted c.args.wanted) c.in_ok-keys.keys.items _ c.deref.ensures.value
+    keys_counted g.L.Layout.format (λ content. EntryDict g.L.Layout.row_work content c.args.of.db.0 (NamesEntry c.args.wanted) c.args.of.index c.args.of.register) g.L.Layout.block_rows c.args.of.db.0 c.args.of.index c.args.of.register (IsWanted c.args.wanted) c.in_ok-keys.keys.items _ c.deref.ensures.value
     old mid (state g.S.Store c.postings_of.new.connection) c.args.work.now c.keys_wanted.new.work c.postings_of.new.work (as_read old mid c.in_ok-keys.keys c.in_ok-keys.ensures.call) c.postings_of.ensures.call.crash
     c.in_ok-keys.ensures.work c.in_ok-keys.ensures.value c.in_ok-postings.ensures.work
 

@@ -19,7 +19,7 @@ pub returns-clause-value : goal.returns-clause-value
 returns-clause-value g c clean store =
     let old = state g.S.Store c.args.connection.now in
     let mid = state g.S.Store c.keys_wanted.new.connection in
-    let db = c.args.of.database.0 in
+    let db = c.args.of.db.0 in
     let keys = c.in_ok-keys.keys.items in
     let first = clean_before mid (state g.S.Store c.postings_of.new.connection) c.postings_of.ensures.call.crash clean in
     let read = as_read old mid c.in_ok-keys.keys c.in_ok-keys.ensures.call in
@@ -33,7 +33,7 @@ returns-clause-work g c =
     let old = state g.S.Store c.args.connection.now in
     let mid = state g.S.Store c.keys_wanted.new.connection in
     on_ok_weaker c.postings_of.result
-    (keys_counted g.L.Layout.format (λ content. EntryDict g.L.Layout.row_work content c.args.of.database.0 (HasNoStar c.args.pattern.now) c.args.of.index register.Word) g.L.Layout.block_rows c.args.of.database.0 c.args.of.index register.Word (Fits c.args.pattern.now) c.in_ok-keys.keys.items _ c.deref.ensures.value
+    (keys_counted g.L.Layout.format (λ content. EntryDict g.L.Layout.row_work content c.args.of.db.0 (HasNoStar c.args.pattern.now) c.args.of.index register.Word) g.L.Layout.block_rows c.args.of.db.0 c.args.of.index register.Word (Fits c.args.pattern.now) c.in_ok-keys.keys.items _ c.deref.ensures.value
     old mid (state g.S.Store c.postings_of.new.connection) c.args.work.now c.keys_wanted.new.work c.postings_of.new.work (as_read old mid c.in_ok-keys.keys c.in_ok-keys.ensures.call) c.postings_of.ensures.call.crash
     c.in_ok-keys.ensures.work c.in_ok-keys.ensures.value) c.postings_of.ensures.work
 

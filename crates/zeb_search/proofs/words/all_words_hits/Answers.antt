@@ -17,7 +17,7 @@ use Rattle.zeb_search.proofs.words.all_words_hits.Goals as goal
 
 pub returns-in_default-clause-value : goal.returns-in_default-clause-value
 returns-in_default-clause-value g c clean store content has =
-    none_found c.args.patterns.now (EachMatches (posted content c.args.of.database.0) c.args.of.index c.args.patterns.now) c.new.result.items c.in_default.ensures.cases c.new.ensures.items
+    none_found c.args.patterns.now (EachMatches (posted content c.args.of.db.0) c.args.of.index c.args.patterns.now) c.new.result.items c.in_default.ensures.cases c.new.ensures.items
 
 pub loop-other-init : goal.loop-other-init
 loop-other-init g c = record {
@@ -26,15 +26,15 @@ loop-other-init g c = record {
     c.in-Some.pattern.now,
     c.in-Some.ensures.cases.0,
     λ clean store content has.
-        each_matches_none (posted content c.args.of.database.0) c.args.of.index c.in-Some.pattern.now c.in_ok-hits.hits.items (c.in_ok-hits.ensures.value clean store content has),
+        each_matches_none (posted content c.args.of.db.0) c.args.of.index c.in-Some.pattern.now c.in_ok-hits.hits.items (c.in_ok-hits.ensures.value clean store content has),
   );
   counted = λ first is.
       let pattern = c.in-Some.pattern.now in
       let same : pattern ≡ first = (let e : pattern ∷ c.in-Some.others.now ≡ first ∷ c.in-Some.others.now = sym c.in-Some.ensures.cases.0 ∙ is in cc) in
       let old = state g.S.Store c.args.connection.now in
       let new = state g.S.Store c.word_hits.new.connection in
-      subst (λ (p : List Symbol). CountedWords g.L.Layout.format g.L.Layout.row_work g.L.Layout.block_rows c.args.of.database.0 c.args.of.index (p ∷ []) old new c.args.work.now c.word_hits.new.work) same
-      (one_word_counted g.L.Layout.format g.L.Layout.row_work g.L.Layout.block_rows c.args.of.database.0 c.args.of.index pattern old new c.args.work.now c.word_hits.new.work c.in_ok-hits.ensures.work);
+      subst (λ (p : List Symbol). CountedWords g.L.Layout.format g.L.Layout.row_work g.L.Layout.block_rows c.args.of.db.0 c.args.of.index (p ∷ []) old new c.args.work.now c.word_hits.new.work) same
+      (one_word_counted g.L.Layout.format g.L.Layout.row_work g.L.Layout.block_rows c.args.of.db.0 c.args.of.index pattern old new c.args.work.now c.word_hits.new.work c.in_ok-hits.ensures.work);
   no_work = c.word_hits.ensures.no_work;
 }
 
@@ -55,9 +55,9 @@ loop-other-preserved g c =
         first,
         c.loop-other.invariant.found.1,
         λ clean store content has.
-            let O = posted content c.args.of.database.0 in
+            let O = posted content c.args.of.db.0 in
             let clean1 = clean_before now new c.word_hits-in-loop-other.ensures.call.crash clean in
-            let here = told_behind g.L.Layout.format old now new (λ content. AreNumbers (HasMatch (posted content c.args.of.database.0) c.args.of.index pattern) c.in_ok-found.found.items) c.loop-other.invariant.read
+            let here = told_behind g.L.Layout.format old now new (λ content. AreNumbers (HasMatch (posted content c.args.of.db.0) c.args.of.index pattern) c.in_ok-found.found.items) c.loop-other.invariant.read
             c.word_hits-in-loop-other.ensures.call.crash c.in_ok-found.ensures.value clean store content has in
             let before = c.loop-other.invariant.found.2 clean1 store content has in
             each_matches_more O c.args.of.index others index pattern c.loop-other-test.true c.other-item.is c.in_ok-hits-2.hits.items first
@@ -65,15 +65,15 @@ loop-other-preserved g c =
             c.deref.result.now c.deref-in-loop-other.result.now c.in_ok-hits-2.hits.items c.deref.ensures.value c.deref-in-loop-other.ensures.value before here c.in_ok-hits-2.ensures),
       );
       counted = λ first is.
-          subst (λ (l : List (List Symbol)). CountedWords g.L.Layout.format g.L.Layout.row_work g.L.Layout.block_rows c.args.of.database.0 c.args.of.index (first ∷ l) old new c.args.work.now c.word_hits-in-loop-other.new.work) (sym more)
-          (words_behind g.L.Layout.format g.L.Layout.row_work g.L.Layout.block_rows c.args.of.database.0 c.args.of.index (first ∷ take index others) pattern old now new c.args.work.now c.loop-other.work c.word_hits-in-loop-other.new.work
+          subst (λ (l : List (List Symbol)). CountedWords g.L.Layout.format g.L.Layout.row_work g.L.Layout.block_rows c.args.of.db.0 c.args.of.index (first ∷ l) old new c.args.work.now c.word_hits-in-loop-other.new.work) (sym more)
+          (words_behind g.L.Layout.format g.L.Layout.row_work g.L.Layout.block_rows c.args.of.db.0 c.args.of.index (first ∷ take index others) pattern old now new c.args.work.now c.loop-other.work c.word_hits-in-loop-other.new.work
           c.loop-other.invariant.read c.word_hits-in-loop-other.ensures.call.crash (c.loop-other.invariant.counted first is) c.in_ok-found.ensures.work);
       no_work = λ none. c.word_hits-in-loop-other.ensures.no_work none ∙ c.loop-other.invariant.no_work none;
     }
 
 pub returns-clause-value : goal.returns-clause-value
 returns-clause-value g c clean store content has =
-    let O = posted content c.args.of.database.0 in
+    let O = posted content c.args.of.db.0 in
     let others = c.in-Some.others.now in
     let first = c.loop-other.invariant.found.0 in
     let whole = take_whole others c.loop-other.other-index (omega (arith, c.loop-other-test.false)) in
@@ -86,7 +86,7 @@ returns-clause-work g c =
     let others = c.in-Some.others.now in
     let whole = take_whole others c.loop-other.other-index (omega (arith, c.loop-other-test.false)) in
     let all : first ∷ take c.loop-other.other-index others ≡ c.args.patterns.now = ap (λ (l : List (List Symbol)). first ∷ l) whole ∙ sym c.loop-other.invariant.found.1 in
-    subst (λ (l : List (List Symbol)). CountedWords g.L.Layout.format g.L.Layout.row_work g.L.Layout.block_rows c.args.of.database.0 c.args.of.index l (state g.S.Store c.args.connection.now) (state g.S.Store c.loop-other.connection) c.args.work.now c.loop-other.work)
+    subst (λ (l : List (List Symbol)). CountedWords g.L.Layout.format g.L.Layout.row_work g.L.Layout.block_rows c.args.of.db.0 c.args.of.index l (state g.S.Store c.args.connection.now) (state g.S.Store c.loop-other.connection) c.args.work.now c.loop-other.work)
     all (c.loop-other.invariant.counted first c.loop-other.invariant.found.1)
 
 pub returns-in_err-found-clause-refused : goal.returns-in_err-found-clause-refused

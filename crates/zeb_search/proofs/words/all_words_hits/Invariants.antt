@@ -20,8 +20,8 @@ invariant-loop-other g l =
       read : IsRead old now;
       found : (first : List Symbol) × (l.fn.patterns ≡ first ∷ l.others)
           × (HasCleanDisk now → IsStore old → (content : Content) → holds_in g.L.Layout.format old.now.trees content
-          → AreNumbers (λ n. EachMatches (posted content l.fn.of.database.0) l.of.index (take l.other-index l.others) n × HasMatch (posted content l.fn.of.database.0) l.of.index first n) l.hits.items);
+          → AreNumbers (λ n. EachMatches (posted content l.fn.of.db.0) l.of.index (take l.other-index l.others) n × HasMatch (posted content l.fn.of.db.0) l.of.index first n) l.hits.items);
       counted : (first : List Symbol) → l.fn.patterns ≡ first ∷ l.others
-          → CountedWords g.L.Layout.format g.L.Layout.row_work g.L.Layout.block_rows l.fn.of.database.0 l.of.index (first ∷ take l.other-index l.others) old now l.fn.work l.work;
+          → CountedWords g.L.Layout.format g.L.Layout.row_work g.L.Layout.block_rows l.fn.of.db.0 l.of.index (first ∷ take l.other-index l.others) old now l.fn.work l.work;
       no_work : g.L.Layout.row_work ≡ 0 → l.work ≡ l.fn.work;
     }

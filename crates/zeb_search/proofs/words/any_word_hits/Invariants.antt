@@ -19,7 +19,7 @@ invariant-loop-pattern g l =
     record {
       read : IsRead old now;
       found : HasCleanDisk now → IsStore old → (content : Content) → holds_in g.L.Layout.format old.now.trees content
-          → AreNumbers (λ n. (pattern : List Symbol) × Has (take l.pattern-index l.patterns) pattern × HasMatch (posted content l.fn.of.database.0) l.of.index pattern n) l.hits.items;
-      counted : CountedWords g.L.Layout.format g.L.Layout.row_work g.L.Layout.block_rows l.fn.of.database.0 l.of.index (take l.pattern-index l.patterns) old now l.fn.work l.work;
+          → AreNumbers (λ n. (pattern : List Symbol) × Has (take l.pattern-index l.patterns) pattern × HasMatch (posted content l.fn.of.db.0) l.of.index pattern n) l.hits.items;
+      counted : CountedWords g.L.Layout.format g.L.Layout.row_work g.L.Layout.block_rows l.fn.of.db.0 l.of.index (take l.pattern-index l.patterns) old now l.fn.work l.work;
       no_work : g.L.Layout.row_work ≡ 0 → l.work ≡ l.fn.work;
     }

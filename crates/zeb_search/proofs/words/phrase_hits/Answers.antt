@@ -10,7 +10,7 @@ use Rattle.zeb_search.proofs.words.phrase_hits.Goals as goal
 
 pub returns-then-first-clause-value : goal.returns-then-first-clause-value
 returns-then-first-clause-value g c clean store content has =
-    let O = posted content c.args.of.database.0 in
+    let O = posted content c.args.of.db.0 in
     let index = c.args.of.index in
     let patterns = c.args.patterns.now in
     let places = c.in_ok-places.places.items in
@@ -25,7 +25,7 @@ returns-then-first-clause-value g c clean store content has =
 
 pub returns-clause-value : goal.returns-clause-value
 returns-clause-value g c clean store content has =
-    let O = posted content c.args.of.database.0 in
+    let O = posted content c.args.of.db.0 in
     let index = c.args.of.index in
     let patterns = c.args.patterns.now in
     let places = c.in_ok-places.places.items in

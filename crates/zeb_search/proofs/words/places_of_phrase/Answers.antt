@@ -14,7 +14,7 @@ use Rattle.zeb_search.proofs.words.places_of_phrase.Goals as goal
 
 pub returns-in_default-clause-value : goal.returns-in_default-clause-value
 returns-in_default-clause-value g c clean store content has =
-    none_found c.args.patterns.now (AreWordsAt (posted content c.args.of.database.0) c.args.of.index c.args.patterns.now) c.new.result.items c.in_default.ensures.cases c.new.ensures.items
+    none_found c.args.patterns.now (AreWordsAt (posted content c.args.of.db.0) c.args.of.index c.args.patterns.now) c.new.result.items c.in_default.ensures.cases c.new.ensures.items
 
 pub loop-pattern-preserved : goal.loop-pattern-preserved
 loop-pattern-preserved g c =
@@ -33,9 +33,9 @@ loop-pattern-preserved g c =
         some_patterns pattern rest,
         joined,
         λ clean store content has.
-            let O = posted content c.args.of.database.0 in
+            let O = posted content c.args.of.db.0 in
             let clean1 = clean_before now new c.places_of_words-in-Some-split_last.ensures.call.crash clean in
-            let here = told_behind g.L.Layout.format old now new (λ content. ArePostings (IsWordAt (posted content c.args.of.database.0) c.args.of.index pattern) c.in_ok-starts.starts.items) c.loop-pattern.invariant.read
+            let here = told_behind g.L.Layout.format old now new (λ content. ArePostings (IsWordAt (posted content c.args.of.db.0) c.args.of.index pattern) c.in_ok-starts.starts.items) c.loop-pattern.invariant.read
             c.places_of_words-in-Some-split_last.ensures.call.crash c.in_ok-starts.ensures.value clean store content has in
             let starts = subst (ArePostings (IsWordAt O c.args.of.index pattern)) (sym c.deref.ensures.value) here in
             let places = subst (ArePostings (AreWordsAt O c.args.of.index rest)) (sym c.deref-in-Some-split_last.ensures.value) (c.loop-pattern.invariant.behind.3 clean1 store content has) in
@@ -43,8 +43,8 @@ loop-pattern-preserved g c =
       );
       counted = λ behind is.
           let same : pattern ∷ rest ≡ behind = append_cancel_left before (pattern ∷ rest) behind (sym joined ∙ is) in
-          subst (λ (l : List (List Symbol)). CountedWords g.L.Layout.format g.L.Layout.row_work g.L.Layout.block_rows c.args.of.database.0 c.args.of.index l old new c.args.work.now c.places_of_words-in-Some-split_last.new.work) same
-          (words_before g.L.Layout.format g.L.Layout.row_work g.L.Layout.block_rows c.args.of.database.0 c.args.of.index rest pattern old now new c.args.work.now c.loop-pattern.work c.places_of_words-in-Some-split_last.new.work
+          subst (λ (l : List (List Symbol)). CountedWords g.L.Layout.format g.L.Layout.row_work g.L.Layout.block_rows c.args.of.db.0 c.args.of.index l old new c.args.work.now c.places_of_words-in-Some-split_last.new.work) same
+          (words_before g.L.Layout.format g.L.Layout.row_work g.L.Layout.block_rows c.args.of.db.0 c.args.of.index rest pattern old now new c.args.work.now c.loop-pattern.work c.places_of_words-in-Some-split_last.new.work
           c.loop-pattern.invariant.read c.places_of_words-in-Some-split_last.ensures.call.crash (c.loop-pattern.invariant.counted rest c.loop-pattern.invariant.behind.2) c.in_ok-starts.ensures.work);
       no_work = λ none. c.places_of_words-in-Some-split_last.ensures.no_work none ∙ c.loop-pattern.invariant.no_work none;
     }
@@ -61,18 +61,18 @@ loop-pattern-init g c =
         last ∷ [],
         some_patterns last [],
         c.in-Some.ensures.cases.0,
-        λ clean store content has. one_word (posted content c.args.of.database.0) c.args.of.index last c.in_ok-places.places.items (c.in_ok-places.ensures.value clean store content has),
+        λ clean store content has. one_word (posted content c.args.of.db.0) c.args.of.index last c.in_ok-places.places.items (c.in_ok-places.ensures.value clean store content has),
       );
       counted = λ behind is.
           let same : last ∷ [] ≡ behind = append_cancel_left others (last ∷ []) behind (sym c.in-Some.ensures.cases.0 ∙ is) in
-          subst (λ (l : List (List Symbol)). CountedWords g.L.Layout.format g.L.Layout.row_work g.L.Layout.block_rows c.args.of.database.0 c.args.of.index l old new c.args.work.now c.places_of_words.new.work) same
-          (one_word_counted g.L.Layout.format g.L.Layout.row_work g.L.Layout.block_rows c.args.of.database.0 c.args.of.index last old new c.args.work.now c.places_of_words.new.work c.in_ok-places.ensures.work);
+          subst (λ (l : List (List Symbol)). CountedWords g.L.Layout.format g.L.Layout.row_work g.L.Layout.block_rows c.args.of.db.0 c.args.of.index l old new c.args.work.now c.places_of_words.new.work) same
+          (one_word_counted g.L.Layout.format g.L.Layout.row_work g.L.Layout.block_rows c.args.of.db.0 c.args.of.index last old new c.args.work.now c.places_of_words.new.work c.in_ok-places.ensures.work);
       no_work = c.places_of_words.ensures.no_work;
     }
 
 pub returns-clause-value : goal.returns-clause-value
 returns-clause-value g c clean store content has =
-    let O = posted content c.args.of.database.0 in
+    let O = posted content c.args.of.db.0 in
     let rest = c.loop-pattern.invariant.behind.0 in
     let places = c.loop-pattern.places.items in
     let whole : c.args.patterns.now ≡ rest =
@@ -85,7 +85,7 @@ returns-clause-work g c =
     let rest = c.loop-pattern.invariant.behind.0 in
     let whole : c.args.patterns.now ≡ rest =
     c.loop-pattern.invariant.behind.2 ∙ ap (λ (l : List (List Symbol)). l ++ rest) (no_patterns c.loop-pattern.others.now c.in_default-split_last.ensures.cases) in
-    subst (λ (l : List (List Symbol)). CountedWords g.L.Layout.format g.L.Layout.row_work g.L.Layout.block_rows c.args.of.database.0 c.args.of.index l (state g.S.Store c.args.connection.now) (state g.S.Store c.loop-pattern.connection) c.args.work.now c.loop-pattern.work)
+    subst (λ (l : List (List Symbol)). CountedWords g.L.Layout.format g.L.Layout.row_work g.L.Layout.block_rows c.args.of.db.0 c.args.of.index l (state g.S.Store c.args.connection.now) (state g.S.Store c.loop-pattern.connection) c.args.work.now c.loop-pattern.work)
     (sym whole) (c.loop-pattern.invariant.counted rest c.loop-pattern.invariant.behind.2)
 
 pub returns-in_err-starts-clause-refused : goal.returns-in_err-starts-clause-refused

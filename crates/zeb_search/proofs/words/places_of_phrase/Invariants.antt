@@ -19,9 +19,9 @@ invariant-loop-pattern g l =
       read : IsRead old now;
       behind : (rest : List (List Symbol)) × (rest ≢ []) × (l.fn.patterns ≡ l.others ++ rest)
           × (HasCleanDisk now → IsStore old → (content : Content) → holds_in g.L.Layout.format old.now.trees content
-          → ArePostings (AreWordsAt (posted content l.fn.of.database.0) l.of.index rest) l.places.items);
+          → ArePostings (AreWordsAt (posted content l.fn.of.db.0) l.of.index rest) l.places.items);
       counted : (rest : List (List Symbol)) → l.fn.patterns ≡ l.others ++ rest
-          → CountedWords g.L.Layout.format g.L.Layout.row_work g.L.Layout.block_rows l.fn.of.database.0 l.of.index rest old now l.fn.work l.work;
+          → CountedWords g.L.Layout.format g.L.Layout.row_work g.L.Layout.block_rows l.fn.of.db.0 l.of.index rest old now l.fn.work l.work;
       no_work : g.L.Layout.row_work ≡ 0 → l.work ≡ l.fn.work;
     }
 

@@ -5,7 +5,7 @@ use Rattle.zeb_search.proofs.words.word_hits.Goals as goal
 
 pub returns-clause-value : goal.returns-clause-value
 returns-clause-value g c clean store content has =
-    let O = posted content c.args.of.database.0 in
+    let O = posted content c.args.of.db.0 in
     let pattern = c.args.pattern.now in
     let places = c.in_ok-places.places.items in
     let hits = c.in_ok-numbers_of.field-0.items in

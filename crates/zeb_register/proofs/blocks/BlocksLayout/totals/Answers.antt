@@ -83,11 +83,11 @@ loop-term-preserved g c =
       clean = λ clean. inv.clean (clean_a clean);
       counted = λ clean store content holds.
           let at = (inv.ok (clean_a clean)).0.now_is in
-          let many : TermCount → ℕ = λ t. length (content c.args.db.0 (key_in c.args.index c.args.register t.term)) in
+          let many : TermCount → ℕ = λ t. length (content c.args.at.db.0 (key_in c.args.at.index c.args.at.register t.term)) in
           let value = c.in_ok-more.ensures.value clean (store_same s0 s1 at store) content (subst (λ (d : Database). HoldsBlocks d.trees content) (sym at) holds) in
           let more = sum_by_more many items index item c.loop-term-test.true in
-          let this : many (get_or items index item) ≡ length (content c.args.db.0 (key_in c.args.index c.args.register c.as_str.result.now)) =
-          ap many (sym c.term-item.is) ∙ ap (λ (term : List ℕ). length (content c.args.db.0 (key_in c.args.index c.args.register term))) (sym c.as_str.ensures) in
+          let this : many (get_or items index item) ≡ length (content c.args.at.db.0 (key_in c.args.at.index c.args.at.register c.as_str.result.now)) =
+          ap many (sym c.term-item.is) ∙ ap (λ (term : List ℕ). length (content c.args.at.db.0 (key_in c.args.at.index c.args.at.register term))) (sym c.as_str.ensures) in
           omega (arith, c.saturating_add-occurrences.ensures, inv.counted (clean_a clean) store content holds, value, more, this);
       sound = λ clean store t here.
           let at = (inv.ok (clean_a clean)).0.now_is in
@@ -95,16 +95,16 @@ loop-term-preserved g c =
             | inl there ↦ inv.sound (clean_a clean) store t there
             | inr same ↦
                 let spelled = c.in_ok-more.ensures.sound clean (store_same s0 s1 at store) in
-                subst (λ (d : Database). AreAllSpelled d.trees (key_row c.args.db.0 (key_in c.args.index c.args.register t.term))) at
-                (subst (λ (term : List ℕ). AreAllSpelled s1.now.trees (key_row c.args.db.0 (key_in c.args.index c.args.register term))) (c.as_str.ensures ∙ sym (ap (λ (u : TermCount). u.term) same)) spelled)
+                subst (λ (d : Database). AreAllSpelled d.trees (key_row c.args.at.db.0 (key_in c.args.at.index c.args.at.register t.term))) at
+                (subst (λ (term : List ℕ). AreAllSpelled s1.now.trees (key_row c.args.at.db.0 (key_in c.args.at.index c.args.at.register term))) (c.as_str.ensures ∙ sym (ap (λ (u : TermCount). u.term) same)) spelled)
           ];
       read = λ clean store blocks are.
           let at = (inv.ok (clean_a clean)).0.now_is in
           let many : TermCount → ℕ = λ t. length (blocks t.term) in
-          let here : IsListOf (IsBlockUnder s0.now.trees c.args.db.0 c.args.index c.args.register item.term) (blocks item.term) = are item (has_at items index item c.term-item.is c.loop-term-test.true) in
-          let moved : IsListOf (IsBlockUnder s1.now.trees c.args.db.0 c.args.index c.args.register c.as_str.result.now) (blocks item.term) =
-          subst (λ (term : List ℕ). IsListOf (IsBlockUnder s1.now.trees c.args.db.0 c.args.index c.args.register term) (blocks item.term)) (sym c.as_str.ensures)
-          (subst (λ (d : Database). IsListOf (IsBlockUnder d.trees c.args.db.0 c.args.index c.args.register item.term) (blocks item.term)) (sym at) here) in
+          let here : IsListOf (IsBlockUnder s0.now.trees c.args.at.db.0 c.args.at.index c.args.at.register item.term) (blocks item.term) = are item (has_at items index item c.term-item.is c.loop-term-test.true) in
+          let moved : IsListOf (IsBlockUnder s1.now.trees c.args.at.db.0 c.args.at.index c.args.at.register c.as_str.result.now) (blocks item.term) =
+          subst (λ (term : List ℕ). IsListOf (IsBlockUnder s1.now.trees c.args.at.db.0 c.args.at.index c.args.at.register term) (blocks item.term)) (sym c.as_str.ensures)
+          (subst (λ (d : Database). IsListOf (IsBlockUnder d.trees c.args.at.db.0 c.args.at.index c.args.at.register item.term) (blocks item.term)) (sym at) here) in
           let rises = c.in_ok-more.ensures.counted clean (store_same s0 s1 at store) (blocks item.term) moved in
           let more = sum_by_more many items index item c.loop-term-test.true in
           let this : many (get_or items index item) ≡ length (blocks item.term) = ap many (sym c.term-item.is) in
@@ -114,11 +114,11 @@ loop-term-preserved g c =
       fits = inr c.in_ok-more.ensures.fits;
       blocks = λ clean store content holds.
           let at = (inv.ok (clean_a clean)).0.now_is in
-          let many : TermCount → ℕ = λ t. blocks_of (content c.args.db.0 (key_in c.args.index c.args.register t.term)) in
+          let many : TermCount → ℕ = λ t. blocks_of (content c.args.at.db.0 (key_in c.args.at.index c.args.at.register t.term)) in
           let rises = c.in_ok-more.ensures.blocks clean (store_same s0 s1 at store) content (subst (λ (d : Database). HoldsBlocks d.trees content) (sym at) holds) in
           let more = sum_by_more many items index item c.loop-term-test.true in
-          let this : many (get_or items index item) ≡ blocks_of (content c.args.db.0 (key_in c.args.index c.args.register c.as_str.result.now)) =
-          ap many (sym c.term-item.is) ∙ ap (λ (term : List ℕ). blocks_of (content c.args.db.0 (key_in c.args.index c.args.register term))) (sym c.as_str.ensures) in
+          let this : many (get_or items index item) ≡ blocks_of (content c.args.at.db.0 (key_in c.args.at.index c.args.at.register c.as_str.result.now)) =
+          ap many (sym c.term-item.is) ∙ ap (λ (term : List ℕ). blocks_of (content c.args.at.db.0 (key_in c.args.at.index c.args.at.register term))) (sym c.as_str.ensures) in
           subst (λ (k : ℕ). Rises k c.terms_of.new.work.block_read block_read) (sym (more ∙ ap (λ k. sum_by many (take index items) + k) this))
           (rises_then _ _ c.terms_of.new.work.block_read c.loop-term.work.block_read block_read c.in_ok-more.ensures.fits (inv.blocks (clean_a clean) store content holds) rises);
     }
@@ -133,16 +133,16 @@ returns-clause-value g c clean store content holds =
     let inv = c.loop-term.invariant in
     let trees = (state g.S.Store c.args.conn.now).now.trees in
     let items = c.in_ok-terms.terms.items in
-    let lists = list_of trees content c.args.db.0 c.args.index c.args.register holds in
+    let lists = list_of trees content c.args.at.db.0 c.args.at.index c.args.at.register holds in
     let are = c.in_ok-terms.ensures.value (inv.clean clean) store content holds in
-    let many : TermCount → ℕ = λ t. length (content c.args.db.0 (key_in c.args.index c.args.register t.term)) in
+    let many : TermCount → ℕ = λ t. length (content c.args.at.db.0 (key_in c.args.at.index c.args.at.register t.term)) in
     let whole = sum_of_all many c.deref-term-items.result.now items c.loop-term.term-index c.deref-term-items.ensures.value c.loop-term-test.false in
     record {
       all = items;
       are = are;
       terms = omega (arith, c.len.ensures, c.in_ok-terms.terms.ok.0);
       spots = spots_in lists items;
-      stand = spots_stand trees content c.args.db.0 c.args.index c.args.register holds items are;
+      stand = spots_stand trees content c.args.at.db.0 c.args.at.index c.args.at.register holds items are;
       occurrences = inv.counted clean store content holds ∙ ap capped (whole ∙ sym (spots_many lists items));
     }
 
@@ -150,9 +150,9 @@ pub returns-clause-work : goal.returns-clause-work
 returns-clause-work g c clean store content holds all given =
     let inv = c.loop-term.invariant in
     let items = c.in_ok-terms.terms.items in
-    let many : TermCount → ℕ = λ t. blocks_of (content c.args.db.0 (key_in c.args.index c.args.register t.term)) in
+    let many : TermCount → ℕ = λ t. blocks_of (content c.args.at.db.0 (key_in c.args.at.index c.args.at.register t.term)) in
     let are = c.in_ok-terms.ensures.value (inv.clean clean) store content holds in
-    let same : items ≡ all = one_terms (posted content c.args.db.0) c.args.index c.args.register items all are given in
+    let same : items ≡ all = one_terms (posted content c.args.at.db.0) c.args.at.index c.args.at.register items all are given in
     let first = c.in_ok-terms.ensures.counted in
     let one : 1 * length items ≡ length items = omega arith in
     let whole = sum_of_all many c.deref-term-items.result.now items c.loop-term.term-index c.deref-term-items.ensures.value c.loop-term-test.false in
@@ -174,7 +174,7 @@ returns-clause-sound g c clean store =
       c.in_ok-terms.ensures.sound (inv.clean clean) store,
       λ row term there text.
           let it = row_term items shown.0 shown.2 row ((shown.1.each row).1 there) in
-          subst (λ (t : List ℕ). AreAllSpelled trees (key_row c.args.db.0 (key_in c.args.index c.args.register t))) (one_text row it.0.term term it.2 text)
+          subst (λ (t : List ℕ). AreAllSpelled trees (key_row c.args.at.db.0 (key_in c.args.at.index c.args.at.register t))) (one_text row it.0.term term it.2 text)
           (inv.sound clean store it.0 (subst (λ (l : List TermCount). Has l it.0) (sym whole) it.1)),
     )
 
@@ -191,8 +191,8 @@ returns-in_err-more-clause-damaged g c clean store is sound =
     let it = term_row items shown.0 shown.2 item here in
     let spelled = sound.1 it.0 item.term ((shown.1.each it.0).0 it.1) it.2 in
     c.in_err-more.ensures.damaged clean (store_same _ _ at store) (search rules)
-    (subst (λ (term : List ℕ). AreAllSpelled (state g.S.Store c.loop-term.conn).now.trees (key_row c.args.db.0 (key_in c.args.index c.args.register term))) (sym c.as_str.ensures)
-    (subst (λ (d : Database). AreAllSpelled d.trees (key_row c.args.db.0 (key_in c.args.index c.args.register item.term))) (sym at) spelled))
+    (subst (λ (term : List ℕ). AreAllSpelled (state g.S.Store c.loop-term.conn).now.trees (key_row c.args.at.db.0 (key_in c.args.at.index c.args.at.register term))) (sym c.as_str.ensures)
+    (subst (λ (d : Database). AreAllSpelled d.trees (key_row c.args.at.db.0 (key_in c.args.at.index c.args.at.register item.term))) (sym at) spelled))
 
 pub returns-clause-counted : goal.returns-clause-counted
 returns-clause-counted g c clean store rows terms blocks listed are_shown each =

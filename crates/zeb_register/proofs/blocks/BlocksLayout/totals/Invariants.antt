@@ -26,13 +26,13 @@ invariant-loop-term g l =
       same : HasCleanDisk now → l.fn.conn.in_transaction ≡ false → ChangesNothing old now;
       crash : Survives old now (λ _. ⊥);
       counted : HasCleanDisk now → IsStore old → (content : Content) → HoldsBlocks old.now.trees content
-          → l.occurrences ≡ capped (sum_by (λ (t : TermCount). length (content l.db.0 (key_in l.index l.register t.term))) (take l.term-index l.term-items));
-      sound : HasCleanDisk now → IsStore old → (t : TermCount) → Has (take l.term-index l.term-items) t → AreAllSpelled old.now.trees (key_row l.db.0 (key_in l.index l.register t.term));
+          → l.occurrences ≡ capped (sum_by (λ (t : TermCount). length (content l.at.db.0 (key_in l.at.index l.at.register t.term))) (take l.term-index l.term-items));
+      sound : HasCleanDisk now → IsStore old → (t : TermCount) → Has (take l.term-index l.term-items) t → AreAllSpelled old.now.trees (key_row l.at.db.0 (key_in l.at.index l.at.register t.term));
       read : HasCleanDisk now → IsStore old → (blocks : List ℕ → List Row)
-          → ((t : TermCount) → Has l.term-items t → IsListOf (IsBlockUnder old.now.trees l.db.0 l.index l.register t.term) (blocks t.term))
+          → ((t : TermCount) → Has l.term-items t → IsListOf (IsBlockUnder old.now.trees l.at.db.0 l.at.index l.at.register t.term) (blocks t.term))
           → Rises (sum_by (λ (t : TermCount). length (blocks t.term)) (take l.term-index l.term-items)) l.initial.work.block_read l.work.block_read;
       others : l.work ≡ record l.initial.work { block_read = l.work.block_read };
       fits : (l.work.block_read ≡ l.initial.work.block_read) ⊎ (l.work.block_read < 2 ^ 64);
       blocks : HasCleanDisk now → IsStore old → (content : Content) → HoldsBlocks old.now.trees content
-          → Rises (sum_by (λ (t : TermCount). blocks_of (content l.db.0 (key_in l.index l.register t.term))) (take l.term-index l.term-items)) l.initial.work.block_read l.work.block_read;
+          → Rises (sum_by (λ (t : TermCount). blocks_of (content l.at.db.0 (key_in l.at.index l.at.register t.term))) (take l.term-index l.term-items)) l.initial.work.block_read l.work.block_read;
     }

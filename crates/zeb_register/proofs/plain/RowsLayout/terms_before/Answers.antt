@@ -69,10 +69,10 @@ loop-done-preserved g c =
           let at1 = (c.in_ok-term.ensures.call.ok (clean_a clean)).0.now_is ∙ at0 in
           let holds0 = subst (λ (d : Database). HoldsRows d.trees content) (sym at0) holds in
           let holds1 = subst (λ (d : Database). HoldsRows d.trees content) (sym at1) holds in
-          let near = subst (λ u. IsGreatestTerm (TermIn (posted content c.args.db.0) c.args.index c.args.register) u c.in_ok-term.field-0) c.deref.ensures (c.in_ok-term.ensures.value (clean_a clean) (store_same s0 s1 at0 store) content holds0) in
+          let near = subst (λ u. IsGreatestTerm (TermIn (posted content c.args.at.db.0) c.args.at.index c.args.at.register) u c.in_ok-term.field-0) c.deref.ensures (c.in_ok-term.ensures.value (clean_a clean) (store_same s0 s1 at0 store) content holds0) in
           let counted = c.in_ok-count.ensures.value clean (store_same s0 s2 at1 store) content holds1 in
           subst (λ l. filter (is_before c.args.start.now) all ≡ filter (is_before (string_bytes c.in_ok-above-2.above)) all ++ reverse l) (sym c.in_ok-push.ensures.items)
-          (before_step (TermIn (posted content c.args.db.0) c.args.index c.args.register) all are c.args.start.now (string_bytes c.loop-done.above) (string_bytes c.in_ok-above-2.above) items c.in-Some.term count (subst (IsGreatestTerm (TermIn (posted content c.args.db.0) c.args.index c.args.register) (string_bytes c.loop-done.above)) c.in-Some.is near) counted (c.in_ok-above-2.ensures.ok ∙ c.as_str.ensures) (inv.rest (clean_b clean) store content holds all are));
+          (before_step (TermIn (posted content c.args.at.db.0) c.args.at.index c.args.at.register) all are c.args.start.now (string_bytes c.loop-done.above) (string_bytes c.in_ok-above-2.above) items c.in-Some.term count (subst (IsGreatestTerm (TermIn (posted content c.args.at.db.0) c.args.at.index c.args.at.register) (string_bytes c.loop-done.above)) c.in-Some.is near) counted (c.in_ok-above-2.ensures.ok ∙ c.as_str.ensures) (inv.rest (clean_b clean) store content holds all are));
     }
 
 pub returns-clause-call : goal.returns-clause-call
@@ -91,7 +91,7 @@ returns-clause-call g c = record {
 
 pub returns-clause-value : goal.returns-clause-value
 returns-clause-value g c clean store content holds =
-    let all = held_terms (state g.S.Store c.args.conn.now).now.trees content c.args.db.0 c.args.index c.args.register holds in
+    let all = held_terms (state g.S.Store c.args.conn.now).now.trees content c.args.at.db.0 c.args.at.index c.args.at.register holds in
     let inv = c.loop-done.invariant in
     record {
       all = all.0;
@@ -99,13 +99,13 @@ returns-clause-value g c clean store content holds =
       is = c.reverse.ensures.items ∙ (elim c.loop-done-test.branch [
         | else-loop-done-test w ↦
             let clean0 : HasCleanDisk (state g.S.Store c.loop-done.conn) = subst (λ k. HasCleanDisk (state g.S.Store k)) w.conn-is clean in
-            before_whole (TermIn (posted content c.args.db.0) c.args.index c.args.register) all.0 all.1 c.args.start.now (string_bytes c.loop-done.above) c.loop-done.counts.items c.args.n (inv.rest clean0 store content holds all.0 all.1) (omega (arith, inv.long, w.loop-done-test.false, c.loop-done.auto._done-end))
+            before_whole (TermIn (posted content c.args.at.db.0) c.args.at.index c.args.at.register) all.0 all.1 c.args.start.now (string_bytes c.loop-done.above) c.loop-done.counts.items c.args.n (inv.rest clean0 store content holds all.0 all.1) (omega (arith, inv.long, w.loop-done-test.false, c.loop-done.auto._done-end))
         | then-loop-done-test+in_ok-term+in_default w ↦
             let clean1 : HasCleanDisk (state g.S.Store w.term_before.new.conn) = subst (λ k. HasCleanDisk (state g.S.Store k)) w.conn-is clean in
             let clean0 : HasCleanDisk (state g.S.Store c.loop-done.conn) = omega (arith, w.term_before.ensures.call.crash.clean) in
             let at0 = (inv.call.ok clean0).0.now_is in
             let near = w.in_ok-term.ensures.value clean1 (store_same _ _ at0 store) content (subst (λ (d : Database). HoldsRows d.trees content) (sym at0) holds) in
-            before_end (TermIn (posted content c.args.db.0) c.args.index c.args.register) all.0 all.1 c.args.start.now (string_bytes c.loop-done.above) c.loop-done.counts.items c.args.n (inv.rest clean0 store content holds all.0 all.1)
-            (subst (IsGreatestTerm (TermIn (posted content c.args.db.0) c.args.index c.args.register) (string_bytes c.loop-done.above)) w.in_default.is (subst (λ u. IsGreatestTerm (TermIn (posted content c.args.db.0) c.args.index c.args.register) u w.in_ok-term.field-0) w.deref.ensures near)) (omega (arith, inv.long, w.loop-done-test.true))
+            before_end (TermIn (posted content c.args.at.db.0) c.args.at.index c.args.at.register) all.0 all.1 c.args.start.now (string_bytes c.loop-done.above) c.loop-done.counts.items c.args.n (inv.rest clean0 store content holds all.0 all.1)
+            (subst (IsGreatestTerm (TermIn (posted content c.args.at.db.0) c.args.at.index c.args.at.register) (string_bytes c.loop-done.above)) w.in_default.is (subst (λ u. IsGreatestTerm (TermIn (posted content c.args.at.db.0) c.args.at.index c.args.at.register) u w.in_ok-term.field-0) w.deref.ensures near)) (omega (arith, inv.long, w.loop-done-test.true))
       ]);
     }

@@ -17,6 +17,6 @@ invariant-loop-done g l =
     record {
       call : Reading {E = RegFault} old now (Ok true) (λ _. IsUnchanged);
       long : length l.counts.items ≡ l._done;
-      rest : HasCleanDisk now → IsStore old → (content : Content) → HoldsRows old.now.trees content → (all : List TermCount) → AreTermsOf (posted content l.db.0) l.index l.register all
+      rest : HasCleanDisk now → IsStore old → (content : Content) → HoldsRows old.now.trees content → (all : List TermCount) → AreTermsOf (posted content l.at.db.0) l.at.index l.at.register all
           → filter (is_before l.start) all ≡ filter (is_before (string_bytes l.above)) all ++ reverse l.counts.items;
     }

@@ -68,10 +68,10 @@ loop-done-preserved g c =
           let at1 = (c.in_ok-term.ensures.call.ok (clean_a clean)).0.now_is ∙ at0 in
           let holds0 = subst (λ (d : Database). HoldsRows d.trees content) (sym at0) holds in
           let holds1 = subst (λ (d : Database). HoldsRows d.trees content) (sym at1) holds in
-          let near = subst (λ u. IsLeastTerm (TermIn (posted content c.args.db.0) c.args.index c.args.register) u c.in_ok-term.field-0) c.deref.ensures (c.in_ok-term.ensures.value (clean_a clean) (store_same s0 s1 at0 store) content holds0) in
+          let near = subst (λ u. IsLeastTerm (TermIn (posted content c.args.at.db.0) c.args.at.index c.args.at.register) u c.in_ok-term.field-0) c.deref.ensures (c.in_ok-term.ensures.value (clean_a clean) (store_same s0 s1 at0 store) content holds0) in
           let counted = c.in_ok-count.ensures.value clean (store_same s0 s2 at1 store) content holds1 in
           subst (λ l. filter (is_from c.args.start.now) all ≡ l ++ filter (is_from (string_bytes c.in_ok-next-2.next)) all) (sym c.in_ok-push.ensures.items)
-          (from_step (TermIn (posted content c.args.db.0) c.args.index c.args.register) all are c.args.start.now (string_bytes c.loop-done.next) (string_bytes c.in_ok-next-2.next) items c.in-Some.term count (subst (IsLeastTerm (TermIn (posted content c.args.db.0) c.args.index c.args.register) (string_bytes c.loop-done.next)) c.in-Some.is near) counted (c.in_ok-next-2.ensures ∙ ap (λ u. u ++ 0 ∷ []) c.as_str.ensures) (inv.rest (clean_b clean) store content holds all are));
+          (from_step (TermIn (posted content c.args.at.db.0) c.args.at.index c.args.at.register) all are c.args.start.now (string_bytes c.loop-done.next) (string_bytes c.in_ok-next-2.next) items c.in-Some.term count (subst (IsLeastTerm (TermIn (posted content c.args.at.db.0) c.args.at.index c.args.at.register) (string_bytes c.loop-done.next)) c.in-Some.is near) counted (c.in_ok-next-2.ensures ∙ ap (λ u. u ++ 0 ∷ []) c.as_str.ensures) (inv.rest (clean_b clean) store content holds all are));
     }
 
 pub returns-clause-call : goal.returns-clause-call
@@ -90,7 +90,7 @@ returns-clause-call g c = record {
 
 pub returns-clause-value : goal.returns-clause-value
 returns-clause-value g c clean store content holds =
-    let all = held_terms (state g.S.Store c.args.conn.now).now.trees content c.args.db.0 c.args.index c.args.register holds in
+    let all = held_terms (state g.S.Store c.args.conn.now).now.trees content c.args.at.db.0 c.args.at.index c.args.at.register holds in
     let inv = c.loop-done.invariant in
     record {
       all = all.0;
@@ -98,13 +98,13 @@ returns-clause-value g c clean store content holds =
       is = elim c.loop-done-test.branch [
         | else-loop-done-test w ↦
             let clean0 : HasCleanDisk (state g.S.Store c.loop-done.conn) = subst (λ k. HasCleanDisk (state g.S.Store k)) w.conn-is clean in
-            from_whole (TermIn (posted content c.args.db.0) c.args.index c.args.register) all.0 all.1 c.args.start.now (string_bytes c.loop-done.next) c.loop-done.counts.items c.args.n (inv.rest clean0 store content holds all.0 all.1) (omega (arith, inv.long, w.loop-done-test.false, c.loop-done.auto._done-end))
+            from_whole (TermIn (posted content c.args.at.db.0) c.args.at.index c.args.at.register) all.0 all.1 c.args.start.now (string_bytes c.loop-done.next) c.loop-done.counts.items c.args.n (inv.rest clean0 store content holds all.0 all.1) (omega (arith, inv.long, w.loop-done-test.false, c.loop-done.auto._done-end))
         | then-loop-done-test+in_ok-term+in_default w ↦
             let clean1 : HasCleanDisk (state g.S.Store w.term_from.new.conn) = subst (λ k. HasCleanDisk (state g.S.Store k)) w.conn-is clean in
             let clean0 : HasCleanDisk (state g.S.Store c.loop-done.conn) = omega (arith, w.term_from.ensures.call.crash.clean) in
             let at0 = (inv.call.ok clean0).0.now_is in
             let near = w.in_ok-term.ensures.value clean1 (store_same _ _ at0 store) content (subst (λ (d : Database). HoldsRows d.trees content) (sym at0) holds) in
-            from_end (TermIn (posted content c.args.db.0) c.args.index c.args.register) all.0 all.1 c.args.start.now (string_bytes c.loop-done.next) c.loop-done.counts.items c.args.n (inv.rest clean0 store content holds all.0 all.1)
-            (subst (IsLeastTerm (TermIn (posted content c.args.db.0) c.args.index c.args.register) (string_bytes c.loop-done.next)) w.in_default.is (subst (λ u. IsLeastTerm (TermIn (posted content c.args.db.0) c.args.index c.args.register) u w.in_ok-term.field-0) w.deref.ensures near)) (omega (arith, inv.long, w.loop-done-test.true))
+            from_end (TermIn (posted content c.args.at.db.0) c.args.at.index c.args.at.register) all.0 all.1 c.args.start.now (string_bytes c.loop-done.next) c.loop-done.counts.items c.args.n (inv.rest clean0 store content holds all.0 all.1)
+            (subst (IsLeastTerm (TermIn (posted content c.args.at.db.0) c.args.at.index c.args.at.register) (string_bytes c.loop-done.next)) w.in_default.is (subst (λ u. IsLeastTerm (TermIn (posted content c.args.at.db.0) c.args.at.index c.args.at.register) u w.in_ok-term.field-0) w.deref.ensures near)) (omega (arith, inv.long, w.loop-done-test.true))
       ];
     }

@@ -17,6 +17,6 @@ invariant-loop-done g l =
     record {
       long : length l.counts.items ≡ l._done;
       call : Reading {E = RegFault} old now (Ok true) (λ _. IsUnchanged);
-      rest : HasCleanDisk now → IsStore old → (content : Content) → HoldsRows old.now.trees content → (all : List TermCount) → AreTermsOf (posted content l.db.0) l.index l.register all
+      rest : HasCleanDisk now → IsStore old → (content : Content) → HoldsRows old.now.trees content → (all : List TermCount) → AreTermsOf (posted content l.at.db.0) l.at.index l.at.register all
           → filter (is_from l.start) all ≡ l.counts.items ++ filter (is_from (string_bytes l.next)) all;
     }

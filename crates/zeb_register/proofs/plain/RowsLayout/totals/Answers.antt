@@ -18,19 +18,19 @@ returns-in_err-counts-clause-honest g c clean store is content texts holds =
     let trees = (state g.S.Store c.args.conn.now).now.trees in
     let items = c.in_ok-rows.rows.items in
     let raw = (c.in_ok-rows.ensures.call.ok clean).1 store in
-    let held : IsListOf (IsRest postings_tree (register_front c.args.db.0 c.args.index c.args.register) trees) items = raw in
-    c.in_err-counts.ensures.honest (search rules) (λ row here. rows_readable trees content c.args.db.0 c.args.index c.args.register holds items held texts row (subst (λ l. Has l row) c.deref.ensures.value here))
+    let held : IsListOf (IsRest postings_tree (register_front c.args.at.db.0 c.args.at.index c.args.at.register) trees) items = raw in
+    c.in_err-counts.ensures.honest (search rules) (λ row here. rows_readable trees content c.args.at.db.0 c.args.at.index c.args.at.register holds items held texts row (subst (λ l. Has l row) c.deref.ensures.value here))
 
 pub returns-clause-value : goal.returns-clause-value
 returns-clause-value g c clean store content holds =
     let trees = (state g.S.Store c.args.conn.now).now.trees in
     let items = c.in_ok-rows.rows.items in
     let raw = (c.in_ok-rows.ensures.call.ok clean).1 store in
-    let held : IsListOf (IsRest postings_tree (register_front c.args.db.0 c.args.index c.args.register) trees) items = raw in
+    let held : IsListOf (IsRest postings_tree (register_front c.args.at.db.0 c.args.at.index c.args.at.register) trees) items = raw in
     let rising : IsStrictlySortedBy row_cmp c.deref.result.now = subst (IsStrictlySortedBy row_cmp) (sym c.deref.ensures.value) held.rising in
     let terms = c.in_ok-counts.counts.items in
-    let are = counts_are trees content c.args.db.0 c.args.index c.args.register holds items held terms (subst (λ l. AreCounts (IsShown l) terms) c.deref.ensures.value (c.in_ok-counts.ensures.ok rising)) in
-    let spots = spots_are trees content c.args.db.0 c.args.index c.args.register holds items held in
+    let are = counts_are trees content c.args.at.db.0 c.args.at.index c.args.at.register holds items held terms (subst (λ l. AreCounts (IsShown l) terms) c.deref.ensures.value (c.in_ok-counts.ensures.ok rising)) in
+    let spots = spots_are trees content c.args.at.db.0 c.args.at.index c.args.at.register holds items held in
     record {
       all = terms;
       are = are;
