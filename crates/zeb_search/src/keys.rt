@@ -87,22 +87,13 @@ fn terms_wanted<S: Alter, L: Layout>(
     ensures no_work { L.row_work ≡ 0 → work.new ≡ work.old }
 {
     if wanted.spans_register() {
-        return L::terms_of(alloc, connection, work, of.db, of.index, of.register);
+        return L::terms_of(alloc, connection, work, of);
     }
     let mut terms = Vec::new(alloc);
     let mut start = wanted.start(alloc)?;
     let mut page_terms = FIRST_PAGE;
     'pages: loop {
-        let mut page = L::terms_from(
-            alloc,
-            connection,
-            work,
-            of.db,
-            of.index,
-            of.register,
-            start.as_str(),
-            page_terms,
-        )?;
+        let mut page = L::terms_from(alloc, connection, work, of, start.as_str(), page_terms)?;
         let next = next_start(alloc, wanted, &page)?;
         terms.append(&mut page)?;
         match next {
