@@ -16,7 +16,7 @@ pub record IsCounted (start : Posting) (bytes : List ℕ) (count : ℕ) (last : 
   pub end : last_from start list ≡ last
   pub room : count + length left ≤ length bytes
 
-pub counted_none : (start : Posting) (bytes : List ℕ) → IsCounted start bytes 0 start bytes
+unfoldable pub counted_none : (start : Posting) (bytes : List ℕ) → IsCounted start bytes 0 start bytes
 unfolding spelled_from
 counted_none start bytes = record { list = []; follow = tt; spelled = refl; counted = refl; end = refl; room = omega arith }
 
@@ -24,7 +24,7 @@ pub one_spelled : (before p : Posting) → spelled_from before (p ∷ []) ≡ by
 unfolding spelled_from
 one_spelled before p = append-nil (bytes_of (gaps_of before p))
 
-pub counted_more : (start : Posting) (bytes : List ℕ) (count : ℕ) (last p : Posting) (left behind : List ℕ) → IsCounted start bytes count last left → Follows last p → left ≡ bytes_of (gaps_of last p) ++ behind
+unfoldable pub counted_more : (start : Posting) (bytes : List ℕ) (count : ℕ) (last p : Posting) (left behind : List ℕ) → IsCounted start bytes count last left → Follows last p → left ≡ bytes_of (gaps_of last p) ++ behind
     → IsCounted start bytes (count + 1) p behind
 counted_more start bytes count last p left behind so_far next is =
     let one : EachFollows (last_from start so_far.list) (p ∷ []) = subst (λ (q : Posting). EachFollows q (p ∷ [])) (sym so_far.end) (next, tt) in

@@ -5,6 +5,7 @@ pub mod Lists
 pub mod Rising
 pub mod Counting
 pub mod Taking
+pub mod Walking
 pub mod Pushing
 pub mod ShortestForms
 pub mod WorkedBlocks

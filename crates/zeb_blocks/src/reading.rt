@@ -1,5 +1,5 @@
 //! Reading a block: its postings, one after the other, out of its bytes.
-ghost use Rattle.std.specs.Prelude.{◌≡◌, ◌≢◌, ◌++◌, ◌^◌, ◌<◌, ℕ, List, IfOk, OnErr, MatchOption, length};
+ghost use Rattle.std.specs.Prelude.{◌≡◌, ◌≢◌, ◌++◌, ◌^◌, ◌<◌, ℕ, List, IfOk, OnErr, OnOk, MatchOption, length};
 ghost use Rattle.std.specs.Iterator.{YieldsFirst, item_count};
 ghost use Rattle.zeb_blocks.specs.declared.postings.Posting.{Posting};
 ghost use Rattle.zeb_blocks.specs.Blocks.{BlockSpells, bytes_of, gaps_of};
@@ -8,6 +8,7 @@ ghost use Rattle.zeb_blocks.specs.Left.{Follows, SpellsFrom, last_from, postings
 use crate::gaps::Gaps;
 use crate::numbers::read_number;
 use crate::postings::{BLOCK_RECORDS, Posting, start_of_block};
+use std::alloc::AllocError;
 use std::marker::Model;
 
 /// The bytes spell no list of postings in the block.
@@ -44,6 +45,55 @@ fn count_postings(start: Posting, bytes: &[u8]) -> Option<(usize, Posting)>
         left = behind;
     }
     Some((count, last))
+}
+
+/// Puts the postings that the bytes have behind another one at the end of a list, and gives the last of them.
+fn push_postings(
+    postings: &mut Vec<Posting>,
+    start: Posting,
+    bytes: &[u8],
+) -> Result<Option<Posting>, AllocError>
+    ensures { IfOk result (λ found. MatchOption found ((list : List Posting) → ¬ SpellsFrom start list bytes.now)
+        (λ last. (list : List Posting) × SpellsFrom start list bytes.now × (last_from start list ≡ last)
+        × (postings.new.items ≡ postings.old.items ++ list))) }
+{
+    let mut last = start;
+    let mut left = bytes;
+    while !left.is_empty() {
+        let Some((posting, behind)) = read_posting(last, left) else {
+            return Ok(None);
+        };
+        postings.push(posting)?;
+        last = posting;
+        left = behind;
+    }
+    Ok(Some(last))
+}
+
+/// Puts the postings that the bytes spell in the block at the end of a list, in one walk over the bytes. `block` is the system numbers
+/// div 256.
+///
+/// [`Damaged`] exactly where [`Postings::read`] says so. Then, and where memory ran out, some of them may have been put there.
+pub fn push_block(
+    postings: &mut Vec<Posting>,
+    block: u64,
+    bytes: &[u8],
+) -> Result<Result<(), Damaged>, AllocError>
+    ensures spelled { IfOk result (λ read. OnOk read ((list : List Posting) × BlockSpells block list bytes.now
+        × (postings.new.items ≡ postings.old.items ++ list))) }
+    ensures damaged { IfOk result (λ read. OnErr read ((list : List Posting) → ¬ BlockSpells block list bytes.now)) }
+{
+    let Some(start) = start_of_block(block) else {
+        return Ok(Err(Damaged));
+    };
+    let Some(last) = push_postings(postings, start, bytes)? else {
+        return Ok(Err(Damaged));
+    };
+    let is_inside = last.sysno / BLOCK_RECORDS == block;
+    if bytes.is_empty() || !is_inside {
+        return Ok(Err(Damaged));
+    }
+    Ok(Ok(()))
 }
 
 /// The postings of a block that are left to read: contracts see their list.

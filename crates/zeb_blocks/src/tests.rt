@@ -25,7 +25,7 @@ fn assert_read(rt: &impl Abort, block: u64, bytes: &[u8], expected: &[Posting]) 
     assert_eq!(rt; left.next().copied(), None);
 }
 
-/// Asserts that these postings are written as the bytes.
+/// Asserts that these postings are written as the bytes, and that these put them behind those of a list.
 fn assert_spelled(
     rt: &(impl Abort + AllocGlobal),
     block: u64,
@@ -36,6 +36,12 @@ fn assert_spelled(
 {
     let spelled = spell(rt.alloc(), block, list)?;
     assert!(rt; spelled.as_slice() == bytes);
+    let first = posting(1, 1, 1);
+    let mut read = Vec::new(rt.alloc());
+    read.push(first)?;
+    assert!(rt; push_block(&mut read, block, bytes)?.is_ok());
+    assert_eq!(rt; read.first(), Some(&first));
+    assert!(rt; &read[1..] == list);
     Ok(())
 }
 
@@ -83,7 +89,7 @@ fn postings_are_counted_and_collected(rt: HostRuntime) -> Result<(), Fail> {
 }
 
 #[test]
-fn damage_is_found(rt: HostRuntime) {
+fn damage_is_found(rt: HostRuntime) -> Result<(), Fail> {
     let tenth_byte_2 = [1, 255, 255, 255, 255, 255, 255, 255, 255, 255, 2, 1];
     let eleven_bytes = [1, 128, 128, 128, 128, 128, 128, 128, 128, 128, 129, 1, 1];
     let refused: [&[u8]; 9] = [
@@ -97,11 +103,15 @@ fn damage_is_found(rt: HostRuntime) {
         &tenth_byte_2,
         &eleven_bytes,
     ];
+    let mut read = Vec::new(rt.alloc());
     for bytes in refused {
         assert!(rt; matches!(Postings::read(0, bytes), Err(Damaged)));
+        assert!(rt; matches!(push_block(&mut read, 0, bytes)?, Err(Damaged)));
     }
     // No system number of so high a block fits 64 bits.
     assert!(rt; matches!(Postings::read(1 << 56, &[0, 2, 2]), Err(Damaged)));
+    assert!(rt; matches!(push_block(&mut read, 1 << 56, &[0, 2, 2])?, Err(Damaged)));
+    Ok(())
 }
 
 #[test]

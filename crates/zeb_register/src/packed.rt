@@ -16,7 +16,7 @@ use crate::values::read;
 use crate::{DatabaseId, RegFault};
 use sqlite::{Alter, Connection, Row};
 use std::alloc::Global;
-use zeb_blocks::{Posting, Postings};
+use zeb_blocks::{Damaged, Posting, push_block};
 use zeb_extract::Term;
 use zeb_profile::Register;
 
@@ -65,13 +65,10 @@ pub(crate) fn add_spelled(
     ensures honest { result ≡ Err RegFault.Damaged → (part : List _) → ¬ BlockSpells block part bytes.now }
     ensures unstored { result ≢ Err RegFault.Store }
 {
-    let Ok(part) = Postings::read(block, bytes) else {
-        return Err(RegFault::Damaged);
-    };
-    for posting in part {
-        postings.push(posting)?;
+    match push_block(postings, block, bytes)? {
+        Ok(()) => Ok(()),
+        Err(Damaged) => Err(RegFault::Damaged),
     }
-    Ok(())
 }
 
 /// How many rows a statement gives at most: a number that no column stores, and no list has, is no limit, as -1 says.
