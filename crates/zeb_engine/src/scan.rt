@@ -30,7 +30,7 @@ use zeb_change::Refusal;
 use zeb_image::DbName;
 use zeb_profile::Profile;
 use zeb_query::{ScanPlan, plan_scan, read_pqf};
-use zeb_register::{DatabaseId, Layout, TermCount, Work};
+use zeb_register::{DatabaseId, Layout, RegisterOf, TermCount, Work};
 
 /// What a scan asks: a query that names the start, how many terms, and the start's place among them.
 #[derive(Clone, Copy)]
@@ -82,13 +82,13 @@ fn terms_around<S: Alter, L: Layout>(
     let below = (around.position as u64).saturating_sub(1);
     let from = (around.number as u64 + 1).saturating_sub(around.position as u64);
     let start = plan.start.as_str();
-    let (index, register) = (plan.index, plan.register);
-    let first = L::terms_before(
-        alloc, connection, work, database, index, register, start, below,
-    )?;
-    let rest = L::terms_from(
-        alloc, connection, work, database, index, register, start, from,
-    )?;
+    let at = RegisterOf {
+        db: database,
+        index: plan.index,
+        register: plan.register,
+    };
+    let first = L::terms_before(alloc, connection, work, at, start, below)?;
+    let rest = L::terms_from(alloc, connection, work, at, start, from)?;
     Ok(joined(first, rest)?)
 }
 

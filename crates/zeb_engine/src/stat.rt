@@ -26,7 +26,7 @@ use std::alloc::{AllocError, Global};
 use zeb_change::Refusal;
 use zeb_image::DbName;
 use zeb_profile::{Profile, Register};
-use zeb_register::{DatabaseId, Layout, Totals, Work, record_count};
+use zeb_register::{DatabaseId, Layout, RegisterOf, Totals, Work, record_count};
 
 /// The register is added where some line has it as a target.
 fn add_target(
@@ -108,7 +108,12 @@ fn holdings_of<S: Alter, L: Layout>(
     let mut holdings = Vec::with_capacity(alloc, targets.len())?;
     for target in targets {
         let (index, register) = *target;
-        let totals = L::totals(alloc, connection, work, database, index, register)?;
+        let at = RegisterOf {
+            db: database,
+            index,
+            register,
+        };
+        let totals = L::totals(alloc, connection, work, at)?;
         holdings.push_reserved(holding_of(alloc, profile, *target, totals)?);
     }
     Ok(holdings)

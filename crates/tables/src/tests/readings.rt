@@ -6,8 +6,8 @@ use std::alloc::Global;
 use std::fmt::Write;
 use zeb_profile::Register;
 use zeb_register::{
-    DatabaseId, Layout, RegFault, Rows, TermCount, Work, database_of, ident_of, meta_of,
-    record_count, record_from, records,
+    DatabaseId, Layout, RegFault, RegisterOf, Rows, TermCount, Work, database_of, ident_of,
+    meta_of, record_count, record_from, records,
 };
 
 /// A register of an index.
@@ -155,54 +155,55 @@ fn counts(all: Vec<TermCount>, text: &mut String) -> Result<(), RegFault> {
     Ok(())
 }
 
+fn within(db: DatabaseId, (index, register): In) -> RegisterOf {
+    RegisterOf {
+        db,
+        index,
+        register,
+    }
+}
+
 fn terms_of<S: Alter>(
     alloc: Global,
     conn: &mut Connection<S>,
-    db: DatabaseId,
-    (index, register): In,
+    at: RegisterOf,
     text: &mut String,
 ) -> Result<(), RegFault> {
     let work = &mut Work::default();
-    counts(
-        Rows::terms_of(alloc, conn, work, db, index, register)?,
-        text,
-    )
+    counts(Rows::terms_of(alloc, conn, work, at)?, text)
 }
 
 fn terms_from<S: Alter>(
     alloc: Global,
     conn: &mut Connection<S>,
-    db: DatabaseId,
-    (index, register): In,
+    at: RegisterOf,
     (start, n): (&str, u64),
     text: &mut String,
 ) -> Result<(), RegFault> {
     let work = &mut Work::default();
-    let all = Rows::terms_from(alloc, conn, work, db, index, register, start, n)?;
+    let all = Rows::terms_from(alloc, conn, work, at, start, n)?;
     counts(all, text)
 }
 
 fn terms_before<S: Alter>(
     alloc: Global,
     conn: &mut Connection<S>,
-    db: DatabaseId,
-    (index, register): In,
+    at: RegisterOf,
     (start, n): (&str, u64),
     text: &mut String,
 ) -> Result<(), RegFault> {
     let work = &mut Work::default();
-    let all = Rows::terms_before(alloc, conn, work, db, index, register, start, n)?;
+    let all = Rows::terms_before(alloc, conn, work, at, start, n)?;
     counts(all, text)
 }
 
 fn totals<S: Alter>(
     alloc: Global,
     conn: &mut Connection<S>,
-    db: DatabaseId,
-    (index, register): In,
+    at: RegisterOf,
     text: &mut String,
 ) -> Result<(), RegFault> {
-    let totals = Rows::totals(alloc, conn, &mut Work::default(), db, index, register)?;
+    let totals = Rows::totals(alloc, conn, &mut Work::default(), at)?;
     write!(text, "{} {}", totals.terms, totals.occurrences)?;
     Ok(())
 }
@@ -224,13 +225,13 @@ pub fn tell<S: Alter>(
         Read::FirstFrom(start) => first_from(conn, db, *start, text),
         Read::Bytes(place, bytes) => has_bytes(alloc, conn, db, *place, bytes, text),
         Read::List(under) => list(alloc, conn, db, under, text),
-        Read::Terms(register) => terms_of(alloc, conn, db, *register, text),
+        Read::Terms(register) => terms_of(alloc, conn, within(db, *register), text),
         Read::From(register, start, n) => {
-            terms_from(alloc, conn, db, *register, (start, *n), text)
+            terms_from(alloc, conn, within(db, *register), (start, *n), text)
         }
         Read::Before(register, start, n) => {
-            terms_before(alloc, conn, db, *register, (start, *n), text)
+            terms_before(alloc, conn, within(db, *register), (start, *n), text)
         }
-        Read::Totals(register) => totals(alloc, conn, db, *register, text),
+        Read::Totals(register) => totals(alloc, conn, within(db, *register), text),
     }
 }
