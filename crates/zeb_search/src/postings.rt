@@ -43,6 +43,10 @@ fn postings_of<S: Alter, L: Layout>(
         (state S.Store connection.old) (state S.Store connection.new) work.old work.new) }
     ensures no_work { L.row_work ≡ 0 → work.new ≡ work.old }
 {
+    // The list of one key is in order as it is, and a copy of it would take as long as reading it.
+    if keys.len() == 1 {
+        return L::key_list(alloc, connection, work, database, &keys[0]);
+    }
     let mut postings = Vec::new(alloc);
     for key in keys {
         let list = L::key_list(alloc, connection, work, database, key)?;

@@ -1,0 +1,46 @@
+-- The list of a key that is the only one.
+use Rattle.std.proofs.Common.{◌≡◌, ◌∙◌, ◌∷◌, [], ℕ, ℤ, List, Result, Ok, Err, Vec, OnOk, arith, ap, get_or, inl, inr, length, refl, subst, sym}
+use Rattle.std.specs.declared.alloc.Global.{Global}
+use Rattle.sqlite.specs.State.{State}
+use Rattle.sqlite_rules.specs.Lists.{Has}
+use Rattle.zeb_extract.specs.declared.keys.Key.{Key}
+use Rattle.zeb_register.specs.Clauses.{TellsHeld}
+use Rattle.zeb_register.specs.Content.{Content, Posting}
+use Rattle.zeb_register.specs.Formats.{Format, holds_in}
+use Rattle.zeb_register.specs.Tallies.{Works}
+use Rattle.zeb_register.specs.declared.RegFault.{RegFault}
+use Rattle.zeb_register.specs.declared.registers.Work.{Work}
+use Rattle.zeb_register.proofs.FormatLemmas.{registers_rise}
+use Rattle.zeb_search.specs.Counted.{Counted, NoRows}
+use Rattle.zeb_search.specs.ListRows.{rows_under}
+use Rattle.zeb_search.specs.Lists.{ArePostings}
+use Rattle.zeb_search.specs.PrivateTerms.{IsPostingOf}
+use Rattle.zeb_search.proofs.CountedLemmas.{list_counts}
+
+one_alone : (keys : List Key) (key : Key) → length keys ≡ 1 → key ≡ get_or keys 0 key → keys ≡ key ∷ []
+one_alone [] key one is = absurd (omega arith)
+one_alone (first ∷ []) key one is = ap (λ (k : Key). k ∷ []) (sym is)
+one_alone (first ∷ second ∷ more) key one is = absurd (omega arith)
+
+module _ (format : Format) (db : ℤ) (keys : List Key) (key : Key) (one : length keys ≡ 1) (is : key ≡ get_or keys 0 key) where
+  -- it rises, as each list of a content does
+  pub one_told : (old new : State) (result : Result (Vec Posting Global) RegFault) → TellsHeld (holds_in format) old new result (λ content list. list.items ≡ content db key)
+      → TellsHeld (holds_in format) old new result (λ content list. ArePostings (IsPostingOf content db keys) list.items)
+  one_told old new (Err why) told = λ clean store. tt
+  one_told old new (Ok list) told = λ clean store content has.
+      let same = told clean store content has in
+      rw (one_alone keys key one is, same) record {
+        rising = registers_rise format old.now.trees content has db key;
+        each = λ p. (λ there. (key, inl refl, there), λ of. elim of.1 [ | inl here ↦ subst (λ (k : Key). Has (content db k) p) here of.2 | inr none ↦ absurd none ]);
+      }
+
+  module _ (rows : List Posting → ℕ) where
+    rows_of_one : (content : Content) → rows (content db key) ≡ rows_under rows content db keys
+    rows_of_one content = rw (one_alone keys key one is) (omega arith)
+
+    pub one_counted : (old new : State) (result : Result (Vec Posting Global) RegFault) (before after : Work) → TellsHeld (holds_in format) old new result (λ content list. list.items ≡ content db key)
+        → TellsHeld (holds_in format) old new result (λ _ list. Works 0 0 (rows list.items) 0 before after)
+        → OnOk result (Counted format NoRows (λ content n. n ≡ rows_under rows content db keys) old new before after)
+    one_counted old new (Err why) before after told works = tt
+    one_counted old new (Ok list) before after told works = λ clean store content has.
+        (0, rows list.items, refl, ap rows (told clean store content has) ∙ rows_of_one content, list_counts (rows list.items) before after (works clean store content has))
