@@ -13,6 +13,7 @@ mod files;
 mod lists;
 mod memory;
 mod moby_dick;
+mod neighbours;
 mod numbers;
 mod paths;
 mod readings;

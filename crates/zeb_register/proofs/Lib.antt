@@ -24,6 +24,7 @@ pub mod RowsAreLists
 pub mod PostingStatements
 pub mod TermStatements
 pub mod PackedStatements
+pub mod BetweenStatements
 pub mod PackedRowStatements
 pub mod WipeStatements
 pub mod LookUps
@@ -44,6 +45,7 @@ pub mod PackedWrites
 pub mod PackedParts
 pub mod ListChanges
 pub mod PackedTotals
+pub mod BetweenLemmas
 pub mod PlaceLemmas
 pub mod PackedChanges
 pub mod RecordLemmas

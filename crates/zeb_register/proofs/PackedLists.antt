@@ -52,7 +52,7 @@ one_spelled_list [] one two left right = left ∙ sym right
 one_spelled_list (row ∷ rows) one two left right =
     left.4 ∙ ap₂ (λ part rest. part ++ rest) (one_part row left.0 right.0 left.2 right.2) (one_spelled_list rows left.1 right.1 left.3 right.3) ∙ sym right.4
 
-spelled_behind : (rows : List Row) (row : Row) (list part : List Posting) → AreSpelled rows list → SpellsPart row part → AreSpelled (rows ++ row ∷ []) (list ++ part)
+pub spelled_behind : (rows : List Row) (row : Row) (list part : List Posting) → AreSpelled rows list → SpellsPart row part → AreSpelled (rows ++ row ∷ []) (list ++ part)
 spelled_behind [] row list part are spells = (part, [], spells, refl, ap (λ l. l ++ part) are ∙ sym (append-nil part))
 spelled_behind (r ∷ rows) row list part are spells =
     (are.0, are.1 ++ part, are.2, spelled_behind rows row are.1 part are.3 spells, ap (λ l. l ++ part) are.4 ∙ append_assoc are.0 are.1 part)

@@ -53,7 +53,8 @@ same_terms (s ∷ ss) (t ∷ ts) h =
     let rest : map count_row ss ≡ map count_row ts = cc in
     ap₂ (λ a as'. a ∷ as') (one_term s t first) (same_terms ss ts rest)
 
-some_posting : (list : List Posting) → list ≢ [] → (p : Posting) × Has list p
+-- a list that isn't empty has a posting
+pub some_posting : (list : List Posting) → list ≢ [] → (p : Posting) × Has list p
 some_posting [] some = absurd (some refl)
 some_posting (p ∷ list) some = (p, inl refl)
 

@@ -177,7 +177,7 @@ module _ (trees : Trees) (content : Content) (db : ℤ) (index : ℕ) (register 
   term_in = TermIn (posted content db) index register
 
   -- a row of the register, by its term and its posting
-  register_row : (row : Row) → HasRow trees postings_tree (register_front db index register ++ row) → (term : List ℕ) × (p : Posting) × Has (list_of term) p × (row ≡ term_of_row term p)
+  pub register_row : (row : Row) → HasRow trees postings_tree (register_front db index register ++ row) → (term : List ℕ) × (p : Posting) × Has (list_of term) p × (row ≡ term_of_row term p)
   register_row row there =
       let p = (holds.each (register_front db index register ++ row)).0 there in
       let one : Int db ≡ Int p.0 = ap (λ (r : Row). column r 0) p.4 in
@@ -187,7 +187,7 @@ module _ (trees : Trees) (content : Content) (db : ℤ) (index : ℕ) (register 
       let same : p.1 ≡ key_in index register p.1.term = same_key p.1 (key_in index register p.1.term) (cc) (cc) refl in
       (p.1.term, p.2, subst (λ k. Has (content db k) p.2) same (subst (λ d. Has (content d p.1) p.2) here p.3), ap (drop 3) p.4)
 
-  register_there : (term : List ℕ) (p : Posting) → Has (list_of term) p → HasRow trees postings_tree (register_front db index register ++ term_of_row term p)
+  pub register_there : (term : List ℕ) (p : Posting) → Has (list_of term) p → HasRow trees postings_tree (register_front db index register ++ term_of_row term p)
   register_there term p here = (holds.each (register_front db index register ++ term_of_row term p)).1 (db, key_in index register term, p, here, refl)
 
   -- a term has a row where it has a posting

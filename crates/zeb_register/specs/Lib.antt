@@ -23,3 +23,5 @@ pub mod RowKeys
 pub mod RowReads
 pub mod KeyColumns
 pub mod TableForms
+pub mod Between
+pub mod BetweenRows

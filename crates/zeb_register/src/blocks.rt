@@ -20,6 +20,7 @@ use crate::agreeing::lists_beside;
 use crate::dropping::database_drop_whole;
 use crate::packed::{counted, counts_in, limit_of, postings_in};
 use crate::packed_agreeing::packed_agree;
+use crate::packed_between::blocks_between;
 use crate::packed_parts::check_changes;
 use crate::packed_runs::{changes_put, count_rows};
 use crate::packed_totals::term_postings;
@@ -124,6 +125,17 @@ impl Layout for Blocks {
         let list = postings_in(alloc, &rows)?;
         work.block_read = counted(work.block_read, rows.len());
         Ok(list)
+    }
+
+    fn postings_between<S: Alter>(
+        alloc: Global,
+        conn: &mut Connection<S>,
+        work: &mut Work,
+        at: RegisterOf,
+        first: &str,
+        last: &str,
+    ) -> Result<Vec<Posting>, RegFault> {
+        blocks_between(alloc, conn, work, at, first, last)
     }
 
     /// The terms of a register that have a posting, in the order of their bytes. `Damaged` exactly where one of their rows of `dict` shows

@@ -12,6 +12,7 @@ ghost use Rattle.zeb_register.specs.RowPlaces.{first_three, IsThreeNumbers};
 
 use crate::agreeing::{lists_beside, rows_agree};
 use crate::dropping::database_drop_whole;
+use crate::plain_between::postings_between;
 use crate::plain_changes::key_change_plain;
 use crate::registers::{Layout, Place, RecordChange, RegisterOf, TermCount, Totals, Work};
 use crate::statements::inside::nothing_inside;
@@ -89,6 +90,17 @@ impl Layout for Rows {
             register: key.register,
         };
         postings_under(alloc, conn, at, key.term.as_str())
+    }
+
+    fn postings_between<S: Alter>(
+        alloc: Global,
+        conn: &mut Connection<S>,
+        _work: &mut Work,
+        at: RegisterOf,
+        first: &str,
+        last: &str,
+    ) -> Result<Vec<Posting>, RegFault> {
+        postings_between(alloc, conn, at, first, last)
     }
 
     fn terms_of<S: Alter>(

@@ -83,6 +83,8 @@ pub trait Layout {
     ghost use Rattle.zeb_register.specs.Expected.{IsOrdered, AreExpected};
     ghost use Rattle.zeb_register.specs.Tallies.{Works};
     ghost use Rattle.zeb_register.specs.declared.registers.TermCount.{TermCount};
+    ghost use Rattle.zeb_register.specs.Between.{AreKeysBetween, IsPostingBetween};
+    ghost use Rattle.zeb_extract.specs.declared.keys.Key.{Key};
     ghost use Rattle.zeb_blocks.specs.declared.postings.Posting.{Posting};
 
     /// In which format the tables keep the registers.
@@ -176,6 +178,25 @@ pub trait Layout {
         ensures refused { IsReasoned (state S.Store conn.old) (state S.Store conn.new) result }
         ensures work { TellsHeld (holds_in format) (state S.Store conn.old) (state S.Store conn.new) result
             (λ _ list. Works 0 0 (block_rows list.items) 0 work.old work.new) }
+        ensures no_work { row_work ≡ 0 → work.new ≡ work.old };
+
+    /// The postings of the terms of a register that are not below `first` and not above `last`.
+    fn postings_between<S: Alter>(
+        alloc: Global,
+        conn: &mut Connection<S>,
+        work: &mut Work,
+        at: RegisterOf,
+        first: &str,
+        last: &str,
+    ) -> Result<Vec<Posting>, RegFault>
+        ensures call { Reading (state S.Store conn.old) (state S.Store conn.new) result (λ _. IsUnchanged) }
+        ensures value { TellsHeld (holds_in format) (state S.Store conn.old) (state S.Store conn.new) result
+            (λ content list. (p : Posting) → Has list.items p ↔ IsPostingBetween content at first.now last.now p) }
+        ensures honest { IsHonestStorable (holds_in format) (state S.Store conn.old) (state S.Store conn.new) result }
+        ensures refused { IsReasoned (state S.Store conn.old) (state S.Store conn.new) result }
+        ensures work { TellsHeld (holds_in format) (state S.Store conn.old) (state S.Store conn.new) result
+            (λ content _. (keys : List Key) → AreKeysBetween content at first.now last.now keys → Works 0 0
+            (sum_by (λ key. block_rows (content at.db.0 key)) keys) 0 work.old work.new) }
         ensures no_work { row_work ≡ 0 → work.new ≡ work.old };
 
     /// The terms of a register that have a posting, in the order of their bytes.

@@ -1,5 +1,6 @@
 //! The statements on the tables, each in a function of its own.
 
+pub(crate) mod between;
 pub(crate) mod databases;
 pub(crate) mod inside;
 pub(crate) mod keys;

@@ -7,6 +7,7 @@ pub mod HoldsAlike
 pub mod JoinedLists
 pub mod JustLemmas
 pub mod Known
+pub mod NeighbourLemmas
 pub mod OneKey
 pub mod OrderedLists
 pub mod PageLemmas

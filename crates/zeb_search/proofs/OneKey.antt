@@ -31,7 +31,7 @@ module _ (format : Format) (db : ℤ) (keys : List Key) (key : Key) (one : lengt
       let same = told clean store content has in
       rw (one_alone keys key one is, same) record {
         rising = registers_rise format old.now.trees content has db key;
-        each = λ p. (λ there. (key, inl refl, there), λ of. elim of.1 [ | inl here ↦ subst (λ (k : Key). Has (content db k) p) here of.2 | inr none ↦ absurd none ]);
+        each = λ p. (λ there. (key, inl refl, there), λ of. elim of.1 [ inl here ↦ subst (λ (k : Key). Has (content db k) p) here of.2 | inr none ↦ absurd none ]);
       }
 
   module _ (rows : List Posting → ℕ) where

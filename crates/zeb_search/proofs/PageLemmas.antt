@@ -97,12 +97,13 @@ module _ (O : ℕ → Occurrence → Type 0) (index : ℕ) (register : Register)
 
   module _ (wanted : Wanted) where
     -- The terms so far are terms of the register, rise, and are below the next page's start. What is asked for is among them, or isn't below
-    -- the start.
+    -- the start; so is each term of the register that isn't below one of them.
     pub record HasUpTo (terms : List TermCount) (start : List ℕ) : Type 0 where
       pub of : (t : TermCount) → Has terms t → (m : ℕ) × TermIn O index register t.term m
       pub rising : TermsRise terms
       pub below : (t : TermCount) → Has terms t → Precedes t.term start
       pub among : (term : List ℕ) (m : ℕ) → TermIn O index register term m → IsWanted wanted term → IsAmong terms term ⊎ (¬ Precedes term start)
+      pub whole : (s : TermCount) → Has terms s → (term : List ℕ) (m : ℕ) → TermIn O index register term m → ¬ Precedes term s.term → IsAmong terms term ⊎ (¬ Precedes term start)
 
     pub none_so_far : (start : List ℕ) → BeginsAt wanted start → HasUpTo [] start
     none_so_far start begins = record {
@@ -110,6 +111,7 @@ module _ (O : ℕ → Occurrence → Type 0) (index : ℕ) (register : Register)
       rising = none_rises (λ (t : TermCount). t.term);
       below = λ t there. absurd there;
       among = λ term m there asked. inr (begins term asked);
+      whole = λ s here. absurd here;
     }
 
     among_left : (xs ys : List TermCount) (term : List ℕ) → IsAmong xs term → IsAmong (xs ++ ys) term
@@ -125,6 +127,17 @@ module _ (O : ℕ → Occurrence → Type 0) (index : ℕ) (register : Register)
         | inl among ↦ inl (among_left terms page term among)
         | inr low ↦ elim (page_has start n page some are term m there low) [ inl among ↦ inl (among_right terms page term among) | inr behind ↦ inr behind ]
       ]
+
+      -- a term that isn't below one of them is among them, or stands behind all of the page
+      after_whole : (s : TermCount) → Has (terms ++ page) s → (term : List ℕ) (m : ℕ) → TermIn O index register term m → ¬ Precedes term s.term
+          → IsAmong (terms ++ page) term ⊎ ((¬ Precedes term start) × ((t : TermCount) → Has page t → Precedes t.term term))
+      after_whole s here term m there up = elim (has_either terms page s here) [
+        | inl sooner ↦ elim (before.whole s sooner term m there up) [ inl among ↦ inl (among_left terms page term among) | inr low ↦ behind low ]
+        | inr late ↦ behind (λ low. up (below_others term s.term start low (page_from start n page are s late)))
+      ]
+        where
+          behind : ¬ Precedes term start → IsAmong (terms ++ page) term ⊎ ((¬ Precedes term start) × ((t : TermCount) → Has page t → Precedes t.term term))
+          behind low = elim (page_has start n page some are term m there low) [ inl among ↦ inl (among_right terms page term among) | inr past ↦ inr (low, past.1) ]
 
       in_order : (t u : TermCount) → Has terms t → Has page u → Precedes t.term u.term
       in_order t u here there = below_others t.term u.term start (before.below t here) (page_from start n page are u there)
@@ -142,6 +155,13 @@ module _ (O : ℕ → Occurrence → Type 0) (index : ℕ) (register : Register)
         all = λ term m there asked. elim (after_page term m there asked) [
           | inl among ↦ among
           | inr behind ↦ absurd (elim ends [ inl none ↦ behind.0 none | inr last ↦ last.2 term asked (behind.1 last.0 last.1) ])
+        ];
+        whole = λ s t first last term m there within. elim (after_whole s first term m there within.0) [
+          | inl among ↦ among
+          | inr behind ↦ absurd (within.1 (elim (has_either terms page t last) [
+            | inl sooner ↦ below_others t.term term start (before.below t sooner) behind.0
+            | inr here ↦ behind.1 t here
+          ]))
         ];
       }
 
@@ -171,6 +191,10 @@ module _ (O : ℕ → Occurrence → Type 0) (index : ℕ) (register : Register)
           rising = more_rises;
           below = λ t there. subst (Precedes t.term) (sym is_next) (below_above t there);
           among = λ term m there asked. elim (after_page term m there asked) [
+            | inl among ↦ inl among
+            | inr behind ↦ inr (subst (λ (l : List ℕ). ¬ Precedes term l) (sym is_next) (none_between last.term term (behind.1 last last_there)))
+          ];
+          whole = λ s here term m there up. elim (after_whole s here term m there up) [
             | inl among ↦ inl among
             | inr behind ↦ inr (subst (λ (l : List ℕ). ¬ Precedes term l) (sym is_next) (none_between last.term term (behind.1 last last_there)))
           ];

@@ -1,13 +1,16 @@
 -- The terms that one step of a search asks for.
-use Rattle.std.specs.Prelude.{◌≡◌, ◌↔◌, ◌⊎◌, ◌+◌, ◌++◌, ◌≤◌, ℕ, ℤ, List, [], ◌∷◌, Option, Some, None, String, string_bytes}
+use Rattle.std.specs.Prelude.{◌≡◌, ◌↔◌, ◌⊎◌, ◌+◌, ◌++◌, ◌≤◌, ℕ, ℤ, IsTrue, List, [], ◌∷◌, Option, Some, None, String, string_bytes}
 use Rattle.std.specs.declared.alloc.Global.{Global}
 use Rattle.sqlite_rules.specs.Lists.{Has}
 use Rattle.zeb_profile.specs.declared.Register.{Register}
 use Rattle.zeb_extract.specs.declared.keys.Key.{Key}
 use Rattle.zeb_extract.specs.declared.keys.Occurrence.{Occurrence}
+use Rattle.zeb_register.specs.declared.registers.RegisterOf.{RegisterOf}
 use Rattle.zeb_register.specs.declared.registers.TermCount.{TermCount}
+use Rattle.zeb_register.specs.Between.{term_list}
 use Rattle.zeb_register.specs.Content.{Content, Posting}
 use Rattle.zeb_register.specs.Occurring.{TermIn, key_in}
+use Rattle.zeb_search.specs.declared.keys.FoundKeys.{FoundKeys}
 use Rattle.zeb_search.specs.declared.terms.Wanted.{Wanted}
 use Rattle.zeb_search.specs.declared.terms.Wanted.TheVariants as wanted
 use Rattle.zeb_query.specs.declared.plans.Separation.{Separation}
@@ -30,6 +33,10 @@ NamesEntry (wanted.Matching pattern) = HasNoStar pattern.now
 NamesEntry (wanted.Number relation number) = IsOneKey relation number
 NamesEntry (wanted.Text order start) = ⊥
 
+-- the text comes neither before the first one nor behind the last one
+abbrev pub StandsWithin : (first last : List ℕ) → List ℕ → Type 0
+StandsWithin first last text = (¬ Precedes text first) × (¬ Precedes last text)
+
 abbrev pub TermsRise : List TermCount → Type 0
 TermsRise = Rise (λ (t : TermCount). t.term)
 
@@ -42,10 +49,31 @@ pub record AreTaken (index : ℕ) (register : Register) (wanted : Wanted) (terms
 abbrev pub IsAmong : List TermCount → List ℕ → Type 0
 IsAmong terms term = (t : TermCount) × Has terms t × (t.term ≡ term)
 
--- each entry that is asked for and that some record has is among the terms, each of which stands there once
+-- each entry that is asked for and that some record has is among the terms, each of which stands there once; so is each that some record
+-- has and that stands between two of them
 pub record HasWanted (O : ℕ → Occurrence → Type 0) (index : ℕ) (register : Register) (wanted : Wanted) (terms : List TermCount) : Type 0 where
   pub rising : TermsRise terms
   pub all : (term : List ℕ) (n : ℕ) → TermIn O index register term n → IsWanted wanted term → IsAmong terms term
+  pub whole : (s t : TermCount) → Has terms s → Has terms t → (term : List ℕ) (n : ℕ) → TermIn O index register term n
+      → StandsWithin s.term t.term term → IsAmong terms term
+
+-- of the terms each that stands between two that are asked for is asked for too
+abbrev pub StandTogether : Wanted → List TermCount → Type 0
+StandTogether wanted terms =
+    (s t u : TermCount) → Has terms s → Has terms t → Has terms u → IsWanted wanted s.term → IsWanted wanted t.term
+    → StandsWithin s.term t.term u.term → IsWanted wanted u.term
+
+-- each entry of the register that stands between two of the keys, and that some record has, has its key among them
+abbrev pub AreNeighbours : Content → RegisterOf → List Key → Type 0
+AreNeighbours content of keys =
+    (first last : Key) → Has keys first → Has keys last → (term : List ℕ) (p : Posting) → StandsWithin first.term last.term term
+    → Has (term_list content of term) p → Has keys (key_in of.index of.register term)
+
+-- keys of the register, each once, and neighbours where this is said of them
+pub record AreFound (content : Content) (of : RegisterOf) (found : FoundKeys) : Type 0 where
+  pub rising : Rise (λ (key : Key). key.term) found.keys.items
+  pub each : (key : Key) → Has found.keys.items key → key ≡ key_in of.index of.register key.term
+  pub neighbours : IsTrue found.are_neighbours → AreNeighbours content of found.keys.items
 
 -- no entry that is asked for comes before the text
 abbrev pub BeginsAt : Wanted → List ℕ → Type 0

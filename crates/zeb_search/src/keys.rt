@@ -1,6 +1,6 @@
 //! The keys of a register's terms that a step of a search asks for.
 
-ghost use Rattle.std.specs.Prelude.{◌≡◌, IfOk, OnOk};
+ghost use Rattle.std.specs.Prelude.{◌≡◌, IfOk, IsTrue, OnOk};
 ghost use Rattle.sqlite.specs.Held.{state};
 ghost use Rattle.zeb_register.specs.Calls.{Reading};
 ghost use Rattle.zeb_register.specs.Clauses.{IsHonestStorable, IsReasoned, TellsHeld};
@@ -9,7 +9,8 @@ ghost use Rattle.zeb_register.specs.Formats.{holds_in};
 ghost use Rattle.zeb_search.specs.Counted.{Counted, NoRows};
 ghost use Rattle.zeb_search.specs.DictRows.{EntryDict, RegisterDict};
 ghost use Rattle.zeb_search.specs.ListRows.{AreKeysOf};
-ghost use Rattle.zeb_search.specs.PrivateTerms.{AreTaken, HasWanted, IsWanted, LeadsTo, NamesEntry};
+ghost use Rattle.zeb_search.specs.PrivateTerms.{AreFound, AreTaken, HasWanted, IsWanted, LeadsTo, NamesEntry};
+ghost use Rattle.zeb_search.specs.PrivateTerms.{StandTogether, TermsRise};
 ghost use Rattle.zeb_search.specs.Untouched.{IsUntouched};
 
 use crate::ranges::text_above;
@@ -26,6 +27,33 @@ const FIRST_PAGE: u64 = 16;
 
 /// How many terms of a register are read at a time at most.
 const GREATEST_PAGE: u64 = 256;
+
+/// The keys of terms that are asked for, in the order of the terms.
+#[derive(Drop)]
+pub(crate) struct FoundKeys {
+    pub keys: Vec<Key>,
+    /// Whether each term of the register that stands between two of them is known to be one of them.
+    pub are_neighbours: bool,
+}
+
+/// Whether each of the terms that stands between two that are asked for is asked for too.
+fn stand_together(wanted: Wanted<'_>, terms: &[TermCount]) -> bool
+    ensures { TermsRise terms.now → IsTrue result → StandTogether wanted.entry terms.now }
+{
+    let mut has_begun = false;
+    let mut has_ended = false;
+    for term in terms {
+        if wanted.takes(term.term.as_str()) {
+            if has_ended {
+                return false;
+            }
+            has_begun = true;
+        } else if has_begun {
+            has_ended = true;
+        }
+    }
+    true
+}
 
 /// The keys of those of the terms that are asked for.
 fn keys_of(
@@ -106,17 +134,19 @@ fn terms_wanted<S: Alter, L: Layout>(
     }
 }
 
-/// The keys of a register's terms that are asked for. A pattern without a star is its own term, which is looked for in no list.
+/// The keys of a register's terms that are asked for, and whether these are neighbours there. A pattern without a star is its own term,
+/// which is looked for in no list.
 pub(crate) fn keys_wanted<S: Alter, L: Layout>(
     alloc: Global,
     connection: &mut Connection<S>,
     work: &mut Work,
     of: RegisterOf,
     wanted: Wanted<'_>,
-) -> Result<Vec<Key>, RegFault>
+) -> Result<FoundKeys, RegFault>
     ensures call { Reading (state S.Store connection.old) (state S.Store connection.new) result (λ _. IsUntouched) }
     ensures value { TellsHeld (holds_in L.format) (state S.Store connection.old) (state S.Store connection.new) result
-        (λ content keys. AreKeysOf (posted content of.db.0) of.index of.register (IsWanted wanted.entry) keys.items) }
+        (λ content found. AreKeysOf (posted content of.db.0) of.index of.register (IsWanted wanted.entry) found.keys.items
+        × AreFound content of found) }
     ensures honest { IsHonestStorable (holds_in L.format) (state S.Store connection.old) (state S.Store connection.new) result }
     ensures refused { IsReasoned (state S.Store connection.old) (state S.Store connection.new) result }
     ensures work { OnOk result (Counted L.format
@@ -131,8 +161,16 @@ pub(crate) fn keys_wanted<S: Alter, L: Layout>(
             register: of.register,
             term,
         })?;
-        return Ok(keys);
+        return Ok(FoundKeys {
+            keys,
+            are_neighbours: false,
+        });
     }
     let terms = terms_wanted::<S, L>(alloc, connection, work, of, wanted)?;
-    Ok(keys_of(alloc, of.index, of.register, terms, wanted)?)
+    let are_neighbours = stand_together(wanted, &terms);
+    let keys = keys_of(alloc, of.index, of.register, terms, wanted)?;
+    Ok(FoundKeys {
+        keys,
+        are_neighbours,
+    })
 }

@@ -3,19 +3,19 @@
 ghost use Rattle.std.specs.Prelude.{◌≡◌, OnOk};
 ghost use Rattle.sqlite.specs.Held.{state};
 ghost use Rattle.zeb_register.specs.Calls.{Reading};
-ghost use Rattle.zeb_register.specs.Clauses.{IsHonestStorable, IsReasoned, TellsHeld};
-ghost use Rattle.zeb_register.specs.Content.{posted};
+ghost use Rattle.zeb_register.specs.Clauses.{IsHonestStorable, IsReasoned, OnStore, TellsHeld};
+ghost use Rattle.zeb_register.specs.Content.{Content, posted};
 ghost use Rattle.zeb_register.specs.Formats.{holds_in};
-ghost use Rattle.zeb_search.specs.Counted.{Counted, NoRows};
+ghost use Rattle.zeb_search.specs.Counted.{Counted, Counts, NoRows};
 ghost use Rattle.zeb_search.specs.DictRows.{EntryDict};
 ghost use Rattle.zeb_search.specs.Holds.{HasEntry, HasWord};
 ghost use Rattle.zeb_search.specs.ListRows.{EntryRows, rows_under};
 ghost use Rattle.zeb_search.specs.Lists.{AreNumbers, ArePostings};
 ghost use Rattle.zeb_search.specs.PrivateCounts.{CountedMatches};
-ghost use Rattle.zeb_search.specs.PrivateTerms.{IsPostingOf, IsWanted, NamesEntry};
+ghost use Rattle.zeb_search.specs.PrivateTerms.{AreFound, IsPostingOf, IsWanted, NamesEntry};
 ghost use Rattle.zeb_search.specs.Untouched.{IsUntouched};
 
-use crate::keys::keys_wanted;
+use crate::keys::{FoundKeys, keys_wanted};
 use crate::lists::{numbers_of, postings_in_order};
 use crate::registers::IndexOf;
 use crate::terms::Wanted;
@@ -55,6 +55,35 @@ fn postings_of<S: Alter, L: Layout>(
     Ok(postings_in_order(postings))
 }
 
+/// The postings of keys that were found, in order and each once. Those of neighbours are read by one statement.
+fn postings_found<S: Alter, L: Layout>(
+    alloc: Global,
+    connection: &mut Connection<S>,
+    work: &mut Work,
+    of: RegisterOf,
+    found: &FoundKeys,
+) -> Result<Vec<Posting>, RegFault>
+    ensures call { Reading (state S.Store connection.old) (state S.Store connection.new) result (λ _. IsUntouched) }
+    ensures value { TellsHeld (holds_in L.format) (state S.Store connection.old) (state S.Store connection.new) result
+        (λ content list. AreFound content of found.now
+        → ArePostings (IsPostingOf content of.db.0 found.now.keys.items) list.items) }
+    ensures honest { IsHonestStorable (holds_in L.format) (state S.Store connection.old) (state S.Store connection.new) result }
+    ensures refused { IsReasoned (state S.Store connection.old) (state S.Store connection.new) result }
+    ensures work { OnOk result (OnStore (state S.Store connection.old) (state S.Store connection.new) (λ trees.
+        (content : Content) → holds_in L.format trees content → AreFound content of found.now
+        → Counts 0 (rows_under L.block_rows content of.db.0 found.now.keys.items) work.old work.new)) }
+    ensures no_work { L.row_work ≡ 0 → work.new ≡ work.old }
+{
+    match (found.keys.first(), found.keys.last()) {
+        (Some(first), Some(last)) if found.are_neighbours => {
+            let (first, last) = (first.term.as_str(), last.term.as_str());
+            let list = L::postings_between(alloc, connection, work, of, first, last)?;
+            Ok(postings_in_order(list))
+        }
+        _ => postings_of::<S, L>(alloc, connection, work, of.db, &found.keys),
+    }
+}
+
 /// The numbers of the records that have an entry which is asked for, in a register.
 pub(crate) fn numbers_wanted<S: Alter, L: Layout>(
     alloc: Global,
@@ -74,8 +103,8 @@ pub(crate) fn numbers_wanted<S: Alter, L: Layout>(
         (state S.Store connection.old) (state S.Store connection.new) work.old work.new) }
     ensures no_work { L.row_work ≡ 0 → work.new ≡ work.old }
 {
-    let keys = keys_wanted::<S, L>(alloc, connection, work, of, wanted)?;
-    let postings = postings_of::<S, L>(alloc, connection, work, of.db, &keys)?;
+    let found = keys_wanted::<S, L>(alloc, connection, work, of, wanted)?;
+    let postings = postings_found::<S, L>(alloc, connection, work, of, &found)?;
     Ok(numbers_of(alloc, &postings)?)
 }
 
@@ -101,6 +130,6 @@ pub(crate) fn places_of_words<S: Alter, L: Layout>(
         index: of.index,
         register: Register::Word,
     };
-    let keys = keys_wanted::<S, L>(alloc, connection, work, words, Wanted::Matching(pattern))?;
-    postings_of::<S, L>(alloc, connection, work, of.db, &keys)
+    let found = keys_wanted::<S, L>(alloc, connection, work, words, Wanted::Matching(pattern))?;
+    postings_found::<S, L>(alloc, connection, work, words, &found)
 }

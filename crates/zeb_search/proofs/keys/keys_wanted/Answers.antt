@@ -1,4 +1,4 @@
-use Rattle.std.proofs.Common.{rules, ◌≡◌, ◌↔◌, ◌∙◌, ◌++◌, ◌∷◌, [], ℕ, List, ap, refl, sym, subst, inl, inr}
+use Rattle.std.proofs.Common.{rules, true, false, ◌≡◌, ◌↔◌, ◌∙◌, ◌++◌, ◌∷◌, [], ℕ, List, ap, refl, sym, subst, inl, inr}
 use Rattle.sqlite.specs.Held.{state}
 use Rattle.zeb_extract.specs.declared.keys.Key.{Key}
 use Rattle.zeb_register.specs.Content.{posted}
@@ -6,8 +6,9 @@ use Rattle.zeb_register.specs.Occurring.{key_in}
 use Rattle.zeb_search.specs.Counted.{NoRows}
 use Rattle.zeb_search.specs.DictRows.{EntryDict, RegisterDict}
 use Rattle.zeb_search.specs.ListRows.{AreKeysOf}
-use Rattle.zeb_search.specs.PrivateTerms.{IsWanted, NamesEntry}
+use Rattle.zeb_search.specs.PrivateTerms.{IsWanted, NamesEntry, StandTogether, TermsRise}
 use Rattle.zeb_search.proofs.CountedLemmas.{counted_for, counted_still}
+use Rattle.zeb_search.proofs.NeighbourLemmas.{found_keys, keys_neighbours}
 use Rattle.zeb_search.proofs.TermLemmas.{keys_are, named_key}
 use Rattle.zeb_search.proofs.keys.keys_wanted.Goals as goal
 
@@ -17,12 +18,18 @@ returns-in-Some-clause-value g c clean store content has =
     let one : (term : List ℕ) → IsWanted c.args.wanted term ↔ (term ≡ c.in-Some.term) = search rules in
     let key : Key = key_in c.args.of.index c.args.of.register c.in-Some.term in
     let keys : c.push.new.self.items ≡ key ∷ [] = c.in_ok-push.ensures.items ∙ ap (λ (l : List Key). l ++ key ∷ []) c.new-keys.ensures.items in
-    subst (AreKeysOf O c.args.of.index c.args.of.register (IsWanted c.args.wanted)) (sym keys) (named_key O c.args.of.index c.args.of.register c.args.wanted c.in-Some.term one)
+    let are = subst (AreKeysOf O c.args.of.index c.args.of.register (IsWanted c.args.wanted)) (sym keys) (named_key O c.args.of.index c.args.of.register c.args.wanted c.in-Some.term one) in
+    found_keys content c.args.of c.args.wanted (record { keys = c.push.new.self; are_neighbours = false }) are (λ is. absurd (let e : false ≡ true = is in cc))
 
 pub returns-clause-value : goal.returns-clause-value
 returns-clause-value g c clean store content has =
-    keys_are (posted content c.args.of.db.0) c.args.of.index c.args.of.register c.args.wanted c.in_ok-terms.terms.items c.in_ok-keys_of.field-0.items
-    (c.in_ok-terms.ensures.value clean store content has) c.in_ok-keys_of.ensures
+    let terms = c.in_ok-terms.terms.items in
+    let keys = c.in_ok-keys.keys in
+    let all = c.in_ok-terms.ensures.value clean store content has in
+    let are = keys_are (posted content c.args.of.db.0) c.args.of.index c.args.of.register c.args.wanted terms keys.items all c.in_ok-keys.ensures in
+    found_keys content c.args.of c.args.wanted (record { keys = keys; are_neighbours = c.stand_together-are_neighbours.result }) are (λ is.
+    let together = subst (StandTogether c.args.wanted) c.deref.ensures.value (c.stand_together-are_neighbours.ensures (subst TermsRise (sym c.deref.ensures.value) all.rising) is) in
+    keys_neighbours content c.args.of c.args.wanted terms keys.items all together c.in_ok-keys.ensures)
 
 pub returns-in-Some-clause-work : goal.returns-in-Some-clause-work
 returns-in-Some-clause-work g c =

@@ -1,0 +1,66 @@
+//! The postings of neighbouring terms, by a row for each.
+
+ghost use Rattle.std.specs.Prelude.{◌≡◌, ◌≢◌, ◌↔◌, map, IfOk};
+ghost use Rattle.sqlite.specs.Held.{state};
+ghost use Rattle.sqlite.specs.State.{IsUnchanged};
+ghost use Rattle.sqlite_rules.specs.Lists.{Has};
+ghost use Rattle.zeb_register.specs.Between.{IsPostingBetween};
+ghost use Rattle.zeb_register.specs.BetweenRows.{three_behind};
+ghost use Rattle.zeb_register.specs.Calls.{Reading};
+ghost use Rattle.zeb_register.specs.Clauses.{IsHonestOfHeld, IsReasoned, TellsHeld};
+ghost use Rattle.zeb_register.specs.PlainRows.{HoldsRows, posting_row};
+ghost use Rattle.zeb_register.specs.RowPlaces.{IsThreeNumbers};
+
+use crate::RegFault;
+use crate::registers::RegisterOf;
+use crate::statements::between::posting_rows_between;
+use crate::terms::text_above;
+use crate::values::read;
+use sqlite::{Alter, Connection, Row};
+use std::alloc::Global;
+use zeb_blocks::Posting;
+
+/// The postings of the terms from `first` to `last`.
+pub(crate) fn postings_between<S: Alter>(
+    alloc: Global,
+    conn: &mut Connection<S>,
+    at: RegisterOf,
+    first: &str,
+    last: &str,
+) -> Result<Vec<Posting>, RegFault>
+    ensures call { Reading (state S.Store conn.old) (state S.Store conn.new) result (λ _. IsUnchanged) }
+    ensures value { TellsHeld HoldsRows (state S.Store conn.old) (state S.Store conn.new) result
+        (λ content list. (p : _) → Has list.items p ↔ IsPostingBetween content at first.now last.now p) }
+    ensures honest { IsHonestOfHeld HoldsRows (state S.Store conn.old) (state S.Store conn.new) result }
+    ensures refused { IsReasoned (state S.Store conn.old) (state S.Store conn.new) result }
+{
+    let end = text_above(alloc, last)?;
+    let rows = posting_rows_between(conn, at, first, end.as_str())?;
+    postings_behind(alloc, &rows)
+}
+
+/// The postings that rows show behind their terms.
+fn postings_behind(alloc: Global, rows: &[Row]) -> Result<Vec<Posting>, RegFault>
+    ensures ok { IfOk result (λ list. map posting_row list.items ≡ map three_behind rows.now) }
+    ensures honest { result ≡ Err RegFault.Damaged → ¬ ((row : _) → Has rows.now row → (IsThreeNumbers (three_behind row))) }
+    ensures unstored { result ≢ Err RegFault.Store }
+{
+    let mut postings = Vec::new(alloc);
+    for row in rows {
+        postings.push(posting_behind(row)?)?;
+    }
+    Ok(postings)
+}
+
+/// The posting that a row shows behind its term.
+fn posting_behind(row: &Row) -> Result<Posting, RegFault>
+    ensures ok { IfOk result (λ p. posting_row p ≡ three_behind row.now) }
+    ensures honest { result ≡ Err RegFault.Damaged → ¬ IsThreeNumbers (three_behind row.now) }
+    ensures unstored { result ≢ Err RegFault.Store }
+{
+    Ok(Posting {
+        sysno: read(row, 1)?,
+        seq: read(row, 2)?,
+        pos: read(row, 3)?,
+    })
+}

@@ -1,0 +1,213 @@
+-- Terms that stand next to each other in a register, and the postings of such a run.
+use Rattle.std.proofs.Common.{◌≡◌, ◌↔◌, ◌⊎◌, ◌∙◌, ◌+◌, ◌-◌, ℕ, Bool, true, false, IsTrue, List, [], ◌∷◌, ◌++◌, Some, drop, length, map, slice_get, take, refl, sym, ap, subst, subst₂, inl, inr, Ordering, Less, Equal, Greater, arith}
+use Rattle.std.specs.Ordering.{nat_cmp, is_lt}
+use Rattle.std.specs.Cmp.Lexicographic.{slice_cmp}
+use Rattle.std.specs.List.Sorted.{IsStrictlySortedBy}
+use Rattle.std.proofs.lemmas.List.{take-append-drop}
+use Rattle.sqlite.specs.State.{State, HasCleanDisk, Survives}
+use Rattle.sqlite_rules.specs.Lists.{Has}
+use Rattle.sqlite_rules.proofs.ListLemmas.{all_has, has_either, has_right}
+use Rattle.sqlite_rules.proofs.ProbeLemmas.{mapped_has}
+use Rattle.zeb_extract.specs.declared.keys.Key.{Key}
+use Rattle.zeb_register.specs.declared.registers.RegisterOf.{RegisterOf}
+use Rattle.zeb_register.specs.declared.registers.TermCount.{TermCount}
+use Rattle.zeb_register.specs.declared.registers.Work.{Work}
+use Rattle.zeb_register.specs.Between.{AreKeysBetween, IsPostingBetween}
+use Rattle.zeb_register.specs.Clauses.{OnStore}
+use Rattle.zeb_register.specs.Content.{Content, Posting, posted}
+use Rattle.zeb_register.specs.Formats.{Format, holds_in}
+use Rattle.zeb_register.specs.Occurring.{key_in}
+use Rattle.zeb_register.specs.Store.{IsStore}
+use Rattle.zeb_search.specs.Comparing.{Precedes}
+use Rattle.zeb_search.specs.Counted.{Counted, Counts, NoRows}
+use Rattle.zeb_search.specs.declared.keys.FoundKeys.{FoundKeys}
+use Rattle.zeb_search.specs.declared.terms.Wanted.{Wanted}
+use Rattle.zeb_search.specs.ListRows.{AreKeysOf, EntryRows, rows_under}
+use Rattle.zeb_search.specs.Lists.{ArePostings, Rise}
+use Rattle.zeb_search.specs.PrivateTerms.{AreFound, AreNeighbours, AreTaken, HasWanted, IsPostingOf, IsWanted, StandTogether, StandsWithin, TermsRise}
+use Rattle.zeb_search.proofs.Comparisons.{never_after, never_before_itself}
+use Rattle.zeb_search.proofs.CountedLemmas.{counts_then}
+use Rattle.zeb_search.proofs.JustLemmas.{just_same}
+use Rattle.zeb_search.proofs.ReadLemmas.{IsRead, clean_before, still_store, still_trees}
+use Rattle.zeb_search.proofs.RisingTexts.{before_last_text, front_rise, last_got}
+
+-- ---- a walk over terms
+
+-- What a walk knows of the terms behind it: whether one of them was asked for, and whether behind that one another was not.
+pub record IsWalked (wanted : Wanted) (terms : List TermCount) (has_begun has_ended : Bool) : Type 0 where
+  pub none : has_begun ≡ false → (s : TermCount) → Has terms s → ¬ IsWanted wanted s.term
+  pub run : has_ended ≡ false → (s u : TermCount) → Has terms s → Has terms u → IsWanted wanted s.term → ¬ Precedes u.term s.term → IsWanted wanted u.term
+  pub together : StandTogether wanted terms
+
+-- the same of a list and of tests that are the same
+pub walked_as : (wanted : Wanted) (xs ys : List TermCount) (a b c d : Bool) → xs ≡ ys → a ≡ b → c ≡ d → IsWalked wanted ys b d → IsWalked wanted xs a c
+walked_as wanted xs ys a b c d list begun ended walked =
+    subst (λ (l : List TermCount). IsWalked wanted l a c) (sym list) (subst₂ (IsWalked wanted ys) (sym begun) (sym ended) walked)
+
+-- the terms up to one of them rise
+pub rise_up_to : (terms : List TermCount) (i : ℕ) (t : TermCount) → TermsRise terms → take (i + 1) terms ≡ take i terms ++ t ∷ [] → TermsRise (take i terms ++ t ∷ [])
+rise_up_to terms i t up more =
+    subst TermsRise more (front_rise (λ (s : TermCount). s.term) (take (i + 1) terms) (drop (i + 1) terms) (subst TermsRise (sym (take-append-drop (i + 1) terms)) up))
+
+module _ (wanted : Wanted) where
+  pub walked_none : IsWalked wanted [] false false
+  walked_none = record { none = λ _ s here. absurd here; run = λ _ s u here. absurd here; together = λ s t u here. absurd here }
+
+  module _ (terms : List TermCount) (t : TermCount) (up : TermsRise (terms ++ t ∷ [])) where
+    before_it : (s : TermCount) → Has terms s → Precedes s.term t.term
+    before_it = before_last_text (λ (s : TermCount). s.term) terms t up
+
+    either : (s : TermCount) → Has (terms ++ t ∷ []) s → Has terms s ⊎ (s ≡ t)
+    either s here = elim (has_either terms (t ∷ []) s here) [ inl before ↦ inl before | inr last ↦ elim last [ inl same ↦ inr same | inr none ↦ absurd none ] ]
+
+    -- a term that is asked for
+    pub walked_on : (begun : Bool) → IsWanted wanted t.term → IsWalked wanted terms begun false → IsWalked wanted (terms ++ t ∷ []) true false
+    walked_on begun asked so_far = record { none = λ e. absurd (cc); run = λ _. run; together = λ s last u first there here one two within. run s u first here one within.0 }
+      where
+        run : (s u : TermCount) → Has (terms ++ t ∷ []) s → Has (terms ++ t ∷ []) u → IsWanted wanted s.term → ¬ Precedes u.term s.term → IsWanted wanted u.term
+        run s u first here one low = elim (either u here) [
+          | inr same ↦ subst (λ (v : TermCount). IsWanted wanted v.term) (sym same) asked
+          | inl before ↦ elim (either s first) [
+            | inl sooner ↦ so_far.run refl s u sooner before one low
+            | inr same ↦ absurd (low (subst (λ (v : TermCount). Precedes u.term v.term) (sym same) (before_it u before)))
+          ]
+        ]
+
+    -- one that isn't, before the first that is
+    pub walked_before : ¬ IsWanted wanted t.term → (ended : Bool) → IsWalked wanted terms false ended → IsWalked wanted (terms ++ t ∷ []) false ended
+    walked_before never ended so_far = record { none = λ _. none; run = λ _ s u first here one low. absurd (none s first one); together = λ s last u first there here one two within. absurd (none s first one) }
+      where
+        none : (s : TermCount) → Has (terms ++ t ∷ []) s → ¬ IsWanted wanted s.term
+        none s here asked = elim (either s here) [ inl before ↦ so_far.none refl s before asked | inr same ↦ never (subst (λ (v : TermCount). IsWanted wanted v.term) same asked) ]
+
+    -- one that isn't, behind it
+    pub walked_past : ¬ IsWanted wanted t.term → (ended : Bool) → IsWalked wanted terms true ended → IsWalked wanted (terms ++ t ∷ []) true true
+    walked_past never ended so_far = record {
+      none = λ e. absurd (cc);
+      run = λ e. absurd (cc);
+      together = λ s last u first there here one two within. elim (either last there) [
+        | inr same ↦ absurd (never (subst (λ (v : TermCount). IsWanted wanted v.term) same two))
+        | inl late ↦ elim (either s first) [
+          | inr same ↦ absurd (never (subst (λ (v : TermCount). IsWanted wanted v.term) same one))
+          | inl sooner ↦ elim (either u here) [
+            | inl before ↦ so_far.together s last u sooner late before one two within
+            | inr same ↦ absurd (within.1 (subst (λ (v : TermCount). Precedes last.term v.term) (sym same) (before_it last late)))
+          ]
+        ]
+      ];
+    }
+
+-- ---- the keys of terms that stand together
+
+module _ (content : Content) (of : RegisterOf) (wanted : Wanted) where
+  pub keys_neighbours : (terms : List TermCount) (keys : List Key) → HasWanted (posted content of.db.0) of.index of.register wanted terms → StandTogether wanted terms
+      → AreTaken of.index of.register wanted terms keys → AreNeighbours content of keys
+  keys_neighbours terms keys has together taken first last one two term p within here =
+      let s = (taken.each first).0 one in
+      let t = (taken.each last).0 two in
+      let moved : StandsWithin s.0.term t.0.term term = subst₂ (λ a b. StandsWithin a b term) (ap (λ (k : Key). k.term) s.2.1) (ap (λ (k : Key). k.term) t.2.1) within in
+      let u = has.whole s.0 t.0 s.1 t.1 term p.sysno (record { key = key_in of.index of.register term; seq = p.seq; pos = p.pos }, here, refl) moved in
+      let asked = together s.0 t.0 u.0 s.1 t.1 u.1 s.2.0 t.2.0 (subst (StandsWithin s.0.term t.0.term) (sym u.2) moved) in
+      (taken.each (key_in of.index of.register term)).1 (u.0, u.1, (asked, ap (key_in of.index of.register) (sym u.2)))
+
+  -- keys that were found, as they were read
+  pub found_keys : (found : FoundKeys) → AreKeysOf (posted content of.db.0) of.index of.register (IsWanted wanted) found.keys.items → (IsTrue found.are_neighbours → AreNeighbours content of found.keys.items)
+      → AreKeysOf (posted content of.db.0) of.index of.register (IsWanted wanted) found.keys.items × AreFound content of found
+  found_keys found are neighbours = (are, record { rising = are.rising; each = λ key here. (are.each key here).0; neighbours = neighbours })
+
+-- ---- the postings from the first key to the last
+
+-- these keys begin with the one and end with the other
+pub record HaveEnds (keys : List Key) (first last : Key) : Type 0 where
+  pub rest : List Key
+  pub begins : keys ≡ first ∷ rest
+  pub front : List Key
+  pub ends : keys ≡ front ++ last ∷ []
+
+first_got : (keys : List Key) (first : Key) → slice_get keys 0 ≡ Some first → (rest : List Key) × (keys ≡ first ∷ rest)
+first_got [] first got = absurd (cc)
+first_got (key ∷ keys) first got = (keys, let e : key ≡ first = cc in ap (λ k. k ∷ keys) e)
+
+-- as `first` and `last` get them of the slice
+pub ends_got : (keys one other : List Key) (first last : Key) → one ≡ keys → other ≡ keys → slice_get one 0 ≡ Some first → slice_get other (length other - 1) ≡ Some last → HaveEnds keys first last
+ends_got keys one other first last same alike at_first at_last =
+    let begins = first_got one first at_first in
+    record { rest = begins.0; begins = sym same ∙ begins.1; front = take (length other - 1) other; ends = sym alike ∙ last_got other last at_last }
+
+not_lower : (a b : List ℕ) → ¬ Precedes a b → is_lt (slice_cmp nat_cmp a b) ≡ false
+not_lower a b never = by (slice_cmp nat_cmp a b) refl
+  where
+    by : (o : Ordering) → slice_cmp nat_cmp a b ≡ o → is_lt o ≡ false
+    by Less is = absurd (never is)
+    by Equal is = refl
+    by Greater is = refl
+
+never_lower : (a b : List ℕ) → is_lt (slice_cmp nat_cmp a b) ≡ false → ¬ Precedes a b
+never_lower a b low is = let e : true ≡ false = sym (ap is_lt is) ∙ low in cc
+
+module _ (content : Content) (of : RegisterOf) (found : FoundKeys) (are : AreFound content of found) (joined : IsTrue found.are_neighbours) (first last : Key) (at : HaveEnds found.keys.items first last) where
+  abbrev keys : List Key
+  keys = found.keys.items
+
+  from_first : (key : Key) → Has keys key → ¬ Precedes key.term first.term
+  unfolding IsStrictlySortedBy
+  from_first key here low =
+      let up : Rise (λ (k : Key). k.term) (first ∷ at.rest) = subst (Rise (λ (k : Key). k.term)) at.begins are.rising in
+      elim (subst (λ (l : List Key). Has l key) at.begins here) [
+        | inl same ↦ never_before_itself first.term (subst (λ (k : Key). Precedes k.term first.term) same low)
+        | inr later ↦ never_after first.term key.term (all_has (λ t. slice_cmp nat_cmp first.term t ≡ Less) (map (λ (k : Key). k.term) at.rest) key.term up.0 (mapped_has (λ (k : Key). k.term) at.rest key later)) low
+      ]
+
+  up_to_last : (key : Key) → Has keys key → ¬ Precedes last.term key.term
+  up_to_last key here low =
+      elim (has_either at.front (last ∷ []) key (subst (λ (l : List Key). Has l key) at.ends here)) [
+        | inl before ↦ never_after key.term last.term (before_last_text (λ (k : Key). k.term) at.front last (subst (Rise (λ (k : Key). k.term)) at.ends are.rising) key before) low
+        | inr end ↦ elim end [ inl same ↦ never_before_itself last.term (subst (λ (k : Key). Precedes last.term k.term) same low) | inr none ↦ absurd none ]
+      ]
+
+  pub keys_between : AreKeysBetween content of first.term last.term keys
+  keys_between = record {
+    rising = are.rising;
+    each = λ key here. (are.each key here, (not_lower key.term first.term (from_first key here), not_lower last.term key.term (up_to_last key here)));
+    all = λ term p between here.
+        are.neighbours joined first last (subst (λ (l : List Key). Has l first) (sym at.begins) (inl refl)) (subst (λ (l : List Key). Has l last) (sym at.ends) (has_right at.front (last ∷ []) last (inl refl)))
+        term p (never_lower term first.term between.0, never_lower last.term term between.1) here;
+  }
+
+  -- they are those of the keys
+  pub run_postings : (list postings : List Posting) → ((p : Posting) → Has list p ↔ IsPostingBetween content of first.term last.term p) → ArePostings (Has list) postings → ArePostings (IsPostingOf content of.db.0 keys) postings
+  run_postings list postings is = just_same (Has list) (IsPostingOf content of.db.0 keys) postings (λ p. (
+    λ here. let it = (is p).0 here in (key_in of.index of.register it.0, keys_between.all it.0 p it.1 it.2, it.2),
+    λ posting.
+        let key = keys_between.each posting.0 posting.1 in
+        (is p).1 (posting.0.term, key.1, subst (λ (k : Key). Has (content of.db.0 k) p) key.0 posting.2),
+  ))
+
+-- ---- counts
+
+counts_so : (k l m n : ℕ) (a b : Work) → k ≡ l → m ≡ n → Counts k m a b → Counts l n a b
+counts_so k l m n a b one two = subst₂ (λ x y. Counts x y a b) one two
+
+-- the lists of keys that are read one by one
+pub each_counted : (format : Format) (rows : List Posting → ℕ) (of : RegisterOf) (found : FoundKeys) (seen : List Key) → seen ≡ found.keys.items → (s0 s1 : State) (a b : Work)
+    → Counted format NoRows (λ content n. n ≡ rows_under rows content of.db.0 seen) s0 s1 a b
+    → OnStore s0 s1 (λ trees. (content : Content) → holds_in format trees content → AreFound content of found → Counts 0 (rows_under rows content of.db.0 found.keys.items) a b)
+each_counted format rows of found seen same s0 s1 a b counted clean store content has are =
+    let x = counted clean store content has in
+    counts_so x.0 0 x.1 (rows_under rows content of.db.0 found.keys.items) a b x.2 (x.3 ∙ ap (rows_under rows content of.db.0) same) x.4
+
+-- keys, and then their lists
+pub found_counted : (format : Format) (D : Content → ℕ → Type 0) (rows : List Posting → ℕ) (of : RegisterOf) (P : List ℕ → Type 0) (found : FoundKeys) (s0 s1 s2 : State) (a b c : Work) → IsRead s0 s1 → Survives s1 s2 (λ _. ⊥)
+    → Counted format D NoRows s0 s1 a b
+    → (HasCleanDisk s1 → IsStore s0 → (content : Content) → holds_in format s0.now.trees content → AreKeysOf (posted content of.db.0) of.index of.register P found.keys.items × AreFound content of found)
+    → OnStore s1 s2 (λ trees. (content : Content) → holds_in format trees content → AreFound content of found → Counts 0 (rows_under rows content of.db.0 found.keys.items) b c)
+    → Counted format D (λ content. EntryRows rows content of.db.0 of.index of.register P) s0 s2 a c
+found_counted format D rows of P found s0 s1 s2 a b c read crash none are lists clean store content has =
+    let before = clean_before s1 s2 crash clean in
+    let x = none before store content has in
+    let known = are before store content has in
+    let n = rows_under rows content of.db.0 found.keys.items in
+    let y = lists clean (still_store s0 s1 read before store) content (subst (λ t. holds_in format t content) (sym (still_trees s0 s1 read before)) has) known.1 in
+    let terms : x.0 + 0 ≡ x.0 = omega arith in
+    let blocks : x.1 + n ≡ n = omega (arith, x.3) in
+    (x.0, n, x.2, (found.keys.items, known.0, refl), counts_so (x.0 + 0) x.0 (x.1 + n) n a c terms blocks (counts_then x.0 0 x.1 n a b c x.4 y))
