@@ -90,8 +90,8 @@ fn note_record<S: Alter>(
         (standing (state S.Store tx.new.conn.now) pending.new)
         (λ c. folded c setting.now.kind incoming.entry.file incoming.entry.nth incoming.entry.bytes.now) result }
     ensures honest { HasCleanDisk (state S.Store tx.new.conn.now) → IsTrue (state S.Store tx.old.conn.now).in_transaction
-        → (format : Format) → KeepsSome format setting.now.profile.now fold.old fold.new (standing (state S.Store tx.old.conn.now) pending.old)
-        (standing (state S.Store tx.new.conn.now) pending.new) result }
+        → (format : Format) → KeepsSome format setting.now.profile.now fold.old fold.new
+        (standing (state S.Store tx.old.conn.now) pending.old) (standing (state S.Store tx.new.conn.now) pending.new) result }
     ensures unread { NoReadFault result }
     ensures ready { NeverUnready result }
     ensures cost { HasCleanDisk (state S.Store tx.new.conn.now) → IsTrue (state S.Store tx.old.conn.now).in_transaction
