@@ -20,6 +20,7 @@ pub mod ChangeKeysContent
 pub mod Idle
 pub mod FoldSteps
 pub mod Settling
+pub mod FoldsOn
 pub mod FoldFiles
 pub mod FoldAll
 pub mod NoDamage

@@ -1,5 +1,5 @@
 -- A change on its way whose noted changes are written, and one that begins and ends with nothing noted.
-use Rattle.std.proofs.Common.{◌≡◌, ◌≢◌, ◌∙◌, ℕ, ℤ, List, IsTrue, Result, Ok, Err, ap, arith, refl, sym}
+use Rattle.std.proofs.Common.{◌≡◌, ◌≢◌, ◌∙◌, ℕ, ℤ, List, IsTrue, Result, Ok, Err, OnOk, ap, arith, refl, subst, sym}
 use Rattle.sqlite.specs.State.{HasCleanDisk, State}
 use Rattle.zeb_profile.specs.declared.directives.Directive.{Directive}
 use Rattle.zeb_register.specs.declared.faults.RegFault.{RegFault}
@@ -16,9 +16,9 @@ use Rattle.zeb_change.specs.Base.{Base, Kept}
 use Rattle.zeb_change.specs.Folding.{Progress}
 use Rattle.zeb_change.specs.Noted.{IsDueFor, IsNothingNoted, IsSettled, Settles}
 use Rattle.zeb_change.specs.Outcomes.{register_refusal}
-use Rattle.zeb_change.specs.PrivateStanding.{WillBe, WillBeFolded, standing}
+use Rattle.zeb_change.specs.PrivateStanding.{Standing, WillBe, WillBeFolded, WillHoldSome, standing}
 use Rattle.zeb_change.specs.Refused.{Meets, Why}
-use Rattle.zeb_change.specs.UnderWay.{IsFolded, IsUnderWay, KeepsNames, with_records}
+use Rattle.zeb_change.specs.UnderWay.{IsFolded, IsUnderWay, with_records}
 use Rattle.zeb_change.proofs.BaseLemmas.{with_numbered}
 use Rattle.zeb_change.proofs.ChangeKeysContent.{only_damaged}
 use Rattle.zeb_change.proofs.CostLemmas.{due_noted}
@@ -36,61 +36,78 @@ still_settled format row_work db s pending work store = (store, (refl, refl, ref
 abbrev pub worked : Fold → Work → Fold
 worked fold work = record { progress = record { database = fold.progress.database; last = fold.progress.last; work = work }; tally = fold.tally }
 
-module _ (format : Format) (profile : List Directive) (id : ℤ) (records_of : ℤ → List Kept) where
-  -- what the registers will hold can be stored
-  will_storable : (s : State) (pending : Pending) (base : Base) (under : WillBe format profile id records_of (standing s pending) base) → IsStorable under.1.content
-  will_storable s pending base under =
-      posted_storable profile (with_records id base.records records_of) (with_numbered profile id records_of base under.2 under.3) under.1.content under.1.posted
+-- the same call, by another name of its database
+pub at_id : {T : Type 0} {format : Format} {row_work : ℕ} {d id : ℤ} {old new : State} {before after : Pending} {work worked : Work} {result : Result T RegFault} → d ≡ id
+    → Settles format row_work d old new before after work worked result → Settles format row_work id old new before after work worked result
+at_id {format = format} {row_work = row_work} {old = old} {new = new} {before = before} {after = after} {work = work} {worked = worked} {result = result} same does =
+    subst (λ (i : ℤ). Settles format row_work i old new before after work worked result) same does
 
-  module _ (mid new : State) (pending pending' : Pending) (row_work : ℕ) (old now : Work) (settled : IsSettled format row_work id mid new pending pending' old now) where
-    pub settled_way : (base : Base) → WillBe format profile id records_of (standing mid pending) base → WillBe format profile id records_of (standing new pending') base
+-- A fold on its way, of which what is noted is written: the database that will be held before the write, and what the write does.
+pub record WritesNoted (format : Format) (profile : List Directive) (id : ℤ) (records_of : ℤ → List Kept) (row_work : ℕ) (mid new : Standing) (fold : Fold) (work : Work) (result : Result (Unit {0}) RegFault) : Type 0 where
+  pub does : Settles format row_work id mid.tables new.tables mid.pending new.pending fold.progress.work work result
+  pub was : HasCleanDisk mid.tables
+  pub clean : HasCleanDisk new.tables
+  pub mode : IsTrue mid.tables.in_transaction
+  pub base : Base
+  pub last : fold.progress.last ≡ base.last
+  pub under : WillBe format profile id records_of mid base
+
+module _ {format : Format} {profile : List Directive} {id : ℤ} {records_of : ℤ → List Kept} {row_work : ℕ} {mid new : Standing} {fold : Fold} {work : Work} {result : Result (Unit {0}) RegFault}
+    (w : WritesNoted format profile id records_of row_work mid new fold work result) where
+  -- what the registers will hold can be stored
+  will_storable : (base : Base) (under : WillBe format profile id records_of mid base) → IsStorable under.1.content
+  will_storable base under = posted_storable profile (with_records id base.records records_of) (with_numbered profile id records_of base under.2 under.3) under.1.content under.1.posted
+
+  -- ---- a write that is done
+
+  module _ (done : result ≡ Ok tt) where
+    settled : IsSettled format row_work id mid.tables new.tables mid.pending new.pending fold.progress.work work
+    settled = subst (λ (r : Result (Unit {0}) RegFault). OnOk r (IsSettled format row_work id mid.tables new.tables mid.pending new.pending fold.progress.work work)) done
+        (w.does.written w.clean w.mode w.under.0)
+
+    settled_way : (base : Base) → WillBe format profile id records_of mid base → WillBe format profile id records_of new base
     settled_way base under = (
       settled.0,
       record {
-        kept = same_kept mid.now.trees new.now.trees (with_records id base.records records_of) settled.1.2 under.1.kept;
+        kept = same_kept mid.tables.now.trees new.tables.now.trees (with_records id base.records records_of) settled.1.2 under.1.kept;
         content = under.1.content;
-        held = (settled.2 under.1.content (will_storable mid pending base under) under.1.held).0;
+        held = (settled.2 under.1.content (will_storable base under) under.1.held).0;
         posted = under.1.posted;
       },
       under.2,
       under.3,
     )
 
-    pub settled_due : (base : Base) → WillBe format profile id records_of (standing mid pending) base → IsDueFor row_work 0 old now pending pending'
-    settled_due base under = (settled.2 under.1.content (will_storable mid pending base under) under.1.held).1
+    pub settled_holds : WillHoldSome format profile id records_of new fold.progress.last
+    settled_holds = (w.base, w.last, settled_way w.base w.under)
 
-    settled_names : KeepsNames mid new
-    settled_names = (settled.1.0, settled.1.1)
+    pub settled_due : IsDueFor row_work 0 fold.progress.work work mid.pending new.pending
+    settled_due = (settled.2 w.under.1.content (will_storable w.base w.under) w.under.1.held).1
 
-    pub settled_fold : (first : State) (noted : Pending) (before after : Fold) (said : Result Progress Why) → after.tally ≡ before.tally → after.progress.last ≡ before.progress.last
-        → Meets {A = Progress} {X = Unit {0}} (λ p _. WillBeFolded format profile id records_of (standing first noted) (standing mid pending) before p) said (Ok tt)
-        → Meets {A = Progress} {X = Unit {0}} (λ p _. WillBeFolded format profile id records_of (standing first noted) (standing new pending') after p) said (Ok tt)
-    settled_fold first noted before after (Ok p) counts last met = record {
-      stands = record {
-        last = last ∙ met.stands.last;
-        taken = ap (λ t. t.records) counts ∙ met.stands.taken;
-        inserted = ap (λ t. t.inserted) counts ∙ met.stands.inserted;
-        updated = ap (λ t. t.updated) counts ∙ met.stands.updated;
-        deleted = ap (λ t. t.deleted) counts ∙ met.stands.deleted;
-      };
+    pub settled_fold : (old : Standing) (said : Result Progress Why)
+        → Meets {A = Progress} {X = Unit {0}} (λ p _. WillBeFolded format profile id records_of old mid fold p) said (Ok tt)
+        → Meets {A = Progress} {X = Unit {0}} (λ p _. WillBeFolded format profile id records_of old new (worked fold work) p) said (Ok tt)
+    settled_fold old (Ok p) met = record {
+      stands = record { last = met.stands.last; taken = met.stands.taken; inserted = met.stands.inserted; updated = met.stands.updated; deleted = met.stands.deleted };
       under_way = settled_way p.base met.under_way;
-      names = names_then (standing first noted) (standing mid pending) (standing new pending') met.names settled_names;
+      names = names_then old mid new met.names (settled.1.0, settled.1.1);
     }
-    settled_fold first noted before after (Err why) counts last met = absurd met
+    settled_fold old (Err why) met = absurd met
 
-  -- registers that will hold a content are never told to be damaged, so a write that isn't done failed
-  module _ (mid new : State) (pending pending' : Pending) (row_work : ℕ) (old now : Work) (result : Result (Unit {0}) RegFault)
-      (does : Settles format row_work id mid new pending pending' old now result) (clean : HasCleanDisk new) (mode : IsTrue mid.in_transaction)
-      (base : Base) (under : WillBe format profile id records_of (standing mid pending) base) (failed : RegFault) (was : result ≡ Err failed) where
-    write_sound : failed ≢ register.Damaged
-    write_sound is = does.honest clean mode under.0 (was ∙ ap Err is) under.1.content (will_storable mid pending base under) under.1.held
+  -- ---- a write that isn't done
 
-    pub write_honest : {X : Type 0} (r : Result X Refusal) → r ≡ Err (register_refusal failed) → r ≢ Err Damaged
-    write_honest r told is = let both = sym told ∙ is in write_sound (only_damaged failed (cc))
+  -- registers that will hold a content are never told to be damaged, so it failed
+  module _ (fault : RegFault) (refused : result ≡ Err fault) where
+    write_sound : fault ≢ register.Damaged
+    write_sound is = w.does.honest w.clean w.mode w.under.0 (refused ∙ ap Err is) w.under.1.content (will_storable w.base w.under) w.under.1.held
 
-    pub write_refused : {A X : Type 0} (Good : A → X → Type 0) (said : Result A Why) (r : Result X Refusal) → r ≡ Err (register_refusal failed) → Meets Good said r
-    write_refused Good said r told = passed_on Good said r (register_refusal failed) told (fault_fails failed write_sound)
+    pub write_honest : {X : Type 0} (r : Result X Refusal) → r ≡ Err (register_refusal fault) → r ≢ Err Damaged
+    write_honest r told is = let both = sym told ∙ is in write_sound (only_damaged fault (cc))
 
+    pub write_refused : {A X : Type 0} (Good : A → X → Type 0) (said : Result A Why) (r : Result X Refusal) → r ≡ Err (register_refusal fault) → Meets Good said r
+    write_refused Good said r told = passed_on Good said r (register_refusal fault) told (fault_fails fault write_sound)
+
+module _ (format : Format) (profile : List Directive) (id : ℤ) (records_of : ℤ → List Kept) where
   -- ---- nothing is noted
 
   module _ (pending : Pending) (none : IsNothingNoted pending) where

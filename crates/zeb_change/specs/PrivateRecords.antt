@@ -1,6 +1,6 @@
 -- What only the contracts of private functions speak of; no public clause reaches it.
 -- One record of a change, beside what a database keeps.
-use Rattle.std.specs.Prelude.{◌≡◌, ◌↔◌, ◌+◌, ℕ, ℤ, List, Option, Some, None, Result, Ok, IsUtf8}
+use Rattle.std.specs.Prelude.{◌≡◌, ◌↔◌, ◌+◌, ℕ, ℤ, List, Option, Some, None, Result, Ok, IsUtf8, OnOk}
 use Rattle.std.specs.List.{Contains}
 use Rattle.sqlite.specs.State.{State}
 use Rattle.zeb_marc.specs.Records.{first_fault, fields_of}
@@ -12,17 +12,20 @@ use Rattle.zeb_extract.specs.Occurrences.{IsOccurrence}
 use Rattle.zeb_extract.specs.Order.{IsRising}
 use Rattle.zeb_register.specs.declared.kept.Elder.{Elder}
 use Rattle.zeb_register.specs.Store.{KeepsRegisters}
+use Rattle.zeb_change.specs.declared.records.Newer.{Newer}
 use Rattle.zeb_change.specs.declared.refusals.Refusal.{Refusal}
+use Rattle.zeb_change.specs.declared.settings.Setting.{Setting}
 use Rattle.zeb_change.specs.declared.tally.Fate.{Fate}
 use Rattle.zeb_change.specs.declared.tally.Fate.TheVariants.{Updated}
 use Rattle.zeb_change.specs.Refused.{Why, Meets}
-use Rattle.zeb_change.specs.Folding.{Changed, ident_in}
+use Rattle.zeb_change.specs.Folding.{Changed, ident_in, updated}
 use Rattle.zeb_change.specs.Base.{Base, Kept, kept_as}
 use Rattle.zeb_register.specs.Formats.{Format}
 use Rattle.zeb_change.specs.declared.pending.Pending.{Pending}
 use Rattle.zeb_change.specs.Costs.{IsRecordCost, occurs_by}
 use Rattle.zeb_change.specs.Noted.{noted_count}
 use Rattle.zeb_change.specs.PrivateStanding.{Standing, WillBe, WillBeTaken}
+use Rattle.zeb_change.specs.UnderWay.{conditions_of}
 
 -- the occurrences of the record with these bytes, rising
 pub record AreOccurrencesOf (profile : List Directive) (bytes : List ℕ) (occurrences : List Occurrence) : Type 0 where
@@ -61,3 +64,21 @@ elder_bytes (Some elder) = Some elder.bytes.items
 abbrev pub NotesAs : List Directive → (elder newer : Option (List ℕ)) → Pending → Pending → Type 0
 NotesAs profile elder newer old new =
     (n : ℕ) × IsRecordCost (occurs_by profile elder) (occurs_by profile newer) n × (noted_count new ≡ noted_count old + n)
+
+-- ---- a record that is to be kept
+
+-- the newer record, with what was found of it
+abbrev pub IsNewerRecord : Setting → Newer → Type 0
+IsNewerRecord setting newer = IsNewer setting.profile.now newer.ident.now newer.bytes.now newer.occurrences.items
+
+-- it is kept as the definition says of each database that has this elder
+abbrev pub KeepsNewer : Setting → ℤ → Option Elder → Newer → Standing → Standing → ℕ → ℕ → Result Fate Refusal → Type 0
+KeepsNewer setting id elder newer old new last after result =
+    (version : List ℕ) → IsNewerRecord setting newer
+    → Takes setting.profile.now id old new last after (λ base. IsElderAs newer.ident.now base elder)
+    (λ base. updated (conditions_of version setting) newer.ident.now newer.bytes.now base (kept_as newer.ident.now base)) result
+
+-- just the keys are noted whose places differ between it and its elder
+abbrev pub NotesNewer : Setting → Option Elder → Newer → Pending → Pending → Result Fate Refusal → Type 0
+NotesNewer setting elder newer old new result =
+    IsNewerRecord setting newer → OnOk result (NotesAs setting.profile.now (elder_bytes elder) (Some newer.bytes.now) old new)

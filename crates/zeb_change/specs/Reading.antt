@@ -33,3 +33,11 @@ NamesFailed has_failed readers refusal =
 -- this is no refusal for a reader that failed
 abbrev pub NoReadFault : {T : Type 0} → Result T Refusal → Type 0
 NoReadFault result = (file : ℕ) → result ≢ Err (ReadFault file)
+
+-- where a reader has failed meanwhile, and none had before, a call is refused by the number of its file
+abbrev pub TellsFailed : {R T : Type 0} → (R → Bool) → (old new : List R) → Result T Refusal → Type 0
+TellsFailed has_failed old new result = NoneFailed has_failed old → (file : ℕ) → HasFailedAt has_failed new file → result ≡ Err (ReadFault file)
+
+-- a call is refused so for readers alone that have failed
+abbrev pub BlamesFailed : {R T : Type 0} → (R → Bool) → List R → Result T Refusal → Type 0
+BlamesFailed has_failed readers result = (file : ℕ) → result ≡ Err (ReadFault file) → HasFailedAt has_failed readers file

@@ -9,12 +9,12 @@ ghost use Rattle.zeb_change.specs.Folding.{Progress as FoldProgress, folded, fil
 ghost use Rattle.zeb_change.specs.Base.{Base, Kept};
 ghost use Rattle.zeb_change.specs.Costs.{IsCostIn, IsFilesCost, IsSlicesCost, IsWorkFor};
 ghost use Rattle.zeb_change.specs.Refused.{NeverUnready, Meets};
-ghost use Rattle.zeb_change.specs.Reading.{HasFailedAt, NamesFailed, NoneFailed, NoReadFault, ReadsNext};
-ghost use Rattle.zeb_change.specs.Inside.{Stays};
+ghost use Rattle.zeb_change.specs.Reading.{NamesFailed, NoneFailed, NoReadFault, ReadsNext, TellsFailed, BlamesFailed};
+ghost use Rattle.zeb_change.specs.Inside.{Stays, WorksInside};
 ghost use Rattle.zeb_change.specs.Holding.{HoldsSome};
 ghost use Rattle.zeb_change.specs.UnderWay.{IsFolded, IsUnderWay, StandsFor, conditions_of};
-ghost use Rattle.zeb_change.specs.Noted.{IsDueFor, noted_count};
-ghost use Rattle.zeb_change.specs.PrivateStanding.{WillBe, WillBeFolded, WillHoldSome, standing};
+ghost use Rattle.zeb_change.specs.Noted.{noted_count};
+ghost use Rattle.zeb_change.specs.PrivateStanding.{Folds, KeepsSome, Spends, WillBe, standing};
 
 use crate::counts::counts_are_numbers;
 use crate::pending::Pending;
@@ -82,28 +82,18 @@ fn note_record<S: Alter>(
     incoming: Incoming<'_>,
 ) -> Result<(), Refusal>
     ensures same { tx.new.conn.ghost_name ≡ tx.old.conn.ghost_name }
-    ensures stays { HasCleanDisk (state S.Store tx.new.conn.now) → IsTrue (state S.Store tx.old.conn.now).in_transaction
-        → Stays (state S.Store tx.old.conn.now) (state S.Store tx.new.conn.now) result }
+    ensures inside { WorksInside (state S.Store tx.old.conn.now) (state S.Store tx.new.conn.now) result }
     ensures place { (fold.new.progress.database ≡ fold.old.progress.database) × (fold.new.progress.work ≡ fold.old.progress.work) }
     ensures counted { OnOk result (fold.new.tally.records ≡ fold.old.tally.records + 1) }
     ensures folded { HasCleanDisk (state S.Store tx.new.conn.now) → IsTrue (state S.Store tx.old.conn.now).in_transaction
-        → (version : List ℕ) (format : Format) (records_of : ℤ → List Kept) (p : FoldProgress) → StandsFor fold.old p
-        → WillBe format setting.now.profile.now fold.old.progress.database.0 records_of
-        (standing (state S.Store tx.old.conn.now) pending.old) p.base
-        → Meets (λ after _. WillBeFolded format setting.now.profile.now fold.old.progress.database.0 records_of
-        (standing (state S.Store tx.old.conn.now) pending.old) (standing (state S.Store tx.new.conn.now) pending.new) fold.new after)
-        (folded (conditions_of version setting.now) setting.now.kind incoming.entry.file incoming.entry.nth incoming.entry.bytes.now p)
-        result }
+        → (format : Format) → Folds format setting.now fold.old fold.new (standing (state S.Store tx.old.conn.now) pending.old)
+        (standing (state S.Store tx.new.conn.now) pending.new)
+        (λ c. folded c setting.now.kind incoming.entry.file incoming.entry.nth incoming.entry.bytes.now) result }
     ensures honest { HasCleanDisk (state S.Store tx.new.conn.now) → IsTrue (state S.Store tx.old.conn.now).in_transaction
-        → (format : Format) (records_of : ℤ → List Kept)
-        → WillHoldSome format setting.now.profile.now fold.old.progress.database.0 records_of
-        (standing (state S.Store tx.old.conn.now) pending.old) fold.old.progress.last
-        → (result ≢ Err Refusal.Damaged)
-        × OnOk result (WillHoldSome format setting.now.profile.now fold.old.progress.database.0 records_of
-        (standing (state S.Store tx.new.conn.now) pending.new) fold.new.progress.last) }
+        → (format : Format) → KeepsSome format setting.now.profile.now fold.old fold.new
+        (standing (state S.Store tx.old.conn.now) pending.old) (standing (state S.Store tx.new.conn.now) pending.new) result }
     ensures unread { NoReadFault result }
     ensures ready { NeverUnready result }
-    ensures crash { Survives (state S.Store tx.old.conn.now) (state S.Store tx.new.conn.now) (λ _. ⊥) }
     ensures cost { HasCleanDisk (state S.Store tx.new.conn.now) → IsTrue (state S.Store tx.old.conn.now).in_transaction
         → (format : Format) (records_of : ℤ → List Kept) (base : Base)
         → WillBe format setting.now.profile.now fold.old.progress.database.0 records_of
@@ -128,34 +118,22 @@ fn take_record<S: Alter, L: Layout>(
     incoming: Incoming<'_>,
 ) -> Result<(), Refusal>
     ensures same { tx.new.conn.ghost_name ≡ tx.old.conn.ghost_name }
-    ensures stays { HasCleanDisk (state S.Store tx.new.conn.now) → IsTrue (state S.Store tx.old.conn.now).in_transaction
-        → Stays (state S.Store tx.old.conn.now) (state S.Store tx.new.conn.now) result }
+    ensures inside { WorksInside (state S.Store tx.old.conn.now) (state S.Store tx.new.conn.now) result }
     ensures database { fold.new.progress.database ≡ fold.old.progress.database }
     ensures counted { OnOk result (fold.new.tally.records ≡ fold.old.tally.records + 1) }
     ensures folded { HasCleanDisk (state S.Store tx.new.conn.now) → IsTrue (state S.Store tx.old.conn.now).in_transaction
-        → (version : List ℕ) (records_of : ℤ → List Kept) (p : FoldProgress) → StandsFor fold.old p
-        → WillBe L.format setting.now.profile.now fold.old.progress.database.0 records_of
-        (standing (state S.Store tx.old.conn.now) pending.old) p.base
-        → Meets (λ after _. WillBeFolded L.format setting.now.profile.now fold.old.progress.database.0 records_of
-        (standing (state S.Store tx.old.conn.now) pending.old) (standing (state S.Store tx.new.conn.now) pending.new) fold.new after)
-        (folded (conditions_of version setting.now) setting.now.kind incoming.entry.file incoming.entry.nth incoming.entry.bytes.now p)
-        result }
+        → Folds L.format setting.now fold.old fold.new (standing (state S.Store tx.old.conn.now) pending.old)
+        (standing (state S.Store tx.new.conn.now) pending.new)
+        (λ c. folded c setting.now.kind incoming.entry.file incoming.entry.nth incoming.entry.bytes.now) result }
     ensures honest { HasCleanDisk (state S.Store tx.new.conn.now) → IsTrue (state S.Store tx.old.conn.now).in_transaction
-        → (records_of : ℤ → List Kept)
-        → WillHoldSome L.format setting.now.profile.now fold.old.progress.database.0 records_of
-        (standing (state S.Store tx.old.conn.now) pending.old) fold.old.progress.last
-        → (result ≢ Err Refusal.Damaged)
-        × OnOk result (WillHoldSome L.format setting.now.profile.now fold.old.progress.database.0 records_of
-        (standing (state S.Store tx.new.conn.now) pending.new) fold.new.progress.last) }
+        → KeepsSome L.format setting.now.profile.now fold.old fold.new (standing (state S.Store tx.old.conn.now) pending.old)
+        (standing (state S.Store tx.new.conn.now) pending.new) result }
     ensures unread { NoReadFault result }
     ensures ready { NeverUnready result }
-    ensures crash { Survives (state S.Store tx.old.conn.now) (state S.Store tx.new.conn.now) (λ _. ⊥) }
     ensures work { HasCleanDisk (state S.Store tx.new.conn.now) → IsTrue (state S.Store tx.old.conn.now).in_transaction
-        → (records_of : ℤ → List Kept) (p : FoldProgress) → StandsFor fold.old p
-        → WillBe L.format setting.now.profile.now fold.old.progress.database.0 records_of
-        (standing (state S.Store tx.old.conn.now) pending.old) p.base
-        → OnOk result ((n : ℕ) × IsCostIn setting.now.profile.now setting.now.kind incoming.entry.bytes.now p.base n
-        × IsDueFor L.row_work n fold.old.progress.work fold.new.progress.work pending.old pending.new) }
+        → Spends L.format L.row_work setting.now fold.old fold.new (standing (state S.Store tx.old.conn.now) pending.old)
+        (standing (state S.Store tx.new.conn.now) pending.new)
+        (λ c p. IsCostIn c.profile setting.now.kind incoming.entry.bytes.now p.base) result }
 {
     note_record(tx, setting, fold, pending, incoming)?;
     let database = fold.progress.database;
@@ -180,36 +158,24 @@ fn fold_file<S: Alter, L: Layout, R: Source>(
     file: u64,
 ) -> Result<(), Refusal>
     ensures same { tx.new.conn.ghost_name ≡ tx.old.conn.ghost_name }
-    ensures stays { HasCleanDisk (state S.Store tx.new.conn.now) → IsTrue (state S.Store tx.old.conn.now).in_transaction
-        → Stays (state S.Store tx.old.conn.now) (state S.Store tx.new.conn.now) result }
+    ensures inside { WorksInside (state S.Store tx.old.conn.now) (state S.Store tx.new.conn.now) result }
     ensures database { fold.new.progress.database ≡ fold.old.progress.database }
     ensures folded { HasCleanDisk (state S.Store tx.new.conn.now) → IsTrue (state S.Store tx.old.conn.now).in_transaction
         → (text : List ℕ) → R.remaining reader.old ≡ Some text → R.has_failed reader.new ≡ false
-        → (version : List ℕ) (records_of : ℤ → List Kept) (p : FoldProgress) → StandsFor fold.old p
-        → WillBe L.format setting.now.profile.now fold.old.progress.database.0 records_of
-        (standing (state S.Store tx.old.conn.now) pending.old) p.base
-        → Meets (λ after _. WillBeFolded L.format setting.now.profile.now fold.old.progress.database.0 records_of
-        (standing (state S.Store tx.old.conn.now) pending.old) (standing (state S.Store tx.new.conn.now) pending.new) fold.new after)
-        (file_folded (conditions_of version setting.now) setting.now.kind file (split_of text) p) result }
+        → Folds L.format setting.now fold.old fold.new (standing (state S.Store tx.old.conn.now) pending.old)
+        (standing (state S.Store tx.new.conn.now) pending.new)
+        (λ c. file_folded c setting.now.kind file (split_of text)) result }
     ensures honest { HasCleanDisk (state S.Store tx.new.conn.now) → IsTrue (state S.Store tx.old.conn.now).in_transaction
-        → (records_of : ℤ → List Kept)
-        → WillHoldSome L.format setting.now.profile.now fold.old.progress.database.0 records_of
-        (standing (state S.Store tx.old.conn.now) pending.old) fold.old.progress.last
-        → (result ≢ Err Refusal.Damaged)
-        × OnOk result (WillHoldSome L.format setting.now.profile.now fold.old.progress.database.0 records_of
-        (standing (state S.Store tx.new.conn.now) pending.new) fold.new.progress.last) }
+        → KeepsSome L.format setting.now.profile.now fold.old fold.new (standing (state S.Store tx.old.conn.now) pending.old)
+        (standing (state S.Store tx.new.conn.now) pending.new) result }
     ensures failed { R.has_failed reader.new ≡ true → result ≡ Err (Refusal.ReadFault file) }
     ensures fault { (other : ℕ) → result ≡ Err (Refusal.ReadFault other) → (other ≡ file) × (R.has_failed reader.new ≡ true) }
     ensures ready { NeverUnready result }
-    ensures crash { Survives (state S.Store tx.old.conn.now) (state S.Store tx.new.conn.now) (λ _. ⊥) }
     ensures work { HasCleanDisk (state S.Store tx.new.conn.now) → IsTrue (state S.Store tx.old.conn.now).in_transaction
         → (text : List ℕ) → R.remaining reader.old ≡ Some text
-        → (version : List ℕ) (records_of : ℤ → List Kept) (p : FoldProgress) → StandsFor fold.old p
-        → WillBe L.format setting.now.profile.now fold.old.progress.database.0 records_of
-        (standing (state S.Store tx.old.conn.now) pending.old) p.base
-        → OnOk result ((n : ℕ)
-        × IsSlicesCost (conditions_of version setting.now) setting.now.kind file 1 (split_of text).slices p n
-        × IsDueFor L.row_work n fold.old.progress.work fold.new.progress.work pending.old pending.new) }
+        → Spends L.format L.row_work setting.now fold.old fold.new (standing (state S.Store tx.old.conn.now) pending.old)
+        (standing (state S.Store tx.new.conn.now) pending.new)
+        (λ c p. IsSlicesCost c setting.now.kind file 1 (split_of text).slices p) result }
 {
     for nth in 1..u64::MAX {
         if !read_record(reader, buffer, file, nth)? {
@@ -236,36 +202,24 @@ fn fold_readers<S: Alter, L: Layout, R: Source>(
     readers: &mut [R],
 ) -> Result<(), Refusal>
     ensures same { tx.new.conn.ghost_name ≡ tx.old.conn.ghost_name }
-    ensures stays { HasCleanDisk (state S.Store tx.new.conn.now) → IsTrue (state S.Store tx.old.conn.now).in_transaction
-        → Stays (state S.Store tx.old.conn.now) (state S.Store tx.new.conn.now) result }
+    ensures inside { WorksInside (state S.Store tx.old.conn.now) (state S.Store tx.new.conn.now) result }
     ensures database { fold.new.progress.database ≡ fold.old.progress.database }
     ensures folded { HasCleanDisk (state S.Store tx.new.conn.now) → IsTrue (state S.Store tx.old.conn.now).in_transaction
         → (texts : List (List ℕ)) → map R.remaining readers.old ≡ map Some texts → NoneFailed R.has_failed readers.new
-        → (version : List ℕ) (records_of : ℤ → List Kept) (p : FoldProgress) → StandsFor fold.old p
-        → WillBe L.format setting.now.profile.now fold.old.progress.database.0 records_of
-        (standing (state S.Store tx.old.conn.now) pending.old) p.base
-        → Meets (λ after _. WillBeFolded L.format setting.now.profile.now fold.old.progress.database.0 records_of
-        (standing (state S.Store tx.old.conn.now) pending.old) (standing (state S.Store tx.new.conn.now) pending.new) fold.new after)
-        (files_folded (conditions_of version setting.now) setting.now.kind 1 (splits_of texts) p) result }
+        → Folds L.format setting.now fold.old fold.new (standing (state S.Store tx.old.conn.now) pending.old)
+        (standing (state S.Store tx.new.conn.now) pending.new)
+        (λ c. files_folded c setting.now.kind 1 (splits_of texts)) result }
     ensures honest { HasCleanDisk (state S.Store tx.new.conn.now) → IsTrue (state S.Store tx.old.conn.now).in_transaction
-        → (records_of : ℤ → List Kept)
-        → WillHoldSome L.format setting.now.profile.now fold.old.progress.database.0 records_of
-        (standing (state S.Store tx.old.conn.now) pending.old) fold.old.progress.last
-        → (result ≢ Err Refusal.Damaged)
-        × OnOk result (WillHoldSome L.format setting.now.profile.now fold.old.progress.database.0 records_of
-        (standing (state S.Store tx.new.conn.now) pending.new) fold.new.progress.last) }
-    ensures failed { NoneFailed R.has_failed readers.old → (file : ℕ) → HasFailedAt R.has_failed readers.new file
-        → result ≡ Err (Refusal.ReadFault file) }
-    ensures fault { (file : ℕ) → result ≡ Err (Refusal.ReadFault file) → HasFailedAt R.has_failed readers.new file }
+        → KeepsSome L.format setting.now.profile.now fold.old fold.new (standing (state S.Store tx.old.conn.now) pending.old)
+        (standing (state S.Store tx.new.conn.now) pending.new) result }
+    ensures failed { TellsFailed R.has_failed readers.old readers.new result }
+    ensures fault { BlamesFailed R.has_failed readers.new result }
     ensures ready { NeverUnready result }
-    ensures crash { Survives (state S.Store tx.old.conn.now) (state S.Store tx.new.conn.now) (λ _. ⊥) }
     ensures work { HasCleanDisk (state S.Store tx.new.conn.now) → IsTrue (state S.Store tx.old.conn.now).in_transaction
         → (texts : List (List ℕ)) → map R.remaining readers.old ≡ map Some texts
-        → (version : List ℕ) (records_of : ℤ → List Kept) (p : FoldProgress) → StandsFor fold.old p
-        → WillBe L.format setting.now.profile.now fold.old.progress.database.0 records_of
-        (standing (state S.Store tx.old.conn.now) pending.old) p.base
-        → OnOk result ((n : ℕ) × IsFilesCost (conditions_of version setting.now) setting.now.kind 1 (splits_of texts) p n
-        × IsDueFor L.row_work n fold.old.progress.work fold.new.progress.work pending.old pending.new) }
+        → Spends L.format L.row_work setting.now fold.old fold.new (standing (state S.Store tx.old.conn.now) pending.old)
+        (standing (state S.Store tx.new.conn.now) pending.new)
+        (λ c p. IsFilesCost c setting.now.kind 1 (splits_of texts) p) result }
 {
     for (index, reader) in readers.iter_mut().enumerate() {
         let file = index as u64 + 1;
@@ -306,9 +260,8 @@ pub fn fold_files<S: Alter, L: Layout, R: Source>(
         fold.old.progress.last
         → (result ≢ Err Refusal.Damaged) × OnOk result (HoldsSome L.format setting.now.profile.now fold.old.progress.database.0 records_of
         (state S.Store tx.new.conn.now) fold.new.progress.last) }
-    ensures failed { NoneFailed R.has_failed readers.old → (file : ℕ) → HasFailedAt R.has_failed readers.new file
-        → result ≡ Err (Refusal.ReadFault file) }
-    ensures fault { (file : ℕ) → result ≡ Err (Refusal.ReadFault file) → HasFailedAt R.has_failed readers.new file }
+    ensures failed { TellsFailed R.has_failed readers.old readers.new result }
+    ensures fault { BlamesFailed R.has_failed readers.new result }
     ensures ready { NeverUnready result }
     ensures crash { Survives (state S.Store tx.old.conn.now) (state S.Store tx.new.conn.now) (λ _. ⊥) }
     ensures work { HasCleanDisk (state S.Store tx.new.conn.now) → IsTrue (state S.Store tx.old.conn.now).in_transaction

@@ -3,18 +3,18 @@
 ghost use Rattle.std.specs.Prelude.{◌≡◌, ◌⊎◌, ◌↔◌, ◌+◌, ℕ, ℤ, List, Some, None, Result, Ok, Err, string_bytes, IsTrue, OnOk, IfOk, IfErr};
 ghost use Rattle.std.specs.List.{Contains};
 ghost use Rattle.sqlite.specs.Held.{state};
-ghost use Rattle.sqlite.specs.State.{HasCleanDisk, Survives};
+ghost use Rattle.sqlite.specs.State.{HasCleanDisk};
 ghost use Rattle.zeb_marc.specs.Records.{IsRecord};
 ghost use Rattle.zeb_register.specs.Formats.{Format};
 ghost use Rattle.zeb_change.specs.Noted.{noted_count};
 ghost use Rattle.zeb_change.specs.PrivateStanding.{WillBe, WillBeTaken, standing};
 ghost use Rattle.zeb_change.specs.Refused.{Why, why_of, IsFailing, NeverUnready, Meets};
-ghost use Rattle.zeb_change.specs.Folding.{Changed, changed_record, updated, deleted, ident_in};
+ghost use Rattle.zeb_change.specs.Folding.{Changed, changed_record, deleted, ident_in};
 ghost use Rattle.zeb_change.specs.Base.{Base, Kept, kept_as};
 ghost use Rattle.zeb_change.specs.Reading.{NoReadFault};
-ghost use Rattle.zeb_change.specs.PrivateRecords.{AreOccurrencesOf, IsElderAs, IsIdle, IsNewer, NotesAs, Takes, elder_bytes};
+ghost use Rattle.zeb_change.specs.PrivateRecords.{AreOccurrencesOf, IsElderAs, IsIdle, KeepsNewer, NotesAs, NotesNewer, Takes, elder_bytes};
 ghost use Rattle.zeb_change.specs.Costs.{IsCostIn};
-ghost use Rattle.zeb_change.specs.Inside.{Stays};
+ghost use Rattle.zeb_change.specs.Inside.{WorksInside};
 ghost use Rattle.zeb_change.specs.Stored.{IsKept};
 ghost use Rattle.zeb_change.specs.UnderWay.{conditions_of};
 
@@ -81,20 +81,14 @@ fn insert<S: Alter>(
     newer: &Newer<'_>,
 ) -> Result<Fate, Refusal>
     ensures same { tx.new.conn.ghost_name ≡ tx.old.conn.ghost_name }
-    ensures stays { HasCleanDisk (state S.Store tx.new.conn.now) → IsTrue (state S.Store tx.old.conn.now).in_transaction
-        → Stays (state S.Store tx.old.conn.now) (state S.Store tx.new.conn.now) result }
+    ensures inside { WorksInside (state S.Store tx.old.conn.now) (state S.Store tx.new.conn.now) result }
     ensures place { (progress.new.database ≡ progress.old.database) × (progress.new.work ≡ progress.old.work) }
     ensures taken { HasCleanDisk (state S.Store tx.new.conn.now) → IsTrue (state S.Store tx.old.conn.now).in_transaction
-        → (version : List ℕ) → IsNewer setting.now.profile.now newer.now.ident.now newer.now.bytes.now newer.now.occurrences.items
-        → Takes setting.now.profile.now progress.old.database.0 (standing (state S.Store tx.old.conn.now) pending.old)
-        (standing (state S.Store tx.new.conn.now) pending.new) progress.old.last progress.new.last
-        (λ base. IsElderAs newer.now.ident.now base None) (λ base. updated
-        (conditions_of version setting.now) newer.now.ident.now newer.now.bytes.now base (kept_as newer.now.ident.now base)) result }
+        → KeepsNewer setting.now progress.old.database.0 None newer.now (standing (state S.Store tx.old.conn.now) pending.old)
+        (standing (state S.Store tx.new.conn.now) pending.new) progress.old.last progress.new.last result }
     ensures unread { NoReadFault result }
     ensures ready { NeverUnready result }
-    ensures crash { Survives (state S.Store tx.old.conn.now) (state S.Store tx.new.conn.now) (λ _. ⊥) }
-    ensures cost { IsNewer setting.now.profile.now newer.now.ident.now newer.now.bytes.now newer.now.occurrences.items
-        → OnOk result (NotesAs setting.now.profile.now None (Some newer.now.bytes.now) pending.old pending.new) }
+    ensures cost { NotesNewer setting.now None newer.now pending.old pending.new result }
 {
     if progress.last >= setting.limits.numbers {
         return Err(Refusal::DatabaseFull);
@@ -116,20 +110,13 @@ fn replace<S: Alter>(
     newer: &Newer<'_>,
 ) -> Result<Fate, Refusal>
     ensures same { tx.new.conn.ghost_name ≡ tx.old.conn.ghost_name }
-    ensures stays { HasCleanDisk (state S.Store tx.new.conn.now) → IsTrue (state S.Store tx.old.conn.now).in_transaction
-        → Stays (state S.Store tx.old.conn.now) (state S.Store tx.new.conn.now) result }
+    ensures inside { WorksInside (state S.Store tx.old.conn.now) (state S.Store tx.new.conn.now) result }
     ensures taken { HasCleanDisk (state S.Store tx.new.conn.now) → IsTrue (state S.Store tx.old.conn.now).in_transaction
-        → (version : List ℕ) → IsNewer setting.now.profile.now newer.now.ident.now newer.now.bytes.now newer.now.occurrences.items
-        → Takes setting.now.profile.now progress.now.database.0 (standing (state S.Store tx.old.conn.now) pending.old)
-        (standing (state S.Store tx.new.conn.now) pending.new) progress.now.last progress.now.last
-        (λ base. IsElderAs newer.now.ident.now base (Some elder.now))
-        (λ base. updated (conditions_of version setting.now) newer.now.ident.now newer.now.bytes.now base
-        (kept_as newer.now.ident.now base)) result }
+        → KeepsNewer setting.now progress.now.database.0 (Some elder.now) newer.now (standing (state S.Store tx.old.conn.now) pending.old)
+        (standing (state S.Store tx.new.conn.now) pending.new) progress.now.last progress.now.last result }
     ensures unread { NoReadFault result }
     ensures ready { NeverUnready result }
-    ensures crash { Survives (state S.Store tx.old.conn.now) (state S.Store tx.new.conn.now) (λ _. ⊥) }
-    ensures cost { IsNewer setting.now.profile.now newer.now.ident.now newer.now.bytes.now newer.now.occurrences.items
-        → OnOk result (NotesAs setting.now.profile.now (Some elder.now.bytes.items) (Some newer.now.bytes.now) pending.old pending.new) }
+    ensures cost { NotesNewer setting.now (Some elder.now) newer.now pending.old pending.new result }
 {
     let old = elder_occurrences(setting, newer.ident, elder)?;
     let sysno = elder.sysno;
@@ -148,8 +135,7 @@ fn withdraw<S: Alter>(
     elder: &Elder,
 ) -> Result<Fate, Refusal>
     ensures same { tx.new.conn.ghost_name ≡ tx.old.conn.ghost_name }
-    ensures stays { HasCleanDisk (state S.Store tx.new.conn.now) → IsTrue (state S.Store tx.old.conn.now).in_transaction
-        → Stays (state S.Store tx.old.conn.now) (state S.Store tx.new.conn.now) result }
+    ensures inside { WorksInside (state S.Store tx.old.conn.now) (state S.Store tx.new.conn.now) result }
     ensures taken { HasCleanDisk (state S.Store tx.new.conn.now) → IsTrue (state S.Store tx.old.conn.now).in_transaction
         → (absent : Result Changed Why)
         → Takes setting.now.profile.now progress.now.database.0 (standing (state S.Store tx.old.conn.now) pending.old)
@@ -157,7 +143,6 @@ fn withdraw<S: Alter>(
         (λ base. IsElderAs ident.now base (Some elder.now)) (λ base. deleted absent ident.now base (kept_as ident.now base)) result }
     ensures unread { NoReadFault result }
     ensures ready { NeverUnready result }
-    ensures crash { Survives (state S.Store tx.old.conn.now) (state S.Store tx.new.conn.now) (λ _. ⊥) }
     ensures cost { OnOk result (NotesAs setting.now.profile.now (Some elder.now.bytes.items) None pending.old pending.new) }
 {
     let old = elder_occurrences(setting, ident, elder)?;
@@ -187,20 +172,14 @@ fn keep<S: Alter>(
     newer: &Newer<'_>,
 ) -> Result<Fate, Refusal>
     ensures same { tx.new.conn.ghost_name ≡ tx.old.conn.ghost_name }
-    ensures stays { HasCleanDisk (state S.Store tx.new.conn.now) → IsTrue (state S.Store tx.old.conn.now).in_transaction
-        → Stays (state S.Store tx.old.conn.now) (state S.Store tx.new.conn.now) result }
+    ensures inside { WorksInside (state S.Store tx.old.conn.now) (state S.Store tx.new.conn.now) result }
     ensures place { (progress.new.database ≡ progress.old.database) × (progress.new.work ≡ progress.old.work) }
     ensures taken { HasCleanDisk (state S.Store tx.new.conn.now) → IsTrue (state S.Store tx.old.conn.now).in_transaction
-        → (version : List ℕ) → IsNewer setting.now.profile.now newer.now.ident.now newer.now.bytes.now newer.now.occurrences.items
-        → Takes setting.now.profile.now progress.old.database.0 (standing (state S.Store tx.old.conn.now) pending.old)
-        (standing (state S.Store tx.new.conn.now) pending.new) progress.old.last progress.new.last
-        (λ base. IsElderAs newer.now.ident.now base elder) (λ base. updated
-        (conditions_of version setting.now) newer.now.ident.now newer.now.bytes.now base (kept_as newer.now.ident.now base)) result }
+        → KeepsNewer setting.now progress.old.database.0 elder newer.now (standing (state S.Store tx.old.conn.now) pending.old)
+        (standing (state S.Store tx.new.conn.now) pending.new) progress.old.last progress.new.last result }
     ensures unread { NoReadFault result }
     ensures ready { NeverUnready result }
-    ensures crash { Survives (state S.Store tx.old.conn.now) (state S.Store tx.new.conn.now) (λ _. ⊥) }
-    ensures cost { IsNewer setting.now.profile.now newer.now.ident.now newer.now.bytes.now newer.now.occurrences.items
-        → OnOk result (NotesAs setting.now.profile.now (elder_bytes elder) (Some newer.now.bytes.now) pending.old pending.new) }
+    ensures cost { NotesNewer setting.now elder newer.now pending.old pending.new result }
 {
     match elder {
         Some(elder) => replace(tx, setting, progress, pending, &elder, newer),
@@ -242,8 +221,7 @@ pub(crate) fn change_record<S: Alter>(
     incoming: Incoming<'_>,
 ) -> Result<Fate, Refusal>
     ensures same { tx.new.conn.ghost_name ≡ tx.old.conn.ghost_name }
-    ensures stays { HasCleanDisk (state S.Store tx.new.conn.now) → IsTrue (state S.Store tx.old.conn.now).in_transaction
-        → Stays (state S.Store tx.old.conn.now) (state S.Store tx.new.conn.now) result }
+    ensures inside { WorksInside (state S.Store tx.old.conn.now) (state S.Store tx.new.conn.now) result }
     ensures place { (progress.new.database ≡ progress.old.database) × (progress.new.work ≡ progress.old.work) }
     ensures taken { HasCleanDisk (state S.Store tx.new.conn.now) → IsTrue (state S.Store tx.old.conn.now).in_transaction
         → (version : List ℕ) (format : Format) (records_of : ℤ → List Kept) (base : Base) → progress.old.last ≡ base.last
@@ -255,7 +233,6 @@ pub(crate) fn change_record<S: Alter>(
         (conditions_of version setting.now) setting.now.kind incoming.entry.file incoming.entry.nth incoming.entry.bytes.now base) result }
     ensures unread { NoReadFault result }
     ensures ready { NeverUnready result }
-    ensures crash { Survives (state S.Store tx.old.conn.now) (state S.Store tx.new.conn.now) (λ _. ⊥) }
     ensures idle { HasCleanDisk (state S.Store tx.new.conn.now) → IsTrue (state S.Store tx.old.conn.now).in_transaction
         → setting.now.kind ≡ Kind.Update
         → (format : Format) (records_of : ℤ → List Kept) (base : Base)

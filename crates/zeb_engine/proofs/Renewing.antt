@@ -4,17 +4,16 @@ use Rattle.std.specs.Option.{option_map}
 use Rattle.sqlite.specs.declared.types.Value.TheVariants.{Int}
 use Rattle.sqlite.specs.Order.{Row}
 use Rattle.sqlite.specs.Tree.{Trees}
-use Rattle.sqlite.specs.State.{State, KeepsCommit}
+use Rattle.sqlite.specs.State.{HasCleanDisk, State, KeepsCommit}
 use Rattle.sqlite_rules.specs.Lists.{Has}
 use Rattle.zeb_profile.specs.declared.directives.Directive.{Directive}
 use Rattle.zeb_profile.specs.Canonical.{canonical_text, pattern_text}
 use Rattle.zeb_profile.specs.Laws.{IsProfile}
 use Rattle.zeb_register.specs.declared.RegFault.{RegFault}
 use Rattle.zeb_register.specs.declared.RegFault.TheVariants as register
-use Rattle.zeb_register.specs.Calls.{GoesOn}
 use Rattle.zeb_register.specs.Formats.{Format, version_of}
 use Rattle.zeb_register.specs.Sql.{Replaces}
-use Rattle.zeb_register.specs.Calls.{Alters}
+use Rattle.zeb_register.specs.Calls.{Alters, GoesOn, Inside}
 use Rattle.zeb_register.specs.Store.{Changes, IsEntryOf, IsStore, KeepsLists, KeepsRegisters, entry, meta_tree}
 use Rattle.zeb_register.proofs.Calls.{goes_keeps, goes_then}
 use Rattle.zeb_change.specs.Base.{Base}
@@ -70,8 +69,9 @@ module _ (profile : List Directive) (c : Conditions) (Fits : Holdings → Type 0
         honest is at.0 it.0 it.1.it.image.lists (subst (λ p. AreBases p it.0) it.2 (was_bases c old.now.trees it.0 it.1)))),
   )
 
-  pub put_fails : (new : State) (fault : RegFault) → (fault ≡ register.Damaged → ⊥) → GoesOn old mid → KeepsCommit mid new → Works (λ _ before. Fits before) outcome old new (Err (register_refusal fault))
-  put_fails new fault whole first keeps = (goes_keeps old mid new first keeps, λ before fits sees. inl (fault_fails fault whole))
+pub put_fails : (Fits : Holdings → Type 0) (outcome : Holdings → Outcome) (old mid new : State) (fault : RegFault) → (fault ≡ register.Damaged → ⊥) → GoesOn old mid → KeepsCommit mid new
+    → Works (λ _ before. Fits before) outcome old new (Err (register_refusal fault))
+put_fails Fits outcome old mid new fault whole first keeps = (goes_keeps old mid new first keeps, λ before fits sees. inl (fault_fails fault whole))
 
 -- ---- done
 
@@ -85,14 +85,33 @@ replaces_first P row tree old mid new same replaces columns = (
   λ is. (replaces columns).1 (elim is [ inl was ↦ inl ((was.0.0, subst (λ rows. Has rows (Int was.0.0 ∷ columns)) (sym same) was.0.1), was.1) | inr put ↦ inr put ]),
 )
 
-module _ (format : Format) (profile : List Directive) (old mid new : State) (first : GoesOn old mid)
-    (rebuilt : IsStore old → IsStore mid × KeepsLists old.now.trees mid.now.trees
-    × ((bases : List Base) → AreListsOf old.now.trees bases → AreBases profile bases → IsImageOf format profile mid.now.trees bases)) where
-  -- `put` is the text that was put
-  module _ (name put : List ℕ) (alters : Alters meta_tree (Replaces (IsEntryOf name) (entry name put)) mid new) where
+-- the registers are made anew by the profile, and `put` is the text that was put then under this name
+pub record Renews (format : Format) (profile : List Directive) (name put : List ℕ) (old mid new : State) : Type 0 where
+  pub first : GoesOn old mid
+  pub rebuilt : IsStore old → IsStore mid × KeepsLists old.now.trees mid.now.trees
+      × ((bases : List Base) → AreListsOf old.now.trees bases → AreBases profile bases → IsImageOf format profile mid.now.trees bases)
+  pub alters : Alters meta_tree (Replaces (IsEntryOf name) (entry name put)) mid new
+
+-- what the two calls do where both are accepted
+pub renews : (format : Format) (profile : List Directive) (name text put : List ℕ) (old mid new : State) → text ≡ put → HasCleanDisk new → IsTrue old.in_transaction
+    → Inside {A = Unit {0}} {E = RegFault} old mid (Ok tt) (λ _. GoesOn)
+    → (HasCleanDisk mid → IsTrue old.in_transaction → IsStore old → IsStore mid × KeepsLists old.now.trees mid.now.trees
+    × ((bases : List Base) → AreListsOf old.now.trees bases → AreBases profile bases → IsImageOf format profile mid.now.trees bases))
+    → Inside {A = Unit {0}} {E = RegFault} mid new (Ok tt) (λ _. Alters meta_tree (Replaces (IsEntryOf name) (entry name text))) → Renews format profile name put old mid new
+renews format profile name text put old mid new same clean inside rebuilds built puts =
+    let cleaner : HasCleanDisk mid = omega (arith, puts.crash.clean) in
+    let first = rebuilds.ok cleaner inside in
+    record {
+      first = first;
+      rebuilt = built cleaner inside;
+      alters = subst (λ t. Alters meta_tree (Replaces (IsEntryOf name) (entry name t)) mid new) same (puts.ok clean first.mode);
+    }
+
+module _ {format : Format} {profile : List Directive} {old mid new : State} where
+  module _ {name put : List ℕ} (renewed : Renews format profile name put old mid new) where
     module _ (store : IsStore old) where
       rows : Changes meta_tree (Replaces (IsEntryOf name) (entry name put)) mid new
-      rows = alters.rows (rebuilt store).0
+      rows = renewed.alters.rows (renewed.rebuilt store).0
 
       registers : KeepsRegisters mid.now.trees new.now.trees
       registers = (
@@ -104,67 +123,65 @@ module _ (format : Format) (profile : List Directive) (old mid new : State) (fir
       image_then : (c : Conditions) (bases : List Base) (was : WasImage c old.now.trees bases) → c.profile ≡ profile → IsImageOf format c.profile new.now.trees bases
       image_then c bases was same =
           let are = subst (λ p. AreBases p bases) same (was_bases c old.now.trees bases was) in
-          let built = (rebuilt store).2 bases was.it.image.lists are in
+          let built = (renewed.rebuilt store).2 bases was.it.image.lists are in
           image_rows format c.profile mid.now.trees new.now.trees bases (rows.others.1.0 (λ e. absurd (omega (arith, e)))) (rows.others.1.1.0 (λ e. absurd (omega (arith, e)))) registers
           (subst (λ p. IsImageOf format p mid.now.trees bases) (sym same) built)
 
       texts_mid : (c : Conditions) (bases : List Base) (was : WasImage c old.now.trees bases) → HasTexts mid.now.trees was.version was.text was.it.pattern
-      texts_mid c bases was = texts_still old.now.trees mid.now.trees was.version was.text was.it.pattern (rebuilt store).1.0 was.it.texts
+      texts_mid c bases was = texts_still old.now.trees mid.now.trees was.version was.text was.it.pattern (renewed.rebuilt store).1.0 was.it.texts
 
-  pub reindex_remakes : Alters meta_tree (Replaces (IsEntryOf (codes "profile")) (entry (codes "profile") (canonical_text profile))) mid new
+  pub reindex_remakes : Renews format profile (codes "profile") (canonical_text profile) old mid new
       → IsStore old → IsStore new × IsRemade format profile old.now.trees new.now.trees
-  reindex_remakes alters store =
+  reindex_remakes renewed store =
       let name = codes "profile" in
       let put = canonical_text profile in
-      let changed = rows name put alters store in
+      let changed = rows renewed store in
       let names : new.now.trees 2 ≡ mid.now.trees 2 = changed.others.1.0 (λ e. absurd (omega (arith, e))) in
       let records : new.now.trees 4 ≡ mid.now.trees 4 = changed.others.1.1.0 (λ e. absurd (omega (arith, e))) in
-      let kept = (rebuilt store).1 in (
+      let kept = (renewed.rebuilt store).1 in (
         changed.layout,
         record {
           databases = names ∙ kept.1;
           records = records ∙ kept.2;
           texts = replaces_first (IsEntryOf name) (entry name put) meta_tree old.now.trees mid.now.trees new.now.trees kept.0 changed.rows;
-          image = λ bases lists are. image_rows format profile mid.now.trees new.now.trees bases names records (registers name put alters store) ((rebuilt store).2 bases lists are);
+          image = λ bases lists are. image_rows format profile mid.now.trees new.now.trees bases names records (registers renewed store) ((renewed.rebuilt store).2 bases lists are);
         },
       )
 
-  pub reindex_works : (c : Conditions) → IsUtf8 (canonical_text profile) → Alters meta_tree (Replaces (IsEntryOf (codes "profile")) (entry (codes "profile") (canonical_text profile))) mid new
+  pub reindex_works : Renews format profile (codes "profile") (canonical_text profile) old mid new → (c : Conditions) → IsUtf8 (canonical_text profile)
       → Works (λ _ before. IsRuled (version_of format) profile c before) (reindexed c) old new (Ok Done)
-  reindex_works c readable alters = (
-    goes_then old mid new first alters.on,
+  reindex_works renewed c readable = (
+    goes_then old mid new renewed.first renewed.alters.on,
     λ before fits store image.
-        let name = codes "profile" in
         let put = canonical_text profile in
         let session = session_of format profile c fits.0 in
         let bases = fits.1.0 in
         let at = ruled_image format c session old.now.trees before bases image fits.1.1 in
         let was = at.0 in
-        let changed = rows name put alters store in
-        let texts = profile_put mid.now.trees new.now.trees was.version was.text was.it.pattern (texts_mid name put alters store c bases was) put readable changed.rows in
+        let changed = rows renewed store in
+        let texts = profile_put mid.now.trees new.now.trees was.version was.text was.it.pattern (texts_mid renewed store c bases was) put readable changed.rows in
         let said = subst (λ v. HasTexts new.now.trees v put was.it.pattern) at.1 texts in
         let own = subst (λ p. HasTexts new.now.trees c.version (canonical_text p) was.it.pattern) (sym fits.0.profile_is) said in
         let pattern_is = ap (option_map pattern_text) (sym was.rule) ∙ was.it.pattern_is in
-        let left = renewed_image format c session new.now.trees bases was.it.pattern pattern_is own (was_bases c old.now.trees bases was) (image_then name put alters store c bases was fits.0.profile_is) in
+        let left = renewed_image format c session new.now.trees bases was.it.pattern pattern_is own (was_bases c old.now.trees bases was) (image_then renewed store c bases was fits.0.profile_is) in
         subst (Leads new Done) (sym (reindex_done c before bases fits.1.1)) (refl, changed.layout, left),
   )
 
-  pub upgrade_works : (c : Conditions) → IsUtf8 (version_of format) → Alters meta_tree (Replaces (IsEntryOf (codes "version")) (entry (codes "version") (version_of format))) mid new
+  pub upgrade_works : Renews format profile (codes "version") (version_of format) old mid new → (c : Conditions) → IsUtf8 (version_of format)
       → Works (λ _ before. IsUpgradable (version_of format) profile c before) (upgraded c) old new (Ok Done)
-  upgrade_works c readable alters = (
-    goes_then old mid new first alters.on,
+  upgrade_works renewed c readable = (
+    goes_then old mid new renewed.first renewed.alters.on,
     λ before fits store image.
-        let name = codes "version" in
         let put = version_of format in
         let session = session_of format profile c fits.0 in
         let bases = fits.1.0 in
         let at = upgradable_image format c session old.now.trees before bases image fits.1.1 in
         let was = at.0 in
-        let changed = rows name put alters store in
-        let texts = version_put mid.now.trees new.now.trees was.version was.text was.it.pattern (texts_mid name put alters store c bases was) put readable changed.rows in
+        let changed = rows renewed store in
+        let texts = version_put mid.now.trees new.now.trees was.version was.text was.it.pattern (texts_mid renewed store c bases was) put readable changed.rows in
         let said = subst (λ v. HasTexts new.now.trees v was.text was.it.pattern) (sym fits.0.version_is) texts in
         let own = subst (λ t. HasTexts new.now.trees c.version t was.it.pattern) at.1 said in
         let pattern_is = ap (option_map pattern_text) (sym was.rule) ∙ was.it.pattern_is in
-        let left = renewed_image format c session new.now.trees bases was.it.pattern pattern_is own (was_bases c old.now.trees bases was) (image_then name put alters store c bases was fits.0.profile_is) in
+        let left = renewed_image format c session new.now.trees bases was.it.pattern pattern_is own (was_bases c old.now.trees bases was) (image_then renewed store c bases was fits.0.profile_is) in
         subst (Leads new Done) (sym (upgrade_done c before bases fits.1.1)) (refl, changed.layout, left),
   )

@@ -1,6 +1,6 @@
 //! The program without its outside: words and input come in, output and a status go out.
 
-ghost use Rattle.std.specs.Prelude.{◌≡◌, ◌≢◌, ◌≤◌, ◌+◌, [], true, false, map, string_bytes, IfOk, IfSome, OnErr};
+ghost use Rattle.std.specs.Prelude.{◌≡◌, ◌≢◌, ◌⊎◌, ◌≤◌, ◌+◌, [], true, false, map, string_bytes, IfOk, IfSome, OnErr};
 ghost use Rattle.std.specs.Io.KnownBytes.{Appends, Keeps};
 ghost use Rattle.zeb_program.specs.Inputs.{TakesAtMost};
 ghost use Rattle.zeb_program.specs.ScriptAnswers.{AnswersScript, fault_line, fault_status};
@@ -86,44 +86,34 @@ pub fn run<R: Source, W: Output, V: Output, P: Paths>(
         (V.contents fault_output.old.writer) (V.contents fault_output.new.writer) result }
     ensures failed_batch { words.now ≢ [] → R.has_failed input.new ≡ true → result ≡ FAILED }
 {
-    let status = respond(alloc, words, paths, input, output, fault_output);
+    if words.is_empty() {
+        let status = run_script(alloc, paths, input, output).unwrap_or(FAILED);
+        return finish(status, output, fault_output);
+    }
+    let status = run_words(alloc, words, paths, input, output, fault_output).unwrap_or(FAILED);
+    finish(status, output, fault_output)
+}
+
+/// Has the outputs pass on what they hold back, and answers the status: this one, or `FAILED` where a write has failed.
+fn finish<W: Output, V: Output>(status: u8, output: &mut Sink<W>, fault_output: &mut Sink<V>) -> u8
+    ensures either { (result ≡ status) ⊎ (result ≡ FAILED) }
+    ensures status { output.new.failed ≡ false → fault_output.new.failed ≡ false → result ≡ status }
+    ensures failed_write { output.new.failed ≡ true → result ≡ FAILED }
+    ensures failed_fault { fault_output.new.failed ≡ true → result ≡ FAILED }
+    ensures sound { output.new.failed ≡ false → output.old.failed ≡ false }
+    ensures sound_fault { fault_output.new.failed ≡ false → fault_output.old.failed ≡ false }
+    ensures passed { output.new.failed ≡ false → W.held_back output.new.writer ≡ [] }
+    ensures passed_fault { fault_output.new.failed ≡ false → V.held_back fault_output.new.writer ≡ [] }
+    ensures bytes { output.new.failed ≡ false → Keeps (W.contents output.old.writer) (W.contents output.new.writer) }
+    ensures bytes_fault { fault_output.new.failed ≡ false →
+        Keeps (V.contents fault_output.old.writer) (V.contents fault_output.new.writer) }
+{
     output.flush();
     fault_output.flush();
     if output.has_failed() || fault_output.has_failed() {
         return FAILED;
     }
     status
-}
-
-/// What `run` does before the last bytes are passed on.
-fn respond<R: Source, W: Output, V: Output, P: Paths>(
-    alloc: Global,
-    words: &[String],
-    paths: &mut P,
-    input: &mut R,
-    output: &mut Sink<W>,
-    fault_output: &mut Sink<V>,
-) -> u8
-    requires { R.has_failed input.old ≡ false }
-    ensures range { result ≤ FAILED }
-    ensures bounded { ¬ NamesShell (map string_bytes words.now) →
-        TakesAtMost (GREATEST_INPUT + 1) (R.remaining input.old) (R.remaining input.new) }
-    ensures unread { words.now ≢ [] → ¬ NamesLines (map string_bytes words.now) → input.new ≡ input.old }
-    ensures failed_read { words.now ≡ [] → R.has_failed input.new ≡ true → result ≡ FAILED }
-    ensures script { words.now ≡ [] → R.has_failed input.new ≡ false → output.new.failed ≡ false → IfSome (R.remaining input.old) (λ text.
-        AnswersScript (P.tells paths.old) text (W.contents output.old.writer) (W.contents output.new.writer) result) }
-    ensures quiet { words.now ≡ [] → fault_output.new ≡ fault_output.old }
-    ensures words { words.now ≢ [] → output.new.failed ≡ false → fault_output.new.failed ≡ false →
-        AnswersWords (map string_bytes words.now) (R.remaining input.new) (W.contents output.old.writer) (W.contents output.new.writer)
-        (V.contents fault_output.old.writer) (V.contents fault_output.new.writer) result }
-    ensures failed_batch { words.now ≢ [] → R.has_failed input.new ≡ true → result ≡ FAILED }
-{
-    let status = if words.is_empty() {
-        run_script(alloc, paths, input, output)
-    } else {
-        run_words(alloc, words, paths, input, output, fault_output)
-    };
-    status.unwrap_or(FAILED)
 }
 
 fn run_script<R: Source, W: Write, P: Paths>(

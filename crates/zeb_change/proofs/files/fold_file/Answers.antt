@@ -1,12 +1,13 @@
-use Rattle.std.proofs.Common.{rules, arith, ◌≡◌, ℕ, List, true, false, inl, inr, refl, sym, Ok, Err, ap, subst, subst₂}
+use Rattle.std.proofs.Common.{rules, arith, ◌≡◌, ℕ, List, true, false, inl, inr, refl, sym, Ok, Err, subst, subst₂}
 use Rattle.sqlite.specs.Held.{state}
 use Rattle.sqlite.specs.State.{HasCleanDisk}
 use Rattle.zeb_marc.specs.Splits.{next_of, split_of}
 use Rattle.zeb_change.specs.Refused.{why_of, Meets}
 use Rattle.zeb_change.specs.Folding.{Progress, folded, file_folded}
 use Rattle.zeb_change.specs.Reading.{ReadsNext}
-use Rattle.zeb_change.specs.PrivateStanding.{WillBe, WillBeFolded, WillHoldSome, standing}
+use Rattle.zeb_change.specs.PrivateStanding.{WillBeFolded, standing}
 use Rattle.zeb_change.specs.UnderWay.{conditions_of}
+use Rattle.zeb_change.proofs.FoldsOn.{folds_on, same_id, still_some, still_way}
 use Rattle.zeb_change.proofs.FoldFiles.{Good, at_first, ended, faulty, record_refused, record_taken, sound, told_end}
 use Rattle.zeb_change.specs.Costs.{IsCostIn, IsSlicesCost}
 use Rattle.zeb_change.proofs.FoldCosts.{none_spent, spent_more, all_spent, end_cost, slice_cost}
@@ -16,16 +17,13 @@ pub loop-nth-init : goal.loop-nth-init
 unfolding at_first
 loop-nth-init g c = record {
   same = refl;
-  crash = search rules;
-  stays = search rules;
-  database = refl;
+  on = record { crash = search rules; stays = search rules; database = refl; honest = λ clean mode records_of some. some };
   counted = refl;
   under = λ clean mode text told version records_of p stands under_way. (
     at_first g.L.Layout.format (conditions_of version c.args.setting.now) c.args.setting.now.kind c.args.file c.args.fold.now.progress.database.0 records_of text
         (g.R.Source.remaining c.args.reader.now) (standing (state g.S.Store c.args.tx.now.conn.now) c.args.pending.now) c.args.fold.now p told stands under_way,
     none_spent g.L.Layout.row_work (IsSlicesCost (conditions_of version c.args.setting.now) c.args.setting.now.kind c.args.file 1 (split_of text).slices p) c.args.fold.now.progress.work c.args.pending.now,
   );
-  honest = λ clean mode records_of some. some;
 }
 
 pub returns-in_err-read_record-clause-folded : goal.returns-in_err-read_record-clause-folded
@@ -58,13 +56,12 @@ returns-in_err-take_record-clause-folded g c = λ clean mode text told sound ver
     let now = standing (state g.S.Store c.loop-nth.tx.conn.now) c.loop-nth.pending in
     let next = standing (state g.S.Store c.take_record.new.tx.conn.now) c.take_record.new.pending in
     let id = c.args.fold.now.progress.database.0 in
-    let was : HasCleanDisk now.tables = omega (arith, c.take_record.ensures.crash.clean) in
+    let was : HasCleanDisk now.tables = omega (arith, c.take_record.ensures.inside.crash.clean) in
     let under = (c.loop-nth.invariant.under was mode text told version records_of p stands under_way).0 in
     let some : c.in_ok-read_record.field-0 ≡ true = search rules in
     let read = subst (λ b. ReadsNext c.args.file c.loop-nth.nth (next_of under.left) (Ok b) c.read_record.new.buffer (g.R.Source.remaining c.read_record.new.reader)) some (c.in_ok-read_record.ensures.told under.left under.remains sound) in
-    let same_id : c.loop-nth.fold.progress.database.0 ≡ id = ap (λ d. d.0) c.loop-nth.invariant.database in
-    let way = subst (λ i. WillBe g.L.Layout.format setting.profile.now i records_of now under.progress.base) (sym same_id) under.is_folded.under_way in
-    let took = c.in_err-take_record.ensures.folded clean (c.loop-nth.invariant.stays was mode).mode version records_of under.progress under.is_folded.stands way in
+    let way = still_way c.loop-nth.invariant.on records_of under.progress.base under.is_folded.under_way in
+    let took = c.in_err-take_record.ensures.folded clean (c.loop-nth.invariant.on.stays was mode).mode version records_of under.progress under.is_folded.stands way in
     let said = file_folded conditions setting.kind c.args.file (split_of text) p in
     let result : c.from_residual-in_err-take_record.result ≡ Err c.in_err-take_record.field-0.0 = search rules in
     subst (λ r. Meets {A = Progress} {X = Unit {0}} (Good g.L.Layout.format conditions id records_of old next c.take_record.new.fold) said r) (sym result)
@@ -84,39 +81,30 @@ loop-nth-preserved g c =
     let id = c.args.fold.now.progress.database.0 in
     record {
       same = search rules;
-      crash = search rules;
-      stays = search rules;
-      database = search rules;
+      on = folds_on c.loop-nth.invariant.on next c.take_record.new.fold c.in_ok-take_record.ensures.inside c.in_ok-take_record.ensures.database c.in_ok-take_record.ensures.honest;
       counted = omega (arith, c.loop-nth.invariant.counted, c.in_ok-take_record.ensures.counted);
       under = λ clean mode text told version records_of p stands under_way.
           let conditions = conditions_of version setting in
-          let was : HasCleanDisk now.tables = omega (arith, c.take_record.ensures.crash.clean) in
+          let was : HasCleanDisk now.tables = omega (arith, c.take_record.ensures.inside.crash.clean) in
           let so_far = c.loop-nth.invariant.under was mode text told version records_of p stands under_way in
           let under = so_far.0 in
           let some : c.in_ok-read_record.field-0 ≡ true = search rules in
           let fine : g.R.Source.has_failed c.read_record.new.reader ≡ false = sound (g.R.Source.has_failed c.read_record.new.reader) (λ failed. let no = c.in_ok-read_record.ensures.failed failed in absurd (cc)) in
           let read = subst (λ b. ReadsNext c.args.file c.loop-nth.nth (next_of under.left) (Ok b) c.read_record.new.buffer (g.R.Source.remaining c.read_record.new.reader)) some (c.in_ok-read_record.ensures.told under.left under.remains fine) in
-          let same_id : c.loop-nth.fold.progress.database.0 ≡ id = ap (λ d. d.0) c.loop-nth.invariant.database in
-          let way = subst (λ i. WillBe g.L.Layout.format setting.profile.now i records_of now under.progress.base) (sym same_id) under.is_folded.under_way in
-          let took = c.in_ok-take_record.ensures.folded clean (c.loop-nth.invariant.stays was mode).mode version records_of under.progress under.is_folded.stands way in
+          let way = still_way c.loop-nth.invariant.on records_of under.progress.base under.is_folded.under_way in
+          let took = c.in_ok-take_record.ensures.folded clean (c.loop-nth.invariant.on.stays was mode).mode version records_of under.progress under.is_folded.stands way in
           let said = file_folded conditions setting.kind c.args.file (split_of text) p in
           let further = record_taken g.L.Layout.format conditions setting.kind c.args.file c.loop-nth.nth id records_of said (g.R.Source.remaining c.loop-nth.reader) old now c.loop-nth.fold under
           c.read_record.new.buffer (g.R.Source.remaining c.read_record.new.reader) read next c.take_record.new.fold
           (subst₂ (λ i bytes. Meets {A = Progress} {X = Unit {0}} (λ q _. WillBeFolded g.L.Layout.format setting.profile.now i records_of now next c.take_record.new.fold q) (folded conditions setting.kind c.args.file c.loop-nth.nth bytes under.progress) (Ok tt))
-          same_id c.bytes.ensures took) in
-          let worked = c.in_ok-take_record.ensures.work clean (c.loop-nth.invariant.stays was mode).mode records_of under.progress under.is_folded.stands way in
+          (same_id c.loop-nth.invariant.on) c.bytes.ensures took) in
+          let worked = c.in_ok-take_record.ensures.work clean (c.loop-nth.invariant.on.stays was mode).mode version records_of under.progress under.is_folded.stands way in
           let cost = subst (λ (bytes : List ℕ). IsCostIn setting.profile.now setting.kind bytes under.progress.base worked.0) c.bytes.ensures worked.1 in (
             further.0,
             spent_more g.L.Layout.row_work worked.0 (IsSlicesCost conditions setting.kind c.args.file c.loop-nth.nth (split_of under.left).slices under.progress) _ _
                 c.args.fold.now.progress.work c.loop-nth.fold.progress.work c.take_record.new.fold.progress.work c.args.pending.now c.loop-nth.pending c.take_record.new.pending c.counts_are_numbers.ensures so_far.1 worked.2
                 (λ m more. slice_cost conditions setting.kind c.args.file c.loop-nth.nth under.left under.progress c.read_record.new.buffer further.0.left further.0.progress worked.0 m further.2 cost further.1 more),
           );
-      honest = λ clean mode records_of some.
-          let was : HasCleanDisk now.tables = omega (arith, c.take_record.ensures.crash.clean) in
-          let same_id : c.loop-nth.fold.progress.database.0 ≡ id = ap (λ d. d.0) c.loop-nth.invariant.database in
-          let way = subst (λ i. WillHoldSome g.L.Layout.format setting.profile.now i records_of now c.loop-nth.fold.progress.last) (sym same_id) (c.loop-nth.invariant.honest was mode records_of some) in
-          let held = (c.in_ok-take_record.ensures.honest clean (c.loop-nth.invariant.stays was mode).mode records_of way).1 in
-          subst (λ i. WillHoldSome g.L.Layout.format setting.profile.now i records_of next c.take_record.new.fold.progress.last) same_id held;
     }
 
 pub returns-then-not-branch-clause-work : goal.returns-then-not-branch-clause-work
@@ -138,15 +126,12 @@ returns-in_err-read_record-clause-honest g c clean mode records_of some =
     rw result (λ is. sound cc, tt)
 
 pub returns-then-not-branch-clause-honest : goal.returns-then-not-branch-clause-honest
-returns-then-not-branch-clause-honest g c clean mode records_of some = (λ is. cc, c.loop-nth.invariant.honest clean mode records_of some)
+returns-then-not-branch-clause-honest g c clean mode records_of some = (λ is. cc, c.loop-nth.invariant.on.honest clean mode records_of some)
 
 pub returns-in_err-take_record-clause-honest : goal.returns-in_err-take_record-clause-honest
 returns-in_err-take_record-clause-honest g c clean mode records_of some =
-    let now = standing (state g.S.Store c.loop-nth.tx.conn.now) c.loop-nth.pending in
-    let profile = c.args.setting.now.profile.now in
-    let was : HasCleanDisk now.tables = omega (arith, c.take_record.ensures.crash.clean) in
-    let same_id : c.loop-nth.fold.progress.database.0 ≡ c.args.fold.now.progress.database.0 = ap (λ d. d.0) c.loop-nth.invariant.database in
-    let way = subst (λ i. WillHoldSome g.L.Layout.format profile i records_of now c.loop-nth.fold.progress.last) (sym same_id) (c.loop-nth.invariant.honest was mode records_of some) in
-    let sound = (c.in_err-take_record.ensures.honest clean (c.loop-nth.invariant.stays was mode).mode records_of way).0 in
+    let on = c.loop-nth.invariant.on in
+    let was : HasCleanDisk (state g.S.Store c.loop-nth.tx.conn.now) = omega (arith, c.take_record.ensures.inside.crash.clean) in
+    let sound = (c.in_err-take_record.ensures.honest clean (on.stays was mode).mode records_of (still_some on was mode records_of some)).0 in
     let result : c.from_residual-in_err-take_record.result ≡ Err c.in_err-take_record.field-0.0 = search rules in
     rw result (λ is. sound cc, tt)

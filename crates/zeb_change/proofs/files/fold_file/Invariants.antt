@@ -1,36 +1,29 @@
 use Rattle.std.proofs.Common.{◌≡◌, ◌+◌, ℕ, ℤ, List, Some, IsTrue}
 use Rattle.sqlite.specs.Held.{state}
-use Rattle.sqlite.specs.State.{HasCleanDisk, Survives}
+use Rattle.sqlite.specs.State.{HasCleanDisk}
 use Rattle.zeb_marc.specs.Splits.{split_of}
 use Rattle.zeb_change.specs.Folding.{Progress, file_folded}
 use Rattle.zeb_change.specs.Base.{Kept}
-use Rattle.zeb_change.specs.Inside.{Continues}
-use Rattle.zeb_change.specs.PrivateStanding.{WillBe, WillHoldSome, standing}
+use Rattle.zeb_change.specs.PrivateStanding.{WillBe, standing}
 use Rattle.zeb_change.specs.UnderWay.{StandsFor, conditions_of}
 use Rattle.zeb_change.specs.Costs.{IsSlicesCost}
+use Rattle.zeb_change.proofs.FoldsOn.{FoldsOn}
 use Rattle.zeb_change.proofs.FoldCosts.{Spent}
 use Rattle.zeb_change.proofs.FoldFiles.{Under}
 use Rattle.zeb_change.proofs.files.fold_file.Given as goal
 
 abbrev pub invariant-loop-nth : goal.invariant-loop-nth
 invariant-loop-nth g l =
-    let old = state g.S.Store l.fn.tx.conn.now in
-    let now = state g.S.Store l.tx.conn.now in
-    let was = standing old l.fn.pending in
-    let is = standing now l.pending in
-    let id = l.fn.fold.progress.database.0 in
+    let old = standing (state g.S.Store l.fn.tx.conn.now) l.fn.pending in
+    let now = standing (state g.S.Store l.tx.conn.now) l.pending in
     record {
       same : l.tx.conn.ghost_name ≡ l.fn.tx.conn.ghost_name;
-      crash : Survives old now (λ _. ⊥);
-      stays : HasCleanDisk now → IsTrue old.in_transaction → Continues old now;
-      database : l.fold.progress.database ≡ l.fn.fold.progress.database;
+      on : FoldsOn g.L.Layout.format l.setting.profile.now old now l.fn.fold l.fold;
       counted : l.fold.tally.records + 1 ≡ l.fn.fold.tally.records + l.nth;
-      under : HasCleanDisk now → IsTrue old.in_transaction → (text : List ℕ) → g.R.Source.remaining l.fn.reader ≡ Some text
-          → (version : List ℕ) (records_of : ℤ → List Kept) (p : Progress) → StandsFor l.fn.fold p → WillBe g.L.Layout.format l.setting.profile.now id records_of was p.base
-          → (under : Under g.L.Layout.format (conditions_of version l.setting) l.setting.kind l.file l.nth id records_of (file_folded (conditions_of version l.setting) l.setting.kind l.file (split_of text) p)
-          (g.R.Source.remaining l.reader) was is l.fold)
+      under : HasCleanDisk now.tables → IsTrue old.tables.in_transaction → (text : List ℕ) → g.R.Source.remaining l.fn.reader ≡ Some text
+          → (version : List ℕ) (records_of : ℤ → List Kept) (p : Progress) → StandsFor l.fn.fold p → WillBe g.L.Layout.format l.setting.profile.now l.fn.fold.progress.database.0 records_of old p.base
+          → (under : Under g.L.Layout.format (conditions_of version l.setting) l.setting.kind l.file l.nth l.fn.fold.progress.database.0 records_of (file_folded (conditions_of version l.setting) l.setting.kind l.file (split_of text) p)
+          (g.R.Source.remaining l.reader) old now l.fold)
           × Spent g.L.Layout.row_work (IsSlicesCost (conditions_of version l.setting) l.setting.kind l.file l.nth (split_of under.left).slices under.progress)
           (IsSlicesCost (conditions_of version l.setting) l.setting.kind l.file 1 (split_of text).slices p) l.fn.fold.progress.work l.fold.progress.work l.fn.pending l.pending;
-      honest : HasCleanDisk now → IsTrue old.in_transaction → (records_of : ℤ → List Kept) → WillHoldSome g.L.Layout.format l.setting.profile.now id records_of was l.fn.fold.progress.last
-          → WillHoldSome g.L.Layout.format l.setting.profile.now id records_of is l.fold.progress.last;
     }

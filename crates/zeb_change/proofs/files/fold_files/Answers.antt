@@ -1,17 +1,44 @@
-use Rattle.std.proofs.Common.{◌≡◌, ◌∙◌, ℤ, rules, arith, Err, ap, refl, subst, sym}
+use Rattle.std.proofs.Common.{◌≡◌, ◌∙◌, ℤ, List, IsTrue, rules, arith, Err, ap, subst, sym}
 use Rattle.sqlite.specs.Held.{state}
 use Rattle.sqlite.specs.State.{HasCleanDisk}
+use Rattle.zeb_change.specs.Base.{Kept}
 use Rattle.zeb_change.specs.Folding.{Progress, files_folded, splits_of}
-use Rattle.zeb_change.specs.Noted.{IsSettled, Settles}
+use Rattle.zeb_change.specs.Holding.{HoldsSome}
 use Rattle.zeb_change.specs.Outcomes.{register_refusal}
+use Rattle.zeb_change.specs.PrivateStanding.{standing}
 use Rattle.zeb_change.specs.Refused.{Meets}
 use Rattle.zeb_change.specs.UnderWay.{IsFolded, conditions_of}
 use Rattle.zeb_change.proofs.CostLemmas.{due_end}
 use Rattle.zeb_change.proofs.NotedChanges.{nothing_count}
-use Rattle.zeb_change.proofs.Settling.{begun, ended, ended_fold, refused_fold, settled_due, settled_fold, settled_way, worked, write_honest, write_refused}
+use Rattle.zeb_change.proofs.Settling.{WritesNoted, at_id, begun, ended, ended_fold, refused_fold, settled_due, settled_fold, settled_holds, worked, write_honest, write_refused}
+use Rattle.zeb_change.proofs.files.fold_files.Given as given
+use Rattle.zeb_change.proofs.files.fold_files.Goals.{After-write_pending}
 use Rattle.zeb_change.proofs.files.fold_files.Goals as goal
 
--- a file that is refused
+-- all files are folded in, and what is noted is written
+written : (g : given.Over) (c : After-write_pending g) → HasCleanDisk (state g.S.Store c.write_pending.new.tx.conn.now) → IsTrue (state g.S.Store c.args.tx.now.conn.now).in_transaction
+    → (records_of : ℤ → List Kept)
+    → HoldsSome g.L.Layout.format c.args.setting.now.profile.now c.args.fold.now.progress.database.0 records_of (state g.S.Store c.args.tx.now.conn.now) c.args.fold.now.progress.last
+    → WritesNoted g.L.Layout.format c.args.setting.now.profile.now c.args.fold.now.progress.database.0 records_of g.L.Layout.row_work
+    (standing (state g.S.Store c.fold_readers.new.tx.conn.now) c.fold_readers.new.pending) (standing (state g.S.Store c.write_pending.new.tx.conn.now) c.write_pending.new.pending)
+    c.fold_readers.new.fold c.write_pending.new.work c.write_pending.result
+written g c clean mode records_of some =
+    let will = begun g.L.Layout.format c.args.setting.now.profile.now c.args.fold.now.progress.database.0 records_of c.new-pending.result c.new-pending.ensures
+    (state g.S.Store c.args.tx.now.conn.now) some.0 some.2 in
+    let was : HasCleanDisk (state g.S.Store c.fold_readers.new.tx.conn.now) = omega (arith, c.write_pending.ensures.call.crash.clean) in
+    let holds = (c.in_ok-fold_readers.ensures.honest was mode records_of (some.0, some.1, will)).1 in
+    record {
+      does = at_id (ap (λ d. d.0) c.fold_readers.ensures.database) c.write_pending.ensures.call;
+      was = was;
+      clean = clean;
+      mode = (c.in_ok-fold_readers.ensures.inside.stays was mode).mode;
+      base = holds.0;
+      last = holds.1;
+      under = holds.2;
+    }
+
+-- ---- a file that is refused
+
 pub returns-in_err-fold_readers-clause-folded : goal.returns-in_err-fold_readers-clause-folded
 returns-in_err-fold_readers-clause-folded g c clean mode texts told fine version records_of p stands under =
     let setting = c.args.setting.now in
@@ -38,127 +65,69 @@ returns-in_err-fold_readers-clause-failed g c none file at =
     let result : c.from_residual.result ≡ Err c.in_err-fold_readers.field-0.0 = search rules in
     result ∙ c.in_err-fold_readers.ensures.failed none file at
 
--- a write that isn't done
+-- ---- a write that isn't done
+
 pub returns-in_err-write_pending-clause-failed : goal.returns-in_err-write_pending-clause-failed
 returns-in_err-write_pending-clause-failed g c none file at = let no = c.in_ok-fold_readers.ensures.failed none file at in absurd (cc)
 
 pub returns-in_err-write_pending-clause-folded : goal.returns-in_err-write_pending-clause-folded
 returns-in_err-write_pending-clause-folded g c clean mode texts told fine version records_of p stands under =
-    let format = g.L.Layout.format in
     let setting = c.args.setting.now in
-    let id = c.args.fold.now.progress.database.0 in
     let old = state g.S.Store c.args.tx.now.conn.now in
-    let mid = state g.S.Store c.fold_readers.new.tx.conn.now in
     let new = state g.S.Store c.write_pending.new.tx.conn.now in
-    let between = c.fold_readers.new.fold in
-    let pending = c.fold_readers.new.pending in
-    let after = worked between c.write_pending.new.work in
-    let said = files_folded (conditions_of version setting) setting.kind 1 (splits_of texts) p in
-    let was : HasCleanDisk mid = omega (arith, c.write_pending.ensures.call.crash.clean) in
-    let stays = c.in_ok-fold_readers.ensures.stays was mode in
-    let will = begun format setting.profile.now id records_of c.new-pending.result c.new-pending.ensures old p.base under in
-    let holds = (c.in_ok-fold_readers.ensures.honest was mode records_of (p.base, stands.last, will)).1 in
-    let same_id : between.progress.database.0 ≡ id = ap (λ d. d.0) c.fold_readers.ensures.database in
-    let does = subst (λ (d : ℤ). Settles format g.L.Layout.row_work d mid new pending c.write_pending.new.pending between.progress.work c.write_pending.new.work c.write_pending.result) same_id c.write_pending.ensures.call in
+    let after = worked c.fold_readers.new.fold c.write_pending.new.work in
     let fault = c.in_err-write_pending.field-0.0 in
     let result : c.from_residual-in_err-write_pending.result ≡ Err (register_refusal fault) = search rules in
-    write_refused format setting.profile.now id records_of mid new pending c.write_pending.new.pending g.L.Layout.row_work between.progress.work c.write_pending.new.work c.write_pending.result does
-    clean stays.mode holds.0 holds.2 fault c.in_err-write_pending.was
-    {A = Progress} (λ q _. IsFolded format setting.profile.now id records_of old new after q) said c.from_residual-in_err-write_pending.result result
+    write_refused (written g (goal.at.returns-in_err-write_pending-clause-folded g c).After-write_pending clean mode records_of (p.base, stands.last, under)) fault c.in_err-write_pending.was
+    {A = Progress} (λ q _. IsFolded g.L.Layout.format setting.profile.now c.args.fold.now.progress.database.0 records_of old new after q)
+    (files_folded (conditions_of version setting) setting.kind 1 (splits_of texts) p) c.from_residual-in_err-write_pending.result result
 
 pub returns-in_err-write_pending-clause-honest : goal.returns-in_err-write_pending-clause-honest
 returns-in_err-write_pending-clause-honest g c clean mode records_of some =
-    let format = g.L.Layout.format in
-    let profile = c.args.setting.now.profile.now in
-    let id = c.args.fold.now.progress.database.0 in
-    let old = state g.S.Store c.args.tx.now.conn.now in
-    let mid = state g.S.Store c.fold_readers.new.tx.conn.now in
-    let new = state g.S.Store c.write_pending.new.tx.conn.now in
-    let between = c.fold_readers.new.fold in
-    let pending = c.fold_readers.new.pending in
-    let was : HasCleanDisk mid = omega (arith, c.write_pending.ensures.call.crash.clean) in
-    let stays = c.in_ok-fold_readers.ensures.stays was mode in
-    let will = begun format profile id records_of c.new-pending.result c.new-pending.ensures old some.0 some.2 in
-    let holds = (c.in_ok-fold_readers.ensures.honest was mode records_of (some.0, some.1, will)).1 in
-    let same_id : between.progress.database.0 ≡ id = ap (λ d. d.0) c.fold_readers.ensures.database in
-    let does = subst (λ (d : ℤ). Settles format g.L.Layout.row_work d mid new pending c.write_pending.new.pending between.progress.work c.write_pending.new.work c.write_pending.result) same_id c.write_pending.ensures.call in
     let fault = c.in_err-write_pending.field-0.0 in
     let result : c.from_residual-in_err-write_pending.result ≡ Err (register_refusal fault) = search rules in
-    let sound = write_honest format profile id records_of mid new pending c.write_pending.new.pending g.L.Layout.row_work between.progress.work c.write_pending.new.work
-    c.write_pending.result does clean stays.mode holds.0 holds.2 fault c.in_err-write_pending.was c.from_residual-in_err-write_pending.result result in
-    (sound, rw result tt)
+    let write = written g (goal.at.returns-in_err-write_pending-clause-honest g c).After-write_pending clean mode records_of some in
+    (write_honest write fault c.in_err-write_pending.was c.from_residual-in_err-write_pending.result result, rw result tt)
 
--- all files are folded in, and all that is noted is written
+-- ---- all that is noted is written
+
 pub returns-clause-folded : goal.returns-clause-folded
 returns-clause-folded g c clean mode texts told fine version records_of p stands under =
     let format = g.L.Layout.format in
     let setting = c.args.setting.now in
-    let profile = setting.profile.now in
     let id = c.args.fold.now.progress.database.0 in
     let old = state g.S.Store c.args.tx.now.conn.now in
-    let mid = state g.S.Store c.fold_readers.new.tx.conn.now in
-    let new = state g.S.Store c.write_pending.new.tx.conn.now in
     let first = c.new-pending.result in
-    let pending = c.fold_readers.new.pending in
-    let left = c.write_pending.new.pending in
-    let between = c.fold_readers.new.fold in
-    let after = worked between c.write_pending.new.work in
     let said = files_folded (conditions_of version setting) setting.kind 1 (splits_of texts) p in
-    let was : HasCleanDisk mid = omega (arith, c.write_pending.ensures.call.crash.clean) in
-    let stays = c.in_ok-fold_readers.ensures.stays was mode in
-    let will = begun format profile id records_of first c.new-pending.ensures old p.base under in
-    let holds = (c.in_ok-fold_readers.ensures.honest was mode records_of (p.base, stands.last, will)).1 in
-    let same_id : between.progress.database.0 ≡ id = ap (λ d. d.0) c.fold_readers.ensures.database in
-    let settled = subst (λ (d : ℤ). IsSettled format g.L.Layout.row_work d mid new pending left between.progress.work c.write_pending.new.work) same_id (c.in_ok-write_pending.ensures.call.written clean stays.mode holds.2.0) in
-    ended_fold format profile id records_of left c.in_ok-write_pending.ensures.all old new first after said
-    (settled_fold format profile id records_of mid new pending left g.L.Layout.row_work between.progress.work c.write_pending.new.work settled old first between after said refl refl
-    (c.in_ok-fold_readers.ensures.folded was mode texts told fine version records_of p stands will))
+    let write = written g (goal.at.returns-clause-folded g c).After-write_pending clean mode records_of (p.base, stands.last, under) in
+    ended_fold format setting.profile.now id records_of c.write_pending.new.pending c.in_ok-write_pending.ensures.all old (state g.S.Store c.write_pending.new.tx.conn.now) first
+    (worked c.fold_readers.new.fold c.write_pending.new.work) said
+    (settled_fold write c.in_ok-write_pending.was (standing old first) said
+    (c.in_ok-fold_readers.ensures.folded write.was mode texts told fine version records_of p stands (begun format setting.profile.now id records_of first c.new-pending.ensures old p.base under)))
 
 pub returns-clause-honest : goal.returns-clause-honest
 returns-clause-honest g c clean mode records_of some =
-    let format = g.L.Layout.format in
-    let profile = c.args.setting.now.profile.now in
-    let id = c.args.fold.now.progress.database.0 in
-    let old = state g.S.Store c.args.tx.now.conn.now in
-    let mid = state g.S.Store c.fold_readers.new.tx.conn.now in
-    let new = state g.S.Store c.write_pending.new.tx.conn.now in
-    let pending = c.fold_readers.new.pending in
-    let left = c.write_pending.new.pending in
-    let between = c.fold_readers.new.fold in
-    let now = c.write_pending.new.work in
-    let was : HasCleanDisk mid = omega (arith, c.write_pending.ensures.call.crash.clean) in
-    let stays = c.in_ok-fold_readers.ensures.stays was mode in
-    let will = begun format profile id records_of c.new-pending.result c.new-pending.ensures old some.0 some.2 in
-    let holds = (c.in_ok-fold_readers.ensures.honest was mode records_of (some.0, some.1, will)).1 in
-    let same_id : between.progress.database.0 ≡ id = ap (λ d. d.0) c.fold_readers.ensures.database in
-    let settled = subst (λ (d : ℤ). IsSettled format g.L.Layout.row_work d mid new pending left between.progress.work now) same_id (c.in_ok-write_pending.ensures.call.written clean stays.mode holds.2.0) in
-    let way = settled_way format profile id records_of mid new pending left g.L.Layout.row_work between.progress.work now settled holds.0 holds.2 in
-    (λ is. cc, (holds.0, holds.1, ended format profile id records_of left c.in_ok-write_pending.ensures.all new holds.0 way))
+    let holds = settled_holds (written g (goal.at.returns-clause-honest g c).After-write_pending clean mode records_of some) c.in_ok-write_pending.was in (
+      λ is. cc,
+      (
+        holds.0,
+        holds.1,
+        ended g.L.Layout.format c.args.setting.now.profile.now c.args.fold.now.progress.database.0 records_of c.write_pending.new.pending c.in_ok-write_pending.ensures.all
+            (state g.S.Store c.write_pending.new.tx.conn.now) holds.0 holds.2,
+      ),
+    )
 
 pub returns-clause-work : goal.returns-clause-work
 returns-clause-work g c clean mode texts told version records_of p stands under =
     let format = g.L.Layout.format in
-    let row_work = g.L.Layout.row_work in
-    let profile = c.args.setting.now.profile.now in
-    let id = c.args.fold.now.progress.database.0 in
-    let old = state g.S.Store c.args.tx.now.conn.now in
-    let mid = state g.S.Store c.fold_readers.new.tx.conn.now in
-    let new = state g.S.Store c.write_pending.new.tx.conn.now in
     let first = c.new-pending.result in
     let pending = c.fold_readers.new.pending in
     let left = c.write_pending.new.pending in
-    let between = c.fold_readers.new.fold in
-    let before = c.args.fold.now.progress.work in
-    let now = c.write_pending.new.work in
-    let was : HasCleanDisk mid = omega (arith, c.write_pending.ensures.call.crash.clean) in
-    let stays = c.in_ok-fold_readers.ensures.stays was mode in
-    let will = begun format profile id records_of first c.new-pending.ensures old p.base under in
-    let holds = (c.in_ok-fold_readers.ensures.honest was mode records_of (p.base, stands.last, will)).1 in
-    let same_id : between.progress.database.0 ≡ id = ap (λ d. d.0) c.fold_readers.ensures.database in
-    let settled = subst (λ (d : ℤ). IsSettled format row_work d mid new pending left between.progress.work now) same_id (c.in_ok-write_pending.ensures.call.written clean stays.mode holds.2.0) in
-    let read = c.in_ok-fold_readers.ensures.work was mode texts told version records_of p stands will in
-    let due = settled_due format profile id records_of mid new pending left row_work between.progress.work now settled holds.0 holds.2 in (
+    let write = written g (goal.at.returns-clause-work g c).After-write_pending clean mode records_of (p.base, stands.last, under) in
+    let will = begun format c.args.setting.now.profile.now c.args.fold.now.progress.database.0 records_of first c.new-pending.ensures (state g.S.Store c.args.tx.now.conn.now) p.base under in
+    let read = c.in_ok-fold_readers.ensures.work write.was mode texts told version records_of p stands will in (
       read.0,
       read.1,
-      due_end row_work read.0 before between.progress.work now first pending left c.counts_are_numbers.ensures (nothing_count first c.new-pending.ensures) (nothing_count left c.in_ok-write_pending.ensures.all) read.2 due,
+      due_end g.L.Layout.row_work read.0 c.args.fold.now.progress.work c.fold_readers.new.fold.progress.work c.write_pending.new.work first pending left c.counts_are_numbers.ensures
+          (nothing_count first c.new-pending.ensures) (nothing_count left c.in_ok-write_pending.ensures.all) read.2 (settled_due write c.in_ok-write_pending.was),
     )

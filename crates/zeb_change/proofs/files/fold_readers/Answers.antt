@@ -1,4 +1,4 @@
-use Rattle.std.proofs.Common.{rules, arith, ◌≡◌, ◌≢◌, ◌∙◌, ◌+◌, ◌≤◌, ◌<◌, length, false, inl, inr, refl, sym, Ok, Err, ap, subst, get_or, get_or-set_other, get_or-set_same, slice_set, length-set}
+use Rattle.std.proofs.Common.{rules, arith, ◌≡◌, ◌≢◌, ◌∙◌, ◌+◌, ◌≤◌, ◌<◌, ◌∷◌, ℕ, suc, List, Some, drop, length, map, false, inl, inr, refl, sym, Ok, Err, ap, subst, get_or, get_or-set_other, get_or-set_same, slice_set, length-set}
 use Rattle.sqlite.specs.Held.{state}
 use Rattle.sqlite.specs.State.{HasCleanDisk}
 use Rattle.zeb_marc.specs.Splits.{split_of}
@@ -6,28 +6,28 @@ use Rattle.zeb_change.specs.Refused.{why_of, Meets}
 use Rattle.zeb_change.specs.Folding.{Progress, file_folded, files_folded, splits_of}
 use Rattle.zeb_change.specs.Reading.{HasFailedAt}
 use Rattle.zeb_change.specs.declared.refusals.Refusal.TheVariants.{ReadFault}
-use Rattle.zeb_change.specs.PrivateStanding.{WillBe, WillBeFolded, WillHoldSome, standing}
+use Rattle.zeb_change.specs.PrivateStanding.{WillBeFolded, standing}
 use Rattle.zeb_change.specs.UnderWay.{conditions_of}
+use Rattle.zeb_change.proofs.FoldsOn.{folds_on, same_id, still_some, still_way}
 use Rattle.zeb_change.proofs.FoldFiles.{Good, sound}
 use Rattle.zeb_change.proofs.FoldAll.{text_at, as_many, fine_at, fine_more, failed_here, failed_now, none_at, before_files, all_files, file_refused, file_taken}
 use Rattle.zeb_change.specs.Costs.{IsFilesCost}
 use Rattle.zeb_change.proofs.FoldCosts.{RestCost, none_spent, spent_more, all_spent, file_cost, no_file_cost}
+use Rattle.zeb_change.proofs.files.fold_readers.Given as given
+use Rattle.zeb_change.proofs.files.fold_readers.Goals.{After-fold_file}
 use Rattle.zeb_change.proofs.files.fold_readers.Goals as goal
 
 pub loop-index-init : goal.loop-index-init
 unfolding before_files
 loop-index-init g c = record {
   same = refl;
-  crash = search rules;
-  stays = search rules;
-  database = refl;
+  on = record { crash = search rules; stays = search rules; database = refl; honest = λ clean mode records_of some. some };
   unread = λ j d behind. refl;
   fine = λ j none d. absurd (omega (arith, none));
   over = λ clean mode texts told version records_of p stands under_way. (
     before_files g.L.Layout.format (conditions_of version c.args.setting.now) c.args.setting.now.kind texts c.args.fold.now.progress.database.0 records_of (standing (state g.S.Store c.args.tx.now.conn.now) c.args.pending.now) c.args.fold.now p stands under_way,
     none_spent g.L.Layout.row_work (IsFilesCost (conditions_of version c.args.setting.now) c.args.setting.now.kind 1 (splits_of texts) p) c.args.fold.now.progress.work c.args.pending.now,
   );
-  honest = λ clean mode records_of some. some;
 }
 
 pub returns-clause-folded : goal.returns-clause-folded
@@ -40,6 +40,16 @@ returns-clause-folded g c = λ clean mode texts told fine version records_of p s
     all_files g.L.Layout.format conditions c.args.setting.now.kind c.loop-index.index texts id records_of (files_folded conditions c.args.setting.now.kind 1 (splits_of texts) p)
     (standing (state g.S.Store c.args.tx.now.conn.now) c.args.pending.now) (standing (state g.S.Store c.loop-index.tx.conn.now) c.loop-index.pending) c.loop-index.fold over none
 
+-- the text of the file that is read
+text_here : (g : given.Over) (c : After-fold_file g) (texts : List (List ℕ)) → map g.R.Source.remaining c.args.readers.now ≡ map Some texts
+    → (text : List ℕ) × (g.R.Source.remaining (get_or c.loop-index.readers c.loop-index.index c.index-readers-index.result) ≡ Some text)
+    × (drop c.loop-index.index texts ≡ text ∷ drop (suc c.loop-index.index) texts)
+text_here g c texts told =
+    let index = c.loop-index.index in
+    let here = c.index-readers-index.is ∙ c.loop-index.invariant.unread index c.index-readers-index.result (omega arith) in
+    let text = text_at g.R.Source.remaining c.args.readers.now texts index c.index-readers-index.result told (omega (arith, c.loop-index-test.true, c.loop-index.auto.readers)) here in
+    (text.0, ap g.R.Source.remaining (sym c.index-readers-index.is) ∙ text.1, text.2)
+
 pub returns-in_err-fold_file-clause-folded : goal.returns-in_err-fold_file-clause-folded
 returns-in_err-fold_file-clause-folded g c = λ clean mode texts told fine version records_of p stands under_way.
     let setting = c.args.setting.now in
@@ -50,17 +60,15 @@ returns-in_err-fold_file-clause-folded g c = λ clean mode texts told fine versi
     let id = c.args.fold.now.progress.database.0 in
     let index = c.loop-index.index in
     let readers = c.loop-index.readers in
-    let was : HasCleanDisk now.tables = omega (arith, c.fold_file.ensures.crash.clean) in
+    let was : HasCleanDisk now.tables = omega (arith, c.fold_file.ensures.inside.crash.clean) in
     let over = (c.loop-index.invariant.over was mode texts told version records_of p stands under_way).0 in
-    let here = c.index-readers-index.is ∙ c.loop-index.invariant.unread index c.index-readers-index.result (omega arith) in
-    let text = text_at g.R.Source.remaining c.args.readers.now texts index c.index-readers-index.result told (omega (arith, c.loop-index-test.true, c.loop-index.auto.readers)) here in
+    let text = text_here g (goal.at.returns-in_err-fold_file-clause-folded g c).After-fold_file texts told in
     let within : index < length (slice_set readers index c.fold_file.new.reader) = subst (λ n. index < n) (sym (length-set readers index c.fold_file.new.reader)) (omega (arith, c.loop-index-test.true, c.loop-index.auto.readers)) in
     let taken : get_or (slice_set readers index c.fold_file.new.reader) index c.fold_file.new.reader ≡ c.fold_file.new.reader = get_or-set_same readers index _ _ (omega (arith, c.loop-index-test.true, c.loop-index.auto.readers)) in
     let sound_one : g.R.Source.has_failed c.fold_file.new.reader ≡ false =
     ap g.R.Source.has_failed (sym taken) ∙ fine_at g.R.Source.has_failed (slice_set readers index c.fold_file.new.reader) index c.fold_file.new.reader fine within in
-    let same_id : c.loop-index.fold.progress.database.0 ≡ id = ap (λ d. d.0) c.loop-index.invariant.database in
-    let way = subst (λ i. WillBe g.L.Layout.format setting.profile.now i records_of now over.progress.base) (sym same_id) over.is_folded.under_way in
-    let took = c.in_err-fold_file.ensures.folded clean (c.loop-index.invariant.stays was mode).mode text.0 (ap g.R.Source.remaining (sym c.index-readers-index.is) ∙ text.1) sound_one version records_of over.progress over.is_folded.stands way in
+    let way = still_way c.loop-index.invariant.on records_of over.progress.base over.is_folded.under_way in
+    let took = c.in_err-fold_file.ensures.folded clean (c.loop-index.invariant.on.stays was mode).mode text.0 text.1 sound_one version records_of over.progress over.is_folded.stands way in
     let said = files_folded conditions setting.kind 1 (splits_of texts) p in
     let result : c.from_residual.result ≡ Err c.in_err-fold_file.field-0.0 = search rules in
     subst (λ r. Meets {A = Progress} {X = Unit {0}} (Good g.L.Layout.format conditions id records_of old next c.fold_file.new.fold) said r) (sym result)
@@ -80,9 +88,7 @@ loop-index-preserved g c =
     let readers = c.loop-index.readers in
     record {
       same = search rules;
-      crash = search rules;
-      stays = search rules;
-      database = search rules;
+      on = folds_on c.loop-index.invariant.on next c.fold_file.new.fold c.in_ok-fold_file.ensures.inside c.in_ok-fold_file.ensures.database c.in_ok-fold_file.ensures.honest;
       unread = λ j d behind.
           let other : j ≢ index = omega (arith, behind) in
           get_or-set_other readers index j _ d other ∙ c.loop-index.invariant.unread j d (omega (arith, behind));
@@ -91,31 +97,23 @@ loop-index-preserved g c =
           fine_more g.R.Source.has_failed readers index c.loop-index.invariant.fine c.fold_file.new.reader (omega (arith, c.loop-index-test.true, c.loop-index.auto.readers)) sound_one;
       over = λ clean mode texts told version records_of p stands under_way.
           let conditions = conditions_of version setting in
-          let was : HasCleanDisk now.tables = omega (arith, c.fold_file.ensures.crash.clean) in
+          let was : HasCleanDisk now.tables = omega (arith, c.fold_file.ensures.inside.crash.clean) in
           let so_far = c.loop-index.invariant.over was mode texts told version records_of p stands under_way in
           let over = so_far.0 in
-          let here = c.index-readers-index.is ∙ c.loop-index.invariant.unread index c.index-readers-index.result (omega arith) in
-          let text = text_at g.R.Source.remaining c.args.readers.now texts index c.index-readers-index.result told (omega (arith, c.loop-index-test.true, c.loop-index.auto.readers)) here in
+          let text = text_here g (goal.at.loop-index-preserved g c).After-fold_file texts told in
           let fine : g.R.Source.has_failed c.fold_file.new.reader ≡ false = sound (g.R.Source.has_failed c.fold_file.new.reader) (λ failed. let no = c.in_ok-fold_file.ensures.failed failed in absurd (cc)) in
-          let same_id : c.loop-index.fold.progress.database.0 ≡ id = ap (λ d. d.0) c.loop-index.invariant.database in
-          let way = subst (λ i. WillBe g.L.Layout.format setting.profile.now i records_of now over.progress.base) (sym same_id) over.is_folded.under_way in
-          let took = c.in_ok-fold_file.ensures.folded clean (c.loop-index.invariant.stays was mode).mode text.0 (ap g.R.Source.remaining (sym c.index-readers-index.is) ∙ text.1) fine version records_of over.progress over.is_folded.stands way in
+          let way = still_way c.loop-index.invariant.on records_of over.progress.base over.is_folded.under_way in
+          let took = c.in_ok-fold_file.ensures.folded clean (c.loop-index.invariant.on.stays was mode).mode text.0 text.1 fine version records_of over.progress over.is_folded.stands way in
           let said = files_folded conditions setting.kind 1 (splits_of texts) p in
           let further = file_taken g.L.Layout.format conditions setting.kind index texts id records_of said old now c.loop-index.fold over text.0 text.2 next c.fold_file.new.fold
           (subst (λ i. Meets {A = Progress} {X = Unit {0}} (λ q _. WillBeFolded g.L.Layout.format setting.profile.now i records_of now next c.fold_file.new.fold q) (file_folded conditions setting.kind (index + 1) (split_of text.0) over.progress) (Ok tt))
-          same_id took) in
-          let worked = c.in_ok-fold_file.ensures.work clean (c.loop-index.invariant.stays was mode).mode text.0 (ap g.R.Source.remaining (sym c.index-readers-index.is) ∙ text.1) version records_of over.progress over.is_folded.stands way in (
+          (same_id c.loop-index.invariant.on) took) in
+          let worked = c.in_ok-fold_file.ensures.work clean (c.loop-index.invariant.on.stays was mode).mode text.0 text.1 version records_of over.progress over.is_folded.stands way in (
             further.0,
             spent_more g.L.Layout.row_work worked.0 (RestCost conditions setting.kind index texts over.progress) _ _
                 c.args.fold.now.progress.work c.loop-index.fold.progress.work c.fold_file.new.fold.progress.work c.args.pending.now c.loop-index.pending c.fold_file.new.pending c.counts_are_numbers.ensures so_far.1 worked.2
                 (λ m more. file_cost conditions setting.kind index texts over.progress text.0 further.0.progress worked.0 m text.2 worked.1 further.1 more),
           );
-      honest = λ clean mode records_of some.
-          let was : HasCleanDisk now.tables = omega (arith, c.fold_file.ensures.crash.clean) in
-          let same_id : c.loop-index.fold.progress.database.0 ≡ id = ap (λ d. d.0) c.loop-index.invariant.database in
-          let way = subst (λ i. WillHoldSome g.L.Layout.format setting.profile.now i records_of now c.loop-index.fold.progress.last) (sym same_id) (c.loop-index.invariant.honest was mode records_of some) in
-          let held = (c.in_ok-fold_file.ensures.honest clean (c.loop-index.invariant.stays was mode).mode records_of way).1 in
-          subst (λ i. WillHoldSome g.L.Layout.format setting.profile.now i records_of next c.fold_file.new.fold.progress.last) same_id held;
     }
 
 pub returns-clause-failed : goal.returns-clause-failed
@@ -150,15 +148,12 @@ returns-clause-work g c = λ clean mode texts told version records_of p stands u
     (no_file_cost conditions c.args.setting.now.kind c.loop-index.index texts so_far.0.progress none) so_far.1
 
 pub returns-clause-honest : goal.returns-clause-honest
-returns-clause-honest g c clean mode records_of some = (λ is. cc, c.loop-index.invariant.honest clean mode records_of some)
+returns-clause-honest g c clean mode records_of some = (λ is. cc, c.loop-index.invariant.on.honest clean mode records_of some)
 
 pub returns-in_err-fold_file-clause-honest : goal.returns-in_err-fold_file-clause-honest
 returns-in_err-fold_file-clause-honest g c clean mode records_of some =
-    let now = standing (state g.S.Store c.loop-index.tx.conn.now) c.loop-index.pending in
-    let profile = c.args.setting.now.profile.now in
-    let was : HasCleanDisk now.tables = omega (arith, c.fold_file.ensures.crash.clean) in
-    let same_id : c.loop-index.fold.progress.database.0 ≡ c.args.fold.now.progress.database.0 = ap (λ d. d.0) c.loop-index.invariant.database in
-    let way = subst (λ i. WillHoldSome g.L.Layout.format profile i records_of now c.loop-index.fold.progress.last) (sym same_id) (c.loop-index.invariant.honest was mode records_of some) in
-    let sound = (c.in_err-fold_file.ensures.honest clean (c.loop-index.invariant.stays was mode).mode records_of way).0 in
+    let on = c.loop-index.invariant.on in
+    let was : HasCleanDisk (state g.S.Store c.loop-index.tx.conn.now) = omega (arith, c.fold_file.ensures.inside.crash.clean) in
+    let sound = (c.in_err-fold_file.ensures.honest clean (on.stays was mode).mode records_of (still_some on was mode records_of some)).0 in
     let result : c.from_residual.result ≡ Err c.in_err-fold_file.field-0.0 = search rules in
     rw result (λ is. sound cc, tt)

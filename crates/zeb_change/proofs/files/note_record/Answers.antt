@@ -12,12 +12,12 @@ use Rattle.zeb_change.proofs.NoDamage.{record_tells, refused_honest, taken_holds
 use Rattle.zeb_change.proofs.files.note_record.Goals as goal
 
 pub returns-then-fold-setting-clause-folded : goal.returns-then-fold-setting-clause-folded
-returns-then-fold-setting-clause-folded g c = λ clean mode version format records_of p stands under_way.
+returns-then-fold-setting-clause-folded g c = λ clean mode format version records_of p stands under_way.
     let full : nat_le c.args.setting.now.limits.records p.taken ≡ true = grind (arith, nat_tests, c.if-fold-setting.true, stands.taken) in
     inr (too_many (conditions_of version c.args.setting.now) c.args.setting.now.kind c.args.incoming.file c.args.incoming.nth c.args.incoming.bytes.now p full)
 
 pub returns-in_err-fate-clause-folded : goal.returns-in_err-fate-clause-folded
-returns-in_err-fate-clause-folded g c = λ clean mode version format records_of p stands under_way.
+returns-in_err-fate-clause-folded g c = λ clean mode format version records_of p stands under_way.
     let room : nat_le c.args.setting.now.limits.records p.taken ≡ false = grind (arith, nat_tests, c.if-fold-setting.false, stands.taken) in
     let told : c.from_residual.result ≡ Err c.in_err-fate.field-0.0 = search rules in
     let new : Fold = record { progress = c.change_record.new.progress; tally = c.args.fold.now.tally } in
@@ -30,7 +30,7 @@ returns-in_err-fate-clause-folded g c = λ clean mode version format records_of 
     ])
 
 pub returns-clause-folded : goal.returns-clause-folded
-returns-clause-folded g c = λ clean mode version format records_of p stands under_way.
+returns-clause-folded g c = λ clean mode format version records_of p stands under_way.
     let room : nat_le c.args.setting.now.limits.records p.taken ≡ false = grind (arith, nat_tests, c.if-fold-setting.false, stands.taken) in
     let after : Fold = record { progress = c.change_record.new.progress; tally = c.count.new.self } in
     one_folded format (conditions_of version c.args.setting.now) c.args.fold.now.progress.database.0 records_of (standing (state g.S.Store c.args.tx.now.conn.now) c.args.pending.now) (standing (state g.S.Store c.change_record.new.tx.conn.now) c.change_record.new.pending)

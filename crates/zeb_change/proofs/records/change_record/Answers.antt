@@ -1,4 +1,4 @@
-use Rattle.std.proofs.Common.{◌≡◌, ◌≢◌, ◌↔◌, ◌∙◌, rules, arith, ℤ, IsTrue, List, Option, Some, None, Result, Ok, Err, inr, refl, ap, sym, subst}
+use Rattle.std.proofs.Common.{◌≡◌, ◌≢◌, ◌↔◌, ◌+◌, ◌∙◌, rules, arith, ℕ, ℤ, IsTrue, List, Option, Some, None, Result, Ok, Err, OnOk, inr, refl, ap, sym, subst}
 use Rattle.std.specs.List.{Contains}
 use Rattle.sqlite.specs.Held.{state}
 use Rattle.sqlite.specs.State.{HasCleanDisk}
@@ -12,15 +12,19 @@ use Rattle.zeb_register.specs.declared.kept.Elder.{Elder}
 use Rattle.zeb_register.specs.Formats.{Format}
 use Rattle.zeb_change.specs.declared.settings.Kind.{Kind}
 use Rattle.zeb_change.specs.declared.settings.Kind.TheVariants.{Update, Delete, Adelete}
+use Rattle.zeb_change.specs.declared.tally.Fate.{Fate}
 use Rattle.zeb_change.specs.declared.tally.Fate.TheVariants.{PassedOver, Updated}
 use Rattle.zeb_change.specs.Refused.{Why, unknown, Meets}
-use Rattle.zeb_change.specs.Folding.{Changed, changed_record, updated, deleted}
+use Rattle.zeb_change.specs.declared.pending.Pending.{Pending}
+use Rattle.zeb_change.specs.declared.refusals.Refusal.{Refusal}
+use Rattle.zeb_change.specs.Folding.{Changed, changed_by, changed_record, deleted, ident_in, updated}
 use Rattle.zeb_change.specs.Base.{Base, Kept, kept_as}
 use Rattle.zeb_change.specs.Outcomes.{register_refusal}
-use Rattle.zeb_change.specs.PrivateRecords.{IsNewer, IsElderAs, elder_bytes}
-use Rattle.zeb_change.specs.PrivateStanding.{WillBe, WillBeTaken, standing}
+use Rattle.zeb_change.specs.PrivateRecords.{IsNewer, IsElderAs, NotesAs, Takes, elder_bytes}
+use Rattle.zeb_change.specs.PrivateStanding.{Standing, WillBe, WillBeTaken, standing}
 use Rattle.zeb_change.specs.UnderWay.{conditions_of}
-use Rattle.zeb_change.specs.Costs.{newer_of, IsRecordCost, occurs_by}
+use Rattle.zeb_change.specs.Costs.{IsCostIn, IsRecordCost, newer_of, occurs_by}
+use Rattle.zeb_change.specs.Noted.{noted_count}
 use Rattle.zeb_change.proofs.CostLemmas.{cost_in, same_cost, ok_so}
 use Rattle.zeb_change.proofs.BaseLemmas.{one_ident}
 use Rattle.zeb_change.proofs.FoldLemmas.{named_record}
@@ -29,6 +33,7 @@ use Rattle.zeb_change.proofs.StoredLemmas.{elder_is, are_numbered}
 use Rattle.zeb_change.proofs.TurnLemmas.{passed_on, turned_so, passed_over}
 use Rattle.zeb_change.proofs.UnderWay.{fault_fails, same_way}
 use Rattle.zeb_change.proofs.records.change_record.Given as given
+use Rattle.zeb_change.proofs.records.change_record.Goals.{In_ok-elder}
 use Rattle.zeb_change.proofs.records.change_record.Goals as goal
 
 -- the numbers of kept records are no damage
@@ -44,6 +49,48 @@ returns-in_err-elder-clause-taken g c clean mode version format records_of base 
     passed_on {A = Changed} (WillBeTaken format setting.profile.now c.args.progress.now.database.0 records_of (standing old c.args.pending.now) (standing mid c.args.pending.now) c.args.progress.now.last)
     (changed_record (conditions_of version setting) setting.kind c.args.incoming.file c.args.incoming.nth c.args.incoming.bytes.now base)
     c.from_residual-in_err-elder.result (register_refusal failed) told (fault_fails failed sound)
+
+-- ---- what was found of the record
+
+-- its identifier
+named : (g : given.Over) (c : In_ok-elder g) → ident_in c.args.setting.now.profile.now c.args.incoming.bytes.now ≡ Ok c.as_str-ident.result.now
+named g c = c.in_ok-record.ensures.named ∙ ap Ok (sym c.as_str-ident.ensures.value)
+
+-- its elder
+elder_found : (g : given.Over) (c : In_ok-elder g) → HasCleanDisk (state g.S.Store c.record_of_ident.new.tx.conn.now) → IsTrue (state g.S.Store c.args.tx.now.conn.now).in_transaction
+    → (format : Format) (records_of : ℤ → List Kept) (base : Base)
+    → WillBe format c.args.setting.now.profile.now c.args.progress.now.database.0 records_of (standing (state g.S.Store c.args.tx.now.conn.now) c.args.pending.now) base
+    → IsElderAs c.as_str-ident.result.now base c.in_ok-elder.elder
+elder_found g c clean mode format records_of base under =
+    elder_is c.args.progress.now.database.0 records_of (state g.S.Store c.args.tx.now.conn.now).now.trees base under.1.kept c.as_str-ident.result.now
+    (one_ident c.args.setting.now.profile.now base under.2) c.in_ok-elder.elder (c.in_ok-elder.ensures.value clean mode under.0)
+
+-- what the definition says of it, by the kind of the change
+said_by : (g : given.Over) (c : In_ok-elder g) (version : List ℕ) (base : Base) (kind : Kind) → c.args.setting.now.kind ≡ kind
+    → changed_record (conditions_of version c.args.setting.now) c.args.setting.now.kind c.args.incoming.file c.args.incoming.nth c.args.incoming.bytes.now base
+    ≡ changed_by (conditions_of version c.args.setting.now) kind c.args.incoming.file c.args.incoming.nth c.args.incoming.bytes.now c.as_str-ident.result.now base
+said_by g c version base kind is =
+    let conditions = conditions_of version c.args.setting.now in
+    let incoming = c.args.incoming in
+    ap (λ (k : Kind). changed_record conditions k incoming.file incoming.nth incoming.bytes.now base) is
+    ∙ named_record conditions kind incoming.file incoming.nth incoming.bytes.now base c.as_str-ident.result.now c.in_ok-record.ensures.whole.sound (named g c)
+
+-- nothing becomes of it
+passes : (g : given.Over) (c : In_ok-elder g) → HasCleanDisk (state g.S.Store c.record_of_ident.new.tx.conn.now) → IsTrue (state g.S.Store c.args.tx.now.conn.now).in_transaction
+    → (version : List ℕ) (format : Format) (records_of : ℤ → List Kept) (base : Base) → c.args.progress.now.last ≡ base.last
+    → WillBe format c.args.setting.now.profile.now c.args.progress.now.database.0 records_of (standing (state g.S.Store c.args.tx.now.conn.now) c.args.pending.now) base
+    → (fate : Fate)
+    → changed_record (conditions_of version c.args.setting.now) c.args.setting.now.kind c.args.incoming.file c.args.incoming.nth c.args.incoming.bytes.now base ≡ Ok (base, fate)
+    → Meets (WillBeTaken format c.args.setting.now.profile.now c.args.progress.now.database.0 records_of (standing (state g.S.Store c.args.tx.now.conn.now) c.args.pending.now)
+    (standing (state g.S.Store c.record_of_ident.new.tx.conn.now) c.args.pending.now) c.args.progress.now.last)
+    (changed_record (conditions_of version c.args.setting.now) c.args.setting.now.kind c.args.incoming.file c.args.incoming.nth c.args.incoming.bytes.now base) (Ok fate)
+passes g c clean mode version format records_of base last under fate said =
+    let old = state g.S.Store c.args.tx.now.conn.now in
+    let mid = state g.S.Store c.record_of_ident.new.tx.conn.now in
+    let profile = c.args.setting.now.profile.now in
+    let id = c.args.progress.now.database.0 in
+    subst (λ (x : Result Changed Why). Meets (WillBeTaken format profile id records_of (standing old c.args.pending.now) (standing mid c.args.pending.now) c.args.progress.now.last) x (Ok fate)) (sym said)
+    (passed_over format profile id records_of old mid c.args.pending.now c.args.progress.now.last base fate (c.in_ok-elder.ensures.call.ok clean mode).now_is last under)
 
 -- ---- what an update takes up
 
@@ -63,215 +110,159 @@ newer_found g c =
       };
     }
 
--- its elder
-elder_found : (g : given.Over) (c : goal.After-drop-named-in-Update-default g) → HasCleanDisk (state g.S.Store c.keep.new.tx.conn.now) → IsTrue (state g.S.Store c.args.tx.now.conn.now).in_transaction
-    → (format : Format) (records_of : ℤ → List Kept) (base : Base)
-    → WillBe format c.args.setting.now.profile.now c.args.progress.now.database.0 records_of (standing (state g.S.Store c.args.tx.now.conn.now) c.args.pending.now) base
-    → IsElderAs c.as_str-ident.result.now base c.in_ok-elder.elder
-elder_found g c clean mode format records_of base under =
-    let old = state g.S.Store c.args.tx.now.conn.now in
-    let mid = state g.S.Store c.record_of_ident.new.tx.conn.now in
-    let id = c.args.progress.now.database.0 in
-    let ident = c.as_str-ident.result.now in
-    let clean_mid : HasCleanDisk mid = omega (arith, c.keep.ensures.crash.clean) in
-    let found = c.in_ok-elder.ensures.value clean_mid mode under.0 in
-    elder_is id records_of old.now.trees base under.1.kept ident (one_ident c.args.setting.now.profile.now base under.2) c.in_ok-elder.elder found
-
 pub returns-in-Update-default-clause-taken : goal.returns-in-Update-default-clause-taken
 returns-in-Update-default-clause-taken g c clean mode version format records_of base last under =
     let old = state g.S.Store c.args.tx.now.conn.now in
     let mid = state g.S.Store c.record_of_ident.new.tx.conn.now in
     let new = state g.S.Store c.keep.new.tx.conn.now in
     let setting = c.args.setting.now in
-    let profile = c.args.setting.now.profile.now in
     let id = c.args.progress.now.database.0 in
-    let bytes = c.args.incoming.bytes.now in
     let ident = c.as_str-ident.result.now in
-    let clean_mid : HasCleanDisk mid = omega (arith, c.keep.ensures.crash.clean) in
+    let clean_mid : HasCleanDisk mid = omega (arith, c.keep.ensures.inside.crash.clean) in
     let reads = c.in_ok-elder.ensures.call.ok clean_mid mode in
-    let there = elder_found g c clean mode format records_of base under in
-    let is = newer_found g c in
-    let met = c.keep.ensures.taken clean reads.mode version is format records_of base last (same_way format profile id records_of old mid c.args.pending.now base reads.now_is under) there in
-    let said = ap (λ (k : Kind). changed_record (conditions_of version setting) k c.args.incoming.file c.args.incoming.nth bytes base) c.in-Update-default.is-0
-    ∙ named_record (conditions_of version setting) Update c.args.incoming.file c.args.incoming.nth bytes base ident is.whole is.named in
-    turned_so format profile id records_of old mid c.args.pending.now (standing new c.keep.new.pending) c.keep.new.progress.last (updated (conditions_of version setting) ident bytes base (kept_as ident base))
-    (changed_record (conditions_of version setting) setting.kind c.args.incoming.file c.args.incoming.nth bytes base) c.keep.result reads.now_is said met
+    let found = (goal.at.returns-in-Update-default-clause-taken g c).In_ok-elder in
+    let met = c.keep.ensures.taken clean reads.mode version (newer_found g c) format records_of base last (same_way format setting.profile.now id records_of old mid c.args.pending.now base reads.now_is under)
+    (elder_found g found clean_mid mode format records_of base under) in
+    turned_so format setting.profile.now id records_of old mid c.args.pending.now (standing new c.keep.new.pending) c.keep.new.progress.last
+    (updated (conditions_of version setting) ident c.args.incoming.bytes.now base (kept_as ident base))
+    (changed_record (conditions_of version setting) setting.kind c.args.incoming.file c.args.incoming.nth c.args.incoming.bytes.now base) c.keep.result reads.now_is
+    (said_by g found version base Update c.in-Update-default.is-0) met
+
+-- ---- what is withdrawn
+
+-- its elder goes, as the definition says of the kind of the change
+withdrawn : (g : given.Over) (c : In_ok-elder g) → HasCleanDisk (state g.S.Store c.record_of_ident.new.tx.conn.now) → IsTrue (state g.S.Store c.args.tx.now.conn.now).in_transaction
+    → (version : List ℕ) (format : Format) (records_of : ℤ → List Kept) (base : Base) → c.args.progress.now.last ≡ base.last
+    → WillBe format c.args.setting.now.profile.now c.args.progress.now.database.0 records_of (standing (state g.S.Store c.args.tx.now.conn.now) c.args.pending.now) base
+    → (elder : Elder) → c.in_ok-elder.elder ≡ Some elder → (new : Standing) (result : Result Fate Refusal) (absent : Result Changed Why)
+    → (IsTrue (state g.S.Store c.record_of_ident.new.tx.conn.now).in_transaction
+    → Takes c.args.setting.now.profile.now c.args.progress.now.database.0 (standing (state g.S.Store c.record_of_ident.new.tx.conn.now) c.args.pending.now) new c.args.progress.now.last
+    c.args.progress.now.last (λ b. IsElderAs c.as_str-ident.result.now b (Some elder)) (λ b. deleted absent c.as_str-ident.result.now b (kept_as c.as_str-ident.result.now b)) result)
+    → changed_record (conditions_of version c.args.setting.now) c.args.setting.now.kind c.args.incoming.file c.args.incoming.nth c.args.incoming.bytes.now base
+    ≡ deleted absent c.as_str-ident.result.now base (kept_as c.as_str-ident.result.now base)
+    → Meets (WillBeTaken format c.args.setting.now.profile.now c.args.progress.now.database.0 records_of (standing (state g.S.Store c.args.tx.now.conn.now) c.args.pending.now) new
+    c.args.progress.now.last)
+    (changed_record (conditions_of version c.args.setting.now) c.args.setting.now.kind c.args.incoming.file c.args.incoming.nth c.args.incoming.bytes.now base) result
+withdrawn g c clean mode version format records_of base last under elder is new result absent takes said =
+    let old = state g.S.Store c.args.tx.now.conn.now in
+    let mid = state g.S.Store c.record_of_ident.new.tx.conn.now in
+    let setting = c.args.setting.now in
+    let id = c.args.progress.now.database.0 in
+    let ident = c.as_str-ident.result.now in
+    let reads = c.in_ok-elder.ensures.call.ok clean mode in
+    let there = subst (λ (e : Option Elder). IsElderAs ident base e) is (elder_found g c clean mode format records_of base under) in
+    let met = takes reads.mode format records_of base last (same_way format setting.profile.now id records_of old mid c.args.pending.now base reads.now_is under) there in
+    turned_so format setting.profile.now id records_of old mid c.args.pending.now new c.args.progress.now.last (deleted absent ident base (kept_as ident base))
+    (changed_record (conditions_of version setting) setting.kind c.args.incoming.file c.args.incoming.nth c.args.incoming.bytes.now base) result reads.now_is said met
 
 pub returns-in-Delete-Some-clause-taken : goal.returns-in-Delete-Some-clause-taken
 returns-in-Delete-Some-clause-taken g c clean mode version format records_of base last under =
-    let old = state g.S.Store c.args.tx.now.conn.now in
-    let mid = state g.S.Store c.record_of_ident.new.tx.conn.now in
-    let new = state g.S.Store c.withdraw.new.tx.conn.now in
-    let setting = c.args.setting.now in
-    let profile = c.args.setting.now.profile.now in
-    let id = c.args.progress.now.database.0 in
-    let bytes = c.args.incoming.bytes.now in
-    let ident = c.as_str-ident.result.now in
+    let clean_mid : HasCleanDisk (state g.S.Store c.record_of_ident.new.tx.conn.now) = omega (arith, c.withdraw.ensures.inside.crash.clean) in
+    let found = (goal.at.returns-in-Delete-Some-clause-taken g c).In_ok-elder in
     let absent : Result Changed Why = Err (unknown c.args.incoming.file c.args.incoming.nth) in
-    let clean_mid : HasCleanDisk mid = omega (arith, c.withdraw.ensures.crash.clean) in
-    let reads = c.in_ok-elder.ensures.call.ok clean_mid mode in
-    let found = elder_is id records_of old.now.trees base under.1.kept ident (one_ident profile base under.2) c.in_ok-elder.elder (c.in_ok-elder.ensures.value clean_mid mode under.0) in
-    let there = subst (λ (e : Option Elder). IsElderAs ident base e) c.in-Delete-Some.is-1 found in
-    let named = c.in_ok-record.ensures.named ∙ ap Ok (sym c.as_str-ident.ensures.value) in
-    let met = c.withdraw.ensures.taken clean reads.mode absent format records_of base last (same_way format profile id records_of old mid c.args.pending.now base reads.now_is under) there in
-    let said = ap (λ (k : Kind). changed_record (conditions_of version setting) k c.args.incoming.file c.args.incoming.nth bytes base) c.in-Delete-Some.is-0
-    ∙ named_record (conditions_of version setting) Delete c.args.incoming.file c.args.incoming.nth bytes base ident c.in_ok-record.ensures.whole.sound named in
-    turned_so format profile id records_of old mid c.args.pending.now (standing new c.withdraw.new.pending) c.args.progress.now.last (deleted absent ident base (kept_as ident base))
-    (changed_record (conditions_of version setting) setting.kind c.args.incoming.file c.args.incoming.nth bytes base) c.withdraw.result reads.now_is said met
+    withdrawn g found clean_mid mode version format records_of base last under c.in-Delete-Some.elder c.in-Delete-Some.is-1 (standing (state g.S.Store c.withdraw.new.tx.conn.now) c.withdraw.new.pending)
+    c.withdraw.result absent (λ on. c.withdraw.ensures.taken clean on absent) (said_by g found version base Delete c.in-Delete-Some.is-0)
 
 pub returns-in-Adelete-Some-clause-taken : goal.returns-in-Adelete-Some-clause-taken
 returns-in-Adelete-Some-clause-taken g c clean mode version format records_of base last under =
-    let old = state g.S.Store c.args.tx.now.conn.now in
-    let mid = state g.S.Store c.record_of_ident.new.tx.conn.now in
-    let new = state g.S.Store c.withdraw-in-Adelete-Some.new.tx.conn.now in
-    let setting = c.args.setting.now in
-    let profile = c.args.setting.now.profile.now in
-    let id = c.args.progress.now.database.0 in
-    let bytes = c.args.incoming.bytes.now in
-    let ident = c.as_str-ident.result.now in
+    let clean_mid : HasCleanDisk (state g.S.Store c.record_of_ident.new.tx.conn.now) = omega (arith, c.withdraw-in-Adelete-Some.ensures.inside.crash.clean) in
+    let found = (goal.at.returns-in-Adelete-Some-clause-taken g c).In_ok-elder in
     let absent : Result Changed Why = Ok (base, PassedOver) in
-    let clean_mid : HasCleanDisk mid = omega (arith, c.withdraw-in-Adelete-Some.ensures.crash.clean) in
-    let reads = c.in_ok-elder.ensures.call.ok clean_mid mode in
-    let found = elder_is id records_of old.now.trees base under.1.kept ident (one_ident profile base under.2) c.in_ok-elder.elder (c.in_ok-elder.ensures.value clean_mid mode under.0) in
-    let there = subst (λ (e : Option Elder). IsElderAs ident base e) c.in-Adelete-Some.is-1 found in
-    let named = c.in_ok-record.ensures.named ∙ ap Ok (sym c.as_str-ident.ensures.value) in
-    let met = c.withdraw-in-Adelete-Some.ensures.taken clean reads.mode absent format records_of base last (same_way format profile id records_of old mid c.args.pending.now base reads.now_is under) there in
-    let said = ap (λ (k : Kind). changed_record (conditions_of version setting) k c.args.incoming.file c.args.incoming.nth bytes base) c.in-Adelete-Some.is-0
-    ∙ named_record (conditions_of version setting) Adelete c.args.incoming.file c.args.incoming.nth bytes base ident c.in_ok-record.ensures.whole.sound named in
-    turned_so format profile id records_of old mid c.args.pending.now (standing new c.withdraw-in-Adelete-Some.new.pending) c.args.progress.now.last (deleted absent ident base (kept_as ident base))
-    (changed_record (conditions_of version setting) setting.kind c.args.incoming.file c.args.incoming.nth bytes base) c.withdraw-in-Adelete-Some.result reads.now_is said met
+    withdrawn g found clean_mid mode version format records_of base last under c.in-Adelete-Some.elder c.in-Adelete-Some.is-1 (standing (state g.S.Store c.withdraw-in-Adelete-Some.new.tx.conn.now) c.withdraw-in-Adelete-Some.new.pending)
+    c.withdraw-in-Adelete-Some.result absent (λ on. c.withdraw-in-Adelete-Some.ensures.taken clean on absent) (said_by g found version base Adelete c.in-Adelete-Some.is-0)
 
 pub returns-in-Delete-None-clause-taken : goal.returns-in-Delete-None-clause-taken
 returns-in-Delete-None-clause-taken g c clean mode version format records_of base last under =
-    let old = state g.S.Store c.args.tx.now.conn.now in
-    let setting = c.args.setting.now in
-    let profile = c.args.setting.now.profile.now in
-    let bytes = c.args.incoming.bytes.now in
     let ident = c.as_str-ident.result.now in
     let absent : Result Changed Why = Err (unknown c.args.incoming.file c.args.incoming.nth) in
-    let found = elder_is c.args.progress.now.database.0 records_of old.now.trees base under.1.kept ident (one_ident profile base under.2) c.in_ok-elder.elder (c.in_ok-elder.ensures.value clean mode under.0) in
-    let none = subst (λ (e : Option Elder). IsElderAs ident base e) c.in-Delete-None.is-1 found in
-    let named = c.in_ok-record.ensures.named ∙ ap Ok (sym c.as_str-ident.ensures.value) in
-    inr (ap (λ (k : Kind). changed_record (conditions_of version setting) k c.args.incoming.file c.args.incoming.nth bytes base) c.in-Delete-None.is-0
-    ∙ named_record (conditions_of version setting) Delete c.args.incoming.file c.args.incoming.nth bytes base ident c.in_ok-record.ensures.whole.sound named
-    ∙ ap (deleted absent ident base) none)
+    let found = (goal.at.returns-in-Delete-None-clause-taken g c).In_ok-elder in
+    let none = subst (λ (e : Option Elder). IsElderAs ident base e) c.in-Delete-None.is-1 (elder_found g found clean mode format records_of base under) in
+    inr (said_by g found version base Delete c.in-Delete-None.is-0 ∙ ap (deleted absent ident base) none)
 
 pub returns-clause-taken : goal.returns-clause-taken
 returns-clause-taken g c clean mode version format records_of base last under =
-    let old = state g.S.Store c.args.tx.now.conn.now in
-    let mid = state g.S.Store c.record_of_ident.new.tx.conn.now in
-    let setting = c.args.setting.now in
-    let profile = c.args.setting.now.profile.now in
-    let id = c.args.progress.now.database.0 in
-    let bytes = c.args.incoming.bytes.now in
     let ident = c.as_str-ident.result.now in
     let absent : Result Changed Why = Ok (base, PassedOver) in
-    let reads = c.in_ok-elder.ensures.call.ok clean mode in
-    let found = elder_is id records_of old.now.trees base under.1.kept ident (one_ident profile base under.2) c.in_ok-elder.elder (c.in_ok-elder.ensures.value clean mode under.0) in
-    let none = subst (λ (e : Option Elder). IsElderAs ident base e) c.in-Adelete-None.is-1 found in
-    let named = c.in_ok-record.ensures.named ∙ ap Ok (sym c.as_str-ident.ensures.value) in
-    let said = ap (λ (k : Kind). changed_record (conditions_of version setting) k c.args.incoming.file c.args.incoming.nth bytes base) c.in-Adelete-None.is-0
-    ∙ named_record (conditions_of version setting) Adelete c.args.incoming.file c.args.incoming.nth bytes base ident c.in_ok-record.ensures.whole.sound named
-    ∙ ap (deleted absent ident base) none in
-    subst (λ (x : Result Changed Why). Meets (WillBeTaken format profile id records_of (standing old c.args.pending.now) (standing mid c.args.pending.now) c.args.progress.now.last) x (Ok PassedOver)) (sym said)
-    (passed_over format profile id records_of old mid c.args.pending.now c.args.progress.now.last base PassedOver reads.now_is last under)
+    let found = (goal.at.returns-clause-taken g c).In_ok-elder in
+    let none = subst (λ (e : Option Elder). IsElderAs ident base e) c.in-Adelete-None.is-1 (elder_found g found clean mode format records_of base under) in
+    passes g found clean mode version format records_of base last under PassedOver (said_by g found version base Adelete c.in-Adelete-None.is-0 ∙ ap (deleted absent ident base) none)
 
 -- a kept record of the same bytes is the elder, and was told before
 pub returns-in-Update-default-clause-idle : goal.returns-in-Update-default-clause-idle
 returns-in-Update-default-clause-idle g c clean mode update format records_of base under kept contained alike =
-    let there = elder_found g c clean mode format records_of base under in
-    let is = newer_found g c in
-    let elder = elder_alike c.args.setting.now.profile.now base under.2 c.as_str-ident.result.now c.args.incoming.bytes.now is.named kept contained alike c.in_ok-elder.elder there in
+    let clean_mid : HasCleanDisk (state g.S.Store c.record_of_ident.new.tx.conn.now) = omega (arith, c.keep.ensures.inside.crash.clean) in
+    let found = (goal.at.returns-in-Update-default-clause-idle g c).In_ok-elder in
+    let there = elder_found g found clean_mid mode format records_of base under in
+    let elder = elder_alike c.args.setting.now.profile.now base under.2 c.as_str-ident.result.now c.args.incoming.bytes.now (named g found) kept contained alike c.in_ok-elder.elder there in
     let same : elder_bytes c.in_ok-elder.elder ≡ Some c.args.incoming.bytes.now = ap elder_bytes elder.1 ∙ ap Some elder.2 in
     let yes = c.if-has_bytes.ensures.1 same in
     absurd (cc)
 
+-- ---- which keys are noted
+
 pub returns-in-Update-default-clause-cost : goal.returns-in-Update-default-clause-cost
 returns-in-Update-default-clause-cost g c clean mode format records_of base under =
-    let profile = c.args.setting.now.profile.now in
     let bytes = c.args.incoming.bytes.now in
-    let ident = c.as_str-ident.result.now in
-    let is = newer_found g c in
-    let there = elder_found g c clean mode format records_of base under in
+    let clean_mid : HasCleanDisk (state g.S.Store c.record_of_ident.new.tx.conn.now) = omega (arith, c.keep.ensures.inside.crash.clean) in
+    let found = (goal.at.returns-in-Update-default-clause-cost g c).In_ok-elder in
+    let there = elder_found g found clean_mid mode format records_of base under in
     let kind = ap (λ (k : Kind). newer_of k bytes) c.in-Update-default.is-0 in
-    ok_so c.keep.result _ _ (λ noted. (noted.0, cost_in profile c.args.setting.now.kind bytes ident base c.in_ok-elder.elder (Some bytes) noted.0 is.named there kind noted.1, noted.2))
-    (c.keep.ensures.cost is)
+    ok_so c.keep.result _ _
+    (λ noted. (noted.0, cost_in c.args.setting.now.profile.now c.args.setting.now.kind bytes c.as_str-ident.result.now base c.in_ok-elder.elder (Some bytes) noted.0 (named g found) there kind noted.1, noted.2))
+    (c.keep.ensures.cost (newer_found g c))
+
+-- the elder that goes
+elder_cost : (g : given.Over) (c : In_ok-elder g) → HasCleanDisk (state g.S.Store c.record_of_ident.new.tx.conn.now) → IsTrue (state g.S.Store c.args.tx.now.conn.now).in_transaction
+    → (format : Format) (records_of : ℤ → List Kept) (base : Base)
+    → WillBe format c.args.setting.now.profile.now c.args.progress.now.database.0 records_of (standing (state g.S.Store c.args.tx.now.conn.now) c.args.pending.now) base
+    → (elder : Elder) → c.in_ok-elder.elder ≡ Some elder → newer_of c.args.setting.now.kind c.args.incoming.bytes.now ≡ None → (new : Pending) (result : Result Fate Refusal)
+    → OnOk result (NotesAs c.args.setting.now.profile.now (Some elder.bytes.items) None c.args.pending.now new)
+    → OnOk result ((n : ℕ) × IsCostIn c.args.setting.now.profile.now c.args.setting.now.kind c.args.incoming.bytes.now base n × (noted_count new ≡ noted_count c.args.pending.now + n))
+elder_cost g c clean mode format records_of base under elder is none new result cost =
+    let setting = c.args.setting.now in
+    let ident = c.as_str-ident.result.now in
+    let there = subst (λ (e : Option Elder). IsElderAs ident base e) is (elder_found g c clean mode format records_of base under) in
+    ok_so result _ _ (λ noted. (noted.0, cost_in setting.profile.now setting.kind c.args.incoming.bytes.now ident base (Some elder) None noted.0 (named g c) there none noted.1, noted.2)) cost
 
 pub returns-in-Delete-Some-clause-cost : goal.returns-in-Delete-Some-clause-cost
 returns-in-Delete-Some-clause-cost g c clean mode format records_of base under =
-    let old = state g.S.Store c.args.tx.now.conn.now in
-    let mid = state g.S.Store c.record_of_ident.new.tx.conn.now in
-    let profile = c.args.setting.now.profile.now in
-    let id = c.args.progress.now.database.0 in
-    let bytes = c.args.incoming.bytes.now in
-    let ident = c.as_str-ident.result.now in
-    let clean_mid : HasCleanDisk mid = omega (arith, c.withdraw.ensures.crash.clean) in
-    let reads = c.in_ok-elder.ensures.call.ok clean_mid mode in
-    let found = elder_is id records_of old.now.trees base under.1.kept ident (one_ident profile base under.2) c.in_ok-elder.elder (c.in_ok-elder.ensures.value clean_mid mode under.0) in
-    let there = subst (λ (e : Option Elder). IsElderAs ident base e) c.in-Delete-Some.is-1 found in
-    let named = c.in_ok-record.ensures.named ∙ ap Ok (sym c.as_str-ident.ensures.value) in
-    let kind = ap (λ (k : Kind). newer_of k bytes) c.in-Delete-Some.is-0 in
-    ok_so c.withdraw.result _ _ (λ noted. (noted.0, cost_in profile c.args.setting.now.kind bytes ident base (Some c.in-Delete-Some.elder) None noted.0 named there kind noted.1, noted.2))
-    c.withdraw.ensures.cost
+    let clean_mid : HasCleanDisk (state g.S.Store c.record_of_ident.new.tx.conn.now) = omega (arith, c.withdraw.ensures.inside.crash.clean) in
+    elder_cost g (goal.at.returns-in-Delete-Some-clause-cost g c).In_ok-elder clean_mid mode format records_of base under c.in-Delete-Some.elder c.in-Delete-Some.is-1
+    (ap (λ (k : Kind). newer_of k c.args.incoming.bytes.now) c.in-Delete-Some.is-0) c.withdraw.new.pending c.withdraw.result c.withdraw.ensures.cost
 
 pub returns-in-Adelete-Some-clause-cost : goal.returns-in-Adelete-Some-clause-cost
 returns-in-Adelete-Some-clause-cost g c clean mode format records_of base under =
-    let old = state g.S.Store c.args.tx.now.conn.now in
-    let mid = state g.S.Store c.record_of_ident.new.tx.conn.now in
-    let profile = c.args.setting.now.profile.now in
-    let id = c.args.progress.now.database.0 in
-    let bytes = c.args.incoming.bytes.now in
-    let ident = c.as_str-ident.result.now in
-    let clean_mid : HasCleanDisk mid = omega (arith, c.withdraw-in-Adelete-Some.ensures.crash.clean) in
-    let reads = c.in_ok-elder.ensures.call.ok clean_mid mode in
-    let found = elder_is id records_of old.now.trees base under.1.kept ident (one_ident profile base under.2) c.in_ok-elder.elder (c.in_ok-elder.ensures.value clean_mid mode under.0) in
-    let there = subst (λ (e : Option Elder). IsElderAs ident base e) c.in-Adelete-Some.is-1 found in
-    let named = c.in_ok-record.ensures.named ∙ ap Ok (sym c.as_str-ident.ensures.value) in
-    let kind = ap (λ (k : Kind). newer_of k bytes) c.in-Adelete-Some.is-0 in
-    ok_so c.withdraw-in-Adelete-Some.result _ _ (λ noted. (noted.0, cost_in profile c.args.setting.now.kind bytes ident base (Some c.in-Adelete-Some.elder) None noted.0 named there kind noted.1, noted.2))
-    c.withdraw-in-Adelete-Some.ensures.cost
+    let clean_mid : HasCleanDisk (state g.S.Store c.record_of_ident.new.tx.conn.now) = omega (arith, c.withdraw-in-Adelete-Some.ensures.inside.crash.clean) in
+    elder_cost g (goal.at.returns-in-Adelete-Some-clause-cost g c).In_ok-elder clean_mid mode format records_of base under c.in-Adelete-Some.elder c.in-Adelete-Some.is-1
+    (ap (λ (k : Kind). newer_of k c.args.incoming.bytes.now) c.in-Adelete-Some.is-0) c.withdraw-in-Adelete-Some.new.pending c.withdraw-in-Adelete-Some.result c.withdraw-in-Adelete-Some.ensures.cost
 
 -- a record that is passed over changes no key
 pub returns-clause-cost : goal.returns-clause-cost
 returns-clause-cost g c clean mode format records_of base under =
-    let old = state g.S.Store c.args.tx.now.conn.now in
-    let profile = c.args.setting.now.profile.now in
-    let bytes = c.args.incoming.bytes.now in
+    let setting = c.args.setting.now in
     let ident = c.as_str-ident.result.now in
-    let found = elder_is c.args.progress.now.database.0 records_of old.now.trees base under.1.kept ident (one_ident profile base under.2) c.in_ok-elder.elder (c.in_ok-elder.ensures.value clean mode under.0) in
-    let none = subst (λ (e : Option Elder). IsElderAs ident base e) c.in-Adelete-None.is-1 found in
-    let named = c.in_ok-record.ensures.named ∙ ap Ok (sym c.as_str-ident.ensures.value) in
-    let kind = ap (λ (k : Kind). newer_of k bytes) c.in-Adelete-None.is-0 in
-    (0, cost_in profile c.args.setting.now.kind bytes ident base None None 0 named none kind (same_cost profile None), omega arith)
+    let found = (goal.at.returns-clause-cost g c).In_ok-elder in
+    let none = subst (λ (e : Option Elder). IsElderAs ident base e) c.in-Adelete-None.is-1 (elder_found g found clean mode format records_of base under) in
+    let kind = ap (λ (k : Kind). newer_of k c.args.incoming.bytes.now) c.in-Adelete-None.is-0 in
+    (0, cost_in setting.profile.now setting.kind c.args.incoming.bytes.now ident base None None 0 (named g found) none kind (same_cost setting.profile.now None), omega arith)
 
 -- ---- the same bytes again leave the database, and change no key
 
 pub returns-then-has_bytes-clause-taken : goal.returns-then-has_bytes-clause-taken
 returns-then-has_bytes-clause-taken g c clean mode version format records_of base last under =
-    let old = state g.S.Store c.args.tx.now.conn.now in
-    let mid = state g.S.Store c.record_of_ident.new.tx.conn.now in
     let setting = c.args.setting.now in
-    let profile = c.args.setting.now.profile.now in
-    let id = c.args.progress.now.database.0 in
-    let bytes = c.args.incoming.bytes.now in
-    let ident = c.as_str-ident.result.now in
-    let reads = c.in_ok-elder.ensures.call.ok clean mode in
-    let found = elder_is id records_of old.now.trees base under.1.kept ident (one_ident profile base under.2) c.in_ok-elder.elder (c.in_ok-elder.ensures.value clean mode under.0) in
-    let named = c.in_ok-record.ensures.named ∙ ap Ok (sym c.as_str-ident.ensures.value) in
-    let said = ap (λ (k : Kind). changed_record (conditions_of version setting) k c.args.incoming.file c.args.incoming.nth bytes base) c.in-Update-default.is-0
-    ∙ named_record (conditions_of version setting) Update c.args.incoming.file c.args.incoming.nth bytes base ident c.in_ok-record.ensures.whole.sound named
-    ∙ updated_alike profile (conditions_of version setting) base under.2 ident bytes c.in_ok-elder.elder found (c.if-has_bytes.ensures.0 refl) in
-    subst (λ (x : Result Changed Why). Meets (WillBeTaken format profile id records_of (standing old c.args.pending.now) (standing mid c.args.pending.now) c.args.progress.now.last) x (Ok Updated)) (sym said)
-    (passed_over format profile id records_of old mid c.args.pending.now c.args.progress.now.last base Updated reads.now_is last under)
+    let found = (goal.at.returns-then-has_bytes-clause-taken g c).In_ok-elder in
+    let there = elder_found g found clean mode format records_of base under in
+    passes g found clean mode version format records_of base last under Updated
+    (said_by g found version base Update c.in-Update-default.is-0
+    ∙ updated_alike setting.profile.now (conditions_of version setting) base under.2 c.as_str-ident.result.now c.args.incoming.bytes.now c.in_ok-elder.elder there (c.if-has_bytes.ensures.0 refl))
 
 pub returns-then-has_bytes-clause-cost : goal.returns-then-has_bytes-clause-cost
 returns-then-has_bytes-clause-cost g c clean mode format records_of base under =
-    let old = state g.S.Store c.args.tx.now.conn.now in
     let profile = c.args.setting.now.profile.now in
     let bytes = c.args.incoming.bytes.now in
-    let ident = c.as_str-ident.result.now in
-    let found = elder_is c.args.progress.now.database.0 records_of old.now.trees base under.1.kept ident (one_ident profile base under.2) c.in_ok-elder.elder (c.in_ok-elder.ensures.value clean mode under.0) in
-    let named = c.in_ok-record.ensures.named ∙ ap Ok (sym c.as_str-ident.ensures.value) in
+    let found = (goal.at.returns-then-has_bytes-clause-cost g c).In_ok-elder in
+    let there = elder_found g found clean mode format records_of base under in
     let kind = ap (λ (k : Kind). newer_of k bytes) c.in-Update-default.is-0 in
     let cost = subst (λ (elder : Option (List _)). IsRecordCost (occurs_by profile elder) (occurs_by profile (Some bytes)) 0) (sym (c.if-has_bytes.ensures.0 refl)) (same_cost profile (Some bytes)) in
-    (0, cost_in profile c.args.setting.now.kind bytes ident base c.in_ok-elder.elder (Some bytes) 0 named found kind cost, omega arith)
+    (0, cost_in profile c.args.setting.now.kind bytes c.as_str-ident.result.now base c.in_ok-elder.elder (Some bytes) 0 (named g found) there kind cost, omega arith)

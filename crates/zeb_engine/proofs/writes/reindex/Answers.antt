@@ -1,13 +1,10 @@
 use Rattle.std.proofs.Common.{◌≡◌, codes, Err, IsUtf8, inl, refl, rules, arith, ap, subst}
 use Rattle.sqlite.specs.Held.{state}
 use Rattle.sqlite.specs.State.{HasCleanDisk}
-use Rattle.zeb_register.specs.Calls.{Alters}
 use Rattle.zeb_register.specs.Formats.{version_of}
-use Rattle.zeb_register.specs.Sql.{Replaces}
-use Rattle.zeb_register.specs.Store.{IsEntryOf, entry, meta_tree}
 use Rattle.zeb_engine.specs.PrivateWriting.{IsRuled}
 use Rattle.zeb_engine.specs.Steps.{reindexed}
-use Rattle.zeb_engine.proofs.Renewing.{found_ruled, put_fails, rebuild_fails, rebuild_tells, reindex_remakes, reindex_works}
+use Rattle.zeb_engine.proofs.Renewing.{found_ruled, put_fails, rebuild_fails, rebuild_tells, reindex_remakes, reindex_works, renews}
 use Rattle.zeb_engine.proofs.writes.reindex.Goals as goal
 
 pub returns-in_err-rebuild-clause-works : goal.returns-in_err-rebuild-clause-works
@@ -21,27 +18,19 @@ returns-in_err-rebuild-clause-works g c clean inside opened k =
 
 pub returns-in_err-meta_put-clause-works : goal.returns-in_err-meta_put-clause-works
 returns-in_err-meta_put-clause-works g c clean inside opened k =
-    let old = state g.S.Store c.args.tx.now.conn.now in
     let mid = state g.S.Store c.rebuild.new.tx.conn.now in
-    let profile = c.args.profile.now in
     let fault = c.in_err-meta_put.field-0.0 in
     let cleaner : HasCleanDisk mid = omega (arith, c.meta_put.ensures.call.crash.clean) in
     let first = c.in_ok-rebuild.ensures.call.ok cleaner inside in
     let told : c.from_residual-in_err-meta_put.result ≡ Err fault = search rules in
-    rw told (put_fails profile k (IsRuled (version_of g.L.Layout.format) profile k) (reindexed k) old mid opened (found_ruled g.L.Layout.format profile k old.now.trees) (state g.S.Store c.meta_put.new.tx.conn.now) fault
+    rw told (put_fails (IsRuled (version_of g.L.Layout.format) c.args.profile.now k) (reindexed k) (state g.S.Store c.args.tx.now.conn.now) mid (state g.S.Store c.meta_put.new.tx.conn.now) fault
     (λ is. c.in_err-meta_put.ensures.honest (ap Err is)) first (c.in_err-meta_put.ensures.call.err clean first.mode))
 
 pub returns-clause-works : goal.returns-clause-works
 returns-clause-works g c clean inside opened k =
-    let old = state g.S.Store c.args.tx.now.conn.now in
-    let mid = state g.S.Store c.rebuild.new.tx.conn.now in
-    let new = state g.S.Store c.meta_put.new.tx.conn.now in
-    let profile = c.args.profile.now in
-    let cleaner : HasCleanDisk mid = omega (arith, c.meta_put.ensures.call.crash.clean) in
-    let first = c.in_ok-rebuild.ensures.call.ok cleaner inside in
-    let alters = subst (λ t. Alters meta_tree (Replaces (IsEntryOf (codes "profile")) (entry (codes "profile") t)) mid new) c.text.ensures (c.in_ok-meta_put.ensures.call.ok clean first.mode) in
-    let readable = subst IsUtf8 c.text.ensures c.text.utf8 in
-    reindex_works g.L.Layout.format profile old mid new first (c.in_ok-rebuild.ensures.built cleaner inside) k readable alters
+    let renewed = renews g.L.Layout.format c.args.profile.now (codes "profile") _ _ (state g.S.Store c.args.tx.now.conn.now) (state g.S.Store c.rebuild.new.tx.conn.now) (state g.S.Store c.meta_put.new.tx.conn.now)
+    c.text.ensures clean inside c.in_ok-rebuild.ensures.call c.in_ok-rebuild.ensures.built c.in_ok-meta_put.ensures.call in
+    reindex_works renewed k (subst IsUtf8 c.text.ensures c.text.utf8)
 
 pub returns-in_err-rebuild-clause-sound : goal.returns-in_err-rebuild-clause-sound
 returns-in_err-rebuild-clause-sound g c clean inside store =
@@ -62,10 +51,6 @@ returns-clause-sound g c clean inside store =
 
 pub returns-clause-remade : goal.returns-clause-remade
 returns-clause-remade g c clean inside =
-    let old = state g.S.Store c.args.tx.now.conn.now in
-    let mid = state g.S.Store c.rebuild.new.tx.conn.now in
-    let new = state g.S.Store c.meta_put.new.tx.conn.now in
-    let cleaner : HasCleanDisk mid = omega (arith, c.meta_put.ensures.call.crash.clean) in
-    let first = c.in_ok-rebuild.ensures.call.ok cleaner inside in
-    let alters = subst (λ t. Alters meta_tree (Replaces (IsEntryOf (codes "profile")) (entry (codes "profile") t)) mid new) c.text.ensures (c.in_ok-meta_put.ensures.call.ok clean first.mode) in
-    reindex_remakes g.L.Layout.format c.args.profile.now old mid new first (c.in_ok-rebuild.ensures.built cleaner inside) alters
+    let renewed = renews g.L.Layout.format c.args.profile.now (codes "profile") _ _ (state g.S.Store c.args.tx.now.conn.now) (state g.S.Store c.rebuild.new.tx.conn.now) (state g.S.Store c.meta_put.new.tx.conn.now)
+    c.text.ensures clean inside c.in_ok-rebuild.ensures.call c.in_ok-rebuild.ensures.built c.in_ok-meta_put.ensures.call in
+    reindex_remakes renewed

@@ -1,13 +1,35 @@
-use Rattle.std.proofs.Common.{map, string_bytes}
+use Rattle.std.proofs.Common.{◌≡◌, false, map, string_bytes}
+use Rattle.std.specs.Prelude.{IfSome}
+use Rattle.zeb_program.specs.ScriptAnswers.{AnswersScript}
+use Rattle.zeb_program.specs.WordAnswers.{AnswersWords}
+use Rattle.zeb_program.proofs.Unwrapped.{unwrapped}
 use Rattle.zeb_program.proofs.ScriptAnswerLemmas.{kept_script}
 use Rattle.zeb_program.proofs.WordAnswerLemmas.{kept_words}
 use Rattle.zeb_program.proofs.program.run.Goals as goal
 
-pub returns-clause-script : goal.returns-clause-script
-returns-clause-script g c = λ none read sound quiet.
-    kept_script (g.P.Paths.tells c.args.paths.now) _ _ _ _ _ (c.flush.ensures.bytes sound) (c.respond-status.ensures.script none read (c.flush.ensures.sound sound))
+pub returns-then-is_empty-clause-script : goal.returns-then-is_empty-clause-script
+returns-then-is_empty-clause-script g c = λ none read sound quiet.
+    let tells = g.P.Paths.tells c.args.paths.now in
+    let left = g.R.Source.remaining c.args.input.now in
+    let old = g.W.Write.contents c.args.output.now.writer in
+    let mid = g.W.Write.contents c.run_script.new.output.writer in
+    let told = unwrapped c.run_script.result
+    (λ status. g.R.Source.has_failed c.run_script.new.input ≡ false → c.run_script.new.output.failed ≡ false → IfSome left (λ text. AnswersScript tells text old mid status)) 3
+    c.run_script.ensures.answer c.run_script.ensures.stopped read (c.finish.ensures.sound sound) in
+    rw (c.finish.ensures.status sound quiet, c.unwrap_or-status.ensures)
+    (kept_script tells left old mid (g.W.Write.contents c.finish.new.output.writer) _ (c.finish.ensures.bytes sound) told)
 
 pub returns-clause-words : goal.returns-clause-words
 returns-clause-words g c = λ some sound quiet.
-    kept_words (map string_bytes c.args.words.now) _ _ _ _ _ _ _ _ (c.flush.ensures.bytes sound) (c.flush-2.ensures.bytes quiet)
-    (c.respond-status.ensures.words some (c.flush.ensures.sound sound) (c.flush-2.ensures.sound quiet))
+    let words = map string_bytes c.args.words.now in
+    let left = g.R.Source.remaining c.run_words.new.input in
+    let old = g.W.Write.contents c.args.output.now.writer in
+    let mid = g.W.Write.contents c.run_words.new.output.writer in
+    let fault_old = g.V.Write.contents c.args.fault_output.now.writer in
+    let fault_mid = g.V.Write.contents c.run_words.new.fault_output.writer in
+    let told = unwrapped c.run_words.result
+    (λ status. c.run_words.new.output.failed ≡ false → c.run_words.new.fault_output.failed ≡ false → AnswersWords words left old mid fault_old fault_mid status) 3
+    c.run_words.ensures.answer c.run_words.ensures.stopped (c.finish-2.ensures.sound sound) (c.finish-2.ensures.sound_fault quiet) in
+    rw (c.finish-2.ensures.status sound quiet, c.unwrap_or-status-2.ensures)
+    (kept_words words left old mid (g.W.Write.contents c.finish-2.new.output.writer) fault_old fault_mid (g.V.Write.contents c.finish-2.new.fault_output.writer) _
+    (c.finish-2.ensures.bytes sound) (c.finish-2.ensures.bytes_fault quiet) told)
