@@ -14,14 +14,18 @@ use Rattle.zeb_register.proofs.StatementForms.{Condition, equals, reading, alone
 use Rattle.zeb_register.specs.Sql.{IsListOf}
 use Rattle.zeb_register.proofs.ValueKinds.{codes_of, IsPlainTable, HasKeys, code}
 use Rattle.sqlite.specs.Table.{Table}
-use Rattle.zeb_register.specs.Store.{IsStore, Changes, databases_tree, HasDatabase, TakesDatabase}
+use Rattle.zeb_register.specs.Store.{IsStore, Changes, database_columns, databases_tree, HasDatabase, TakesDatabase}
 use Rattle.zeb_register.specs.RowStatements.{AddsDatabase, SetsLast, IsDatabaseRow}
 use Rattle.zeb_register.proofs.Writes.{next_free, GainsRow, LosesRows, RemakesRows, updates, changed_so, deletes, inserts, codes_there}
 use Rattle.zeb_register.proofs.RowLemmas.{null_of, spread, code_at, int_of, text_of}
 use Rattle.zeb_register.proofs.Selects.{IsSelected, selects, list_so}
 use Rattle.zeb_register.proofs.Calls.{IsSilent}
 use Rattle.zeb_register.proofs.Refusals.{IsWhole, IsFit, IsReasonedQuery, why_refused}
-use Rattle.zeb_register.proofs.WriteRefusals.{IsReasonedWrite, why_delete_refused}
+use Rattle.zeb_register.specs.Hindrances.{HindersLast, HindersNew, IsTooLarge}
+use Rattle.zeb_register.proofs.InsertRefusals.{why_insert_hindered}
+use Rattle.zeb_register.proofs.NewRows.{IsRowFor}
+use Rattle.zeb_register.proofs.UpdateRefusals.{why_update_hindered}
+use Rattle.zeb_register.proofs.WriteRefusals.{IsHinderedWrite, IsReasonedWrite, why_delete_refused}
 use Rattle.sqlite.specs.Order.{Row, column}
 use Rattle.sqlite.specs.Tree.{Trees}
 use Rattle.sqlite_rules.specs.Lists.{Has}
@@ -118,6 +122,53 @@ adds name last old new count store ran =
       λ n l. next_free store_schema 1 databases databases_static old (Null ∷ Text n ∷ Int l ∷ []) store,
     )) done.0)
 
+pub databases_keys : HasKeys store_schema databases ((2 ∷ []) ∷ [])
+databases_keys = record { are = λ r new. refl; comparable = refl }
+
+add_whole : IsWhole add_text 2 (understood store_schema add_text)
+unfolding understood everything
+add_whole = (omega arith, refl)
+
+database_fits : (name : List ℕ) (last : ℤ) → IsRowFor databases (Null ∷ Text name ∷ Int last ∷ [])
+database_fits name last = record {
+  typed = λ trees id. refl;
+  present = λ trees id. refl;
+  checked = λ trees id. refl;
+  coded = λ id. refl;
+  lean = refl;
+  exact = refl;
+  some = omega arith;
+  few = omega arith;
+}
+
+pub add_refused : (name : List ℕ) (last : ℤ) → IsHinderedWrite add_text (Text name ∷ Int last ∷ []) (HindersNew (λ was. column was 1 ≡ Text name) databases_tree (database_columns name last))
+add_refused name last =
+    why_insert_hindered 1 databases databases_static _ databases_keys (database_columns name last) (λ was. column was 1 ≡ Text name) (database_fits name last)
+    (λ id other was shares. elim shares [ inl m ↦ m.0 | inr none ↦ absurd none ])
+    (Text name ∷ Int last ∷ []) add_terms 4 refl refl (λ trees. (refl, refl)) add_text add_is add_plain add_whole
+
+-- ---- why the UPDATE by the rowid is refused
+
+last_whole : IsWhole last_text 2 (understood store_schema last_text)
+unfolding understood everything
+last_whole = (omega arith, refl)
+
+pub last_refused : (id last : ℤ) → IsHinderedWrite last_text (Int id ∷ Int last ∷ []) (HindersLast id last)
+last_refused id last =
+    let params = Int id ∷ Int last ∷ [] in
+    let wheres = equals 0 0 ∷ [] in
+    let shown = λ (was : Row) (it : (i : ℤ) × (name : List ℕ) × (n : ℤ) × (was ≡ Int i ∷ Null ∷ Text name ∷ Int n ∷ [])). ap (λ (r : Row). Null ∷ column r 2 ∷ Int last ∷ []) it.3 in
+    why_update_hindered 1 databases databases_static _ databases_keys params wheres (lit Null ∷ col 1 2 ∷ col 0 1 ∷ []) refl refl (λ r s m n. inr (m.0 ∙ sym n.0))
+    (λ was coded m. let it = database_row was coded in subst (IsRowFor databases) (sym (shown was it)) (database_fits it.1 last)) (λ other was i h. h)
+    (HindersLast id last) (λ old store h. elim h [
+      | inl none ↦ inl none
+      | inr large ↦
+          let it = database_row large.0 (codes_there store_schema 1 databases databases_static old large.0 store large.1) in
+          let key : Int it.0 ≡ Int id = ap (λ (r : Row). column r 0) (sym it.3) ∙ large.2.0 in
+          inr (it.1, it.2, subst (Has (old.now.trees 2)) (it.3 ∙ ap (λ v. v ∷ database_columns it.1 it.2) key) large.1, subst IsTooLarge (shown large.0 it) large.3)
+    ])
+    last_text last_is last_plain last_whole (λ trees mistyped. absurd (let t : true ≡ false = mistyped in cc))
+
 -- ---- DELETE by the rowid
 
 abbrev pub cut_text : List ℕ
@@ -150,9 +201,6 @@ pub cut_refused : (id : ℤ) → IsReasonedWrite cut_text (Int id ∷ [])
 cut_refused id = why_delete_refused cut_text (Int id ∷ []) 1 databases databases_static (equals 0 0 ∷ []) cut_is cut_plain cut_whole (cut_fit id)
 
 -- ---- SELECT by name
-
-pub databases_keys : HasKeys store_schema databases ((2 ∷ []) ∷ [])
-databases_keys = record { are = λ r new. refl; comparable = refl }
 
 abbrev pub named_text : List ℕ
 named_text = codes "SELECT id, last FROM databases WHERE name = ?1"

@@ -1,12 +1,13 @@
 -- Why an INSERT of one row, which fits the tables, is refused inside a transaction.
 use Rattle.std.proofs.Common.{◌≡◌, ◌⊎◌, ◌∙◌, ◌/◌, ◌&&◌, ℕ, ℤ, List, [], ◌∷◌, length, map, drop, Ok, Err, Result, Option, IsSome, inl, inr, None, Some, true, false, not, refl, sym, ap, subst}
 use Rattle.std.specs.Prelude.{IfErr}
+use Rattle.std.proofs.lemmas.Bool.{and_cases}
 use Rattle.sqlite.specs.declared.types.Value.TheVariants.{Null, Int}
 use Rattle.sqlite.specs.Cast.{cast_row}
 use Rattle.sqlite.specs.Command.TheVariants.{Insert}
 use Rattle.sqlite.specs.Does.{Does}
 use Rattle.sqlite.specs.Edit.{Edit, IsOversized, IsRefused, next_rowid, numbered, taken_by, with_rowid}
-use Rattle.sqlite.specs.Effect.{Database, RefusesSource, value_rows}
+use Rattle.sqlite.specs.Effect.{Database, IsSource, value_rows}
 use Rattle.sqlite.specs.Order.{Row}
 use Rattle.sqlite.specs.Rowids.TheVariants.{Chosen}
 use Rattle.sqlite.specs.Rows.{Sourced, Task, count_of, rowids_for}
@@ -22,20 +23,23 @@ use Rattle.sqlite_rules.specs.Action.{Writes}
 use Rattle.sqlite_rules.specs.Lists.{Has}
 use Rattle.sqlite_rules.specs.declared.error.Refusal.{Refusal}
 use Rattle.sqlite_rules.specs.declared.error.Refusal.TheVariants as why
-use Rattle.sqlite_rules.proofs.ListLemmas.{has_got}
+use Rattle.sqlite_rules.proofs.ListLemmas.{all_has, has_got}
 use Rattle.sqlite_rules.proofs.PlaceLemmas.{next_is_free}
 use Rattle.sqlite_schema.specs.declared.schema.Constraint.TheVariants.{Datatype, NotNull, Check, PrimaryKey, Unique, ForeignKey}
 use Rattle.sqlite_schema.specs.declared.schema.Keys.TheVariants.{Enforced}
-use Rattle.sqlite_schema.specs.Rules.{passes}
+use Rattle.sqlite_schema.specs.Rules.{Keeps, passes}
 use Rattle.zeb_register.specs.declared.faults.RegFault.TheVariants.{Store}
 use Rattle.zeb_register.specs.Calls.{MayRefuse}
 use Rattle.zeb_register.specs.Faults.{fault_of}
 use Rattle.zeb_register.specs.Store.{IsStore}
+use Rattle.zeb_register.specs.Hindrances.{HindersNew}
+use Rattle.zeb_register.proofs.Clashes.{clash_found}
+use Rattle.zeb_register.proofs.NewRows.{IsRowFor, large_for, no_rowid_left, parts_of}
 use Rattle.zeb_register.proofs.Refusals.{IsWhole}
 use Rattle.zeb_register.specs.Tables.{store_schema}
-use Rattle.zeb_register.proofs.ValueKinds.{IsPlainTable, keeps_all}
-use Rattle.zeb_register.proofs.WriteRefusals.{concluded, differs, referred, settled, unbound_at, why_stopped}
-use Rattle.zeb_register.proofs.Writes.{keyed_there}
+use Rattle.zeb_register.proofs.ValueKinds.{HasKeys, IsPlainTable, SharesKey, keeps_all}
+use Rattle.zeb_register.proofs.WriteRefusals.{IsHinderedWrite, concluded, differs, referred, settled, unbound_at, why_stopped}
+use Rattle.zeb_register.proofs.Writes.{codes_there, keyed_there}
 use Rattle.zeb_register.proofs.WrittenRows.{cast_row_same, not_above, not_counted, not_stamped}
 
 -- the new row, under the rowid above the last
@@ -43,8 +47,8 @@ abbrev pub putting : Trees → Table → Row → Edit
 putting db table columns = record { table = table; gone = []; news = (Int (next_rowid (db table.tree)) ∷ columns) ∷ [] }
 
 -- a key of the table has a row already, no rowid is left, or the row is too large
-abbrev pub Hinders : Trees → Table → Row → Type 0
-Hinders db table columns =
+abbrev pub IsStuck : Trees → Table → Row → Type 0
+IsStuck db table columns =
     let edit = putting db table columns in
     IsRefused store_schema Enforced db edit (why.Violates Unique)
     ⊎ (IsRefused store_schema Enforced db edit why.NoRowid ⊎ ((row : Row) × Has edit.news row × IsOversized store_schema table row))
@@ -56,7 +60,7 @@ module _ (old : State) (at : ℕ) (table : Table) (static : IsPlainTable store_s
   abbrev edit : Edit
   edit = putting old.now.trees table columns
 
-  refused_for : (reason : Refusal) → IsRefused store_schema Enforced old.now.trees edit reason → Hinders old.now.trees table columns
+  refused_for : (reason : Refusal) → IsRefused store_schema Enforced old.now.trees edit reason → IsStuck old.now.trees table columns
   refused_for (why.Violates Datatype) h = absurd (let e : true ≡ false = sym (ap (λ b. b && true) (typed old.now.trees (next_rowid (old.now.trees table.tree)))) ∙ h in cc)
   refused_for (why.Violates NotNull) h = absurd (let e : true ≡ false = sym (ap (λ b. b && true) (present old.now.trees (next_rowid (old.now.trees table.tree)))) ∙ h in cc)
   refused_for (why.Violates Check) h = absurd (let e : true ≡ false = sym (ap (λ b. b && true) (checked old.now.trees (next_rowid (old.now.trees table.tree)))) ∙ h in cc)
@@ -70,13 +74,13 @@ module _ (old : State) (at : ℕ) (table : Table) (static : IsPlainTable store_s
   refused_for why.BadReference h = absurd (let e : true ≡ false = sym (referred table (unbound_at table (has_got store_schema.tables at table static.there)) true false) ∙ h in cc)
   refused_for why.TooDeep h = absurd h
 
-  hindered : (reason : Option Refusal) → Writes store_schema Enforced old.now.trees edit (Err reason) → Hinders old.now.trees table columns
+  hindered : (reason : Option Refusal) → Writes store_schema Enforced old.now.trees edit (Err reason) → IsStuck old.now.trees table columns
   hindered reason (inl refused) = refused_for refused.0 refused.1
   hindered reason (inr (inl big)) = inr (inr (big.0, big.1, big.2))
   hindered reason (inr (inr (next, applies, (n, leads)))) = absurd (settled n next reason (rw (static.free (taken_by old.now.trees edit) edit.news) at leads))
 
   module _ (params : Row) (terms : List Term) (width : ℕ) (source : value_rows params width (length terms / width) terms ≡ (Null ∷ columns) ∷ [])
-      (kept : keeps_all table.columns columns ≡ true) (accepted : (db : Database) (e : Error) → ¬ RefusesSource None db params (Values terms width) e) where
+      (kept : keeps_all table.columns columns ≡ true) (accepted : (db : Database) → IsSource db params (Values terms width) (value_rows params width (length terms / width) terms)) where
     abbrev task : Task
     task = record { limit = old.step_limit; keys = Enforced; schema = store_schema; table = table; params = params }
 
@@ -85,11 +89,11 @@ module _ (old : State) (at : ℕ) (table : Table) (static : IsPlainTable store_s
 
     unsourced : (inner : Option Error) → Sourced old.step_limit known params (Values terms width) (Err inner) → IsSome old.step_limit
     unsourced None h = absurd h
-    unsourced (Some e) (inl mistyped) = absurd (accepted known e (inl mistyped))
+    unsourced (Some e) (inl mistyped) = absurd (let n : true ≡ false = sym (accepted known).0 ∙ mistyped.1 in cc)
     unsourced (Some e) (inr stopped) = stopped.1
 
     pub why_insert_stops : (text : List ℕ) (stop : Option Error) → Does old.step_limit (mode_of old) params old.now text None (Insert at (Values terms width)) (Err stop)
-        → IsSome old.step_limit ⊎ Hinders old.now.trees table columns
+        → IsSome old.step_limit ⊎ IsStuck old.now.trees table columns
     why_insert_stops text stop h =
         let begun = rw static.there at (subst (λ s. Does old.step_limit (mode_of old) params (record old.now { schema = s }) text None (Insert at (Values terms width)) (Err stop)) store.is h) in
         let rows = old.now.trees table.tree in
@@ -120,9 +124,40 @@ module _ (old : State) (at : ℕ) (table : Table) (static : IsPlainTable store_s
 
     -- on the tables of a store a failure of it at this statement, inside a transaction, has a reason, or one of the three hinders the row
     pub why_insert_refused : (sql : List ℕ) → command_of (understood store_schema sql) ≡ Insert at (Values terms width) → IsPlain (understood store_schema sql) → IsWhole sql (length params) (understood store_schema sql)
-        → (new : State) (r : Result ℕ Error) → ExecutesInside 0 sql params old new r → IfErr r (λ e. fault_of e ≡ Store → MayRefuse old new ⊎ Hinders old.now.trees table columns)
+        → (new : State) (r : Result ℕ Error) → ExecutesInside 0 sql params old new r → IfErr r (λ e. fault_of e ≡ Store → MayRefuse old new ⊎ IsStuck old.now.trees table columns)
     why_insert_refused sql is plain whole new (Ok count) ran = tt
     why_insert_refused sql is plain whole new (Err e) ran = λ told. elim (why_stopped sql params (Insert at (Values terms width)) refl is plain whole old new store e told ran) [
       | inl cause ↦ inl cause
       | inr stopped ↦ elim (why_insert_stops (statement_of sql (understood store_schema sql)) stopped.0 stopped.1) [ inl limit ↦ inl (inr (inr limit)) | inr hinders ↦ inr hinders ]
     ]
+
+-- the same of a row that fits the table: one with a key of it is there, no rowid is left, or it is too large
+module _ (at : ℕ) (table : Table) (static : IsPlainTable store_schema at table) (keys : List (List ℕ)) (has : HasKeys store_schema table keys)
+    (columns : Row) (P : Row → Type 0) (fits : IsRowFor table columns) (means : (id other : ℤ) (was : Row) → SharesKey keys (Int id ∷ was) (Int other ∷ columns) → P was) where
+  hinders : (old : State) → IsStore old → IsStuck old.now.trees table columns → HindersNew P table.tree columns old.now.trees
+  hinders old store (inl clash) =
+      let rows = old.now.trees table.tree in
+      let keyed = keyed_there store_schema at table static old store in
+      let id = next_rowid rows in
+      let fresh = ap (λ b. not b && true) (next_is_free Chosen rows columns keyed.0 keyed.1) in
+      let keeps = subst (λ s. Keeps Unique s old.now.trees) store.is (store.sound.obeys.rules Unique) in
+      let other = clash_found at table static keys has old.now.trees [] (Int id ∷ columns) keeps keyed.0 (fits.coded id) (λ r here. codes_there store_schema at table static old r store here) fresh clash in
+      let row = parts_of other.0 (all_has _ rows other.0 keyed.1 other.1) in
+      inl (row.1, (row.0, subst (Has rows) row.2 other.1), means row.0 id row.1 (subst (λ r. SharesKey keys r (Int id ∷ columns)) row.2 other.2))
+  hinders old store (inr (inl none)) =
+      let keyed = keyed_there store_schema at table static old store in
+      inr (inl (no_rowid_left table.tree old.now.trees keyed (elim (and_cases _ _ none) [ inl wide ↦ wide | inr other ↦ absurd (let e : true ≡ false = other in cc) ])))
+  hinders old store (inr (inr big)) =
+      let id = next_rowid (old.now.trees table.tree) in
+      let is : big.0 ≡ Int id ∷ columns = elim big.1 [ inl same ↦ same | inr none ↦ absurd none ] in
+      inr (inr (large_for table columns id fits (subst (IsOversized store_schema table) is big.2)))
+
+  pub why_insert_hindered : (params : Row) (terms : List Term) (width : ℕ) → value_rows params width (length terms / width) terms ≡ (Null ∷ columns) ∷ [] → keeps_all table.columns columns ≡ true
+      → ((db : Database) → IsSource db params (Values terms width) (value_rows params width (length terms / width) terms)) → (sql : List ℕ) → command_of (understood store_schema sql) ≡ Insert at (Values terms width) → IsPlain (understood store_schema sql)
+      → IsWhole sql (length params) (understood store_schema sql) → IsHinderedWrite sql params (HindersNew P table.tree columns)
+  why_insert_hindered params terms width source kept accepted sql is plain whole old new (Ok count) store ran = tt
+  why_insert_hindered params terms width source kept accepted sql is plain whole old new (Err e) store ran = λ told.
+      elim (why_insert_refused old at table static store columns fits.typed fits.present fits.checked params terms width source kept accepted sql is plain whole new (Err e) ran told) [
+        | inl cause ↦ inl cause
+        | inr stuck ↦ inr (hinders old store stuck)
+      ]

@@ -20,6 +20,7 @@ pub mod TextStatements
 pub mod DatabaseStatements
 pub mod DatabaseLists
 pub mod RecordStatements
+pub mod SharedKeys
 pub mod RowsAreLists
 pub mod PostingStatements
 pub mod TermStatements
@@ -52,7 +53,13 @@ pub mod RecordLemmas
 pub mod RecordReadings
 pub mod Refusals
 pub mod WriteRefusals
+pub mod RowSizes
+pub mod Clashes
+pub mod NewRows
 pub mod InsertRefusals
+pub mod UpdateRefusals
+pub mod ReplaceRefusals
+pub mod DatabaseRefusals
 pub mod Alike
 pub mod Told
 pub mod ExpectedStatements

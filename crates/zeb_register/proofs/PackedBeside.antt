@@ -35,7 +35,7 @@ use Rattle.zeb_register.proofs.PackedLemmas.{in_part, not_empty, one_spelled, pa
 use Rattle.zeb_register.proofs.PostingStatements.{blocks, blocks_static}
 use Rattle.zeb_register.proofs.PackedStatements.{blocks_keys}
 use Rattle.zeb_register.proofs.RisingLists.{joined_rises, kept_rises, never_itself, same_list}
-use Rattle.zeb_register.proofs.RowsAreLists.{single}
+use Rattle.zeb_register.proofs.SharedKeys.{single}
 use Rattle.zeb_register.proofs.Scans.{strictly_mapped}
 
 abbrev rest_of : Key → ℕ → List ℕ → Row

@@ -10,6 +10,7 @@ use Rattle.sqlite.specs.Term.{Term, lit, col}
 use Rattle.sqlite.specs.Listing.{understood, reads_listing}
 use Rattle.sqlite.proofs.Callers.{IsPlain, command_of}
 use Rattle.sqlite_tied.specs.Compute.{everything}
+use Rattle.zeb_register.specs.Hindrances.{Hinders, HindersNew, IsTooLarge}
 use Rattle.zeb_register.specs.PackedChanges.{IsBlockOf, IsRowOf, block_columns, block_key, dict_columns}
 use Rattle.zeb_register.specs.RowStatements.{Gains, Renews}
 use Rattle.zeb_register.specs.Sql.{IsListOf, Loses}
@@ -20,9 +21,13 @@ use Rattle.zeb_register.proofs.PackedStatements.{blocks_keys, dict_keys}
 use Rattle.zeb_register.proofs.PostingStatements.{blocks, blocks_static, dict, dict_static}
 use Rattle.zeb_register.proofs.Prefix.{IsAfter, lists_after}
 use Rattle.zeb_register.proofs.Refusals.{IsFit, IsWhole}
-use Rattle.zeb_register.proofs.WriteRefusals.{IsReasonedWrite, why_delete_refused}
+use Rattle.zeb_register.proofs.InsertRefusals.{why_insert_hindered}
+use Rattle.zeb_register.proofs.NewRows.{IsRowFor}
+use Rattle.zeb_register.proofs.UpdateRefusals.{why_update_hindered}
+use Rattle.zeb_register.proofs.WriteRefusals.{IsHinderedWrite, IsReasonedWrite, why_delete_refused}
+use Rattle.zeb_register.proofs.RowLemmas.{covered_some}
 use Rattle.zeb_register.proofs.Selects.{list_so}
-use Rattle.zeb_register.proofs.StatementForms.{Condition, alone, equals, keyed_from, no_limit, reading, shows}
+use Rattle.zeb_register.proofs.StatementForms.{Condition, MeetsAll, alone, equals, keyed_from, no_limit, reading, shows}
 use Rattle.zeb_register.proofs.Writes.{RemakesRows, changed_so, deletes, gains, inserts, loses, updates}
 
 -- ---- SELECT
@@ -95,6 +100,30 @@ adds_block db idx reg term block bytes old new count store ran =
     let row = block_columns db idx reg term block bytes in
     gains store_schema 9 old new row (inserts store_schema 4 blocks blocks_static add_block_text row add_block_terms 7 row add_block_is add_block_plain refl refl old new count store ran).0
 
+add_block_whole : IsWhole add_block_text 6 (understood store_schema add_block_text)
+unfolding understood everything
+add_block_whole = (omega arith, refl)
+
+pub block_fits : (db idx reg : ℤ) (term : List ℕ) (block : ℤ) (bytes : List ℕ) → IsRowFor blocks (block_columns db idx reg term block bytes)
+block_fits db idx reg term block bytes = record {
+  typed = λ trees id. refl;
+  present = λ trees id. refl;
+  checked = λ trees id. refl;
+  coded = λ id. refl;
+  lean = refl;
+  exact = refl;
+  some = omega arith;
+  few = omega arith;
+}
+
+pub add_block_refused : (db idx reg : ℤ) (term : List ℕ) (block : ℤ) (bytes : List ℕ)
+    → IsHinderedWrite add_block_text (block_columns db idx reg term block bytes) (HindersNew (IsBlockOf db idx reg term block) blocks_tree (block_columns db idx reg term block bytes))
+add_block_refused db idx reg term block bytes =
+    let row = block_columns db idx reg term block bytes in
+    why_insert_hindered 4 blocks blocks_static _ blocks_keys row (IsBlockOf db idx reg term block) (block_fits db idx reg term block bytes)
+    (λ id other was shares. elim shares [ inl m ↦ (m.0, m.1.0, m.1.1.0, m.1.1.1.0, m.1.1.1.1.0) | inr none ↦ absurd none ])
+    row add_block_terms 7 refl refl (λ trees. (refl, refl)) add_block_text add_block_is add_block_plain add_block_whole
+
 abbrev pub add_dict_text : List ℕ
 add_dict_text = codes "INSERT INTO dict VALUES (?1, ?2, ?3, ?4, ?5)"
 
@@ -114,6 +143,30 @@ pub adds_dict : (db idx reg : ℤ) (term : List ℕ) (records : ℤ) (old new : 
 adds_dict db idx reg term records old new count store ran =
     let row = dict_columns db idx reg term records in
     gains store_schema 11 old new row (inserts store_schema 5 dict dict_static add_dict_text row add_dict_terms 6 row add_dict_is add_dict_plain refl refl old new count store ran).0
+
+add_dict_whole : IsWhole add_dict_text 5 (understood store_schema add_dict_text)
+unfolding understood everything
+add_dict_whole = (omega arith, refl)
+
+pub dict_fits : (db idx reg : ℤ) (term : List ℕ) (records : ℤ) → IsRowFor dict (dict_columns db idx reg term records)
+dict_fits db idx reg term records = record {
+  typed = λ trees id. refl;
+  present = λ trees id. refl;
+  checked = λ trees id. refl;
+  coded = λ id. refl;
+  lean = refl;
+  exact = refl;
+  some = omega arith;
+  few = omega arith;
+}
+
+pub add_dict_refused : (db idx reg : ℤ) (term : List ℕ) (records : ℤ)
+    → IsHinderedWrite add_dict_text (dict_columns db idx reg term records) (HindersNew (IsRowOf db idx reg term) dict_tree (dict_columns db idx reg term records))
+add_dict_refused db idx reg term records =
+    let row = dict_columns db idx reg term records in
+    why_insert_hindered 5 dict dict_static _ dict_keys row (IsRowOf db idx reg term) (dict_fits db idx reg term records)
+    (λ id other was shares. elim shares [ inl m ↦ (m.0, m.1.0, m.1.1.0, m.1.1.1.0) | inr none ↦ absurd none ])
+    row add_dict_terms 6 refl refl (λ trees. (refl, refl)) add_dict_text add_dict_is add_dict_plain add_dict_whole
 
 -- ---- DELETE
 
@@ -226,6 +279,20 @@ sets_block db idx reg term block bytes old new count store ran =
       ],
     )) done
 
+set_block_whole : IsWhole set_block_text 6 (understood store_schema set_block_text)
+unfolding understood everything
+set_block_whole = (omega arith, refl)
+
+pub set_block_refused : (db idx reg : ℤ) (term : List ℕ) (block : ℤ) (bytes : List ℕ)
+    → IsHinderedWrite set_block_text (block_columns db idx reg term block bytes) (Hinders 0 blocks_tree (block_columns db idx reg term block bytes))
+set_block_refused db idx reg term block bytes =
+    let row = block_columns db idx reg term block bytes in
+    let shown = λ (was : Row) (m : MeetsAll row was block_wheres). five_shown db idx reg term block bytes _ _ _ _ _ m.0 m.1.0 m.1.1.0 m.1.1.1.0 m.1.1.1.1.0 in
+    why_update_hindered 4 blocks blocks_static _ blocks_keys row block_wheres set_block refl refl (λ r s m n. inl (covered_some row r s block_wheres [] ((1 ∷ 2 ∷ 3 ∷ 4 ∷ 5 ∷ []) ∷ []) m n tt refl))
+    (λ was coded m. subst (IsRowFor blocks) (sym (shown was m)) (block_fits db idx reg term block bytes)) (λ other was id h. h)
+    (Hinders 0 blocks_tree row) (λ old store h. elim h [ inl none ↦ inl none | inr large ↦ inr (subst IsTooLarge (shown large.0 large.2) large.3) ])
+    set_block_text set_block_is set_block_plain set_block_whole (λ trees mistyped. absurd (let t : true ≡ false = mistyped in cc))
+
 abbrev pub set_dict_text : List ℕ
 set_dict_text = codes "UPDATE dict SET records = ?5 WHERE db = ?1 AND idx = ?2 AND reg = ?3 AND term = ?4"
 
@@ -265,3 +332,16 @@ sets_dict db idx reg term records old new count store ran =
             (id, (each (Int id ∷ columns)).1 (inr (Int id ∷ there.0, there.1.1, (p.0, (p.1, (p.2, (p.3, tt)))), is)))
       ],
     )) done
+
+set_dict_whole : IsWhole set_dict_text 5 (understood store_schema set_dict_text)
+unfolding understood everything
+set_dict_whole = (omega arith, refl)
+
+pub set_dict_refused : (db idx reg : ℤ) (term : List ℕ) (records : ℤ) → IsHinderedWrite set_dict_text (dict_columns db idx reg term records) (Hinders 0 dict_tree (dict_columns db idx reg term records))
+set_dict_refused db idx reg term records =
+    let row = dict_columns db idx reg term records in
+    let shown = λ (was : Row) (m : MeetsAll row was dict_wheres). four_shown db idx reg term records _ _ _ _ m.0 m.1.0 m.1.1.0 m.1.1.1.0 in
+    why_update_hindered 5 dict dict_static _ dict_keys row dict_wheres set_dict refl refl (λ r s m n. inl (covered_some row r s dict_wheres [] ((1 ∷ 2 ∷ 3 ∷ 4 ∷ []) ∷ []) m n tt refl))
+    (λ was coded m. subst (IsRowFor dict) (sym (shown was m)) (dict_fits db idx reg term records)) (λ other was id h. h)
+    (Hinders 0 dict_tree row) (λ old store h. elim h [ inl none ↦ inl none | inr large ↦ inr (subst IsTooLarge (shown large.0 large.2) large.3) ])
+    set_dict_text set_dict_is set_dict_plain set_dict_whole (λ trees mistyped. absurd (let t : true ≡ false = mistyped in cc))

@@ -1,5 +1,5 @@
 -- The statements on postings, each with what it is compiled to.
-use Rattle.std.proofs.Common.{◌≡◌, arith, sym, subst, ℕ, List, [], ◌∷◌, codes, refl, true, false, ℤ, Ok}
+use Rattle.std.proofs.Common.{◌≡◌, arith, sym, subst, ℕ, List, [], ◌∷◌, codes, refl, true, false, ℤ, Ok, inl, inr}
 use Rattle.sqlite.specs.declared.types.Value.TheVariants.{Null, Int}
 use Rattle.sqlite.specs.State.{State, Executes, Shown}
 use Rattle.sqlite.specs.Command.TheVariants.{Select, Delete, Insert}
@@ -20,8 +20,11 @@ use Rattle.zeb_register.proofs.Selects.{list_so}
 use Rattle.zeb_register.proofs.Prefix.{IsAfter, lists_after}
 use Rattle.zeb_register.proofs.Calls.{IsSilent}
 use Rattle.zeb_register.proofs.Refusals.{IsFit, IsReasonedQuery, IsWhole, why_refused}
-use Rattle.zeb_register.proofs.WriteRefusals.{IsReasonedWrite, why_delete_refused}
-use Rattle.sqlite.specs.Order.{Row}
+use Rattle.zeb_register.specs.Hindrances.{HindersNew}
+use Rattle.zeb_register.proofs.InsertRefusals.{why_insert_hindered}
+use Rattle.zeb_register.proofs.NewRows.{IsRowFor}
+use Rattle.zeb_register.proofs.WriteRefusals.{IsHinderedWrite, IsReasonedWrite, why_delete_refused}
+use Rattle.sqlite.specs.Order.{Row, column}
 
 abbrev pub postings : Table
 postings = record postings_table { tree = 7 }
@@ -146,10 +149,34 @@ puts db idx reg term sysno seq place old new count store ran =
     let row = posting db idx reg term sysno seq place in
     gains store_schema 7 old new row (inserts store_schema 3 postings postings_static put_text row put_terms 8 row put_is put_plain refl refl old new count store ran).0
 
--- ---- SELECT
-
 pub postings_keys : HasKeys store_schema postings ((1 ∷ 2 ∷ 3 ∷ 4 ∷ 5 ∷ 6 ∷ 7 ∷ []) ∷ [])
 postings_keys = record { are = λ r new. refl; comparable = refl }
+
+put_whole : IsWhole put_text 7 (understood store_schema put_text)
+unfolding understood everything
+put_whole = (omega arith, refl)
+
+posting_fits : (db idx reg : ℤ) (term : List ℕ) (sysno seq place : ℤ) → IsRowFor postings (posting db idx reg term sysno seq place)
+posting_fits db idx reg term sysno seq place = record {
+  typed = λ trees id. refl;
+  present = λ trees id. refl;
+  checked = λ trees id. refl;
+  coded = λ id. refl;
+  lean = refl;
+  exact = refl;
+  some = omega arith;
+  few = omega arith;
+}
+
+pub put_refused : (db idx reg : ℤ) (term : List ℕ) (sysno seq place : ℤ) → IsHinderedWrite put_text (posting db idx reg term sysno seq place)
+    (HindersNew (λ was. IsPlaceOf db idx reg term sysno was × (column was 5 ≡ Int seq) × (column was 6 ≡ Int place)) postings_tree (posting db idx reg term sysno seq place))
+put_refused db idx reg term sysno seq place =
+    let row = posting db idx reg term sysno seq place in
+    why_insert_hindered 3 postings postings_static _ postings_keys row (λ was. IsPlaceOf db idx reg term sysno was × (column was 5 ≡ Int seq) × (column was 6 ≡ Int place)) (posting_fits db idx reg term sysno seq place)
+    (λ id other was shares. elim shares [ inl m ↦ ((m.0, m.1.0, m.1.1.0, m.1.1.1.0, m.1.1.1.1.0), m.1.1.1.1.1.0, m.1.1.1.1.1.1.0) | inr none ↦ absurd none ])
+    row put_terms 8 refl refl (λ trees. (refl, refl)) put_text put_is put_plain put_whole
+
+-- ---- SELECT
 
 abbrev pub key_text : List ℕ
 key_text = codes "SELECT sysno, seq, pos FROM postings WHERE db = ?1 AND idx = ?2 AND reg = ?3 AND term = ?4 ORDER BY sysno, seq, pos"

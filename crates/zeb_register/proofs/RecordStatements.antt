@@ -23,7 +23,10 @@ use Rattle.zeb_register.proofs.Selects.{IsSelected, selects, list_so}
 use Rattle.zeb_register.proofs.Prefix.{IsAfter, lists_after}
 use Rattle.zeb_register.proofs.Calls.{IsSilent}
 use Rattle.zeb_register.proofs.Refusals.{IsWhole, IsFit, IsReasonedQuery, why_refused}
-use Rattle.zeb_register.proofs.WriteRefusals.{IsReasonedWrite, why_delete_refused}
+use Rattle.zeb_register.specs.Hindrances.{Hinders}
+use Rattle.zeb_register.proofs.NewRows.{IsRowFor}
+use Rattle.zeb_register.proofs.ReplaceRefusals.{why_replace_hindered}
+use Rattle.zeb_register.proofs.WriteRefusals.{IsHinderedWrite, IsReasonedWrite, why_delete_refused}
 use Rattle.sqlite.specs.Order.{Row, column}
 use Rattle.sqlite_rules.specs.Lists.{Has}
 
@@ -72,6 +75,27 @@ keeps_record db sysno ident bytes old new count store ran =
       λ h. elim h [ inl m ↦ inl (m.0, m.1.0) | inr more ↦ elim more [ inl m ↦ inr (m.0, m.1.0) | inr none ↦ absurd none ] ],
       λ p. elim p [ inl m ↦ inl (m.0, (m.1, tt)) | inr m ↦ inr (inl (m.0, (m.1, tt))) ],
     )) (replaces store_schema 2 records records_static keep_text row keep_terms 5 row keys keep_is keep_plain refl refl (λ id. refl) records_keys old new count store ran).0
+
+keep_whole : IsWhole keep_text 4 (understood store_schema keep_text)
+unfolding understood everything
+keep_whole = (omega arith, refl)
+
+record_fits : (db sysno : ℤ) (ident bytes : List ℕ) → IsRowFor records (record_row db sysno ident bytes)
+record_fits db sysno ident bytes = record {
+  typed = λ trees id. refl;
+  present = λ trees id. refl;
+  checked = λ trees id. refl;
+  coded = λ id. refl;
+  lean = refl;
+  exact = refl;
+  some = omega arith;
+  few = omega arith;
+}
+
+pub keep_refused : (db sysno : ℤ) (ident bytes : List ℕ) → IsHinderedWrite keep_text (record_row db sysno ident bytes) (Hinders 1 records_tree (record_row db sysno ident bytes))
+keep_refused db sysno ident bytes =
+    let row = record_row db sysno ident bytes in
+    why_replace_hindered 2 records records_static _ records_keys row (record_fits db sysno ident bytes) refl row keep_terms 5 refl (λ trees. (refl, refl)) keep_text keep_is keep_plain keep_whole
 
 -- ---- DELETE
 

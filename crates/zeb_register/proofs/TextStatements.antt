@@ -26,6 +26,10 @@ use Rattle.zeb_register.specs.declared.faults.RegFault.TheVariants.{Store}
 use Rattle.zeb_register.specs.Faults.{fault_of}
 use Rattle.zeb_register.specs.Calls.{MayRefuse}
 use Rattle.zeb_register.proofs.Refusals.{IsWhole, IsFit, why_refused}
+use Rattle.zeb_register.specs.Hindrances.{Hinders}
+use Rattle.zeb_register.proofs.NewRows.{IsRowFor}
+use Rattle.zeb_register.proofs.ReplaceRefusals.{why_replace_hindered}
+use Rattle.zeb_register.proofs.WriteRefusals.{IsHinderedWrite}
 use Rattle.sqlite.specs.Order.{Row, column}
 use Rattle.sqlite.specs.Tree.{Trees}
 use Rattle.sqlite_rules.specs.Lists.{Has}
@@ -57,6 +61,27 @@ sets name value old new count store ran =
     let keys = (1 ∷ []) ∷ [] in
     takes_place store_schema 0 old new keys (IsEntryOf name) row (λ id other columns. (λ h. elim h [ inl same ↦ same.0 | inr none ↦ absurd none ], λ p. inl (p, tt)))
     (replaces store_schema 0 meta_table meta_static set_text row set_terms 3 row keys set_is set_plain refl refl (λ id. refl) meta_keys old new count store ran).0
+
+set_whole : IsWhole set_text 2 (understood store_schema set_text)
+unfolding understood everything
+set_whole = (omega arith, refl)
+
+entry_fits : (name value : List ℕ) → IsRowFor meta_table (entry name value)
+entry_fits name value = record {
+  typed = λ trees id. refl;
+  present = λ trees id. refl;
+  checked = λ trees id. refl;
+  coded = λ id. refl;
+  lean = refl;
+  exact = refl;
+  some = omega arith;
+  few = omega arith;
+}
+
+pub set_refused : (name value : List ℕ) → IsHinderedWrite set_text (entry name value) (Hinders 1 meta_tree (entry name value))
+set_refused name value =
+    let row = entry name value in
+    why_replace_hindered 0 meta_table meta_static _ meta_keys row (entry_fits name value) refl row set_terms 3 refl (λ trees. (refl, refl)) set_text set_is set_plain set_whole
 
 abbrev pub value_text : List ℕ
 value_text = codes "SELECT value FROM meta WHERE name = ?1"

@@ -186,7 +186,7 @@ module _ (db : Trees) (table : Table) (ids : List ℤ) (keeps : Keeps Unique sto
   removal_fits why.BadReference h = let e : true ≡ false = sym (referred table none false (nat_lt 0 (length ids))) ∙ h in cc
   removal_fits why.TooDeep h = h
 
-  removed : works store_schema Enforced 0 table.tree (taken_by db removing) [] ≡ [] → (why : Option Refusal) → ¬ Writes store_schema Enforced db removing (Err why)
+  pub removed : works store_schema Enforced 0 table.tree (taken_by db removing) [] ≡ [] → (why : Option Refusal) → ¬ Writes store_schema Enforced db removing (Err why)
   removed free why (inl refused) = removal_fits refused.0 refused.1
   removed free why (inr (inl big)) = big.1
   removed free why (inr (inr (next, applies, (n, leads)))) = settled n next why (rw free at leads)
@@ -201,7 +201,7 @@ module _ (old : State) (params : Row) (at : ℕ) (table : Table) (static : IsPla
   abbrev stored : Database
   stored = record { schema = store_schema; trees = old.now.trees }
 
-  query_stopped : (q : Program) (inner stop : Option Error) → Queried old.step_limit stored q params (Err inner) → stop ≡ inner → (e : Error) × RefusesQuery old.step_limit stored q params e × (stop ≡ Some e)
+  pub query_stopped : (q : Program) (inner stop : Option Error) → Queried old.step_limit stored q params (Err inner) → stop ≡ inner → (e : Error) × RefusesQuery old.step_limit stored q params e × (stop ≡ Some e)
   query_stopped q None stop none same = absurd none
   query_stopped q (Some e) stop refuses same = (e, refuses, same)
 
@@ -224,7 +224,12 @@ module _ (old : State) (params : Row) (at : ℕ) (table : Table) (static : IsPla
         | inr late ↦ absurd (concluded task refl old late.0 stop late.2)
       ]
 
--- on the tables of a store a failure of it at this statement, inside a transaction, has a reason
+-- on the tables of a store a failure of it at this statement, inside a transaction, has a reason, or this of the tables hinders the row
+abbrev pub IsHinderedWrite : List ℕ → Row → (Trees → Type 0) → Type 1
+IsHinderedWrite sql params Hindering =
+    (old new : State) (r : Result ℕ Error) → IsStore old → ExecutesInside 0 sql params old new r → IfErr r (λ e. fault_of e ≡ Store → MayRefuse old new ⊎ Hindering old.now.trees)
+
+-- the same, where nothing hinders it
 abbrev pub IsReasonedWrite : List ℕ → Row → Type 1
 IsReasonedWrite sql params = (old new : State) (r : Result ℕ Error) → IsStore old → ExecutesInside 0 sql params old new r → IfErr r (λ e. fault_of e ≡ Store → MayRefuse old new)
 

@@ -176,7 +176,7 @@ module _ (schema : Schema) (at : ℕ) (table : Table) (static : IsPlainTable sch
       )
 
   -- the rows that conflict with a new row are those that share a key with it
-  conflicts_mean : (s : State) (keys : List (List ℕ)) (columns : Row) → HasLayout schema s → HasKeys schema table keys → map code (Int (next_rowid (s.now.trees table.tree)) ∷ columns) ≡ codes_of table
+  pub conflicts_mean : (s : State) (keys : List (List ℕ)) (columns : Row) → HasLayout schema s → HasKeys schema table keys → map code (Int (next_rowid (s.now.trees table.tree)) ∷ columns) ≡ codes_of table
       → (r : Row) → Has (s.now.trees table.tree) r → let new_row = Int (next_rowid (s.now.trees table.tree)) ∷ columns in (conflicts None schema.indexes table new_row r ≡ true) ↔ SharesKey keys r new_row
   conflicts_mean s keys columns layout has typed r here =
       let rows = s.now.trees table.tree in
@@ -191,13 +191,13 @@ module _ (schema : Schema) (at : ℕ) (table : Table) (static : IsPlainTable sch
         λ h. or_right (agree plain (0 ∷ []) r (0 ∷ []) new_row) _ (has.are r new_row ∙ means.1 h),
       )
 
-  cleared_has : (old : State) (found : List Row) (mid : Trees) → IsCleared schema Enforced old.now.trees table found mid → (r : Row) → Has (mid table.tree) r ↔ (Has (old.now.trees table.tree) r × Lacks (ids_of found) r)
+  pub cleared_has : (old : State) (found : List Row) (mid : Trees) → IsCleared schema Enforced old.now.trees table found mid → (r : Row) → Has (mid table.tree) r ↔ (Has (old.now.trees table.tree) r × Lacks (ids_of found) r)
   cleared_has old found mid (inl none) r = rw (none.0, none.1) (λ h. (h, λ id no. absurd no), λ h. h.0)
   cleared_has old found mid (inr applies) r =
       let has = edited_has schema Enforced old.now.trees mid (record { table = table; gone = ids_of found; news = [] }) applies r in
       (λ h. elim (has.0 h) [ inl left ↦ left | inr new ↦ absurd new ], λ h. has.1 (inl h))
 
-  cleared_keeps : (old : State) (found : List Row) (mid : Trees) → IsCleared schema Enforced old.now.trees table found mid → KeepsOthers schema table.tree old.now.trees mid × (IsKeyed (old.now.trees table.tree) → IsKeyed (mid table.tree))
+  pub cleared_keeps : (old : State) (found : List Row) (mid : Trees) → IsCleared schema Enforced old.now.trees table found mid → KeepsOthers schema table.tree old.now.trees mid × (IsKeyed (old.now.trees table.tree) → IsKeyed (mid table.tree))
   cleared_keeps old found mid (inl none) = rw none.1 (all_from _ schema.tables (λ t h other. refl), λ h. h)
   cleared_keeps old found mid (inr applies) = (applies.tables, edited_keyed schema Enforced old.now.trees mid (record { table = table; gone = ids_of found; news = [] }) applies)
 

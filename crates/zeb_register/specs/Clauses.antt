@@ -2,7 +2,7 @@
 --
 -- What a call returns is known where the disk has given back what was written to it. `OnStore` is said of a call outside a transaction
 -- on the tables of a store, `InStore` of one inside a transaction.
-use Rattle.std.specs.Prelude.{◌≡◌, ◌↔◌, ℕ, Bool, IsTrue, Result, Err, IfErr, IfOk, OnOk}
+use Rattle.std.specs.Prelude.{◌≡◌, ◌↔◌, ◌⊎◌, ℕ, Bool, IsTrue, Result, Err, IfErr, IfOk, OnOk}
 use Rattle.sqlite.specs.declared.error.Error.{Error}
 use Rattle.sqlite.specs.Schema.{Schema}
 use Rattle.sqlite.specs.Tree.{Trees}
@@ -74,6 +74,16 @@ IsReasonedError old new result = OnStore old new (λ _. IfErr result (λ e. faul
 
 abbrev pub IsReasonedErrorInside : {A : Type 0} → State → State → Result A Error → Type 0
 IsReasonedErrorInside old new result = InStore old new (λ _. IfErr result (λ e. fault_of e ≡ Store → MayRefuse old new))
+
+-- ---- why a call that writes rows is refused
+
+-- on the tables of a store a failure of it has a reason, or this of the tables hinders the row
+abbrev pub IsHinderedInside : {A : Type 0} → State → State → Result A RegFault → (Trees → Type 0) → Type 0
+IsHinderedInside old new result Hindering = InStore old new (λ trees. result ≡ Err Store → MayRefuse old new ⊎ Hindering trees)
+
+-- the same, of a statement whose error is told as that refusal
+abbrev pub IsHinderedErrorInside : {A : Type 0} → State → State → Result A Error → (Trees → Type 0) → Type 0
+IsHinderedErrorInside old new result Hindering = InStore old new (λ trees. IfErr result (λ e. fault_of e ≡ Store → MayRefuse old new ⊎ Hindering trees))
 
 -- ---- calls on tables that hold a content in some format
 

@@ -1,5 +1,6 @@
 pub mod Tables
 pub mod Sql
+pub mod Hindrances
 pub mod Store
 pub mod Faults
 pub mod Calls

@@ -59,9 +59,12 @@ AreReadableTexts trees name = (value : List ℕ) → HasRow trees meta_tree (ent
 abbrev pub databases_tree : ℕ
 databases_tree = 2
 
--- the database has this id, which is the rowid, and so the column of the id is NULL
+-- the columns of a database, whose id is the rowid, and so the column of the id is NULL
+abbrev pub database_columns : List ℕ → ℤ → Row
+database_columns name last = Null ∷ Text name ∷ Int last ∷ []
+
 abbrev pub HasDatabase : Trees → ℤ → List ℕ → ℤ → Type 0
-HasDatabase trees id name last = Has (trees databases_tree) (Int id ∷ Null ∷ Text name ∷ Int last ∷ [])
+HasDatabase trees id name last = Has (trees databases_tree) (Int id ∷ database_columns name last)
 
 -- there is no database of this id any more, and each other is as it was
 abbrev pub TakesDatabase : ℤ → ℕ → Trees → Trees → Type 0

@@ -14,7 +14,8 @@ ghost use Rattle.zeb_register.specs.RowStatements.{IsRecordShown};
 ghost use Rattle.zeb_register.specs.Calls.{OnlyReads, Inside, Reading};
 ghost use Rattle.zeb_register.specs.Clauses.{Writes};
 ghost use Rattle.zeb_register.specs.Clauses.{InStore, IsHonest, IsHonestInside, IsOpenDamage, IsOpenDamageInside, IsReasoned, IsReasonedInside};
-ghost use Rattle.zeb_register.specs.Clauses.{OnStore, Tells, TellsInside};
+ghost use Rattle.zeb_register.specs.Clauses.{IsHinderedInside, OnStore, Tells, TellsInside};
+ghost use Rattle.zeb_register.specs.Hindrances.{Hinders};
 
 use crate::statements::inside::{nothing_inside, rows_from_inside};
 use crate::statements::postings::nothing_of;
@@ -56,6 +57,8 @@ pub fn record_put<S: Alter>(
     ensures call { Writes records_tree (Replaces (SharesRecord db.0 (pos sysno) ident.now)
         (record_row db.0 (pos sysno) ident.now bytes.now)) (state S.Store tx.old.conn.now) (state S.Store tx.new.conn.now) result }
     ensures honest { result ≢ Err RegFault.Damaged }
+    ensures refused { sysno < 2 ^ 63 → IsHinderedInside (state S.Store tx.old.conn.now) (state S.Store tx.new.conn.now) result
+        (Hinders 1 records_tree (record_row db.0 (pos sysno) ident.now bytes.now)) }
 {
     let sysno = stored(sysno)?;
     record_keep(tx, db.column(), sysno, ident, bytes)?;

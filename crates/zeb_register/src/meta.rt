@@ -7,7 +7,8 @@ ghost use Rattle.zeb_register.specs.Sql.{Replaces};
 ghost use Rattle.zeb_register.specs.Store.{meta_tree, entry, IsEntryOf, IsValueOf, AreReadableTexts};
 ghost use Rattle.zeb_register.specs.Calls.{Reading};
 ghost use Rattle.zeb_register.specs.Clauses.{Writes};
-ghost use Rattle.zeb_register.specs.Clauses.{IsHonest, IsOpenDamage, IsReasoned, Tells};
+ghost use Rattle.zeb_register.specs.Clauses.{IsHinderedInside, IsHonest, IsOpenDamage, IsReasoned, Tells};
+ghost use Rattle.zeb_register.specs.Hindrances.{Hinders};
 
 use crate::RegFault;
 use crate::statements::texts::{text_rows, text_set};
@@ -41,6 +42,8 @@ pub fn meta_put<S: Alter>(
     ensures call { Writes meta_tree (Replaces (IsEntryOf name.now) (entry name.now value.now))
         (state S.Store tx.old.conn.now) (state S.Store tx.new.conn.now) result }
     ensures honest { result ≢ Err RegFault.Damaged }
+    ensures refused { IsHinderedInside (state S.Store tx.old.conn.now) (state S.Store tx.new.conn.now) result
+        (Hinders 1 meta_tree (entry name.now value.now)) }
 {
     text_set(tx, name, value)?;
     Ok(())

@@ -4,7 +4,8 @@ ghost use Rattle.std.specs.Prelude.{IsUtf8, ◌≡◌, ◌++◌, [], ◌∷◌};
 ghost use Rattle.sqlite.specs.declared.types.Value.TheVariants.{Blob, Int};
 ghost use Rattle.sqlite.specs.Held.{state};
 ghost use Rattle.zeb_register.specs.Calls.{Inside};
-ghost use Rattle.zeb_register.specs.Clauses.{IsReasonedErrorInside, Writes};
+ghost use Rattle.zeb_register.specs.Clauses.{IsHinderedErrorInside, IsReasonedErrorInside, Writes};
+ghost use Rattle.zeb_register.specs.Hindrances.{Hinders, HindersNew};
 ghost use Rattle.zeb_register.specs.KeyColumns.{IsOfKey, IsOfNumbered, key_columns, numbered_columns};
 ghost use Rattle.zeb_register.specs.RowStatements.{Gains, IsUnchangedByViolation, ListsInside, Renews};
 ghost use Rattle.zeb_register.specs.Sql.{Loses};
@@ -63,6 +64,8 @@ pub(crate) fn block_add<S: Alter>(
     ensures call { Writes blocks_tree (Gains (numbered_columns at.entry number ++ Blob bytes.now ∷ []))
         (state S.Store tx.old.conn.now) (state S.Store tx.new.conn.now) result }
     ensures violated { IsUnchangedByViolation (state S.Store tx.old.conn.now) (state S.Store tx.new.conn.now) result }
+    ensures refused { IsHinderedErrorInside (state S.Store tx.old.conn.now) (state S.Store tx.new.conn.now) result
+        (HindersNew (IsOfNumbered at.entry number) blocks_tree (numbered_columns at.entry number ++ Blob bytes.now ∷ [])) }
 {
     let db = at.db.column();
     let reg = u32::from(at.key.register.code());
@@ -82,6 +85,8 @@ pub(crate) fn block_set<S: Alter>(
     ensures same { tx.new.conn.ghost_name ≡ tx.old.conn.ghost_name }
     ensures call { Writes blocks_tree (Renews (IsOfNumbered at.entry number) (numbered_columns at.entry number ++ Blob bytes.now ∷ []))
         (state S.Store tx.old.conn.now) (state S.Store tx.new.conn.now) result }
+    ensures refused { IsHinderedErrorInside (state S.Store tx.old.conn.now) (state S.Store tx.new.conn.now) result
+        (Hinders 0 blocks_tree (numbered_columns at.entry number ++ Blob bytes.now ∷ [])) }
 {
     let db = at.db.column();
     let reg = u32::from(at.key.register.code());
@@ -120,6 +125,8 @@ pub(crate) fn dict_add<S: Alter>(
     ensures same { tx.new.conn.ghost_name ≡ tx.old.conn.ghost_name }
     ensures call { Writes dict_tree (Gains (key_columns at.entry ++ Int records ∷ []))
         (state S.Store tx.old.conn.now) (state S.Store tx.new.conn.now) result }
+    ensures refused { IsHinderedErrorInside (state S.Store tx.old.conn.now) (state S.Store tx.new.conn.now) result
+        (HindersNew (IsOfKey at.entry) dict_tree (key_columns at.entry ++ Int records ∷ [])) }
 {
     let db = at.db.column();
     let reg = u32::from(at.key.register.code());
@@ -138,6 +145,8 @@ pub(crate) fn dict_set<S: Alter>(
     ensures same { tx.new.conn.ghost_name ≡ tx.old.conn.ghost_name }
     ensures call { Writes dict_tree (Renews (IsOfKey at.entry) (key_columns at.entry ++ Int records ∷ []))
         (state S.Store tx.old.conn.now) (state S.Store tx.new.conn.now) result }
+    ensures refused { IsHinderedErrorInside (state S.Store tx.old.conn.now) (state S.Store tx.new.conn.now) result
+        (Hinders 0 dict_tree (key_columns at.entry ++ Int records ∷ [])) }
 {
     let db = at.db.column();
     let reg = u32::from(at.key.register.code());

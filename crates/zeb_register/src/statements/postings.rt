@@ -4,13 +4,15 @@ ghost use Rattle.std.specs.Prelude.{IsUtf8, ◌≡◌, true, false, [], ◌∷�
 ghost use Rattle.std.specs.Ordering.{is_lt, nat_cmp};
 ghost use Rattle.std.specs.Cmp.Lexicographic.{slice_cmp};
 ghost use Rattle.sqlite.specs.Held.{state};
+ghost use Rattle.sqlite.specs.Order.{column};
 ghost use Rattle.sqlite.specs.State.{IsUnchanged};
 ghost use Rattle.sqlite.specs.declared.types.Value.TheVariants.{Int, Text};
 ghost use Rattle.zeb_register.specs.Sql.{Loses};
 ghost use Rattle.zeb_register.specs.RowStatements.{Gains, Lists, ListsInside};
 ghost use Rattle.zeb_register.specs.Store.{postings_tree, IsPostingIn, IsRest};
 ghost use Rattle.zeb_register.specs.Calls.{Inside, Reading};
-ghost use Rattle.zeb_register.specs.Clauses.{IsReasonedErrorInside, Writes};
+ghost use Rattle.zeb_register.specs.Clauses.{IsHinderedErrorInside, IsReasonedErrorInside, Writes};
+ghost use Rattle.zeb_register.specs.Hindrances.{HindersNew};
 ghost use Rattle.zeb_register.specs.Clauses.{IsReasonedError};
 ghost use Rattle.zeb_register.specs.KeyColumns.{HasTermOf, IsOfNumbered, numbered_columns, register_columns};
 ghost use Rattle.zeb_register.specs.RowTerms.{ShowsLeast, ShowsGreatest, Reads};
@@ -115,6 +117,9 @@ pub(crate) fn posting_put<S: Alter>(
     ensures same { tx.new.conn.ghost_name ≡ tx.old.conn.ghost_name }
     ensures call { Writes postings_tree (Gains (numbered_columns at.entry number ++ Int seq ∷ Int place ∷ []))
         (state S.Store tx.old.conn.now) (state S.Store tx.new.conn.now) result }
+    ensures refused { IsHinderedErrorInside (state S.Store tx.old.conn.now) (state S.Store tx.new.conn.now) result
+        (HindersNew (λ was. IsOfNumbered at.entry number was × (column was 5 ≡ Int seq) × (column was 6 ≡ Int place)) postings_tree
+        (numbered_columns at.entry number ++ Int seq ∷ Int place ∷ [])) }
 {
     let db = at.db.column();
     let reg = u32::from(at.key.register.code());

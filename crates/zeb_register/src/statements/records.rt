@@ -9,7 +9,8 @@ ghost use Rattle.zeb_register.specs.RowStatements.{IsElderRow, IsIdentRow, IsRes
 ghost use Rattle.zeb_register.specs.RowTerms.{Reads};
 ghost use Rattle.zeb_register.specs.Calls.{Inside, Reading};
 ghost use Rattle.zeb_register.specs.Clauses.{Writes};
-ghost use Rattle.zeb_register.specs.Clauses.{IsReasonedError, IsReasonedErrorInside};
+ghost use Rattle.zeb_register.specs.Clauses.{IsHinderedErrorInside, IsReasonedError, IsReasonedErrorInside};
+ghost use Rattle.zeb_register.specs.Hindrances.{Hinders};
 
 use crate::RegFault;
 use sqlite::{Alter, Connection, Error, Row, Transaction, params};
@@ -24,6 +25,8 @@ pub(crate) fn record_keep<S: Alter>(
     ensures same { tx.new.conn.ghost_name ≡ tx.old.conn.ghost_name }
     ensures call { Writes records_tree (Replaces (SharesRecord db sysno ident.now) (record_row db sysno ident.now bytes.now))
         (state S.Store tx.old.conn.now) (state S.Store tx.new.conn.now) result }
+    ensures refused { IsHinderedErrorInside (state S.Store tx.old.conn.now) (state S.Store tx.new.conn.now) result
+        (Hinders 1 records_tree (record_row db sysno ident.now bytes.now)) }
 {
     tx.execute(
         "INSERT OR REPLACE INTO records VALUES (?1, ?2, ?3, ?4)",

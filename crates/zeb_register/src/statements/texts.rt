@@ -7,7 +7,8 @@ ghost use Rattle.zeb_register.specs.Store.{meta_tree, entry, IsEntryOf};
 ghost use Rattle.zeb_register.specs.RowStatements.{IsValueRow, Lists};
 ghost use Rattle.zeb_register.specs.Calls.{Reading};
 ghost use Rattle.zeb_register.specs.Clauses.{Writes};
-ghost use Rattle.zeb_register.specs.Clauses.{IsReasonedError};
+ghost use Rattle.zeb_register.specs.Clauses.{IsHinderedErrorInside, IsReasonedError};
+ghost use Rattle.zeb_register.specs.Hindrances.{Hinders};
 
 use crate::RegFault;
 use sqlite::{Alter, Connection, Error, Row, Transaction, params};
@@ -20,6 +21,8 @@ pub(crate) fn text_set<S: Alter>(
     ensures same { tx.new.conn.ghost_name ≡ tx.old.conn.ghost_name }
     ensures call { Writes meta_tree (Replaces (IsEntryOf name.now) (entry name.now value.now))
         (state S.Store tx.old.conn.now) (state S.Store tx.new.conn.now) result }
+    ensures refused { IsHinderedErrorInside (state S.Store tx.old.conn.now) (state S.Store tx.new.conn.now) result
+        (Hinders 1 meta_tree (entry name.now value.now)) }
 {
     tx.execute(
         "INSERT OR REPLACE INTO meta VALUES (?1, ?2)",

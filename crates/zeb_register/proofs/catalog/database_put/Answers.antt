@@ -1,12 +1,17 @@
-use Rattle.std.proofs.Common.{rules, arith, ◌≡◌, ◌∙◌, sym, ap, subst, slice_get, Some, None, pos, w64, to_z, of_z}
+use Rattle.std.proofs.Common.{rules, arith, ◌≡◌, ◌∙◌, inl, inr, sym, ap, subst, ℤ, slice_get, Some, None, pos, w64, to_z, of_z}
 use Rattle.std.proofs.Math.Facts.{to_z-of_z}
 use Rattle.std.specs.Option.{option_copied}
+use Rattle.sqlite.specs.declared.types.Value.TheVariants.{Text}
 use Rattle.sqlite.specs.Held.{state}
-use Rattle.zeb_register.specs.Store.{Changes, databases_tree}
+use Rattle.sqlite.specs.Order.{column}
+use Rattle.zeb_register.specs.Store.{Changes, database_columns, databases_tree}
 use Rattle.zeb_register.specs.RowStatements.{SetsLast, AddsDatabase}
 use Rattle.zeb_register.specs.Catalog.{PutsDatabase}
 use Rattle.zeb_register.proofs.DatabaseStatements.{puts_set, puts_added}
-use Rattle.zeb_register.proofs.Calls.{store_same, changes_after, changes_so}
+use Rattle.zeb_register.specs.Hindrances.{HindersLast, HindersNew}
+use Rattle.zeb_register.proofs.Calls.{changes_after, changes_so, goes_keeps, on_err, reads_goes, store_same}
+use Rattle.zeb_register.proofs.Causes.{hindered_after}
+use Rattle.zeb_register.proofs.DatabaseRefusals.{add_hinders, set_hinders}
 use Rattle.zeb_register.proofs.LookUps.{id_there, id_readable, no_database}
 use Rattle.zeb_register.proofs.catalog.database_put.Goals as goal
 
@@ -50,3 +55,48 @@ returns-in_err-id-in-Some-clause-honest g c clean inside store is =
     let got : slice_get c.in_ok-rows.rows.items 0 ≡ Some c.in-Some.row.now = sym (c.first.ensures.value ∙ ap (λ l. slice_get l 0) c.deref.ensures.value) ∙ ap option_copied c.in-Some.is in
     let able = id_readable (state g.S.Store c.args.tx.now.conn.now).now.trees c.args.name.now c.in_ok-rows.rows.items c.in-Some.row.now ((c.in_ok-rows.ensures.call.ok clean inside).1 store) got in
     c.in_err-id-in-Some.ensures.honest (search rules) able.0 able.1
+
+pub returns-in_err-last_set-in-Some-clause-call : goal.returns-in_err-last_set-in-Some-clause-call
+returns-in_err-last_set-in-Some-clause-call g c = record {
+  ok = search rules;
+  err = λ clean inside.
+      let rows = c.in_ok-rows.ensures.call.ok (omega (arith, clean, c.last_set.ensures.call.crash.clean)) inside in
+      on_err c.from_residual-in_err-last_set-in-Some.result _ (goes_keeps _ _ _ (reads_goes _ _ rows.0) (c.in_err-last_set-in-Some.ensures.call.err clean rows.0.mode));
+  crash = search rules;
+}
+
+pub returns-in_err-last_set-in-Some-clause-refused : goal.returns-in_err-last_set-in-Some-clause-refused
+returns-in_err-last_set-in-Some-clause-refused g c small clean inside store told =
+    let old = state g.S.Store c.args.tx.now.conn.now in
+    let mid = state g.S.Store c.database_rows_inside.new.tx.conn.now in
+    let name = c.args.name.now in
+    let id = c.in_ok-id-in-Some.id in
+    let rows = c.in_ok-rows.ensures.call.ok (omega (arith, clean, c.last_set.ensures.call.crash.clean)) inside in
+    let got : slice_get c.in_ok-rows.rows.items 0 ≡ Some c.in-Some.row.now = sym (c.first.ensures.value ∙ ap (λ l. slice_get l 0) c.deref.ensures.value) ∙ ap option_copied c.in-Some.is in
+    let there = id_there old.now.trees name c.in_ok-rows.rows.items c.in-Some.row.now id (rows.1 store) got c.in_ok-id-in-Some.ensures.ok.0 in
+    let same : to_z w64 (of_z w64 id) ≡ id = to_z-of_z {w = w64} {z = id} c.in_ok-id-in-Some.ensures.ok.1 in
+    let last : to_z w64 (of_z w64 c.in_ok-last.last) ≡ pos c.args.last = to_z-of_z {w = w64} {z = c.in_ok-last.last} c.in_ok-last.ensures.ok.1 ∙ c.in_ok-last.ensures.ok.0 in
+    let why = hindered_after old mid (state g.S.Store c.last_set.new.tx.conn.now) (HindersLast (to_z w64 (of_z w64 id)) (to_z w64 (of_z w64 c.in_ok-last.last))) rows.0 c.in_ok-rows.ensures.call.crash
+    (c.in_err-last_set-in-Some.ensures.refused clean rows.0.mode (store_same _ _ rows.0.now_is store) (search rules)) in
+    elim why [
+      | inl cause ↦ inl cause
+      | inr hinders ↦
+          inr (set_hinders old id (pos c.args.last) there.0 name store there.1 (subst (λ l. HindersLast id l old.now.trees) last (subst (λ i. HindersLast i (to_z w64 (of_z w64 c.in_ok-last.last)) old.now.trees) same hinders)))
+    ]
+
+pub returns-in_err-database_add-in-None-clause-refused : goal.returns-in_err-database_add-in-None-clause-refused
+returns-in_err-database_add-in-None-clause-refused g c small clean inside store told =
+    let old = state g.S.Store c.args.tx.now.conn.now in
+    let mid = state g.S.Store c.database_rows_inside.new.tx.conn.now in
+    let name = c.args.name.now in
+    let rows = c.in_ok-rows.ensures.call.ok (omega (arith, clean, c.database_add.ensures.call.crash.clean)) inside in
+    let got : slice_get c.in_ok-rows.rows.items 0 ≡ None = sym (c.first.ensures.value ∙ ap (λ l. slice_get l 0) c.deref.ensures.value) ∙ ap option_copied c.in-None.is in
+    let none = no_database old.now.trees name c.in_ok-rows.rows.items (rows.1 store) got in
+    let last : to_z w64 (of_z w64 c.in_ok-last.last) ≡ pos c.args.last = to_z-of_z {w = w64} {z = c.in_ok-last.last} c.in_ok-last.ensures.ok.1 ∙ c.in_ok-last.ensures.ok.0 in
+    let added = λ (l : ℤ). HindersNew (λ was. column was 1 ≡ Text name) databases_tree (database_columns name l) in
+    let why = hindered_after old mid (state g.S.Store c.database_add.new.tx.conn.now) (added (to_z w64 (of_z w64 c.in_ok-last.last))) rows.0 c.in_ok-rows.ensures.call.crash
+    (c.in_err-database_add-in-None.ensures.refused clean rows.0.mode (store_same _ _ rows.0.now_is store) (search rules)) in
+    elim why [
+      | inl cause ↦ inl cause
+      | inr hinders ↦ inr (add_hinders old name (pos c.args.last) store none (subst (λ l. added l old.now.trees) last hinders))
+    ]

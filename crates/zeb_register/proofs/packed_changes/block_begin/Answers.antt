@@ -10,7 +10,7 @@ use Rattle.zeb_register.specs.Calls.{Alters}
 use Rattle.zeb_register.specs.PlainRows.{key_row}
 use Rattle.zeb_register.specs.RowStatements.{Gains}
 use Rattle.zeb_register.specs.Store.{blocks_tree}
-use Rattle.zeb_register.proofs.Calls.{store_same}
+use Rattle.zeb_register.proofs.Calls.{goes_keeps, on_err, reads_goes, store_same}
 use Rattle.zeb_register.proofs.Columns.{column_is}
 use Rattle.zeb_register.proofs.PackedWrites.{none_of, puts_inserted, puts_nothing, told_later}
 use Rattle.zeb_register.proofs.packed_changes.block_begin.Goals as goal
@@ -51,3 +51,20 @@ returns-in_err-block_absent-in-Err-SqliteFailure-ConstraintViolation-clause-hone
     let reads = arm.ensures.violated clean1 inside arm.rule failure in
     λ told. looked.honest clean reads.mode (store_same first second reads.now_is store) (search rules)
     (told_later c.args.db.0 c.args.key.now c.args.block _ first second reads (column_is c.in_ok-number.ensures.ok.1 c.in_ok-number.ensures.ok.0) told)
+
+pub returns-in_err-block_absent-in-Err-SqliteFailure-ConstraintViolation-clause-call : goal.returns-in_err-block_absent-in-Err-SqliteFailure-ConstraintViolation-clause-call
+returns-in_err-block_absent-in-Err-SqliteFailure-ConstraintViolation-clause-call g c = record {
+  ok = search rules;
+  err = λ clean inside.
+      let arm = c.in-Err-SqliteFailure-ConstraintViolation in
+      let first = state g.S.Store c.args.tx.now.conn.now in
+      let second = state g.S.Store c.block_add.new.tx.conn.now in
+      let looked = c.in_err-block_absent-in-Err-SqliteFailure-ConstraintViolation.ensures in
+      let clean1 : HasCleanDisk second = omega (arith, looked.call.crash.clean) in
+      let code = arm.field-0-is in
+      let rule = arm.field-0-0-is in
+      let failure : arm.field-0 ≡ SqliteFailure (ConstraintViolation arm.rule) = cc in
+      let reads = arm.ensures.violated clean1 inside arm.rule failure in
+      on_err _ _ (goes_keeps first second _ (reads_goes first second reads) (looked.call.err clean reads.mode));
+  crash = search rules;
+}

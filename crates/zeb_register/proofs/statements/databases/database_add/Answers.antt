@@ -1,7 +1,7 @@
 use Rattle.std.proofs.Common.{rules}
 use Rattle.std.proofs.Math.Facts.{to_z-of_z}
 use Rattle.zeb_register.proofs.Calls.{alters, refused_keeps}
-use Rattle.zeb_register.proofs.DatabaseStatements.{adds}
+use Rattle.zeb_register.proofs.DatabaseStatements.{add_refused, adds}
 use Rattle.zeb_register.proofs.statements.databases.database_add.Goals as goal
 
 pub returns-clause-call : goal.returns-clause-call
@@ -10,3 +10,6 @@ returns-clause-call g c = record {
   err = λ clean inside. refused_keeps _ _ _ _ c.execute.result (c.execute.ensures.runs clean inside);
   crash = search rules;
 }
+
+pub returns-clause-refused : goal.returns-clause-refused
+returns-clause-refused g c clean inside store = add_refused c.args.name.now c.args.last _ _ c.execute.result store (simp (c.params-to_sql.ensures, c.params-to_sql-2.ensures, to_z-of_z, c.ranges.last) at (c.execute.ensures.runs clean inside))
