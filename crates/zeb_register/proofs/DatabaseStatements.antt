@@ -131,14 +131,10 @@ add_whole = (omega arith, refl)
 
 database_fits : (name : List ℕ) (last : ℤ) → IsRowFor databases (Null ∷ Text name ∷ Int last ∷ [])
 database_fits name last = record {
-  typed = λ trees id. refl;
-  present = λ trees id. refl;
-  checked = λ trees id. refl;
+  passed = λ trees id. (refl, refl, refl);
   coded = λ id. refl;
-  lean = refl;
-  exact = refl;
-  some = omega arith;
-  few = omega arith;
+  plain = (refl, refl);
+  few = (omega arith, omega arith);
 }
 
 pub add_refused : (name : List ℕ) (last : ℤ) → IsHinderedWrite add_text (Text name ∷ Int last ∷ []) (HindersNew (λ was. column was 1 ≡ Text name) databases_tree (database_columns name last))

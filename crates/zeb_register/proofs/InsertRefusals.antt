@@ -157,7 +157,7 @@ module _ (at : ℕ) (table : Table) (static : IsPlainTable store_schema at table
       → IsWhole sql (length params) (understood store_schema sql) → IsHinderedWrite sql params (HindersNew P table.tree columns)
   why_insert_hindered params terms width source kept accepted sql is plain whole old new (Ok count) store ran = tt
   why_insert_hindered params terms width source kept accepted sql is plain whole old new (Err e) store ran = λ told.
-      elim (why_insert_refused old at table static store columns fits.typed fits.present fits.checked params terms width source kept accepted sql is plain whole new (Err e) ran told) [
+      elim (why_insert_refused old at table static store columns (λ db id. (fits.passed db id).0) (λ db id. (fits.passed db id).1) (λ db id. (fits.passed db id).2) params terms width source kept accepted sql is plain whole new (Err e) ran told) [
         | inl cause ↦ inl cause
         | inr stuck ↦ inr (hinders old store stuck)
       ]

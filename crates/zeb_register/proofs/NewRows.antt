@@ -12,6 +12,7 @@ use Rattle.sqlite.specs.View.{is_int}
 use Rattle.sqlite_rules.specs.Lists.{Has}
 use Rattle.sqlite_rules.proofs.ListLemmas.{all_has}
 use Rattle.sqlite_rules.proofs.TableLemmas.{int_is}
+use Rattle.sqlite_schema.specs.declared.schema.Constraint.{Constraint}
 use Rattle.sqlite_schema.specs.declared.schema.Constraint.TheVariants.{Datatype, NotNull, Check}
 use Rattle.sqlite_schema.specs.Rules.{passes}
 use Rattle.zeb_register.specs.Hindrances.{IsTooLarge, LacksRowids}
@@ -20,19 +21,18 @@ use Rattle.zeb_register.specs.Tables.{store_schema}
 use Rattle.zeb_register.proofs.RowSizes.{is_exact, is_lean, too_large}
 use Rattle.zeb_register.proofs.ValueKinds.{code, codes_of}
 
+abbrev pub Passes : Table → Trees → Row → Constraint → Type 0
+Passes table db row rule = passes rule store_schema db table row ≡ true
+
 -- the columns keep each rule of the table but that of its keys, whatever the rowid, and what is too large of them is said in bytes
 pub record IsRowFor (table : Table) (columns : Row) : Type 0 where
-  pub typed : (db : Trees) (id : ℤ) → passes Datatype store_schema db table (Int id ∷ columns) ≡ true
-  pub present : (db : Trees) (id : ℤ) → passes NotNull store_schema db table (Int id ∷ columns) ≡ true
-  pub checked : (db : Trees) (id : ℤ) → passes Check store_schema db table (Int id ∷ columns) ≡ true
+  pub passed : (db : Trees) (id : ℤ) → Passes table db (Int id ∷ columns) Datatype × Passes table db (Int id ∷ columns) NotNull × Passes table db (Int id ∷ columns) Check
   pub coded : (id : ℤ) → map code (Int id ∷ columns) ≡ codes_of table
-  pub lean : is_lean store_schema table (suc (length columns)) ≡ true
-  pub exact : list_all is_exact columns ≡ true
-  pub some : 0 < length columns
-  pub few : length columns ≤ 2000
+  pub plain : (is_lean store_schema table (suc (length columns)) ≡ true) × (list_all is_exact columns ≡ true)
+  pub few : (0 < length columns) × (length columns ≤ 2000)
 
 pub large_for : (table : Table) (columns : Row) (id : ℤ) → IsRowFor table columns → IsOversized store_schema table (Int id ∷ columns) → IsTooLarge columns
-large_for table columns id fits = too_large store_schema table id columns fits.lean fits.exact fits.some fits.few
+large_for table columns id fits = too_large store_schema table id columns fits.plain.0 fits.plain.1 fits.few.0 fits.few.1
 
 -- a row of a table as its rowid and its columns
 pub parts_of : (r : Row) → is_int (rowid r) ≡ true → (id : ℤ) × (columns : Row) × (r ≡ Int id ∷ columns)

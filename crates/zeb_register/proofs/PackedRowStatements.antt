@@ -106,14 +106,10 @@ add_block_whole = (omega arith, refl)
 
 pub block_fits : (db idx reg : ℤ) (term : List ℕ) (block : ℤ) (bytes : List ℕ) → IsRowFor blocks (block_columns db idx reg term block bytes)
 block_fits db idx reg term block bytes = record {
-  typed = λ trees id. refl;
-  present = λ trees id. refl;
-  checked = λ trees id. refl;
+  passed = λ trees id. (refl, refl, refl);
   coded = λ id. refl;
-  lean = refl;
-  exact = refl;
-  some = omega arith;
-  few = omega arith;
+  plain = (refl, refl);
+  few = (omega arith, omega arith);
 }
 
 pub add_block_refused : (db idx reg : ℤ) (term : List ℕ) (block : ℤ) (bytes : List ℕ)
@@ -150,14 +146,10 @@ add_dict_whole = (omega arith, refl)
 
 pub dict_fits : (db idx reg : ℤ) (term : List ℕ) (records : ℤ) → IsRowFor dict (dict_columns db idx reg term records)
 dict_fits db idx reg term records = record {
-  typed = λ trees id. refl;
-  present = λ trees id. refl;
-  checked = λ trees id. refl;
+  passed = λ trees id. (refl, refl, refl);
   coded = λ id. refl;
-  lean = refl;
-  exact = refl;
-  some = omega arith;
-  few = omega arith;
+  plain = (refl, refl);
+  few = (omega arith, omega arith);
 }
 
 pub add_dict_refused : (db idx reg : ℤ) (term : List ℕ) (records : ℤ)

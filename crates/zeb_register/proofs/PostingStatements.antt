@@ -158,14 +158,10 @@ put_whole = (omega arith, refl)
 
 posting_fits : (db idx reg : ℤ) (term : List ℕ) (sysno seq place : ℤ) → IsRowFor postings (posting db idx reg term sysno seq place)
 posting_fits db idx reg term sysno seq place = record {
-  typed = λ trees id. refl;
-  present = λ trees id. refl;
-  checked = λ trees id. refl;
+  passed = λ trees id. (refl, refl, refl);
   coded = λ id. refl;
-  lean = refl;
-  exact = refl;
-  some = omega arith;
-  few = omega arith;
+  plain = (refl, refl);
+  few = (omega arith, omega arith);
 }
 
 pub put_refused : (db idx reg : ℤ) (term : List ℕ) (sysno seq place : ℤ) → IsHinderedWrite put_text (posting db idx reg term sysno seq place)

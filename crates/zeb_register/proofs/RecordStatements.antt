@@ -82,14 +82,10 @@ keep_whole = (omega arith, refl)
 
 record_fits : (db sysno : ℤ) (ident bytes : List ℕ) → IsRowFor records (record_row db sysno ident bytes)
 record_fits db sysno ident bytes = record {
-  typed = λ trees id. refl;
-  present = λ trees id. refl;
-  checked = λ trees id. refl;
+  passed = λ trees id. (refl, refl, refl);
   coded = λ id. refl;
-  lean = refl;
-  exact = refl;
-  some = omega arith;
-  few = omega arith;
+  plain = (refl, refl);
+  few = (omega arith, omega arith);
 }
 
 pub keep_refused : (db sysno : ℤ) (ident bytes : List ℕ) → IsHinderedWrite keep_text (record_row db sysno ident bytes) (Hinders 1 records_tree (record_row db sysno ident bytes))

@@ -79,9 +79,9 @@ module _ (at : ℕ) (table : Table) (static : IsPlainTable store_schema at table
           both_ways _ (next_is_free Chosen rows columns keyed.0 keyed.1) (some_from (λ x. is_eq (value_cmp (rowid x) (rowid new))) rows r.0 (was_there r.0 r.1) r.2))
 
       refused_for : (reason : Refusal) → IsRefused store_schema Enforced mid edit reason → Hinders 1 table.tree columns old.now.trees
-      refused_for (why.Violates Datatype) h = absurd (let e : true ≡ false = sym (ap (λ b. b && true) (fits.typed mid (next_rowid rows))) ∙ h in cc)
-      refused_for (why.Violates NotNull) h = absurd (let e : true ≡ false = sym (ap (λ b. b && true) (fits.present mid (next_rowid rows))) ∙ h in cc)
-      refused_for (why.Violates Check) h = absurd (let e : true ≡ false = sym (ap (λ b. b && true) (fits.checked mid (next_rowid rows))) ∙ h in cc)
+      refused_for (why.Violates Datatype) h = absurd (let e : true ≡ false = sym (ap (λ b. b && true) (fits.passed mid (next_rowid rows)).0) ∙ h in cc)
+      refused_for (why.Violates NotNull) h = absurd (let e : true ≡ false = sym (ap (λ b. b && true) (fits.passed mid (next_rowid rows)).1) ∙ h in cc)
+      refused_for (why.Violates Check) h = absurd (let e : true ≡ false = sym (ap (λ b. b && true) (fits.passed mid (next_rowid rows)).2) ∙ h in cc)
       refused_for (why.Violates PrimaryKey) h = absurd (let e : true ≡ false = sym (ap (λ b. not b && true) fresh) ∙ h in cc)
       refused_for (why.Violates Unique) h =
           let keyed = keyed_there store_schema at table static old store in
@@ -128,9 +128,9 @@ module _ (at : ℕ) (table : Table) (static : IsPlainTable store_schema at table
     unjudged (Some why.NoRowid) fair stop h = absurd fair
     unjudged (Some why.BadReference) fair stop h = absurd fair
     unjudged (Some why.TooDeep) fair stop h = absurd fair
-    unjudged (Some (why.Violates Datatype)) fair stop h = absurd (let e : true ≡ false = sym (fits.typed old.now.trees (next_rowid rows)) ∙ fair in cc)
-    unjudged (Some (why.Violates NotNull)) fair stop h = absurd (let e : true ≡ false = sym (fits.present old.now.trees (next_rowid rows)) ∙ fair in cc)
-    unjudged (Some (why.Violates Check)) fair stop h = absurd (let e : true ≡ false = sym (fits.checked old.now.trees (next_rowid rows)) ∙ fair in cc)
+    unjudged (Some (why.Violates Datatype)) fair stop h = absurd (let e : true ≡ false = sym (fits.passed old.now.trees (next_rowid rows)).0 ∙ fair in cc)
+    unjudged (Some (why.Violates NotNull)) fair stop h = absurd (let e : true ≡ false = sym (fits.passed old.now.trees (next_rowid rows)).1 ∙ fair in cc)
+    unjudged (Some (why.Violates Check)) fair stop h = absurd (let e : true ≡ false = sym (fits.passed old.now.trees (next_rowid rows)).2 ∙ fair in cc)
     unjudged (Some (why.Violates PrimaryKey)) fair stop h = absurd fair
     unjudged (Some (why.Violates Unique)) fair stop h = absurd fair
     unjudged (Some (why.Violates ForeignKey)) fair stop h = absurd fair

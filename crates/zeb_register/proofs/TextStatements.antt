@@ -68,14 +68,10 @@ set_whole = (omega arith, refl)
 
 entry_fits : (name value : List ℕ) → IsRowFor meta_table (entry name value)
 entry_fits name value = record {
-  typed = λ trees id. refl;
-  present = λ trees id. refl;
-  checked = λ trees id. refl;
+  passed = λ trees id. (refl, refl, refl);
   coded = λ id. refl;
-  lean = refl;
-  exact = refl;
-  some = omega arith;
-  few = omega arith;
+  plain = (refl, refl);
+  few = (omega arith, omega arith);
 }
 
 pub set_refused : (name value : List ℕ) → IsHinderedWrite set_text (entry name value) (Hinders 1 meta_tree (entry name value))

@@ -143,9 +143,9 @@ module _ (at : ℕ) (table : Table) (static : IsPlainTable store_schema at table
           both_ways _ (left.1 id (inl refl)) r.2)
 
       refused_for : (reason : Refusal) → IsRefused store_schema Enforced old.now.trees edit reason → HindersUpdate old.now.trees
-      refused_for (why.Violates Datatype) h = absurd (let e : true ≡ false = sym (ap (λ b. b && true) ((fits was coded met).typed old.now.trees id)) ∙ h in cc)
-      refused_for (why.Violates NotNull) h = absurd (let e : true ≡ false = sym (ap (λ b. b && true) ((fits was coded met).present old.now.trees id)) ∙ h in cc)
-      refused_for (why.Violates Check) h = absurd (let e : true ≡ false = sym (ap (λ b. b && true) ((fits was coded met).checked old.now.trees id)) ∙ h in cc)
+      refused_for (why.Violates Datatype) h = absurd (let e : true ≡ false = sym (ap (λ b. b && true) ((fits was coded met).passed old.now.trees id).0) ∙ h in cc)
+      refused_for (why.Violates NotNull) h = absurd (let e : true ≡ false = sym (ap (λ b. b && true) ((fits was coded met).passed old.now.trees id).1) ∙ h in cc)
+      refused_for (why.Violates Check) h = absurd (let e : true ≡ false = sym (ap (λ b. b && true) ((fits was coded met).passed old.now.trees id).2) ∙ h in cc)
       refused_for (why.Violates PrimaryKey) h = absurd (let e : true ≡ false = sym (ap (λ b. not b && true) fresh) ∙ h in cc)
       refused_for (why.Violates Unique) h =
           let keeps = subst (λ s. Keeps Unique s old.now.trees) store.is (store.sound.obeys.rules Unique) in
