@@ -180,7 +180,8 @@ pub trait Layout {
             (λ _ list. Works 0 0 (block_rows list.items) 0 work.old work.new) }
         ensures no_work { row_work ≡ 0 → work.new ≡ work.old };
 
-    /// The postings of the terms of a register that are not below `first` and not above `last`.
+    /// The postings of the terms of a register that are not below `first` and not above `last`; in which order isn't said. The rows of all
+    /// these terms are held at once.
     fn postings_between<S: Alter>(
         alloc: Global,
         conn: &mut Connection<S>,
