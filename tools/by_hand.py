@@ -7,7 +7,7 @@ import collections
 import re
 
 # What a failure is called, and of what it is one: variants of the crates' and the kit's faults, and the values without a path.
-VARIANTS = {"Memory": "memory", "OutOfMemory": "memory", "Store": "store"}
+VARIANTS = {"Memory": "memory", "OutOfMemory": "memory", "Store": "store", "Commit": "store"}
 VALUES = {"AllocError": "memory", "AllocFailed": "memory", "OpenFailed": "store"}
 # What only a call that failed gives, by what its conversion may make of it.
 OF_CALLS = {"AllocError": "memory", "AllocFailed<T>": "memory", "Error": "store", "sqlite::Error": "store"}

@@ -53,6 +53,8 @@ pub enum Refusal {
     },
     /// The store failed.
     Store,
+    /// The store failed at a commit: what is seen is as before, but what was to be committed may be on the disk, where a crash leaves it.
+    Commit,
     /// Memory ran out.
     Memory,
 }
@@ -67,14 +69,14 @@ impl From<AllocError> for Refusal {
     }
 }
 
-/// The engine itself asks only a commit of the store, so the reason is left out.
+/// The engine itself asks only a commit of the store.
 impl From<sqlite::Error> for Refusal {
-    ghost use Rattle.zeb_change.specs.declared.refusals.Refusal.TheVariants.{Store};
+    ghost use Rattle.zeb_change.specs.declared.refusals.Refusal.TheVariants.{Commit};
 
-    ghost from_gives = { λ _ refusal. refusal ≡ Store };
+    ghost from_gives = { λ _ refusal. refusal ≡ Commit };
 
     fn from(_error: sqlite::Error) -> Refusal {
-        Refusal::Store
+        Refusal::Commit
     }
 }
 

@@ -73,6 +73,7 @@ module _ (c : Conditions) (s : State) (store : IsStore s) (texts : IsReadyFor c.
   unready_tells Good refusal.ProfileChanged met few is = absurd (is.1 texts.has_profile)
   unready_tells Good refusal.Damaged met few is = inr (inl (no_image Good met, refl))
   unready_tells Good refusal.Store met few is = inr (inr (inl refl))
+  unready_tells Good refusal.Commit met few is = absurd few
   unready_tells Good refusal.Memory met few is = inr (inr (inr refl))
   unready_tells Good refusal.IdentifierRuleChanged met few is = absurd few
   unready_tells Good (refusal.Diagnostic number place addinfo) met few is = absurd few

@@ -134,7 +134,8 @@ module _ (Told : Holdings → Answer → Holdings → Type 0) (old new : State) 
   endures_refusal refusal.Damaged no_more either = λ before leaves db left. leaves db (no_more (λ is. cc) db left)
   endures_refusal refusal.IdentifierRuleChanged no_more either = λ before leaves db left. leaves db (no_more (λ is. cc) db left)
   endures_refusal (refusal.ReadFault file) no_more either = λ before leaves db left. leaves db (no_more (λ is. cc) db left)
-  endures_refusal refusal.Store no_more either = either
+  endures_refusal refusal.Store no_more either = λ before leaves db left. leaves db (no_more (λ is. cc) db left)
+  endures_refusal refusal.Commit no_more either = either
   endures_refusal refusal.Memory no_more either = λ before leaves db left. leaves db (no_more (λ is. cc) db left)
 
   pub endures : (result : Result Reply Refusal) → HasCleanDisk new → IsDurable new → OnOk result (StaysOpen old new) → IfErr result (EnduresRefusal old new) → Survives old new (CommitsBy Told old)

@@ -119,6 +119,7 @@ module _ (trees : Trees) (P : Refusal → Type 0) (store : P refusal.Store) (mem
   pub text_refused : (name : List ℕ) → ((¬ AreReadableTexts trees name) → P refusal.Damaged) → (why : Refusal) → RefusesText name trees why → P why
   text_refused name damaged refusal.Damaged is = damaged is
   text_refused name damaged refusal.Store is = store
+  text_refused name damaged refusal.Commit is = absurd is
   text_refused name damaged refusal.Memory is = memory
   text_refused name damaged refusal.NotInitialised is = absurd is
   text_refused name damaged refusal.OldFormat is = absurd is
@@ -137,6 +138,7 @@ module _ (trees : Trees) (P : Refusal → Type 0) (store : P refusal.Store) (mem
   version_refused none damaged refusal.NotInitialised is = none is
   version_refused none damaged refusal.Damaged is = damaged is
   version_refused none damaged refusal.Store is = store
+  version_refused none damaged refusal.Commit is = absurd is
   version_refused none damaged refusal.Memory is = memory
   version_refused none damaged refusal.OldFormat is = absurd is
   version_refused none damaged refusal.ProfileChanged is = absurd is

@@ -59,6 +59,7 @@ module _ (version : List ℕ) (profile : List Directive) where
   unready_fails trees texts refusal.IdentifierRuleChanged few is whole = absurd few
   unready_fails trees texts (refusal.ReadFault file) few is whole = absurd few
   unready_fails trees texts refusal.Store few is whole = inl refl
+  unready_fails trees texts refusal.Commit few is whole = absurd few
   unready_fails trees texts refusal.Memory few is whole = inr refl
 
   -- ---- after a look at the register
@@ -77,6 +78,7 @@ module _ (version : List ℕ) (profile : List Directive) where
   other_texts trees refusal.IdentifierRuleChanged is never = is
   other_texts trees (refusal.ReadFault file) is never = tt
   other_texts trees refusal.Store is never = tt
+  other_texts trees refusal.Commit is never = is
   other_texts trees refusal.Memory is never = tt
 
   -- a refusal that is passed on

@@ -116,6 +116,7 @@ module _ (version : List ℕ) (profile : List Directive) (old : State) (store : 
     | inr hard ↦ hard.1 (kept_readable old store (codes "profile") (canonical_text profile) profile_utf8 texts.has_profile)
   ])
   own_unrefused version_utf8 profile_utf8 refusal.Store is = inl refl
+  own_unrefused version_utf8 profile_utf8 refusal.Commit is = absurd is
   own_unrefused version_utf8 profile_utf8 refusal.Memory is = inr refl
   own_unrefused version_utf8 profile_utf8 refusal.IdentifierRuleChanged is = absurd is
   own_unrefused version_utf8 profile_utf8 (refusal.Diagnostic number place addinfo) is = absurd is

@@ -115,6 +115,7 @@ module _ (c : Conditions) (sound : ∥ IsProfile c.profile ∥₁) (pattern : Li
       inr (ruled_changed c version text bases (sym (version_is trees version text it.pattern it.texts c.version is.0)) rule)
   rule_refused before image refusal.Damaged is = absurd (elim is [ inl hard ↦ hard (version_readable plain_rows c trees before image) | inr hard ↦ hard.1 (identifier_readable trees before image) ])
   rule_refused before image refusal.Store is = inl (inl refl)
+  rule_refused before image refusal.Commit is = absurd is
   rule_refused before image refusal.Memory is = inl (inr refl)
   rule_refused before image refusal.ProfileChanged is = absurd is
   rule_refused before image (refusal.Diagnostic number place addinfo) is = absurd is
@@ -168,6 +169,7 @@ module _ (c : Conditions) (trees : Trees) where
       (λ same. is.1 (subst (KeepsText trees (codes "profile")) same (profile_kept trees version text image.1.pattern image.1.texts))))
   layout_refused before image refusal.Damaged is = absurd (elim is [ inl hard ↦ hard (version_readable plain_rows c trees before image) | inr hard ↦ hard.1 (profile_readable plain_rows c trees before image) ])
   layout_refused before image refusal.Store is = inl (inl refl)
+  layout_refused before image refusal.Commit is = absurd is
   layout_refused before image refusal.Memory is = inl (inr refl)
   layout_refused before image refusal.IdentifierRuleChanged is = absurd is
   layout_refused before image (refusal.Diagnostic number place addinfo) is = absurd is

@@ -17,7 +17,7 @@ use Rattle.zeb_engine.specs.Transactions.{EnduresRefusal}
 use Rattle.zeb_engine.specs.Works.{Runs, ServesCommand}
 use Rattle.zeb_engine.proofs.Crashing.{no_failure}
 use Rattle.zeb_engine.proofs.OneAnswer.{steps_once}
-use Rattle.zeb_engine.proofs.RunCrashes.{is_store}
+use Rattle.zeb_engine.proofs.RunCrashes.{is_commit}
 
 -- what one command may leave, on whatever is held before it
 abbrev Carries : Conditions → Command → State → Result Reply Refusal → Trees → Type 0
@@ -39,10 +39,10 @@ module _ (c : Conditions) (command : Command) (now next : State) where
         ]),
       )
 
-  failed_store : (why : Refusal) → refused (why_of why) ≡ refused (why_of refusal.Store) → (db : Trees) → CommitsCommand c command now db → Carries c command now (Err why) db
+  failed_store : (why : Refusal) → refused (why_of why) ≡ refused (why_of refusal.Commit) → (db : Trees) → CommitsCommand c command now db → Carries c command now (Err why) db
   failed_store why is db commits mid keeps = let made = commits mid keeps in (made.0, made.1, made.2, made.3, made.4, inr is)
 
-  -- only a command that was accepted, or whose store failed, may have committed anything
+  -- only a command that was accepted, or whose commit failed, may have committed anything
   pub carries : (result : Result Reply Refusal) → (HasCleanDisk next → ServesCommand c command now next result) → (HasCleanDisk next → IfErr result (EnduresRefusal now next))
       → Survives now next (CommitsCommand c command now) → Survives now next (Carries c command now result)
   carries result serves no_more survives = record {
@@ -60,7 +60,7 @@ module _ (c : Conditions) (command : Command) (now next : State) where
       by_result : (r : Result Reply Refusal) → ServesCommand c command now next r → IfErr r (EnduresRefusal now next) → (db : Trees) → next.may_leave db → CommitsCommand c command now db
           → now.may_leave db ⊎ Carries c command now r db
       by_result (Ok it) serves no_more db left made = inr (replied it serves db made)
-      by_result (Err why) serves no_more db left made = elim (is_store why) [
+      by_result (Err why) serves no_more db left made = elim (is_commit why) [
         | inl is ↦ inr (failed_store why (ap (λ (w : Refusal). refused (why_of w)) is) db made)
         | inr other ↦ inl (no_more other db left)
       ]

@@ -62,21 +62,22 @@ left_failed c (first ∷ commands) (one ∷ answers) before mid later command an
 left_failed c [] (one ∷ answers) before mid later command answer told run is step = absurd run
 left_failed c (first ∷ commands) [] before mid later command answer told run is step = absurd run
 
-pub is_store : (why : Refusal) → (why ≡ refusal.Store) ⊎ (why ≢ refusal.Store)
-is_store refusal.NotInitialised = inr (λ is. cc)
-is_store refusal.OldFormat = inr (λ is. cc)
-is_store refusal.ProfileChanged = inr (λ is. cc)
-is_store (refusal.Diagnostic number place addinfo) = inr (λ is. cc)
-is_store refusal.Exists = inr (λ is. cc)
-is_store (refusal.Record file nth fault) = inr (λ is. cc)
-is_store (refusal.Unknown file nth) = inr (λ is. cc)
-is_store refusal.DatabaseFull = inr (λ is. cc)
-is_store refusal.TooManyRecords = inr (λ is. cc)
-is_store refusal.Damaged = inr (λ is. cc)
-is_store refusal.IdentifierRuleChanged = inr (λ is. cc)
-is_store (refusal.ReadFault file) = inr (λ is. cc)
-is_store refusal.Store = inl refl
-is_store refusal.Memory = inr (λ is. cc)
+pub is_commit : (why : Refusal) → (why ≡ refusal.Commit) ⊎ (why ≢ refusal.Commit)
+is_commit refusal.NotInitialised = inr (λ is. cc)
+is_commit refusal.OldFormat = inr (λ is. cc)
+is_commit refusal.ProfileChanged = inr (λ is. cc)
+is_commit (refusal.Diagnostic number place addinfo) = inr (λ is. cc)
+is_commit refusal.Exists = inr (λ is. cc)
+is_commit (refusal.Record file nth fault) = inr (λ is. cc)
+is_commit (refusal.Unknown file nth) = inr (λ is. cc)
+is_commit refusal.DatabaseFull = inr (λ is. cc)
+is_commit refusal.TooManyRecords = inr (λ is. cc)
+is_commit refusal.Damaged = inr (λ is. cc)
+is_commit refusal.IdentifierRuleChanged = inr (λ is. cc)
+is_commit (refusal.ReadFault file) = inr (λ is. cc)
+is_commit refusal.Store = inr (λ is. cc)
+is_commit refusal.Commit = inl refl
+is_commit refusal.Memory = inr (λ is. cc)
 
 -- after one command
 pub did_endures : (c : Conditions) (command : Command) (old new : State) (result : Result Reply Refusal) → HasCleanDisk new → IsDurable new → Did command old new result → Survives old new (CommitsCommand c command old)
@@ -109,7 +110,7 @@ module _ (c : Conditions) (old now next : State) (commands : List Command) (answ
   asked_more (Ok reply) shut runs serves clean did survives before keeps db so_far left = absurd (shut (did.accepted clean).1)
   asked_more (Err why) shut runs serves clean did survives before keeps db so_far left = elim (survives.crash clean db left) [
     | inl was ↦ as_before (Err why) shut serves (inl (why_of why, refl)) before db (so_far was)
-    | inr made ↦ elim (is_store why) [
+    | inr made ↦ elim (is_commit why) [
       | inl is ↦
           let so = runs before keeps in
           let done = made so.0 so.2 in (

@@ -111,7 +111,7 @@ sound_over g (write.Reindex alloc profile) old inside result begins did = λ sto
 sound_over g (write.Upgrade alloc profile) old inside result begins did = tt
 
 -- a commit that failed tells nothing
-pub sound_failed : (w : Write) (s : State) → ReadsSound w s (Err refusal.Store)
+pub sound_failed : (w : Write) (s : State) → ReadsSound w s (Err refusal.Commit)
 sound_failed (write.Init profile pattern) s = tt
 sound_failed (write.Create name) s = tt
 sound_failed (write.Drop name id) s = tt

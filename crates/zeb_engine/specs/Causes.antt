@@ -1,11 +1,30 @@
 -- Why a command answers that the store failed.
-use Rattle.std.specs.Prelude.{◌≡◌, Result, IfErr}
+use Rattle.std.specs.Prelude.{◌≡◌, ◌⊎◌, Result, IfErr, Unit}
 use Rattle.sqlite.specs.State.{State}
+use Rattle.sqlite.specs.Tree.{Trees}
 use Rattle.zeb_register.specs.Calls.{MayRefuse}
-use Rattle.zeb_register.specs.Store.{IsStore}
+use Rattle.zeb_register.specs.Hindrances.{LacksRowids}
+use Rattle.zeb_register.specs.Store.{IsStore, databases_tree}
 use Rattle.zeb_change.specs.declared.refusals.Refusal.{Refusal}
 use Rattle.zeb_change.specs.declared.refusals.Refusal.TheVariants.{Store}
+use Rattle.zeb_engine.specs.declared.commands.Command.{Command}
+use Rattle.zeb_engine.specs.declared.commands.Command.TheVariants.{Init, Create, Change, Reindex, Upgrade}
 
 -- On the tables of a store it has a cause: the connection was shut, the disk failed during the call, or a limit on steps is set.
 abbrev pub HasStoreCause : {T : Type 0} → State → State → Result T Refusal → Type 0
 HasStoreCause old new result = IsStore old → IfErr result (λ refusal. refusal ≡ Store → MayRefuse old new)
+
+-- What of the tables may hinder a command, beside such a cause: a new database needs a rowid above the last. A drop and the commands that
+-- only ask are hindered by nothing. Of the others, which put rows into more than one table, nothing is said.
+abbrev pub MayHinder : Command → Trees → Type 0
+MayHinder Init trees = Unit {0}
+MayHinder (Create name) trees = LacksRowids 1 databases_tree trees
+MayHinder (Change kind name files) trees = Unit {0}
+MayHinder Reindex trees = Unit {0}
+MayHinder Upgrade trees = Unit {0}
+MayHinder command trees = ⊥
+
+-- the same of a call that these tables may hinder too
+abbrev pub HasCauseOver : {T : Type 0} → (Trees → Type 0) → State → State → Result T Refusal → Type 0
+HasCauseOver Hinders old new result =
+    IsStore old → IfErr result (λ refusal. refusal ≡ Store → MayRefuse old new ⊎ Hinders old.now.trees)

@@ -10,7 +10,8 @@ use Rattle.zeb_profile.specs.Canonical.{canonical_text, pattern_text}
 use Rattle.zeb_profile.specs.Laws.{IsProfile}
 use Rattle.zeb_register.specs.declared.RegFault.{RegFault}
 use Rattle.zeb_register.specs.Formats.{Format, version_of}
-use Rattle.zeb_register.specs.Store.{IsStore, HasDatabase}
+use Rattle.zeb_register.specs.Hindrances.{LacksRowids}
+use Rattle.zeb_register.specs.Store.{IsStore, HasDatabase, databases_tree}
 use Rattle.zeb_engine.specs.declared.writes.Write.{Write}
 use Rattle.zeb_engine.specs.declared.writes.Write.TheVariants as write
 use Rattle.zeb_change.specs.declared.refusals.Refusal.{Refusal}
@@ -110,6 +111,14 @@ FailsAlone (write.Create name) result = Unit {0}
 FailsAlone (write.Drop name id) result = Unit {0}
 FailsAlone (write.Reindex alloc profile) result = Unit {0}
 FailsAlone (write.Upgrade alloc profile) result = Unit {0}
+
+-- what of the tables may hinder a write, as far as it is said
+abbrev pub HindersWrite : Write → Trees → Type 0
+HindersWrite (write.Init profile pattern) trees = Unit {0}
+HindersWrite (write.Create name) trees = LacksRowids 1 databases_tree trees
+HindersWrite (write.Drop name id) trees = ⊥
+HindersWrite (write.Reindex alloc profile) trees = Unit {0}
+HindersWrite (write.Upgrade alloc profile) trees = Unit {0}
 
 -- a reindex goes by the kept records
 abbrev pub ReadsSound : Write → State → Result Reply Refusal → Type 0

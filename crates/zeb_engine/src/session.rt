@@ -12,7 +12,7 @@ ghost use Rattle.zeb_engine.specs.Analysed.{AnswersAnalysis};
 ghost use Rattle.zeb_engine.specs.Answers.{IsFailure, answer_of, refused};
 ghost use Rattle.zeb_change.specs.Refused.{why_of};
 ghost use Rattle.zeb_change.specs.Conditions.{conditions};
-ghost use Rattle.zeb_engine.specs.Causes.{HasStoreCause};
+ghost use Rattle.zeb_engine.specs.Causes.{HasCauseOver, MayHinder};
 ghost use Rattle.zeb_engine.specs.Checking.{ChecksTables, ReindexLeaves, ReindexesTables, StaysUpgraded, UpgradesTables};
 ghost use Rattle.zeb_engine.specs.Readiness.{GoesByTexts, LooksFirst};
 ghost use Rattle.zeb_change.specs.Reading.{NoReadFault};
@@ -131,7 +131,7 @@ impl<S: Alter, L: Layout> Session<S, L> {
             → ChangesNothing (state S.Store connection) (state S.Store back.0)) }
         ensures endures { IfErr result (λ back. HasCleanDisk (state S.Store back.0)
             → EnduresRefusal (state S.Store connection) (state S.Store back.0) back.1) }
-        ensures failed { IfErr result (λ back. (back.1 ≡ Refusal.Store) ⊎ (back.1 ≡ Refusal.Memory)) }
+        ensures failed { IfErr result (λ back. (back.1 ≡ Refusal.Store) ⊎ ((back.1 ≡ Refusal.Commit) ⊎ (back.1 ≡ Refusal.Memory))) }
     {
         let mut connection = connection;
         if let Err(refusal) = make_absent_tables(&mut connection) {
@@ -240,9 +240,9 @@ impl<S: Alter, L: Layout> Session<S, L> {
         ensures read_work { HasCleanDisk (state S.Store self.new.connection)
             → CommandReads L.format L.row_work L.block_rows self.old.profile command.now
             (state S.Store self.old.connection) result self.new.work }
-        // A command that only asks finds the store failed only for a cause.
-        ensures caused { HasCleanDisk (state S.Store self.new.connection) → OnlyAsks command.now
-            → HasStoreCause (state S.Store self.old.connection) (state S.Store self.new.connection) result }
+        // A command that only asks, a drop and a create find the store failed only for a cause. A failed commit is told apart.
+        ensures caused { HasCleanDisk (state S.Store self.new.connection)
+            → HasCauseOver (MayHinder command.now) (state S.Store self.old.connection) (state S.Store self.new.connection) result }
         // Over a layout whose rows count nothing no work is counted.
         ensures no_work { HasCleanDisk (state S.Store self.new.connection) → L.row_work ≡ 0
             → CountsNothing command.now (state S.Store self.old.connection) result self.new.work }
@@ -297,8 +297,8 @@ impl<S: Alter, L: Layout> Session<S, L> {
         ensures read_work { HasCleanDisk (state S.Store self.new.connection)
             → CommandReads L.format L.row_work L.block_rows self.old.profile command.now
             (state S.Store self.old.connection) result self.new.work }
-        ensures caused { HasCleanDisk (state S.Store self.new.connection) → OnlyAsks command.now
-            → HasStoreCause (state S.Store self.old.connection) (state S.Store self.new.connection) result }
+        ensures caused { HasCleanDisk (state S.Store self.new.connection)
+            → HasCauseOver (MayHinder command.now) (state S.Store self.old.connection) (state S.Store self.new.connection) result }
         ensures no_work { L.row_work ≡ 0 → IsNoChange command.now → self.new.work ≡ no_work }
     {
         self.work = Work::default();

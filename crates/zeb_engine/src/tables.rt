@@ -47,7 +47,7 @@ pub(crate) fn make_absent_tables<S: Alter>(connection: &mut Connection<S>) -> Re
         → IfErr result (EnduresRefusal (state S.Store connection.old) (state S.Store connection.new)) }
     ensures survives { Survives (state S.Store connection.old) (state S.Store connection.new)
         (CommitsTables (state S.Store connection.old)) }
-    ensures failed { IfErr result (λ refusal. (refusal ≡ Refusal.Store) ⊎ (refusal ≡ Refusal.Memory)) }
+    ensures failed { IfErr result (λ refusal. (refusal ≡ Refusal.Store) ⊎ ((refusal ≡ Refusal.Commit) ⊎ (refusal ≡ Refusal.Memory))) }
     ensures ours { OnOk result (MayBeTaken (state S.Store connection.old)) }
     ensures other { HasOtherTables (state S.Store connection.old)
         → (result ≡ Err Refusal.Store) × (connection.new ≡ connection.old) }

@@ -4,12 +4,15 @@ ghost use Rattle.std.specs.Prelude.{◌≡◌, false, [], IsTrue, OnOk, OnErr, I
 ghost use Rattle.sqlite.specs.Held.{state};
 ghost use Rattle.sqlite.specs.State.{HasCleanDisk, KeepsCommit, Survives};
 ghost use Rattle.zeb_register.specs.Calls.{GoesOn};
+ghost use Rattle.zeb_register.specs.Clauses.{IsHinderedInside, IsReasonedInside};
 ghost use Rattle.zeb_register.specs.Formats.{version_of};
-ghost use Rattle.zeb_register.specs.Store.{IsStore, meta_tree};
+ghost use Rattle.zeb_register.specs.Hindrances.{LacksRowids};
+ghost use Rattle.zeb_register.specs.Store.{IsStore, databases_tree, meta_tree};
 ghost use Rattle.zeb_change.specs.declared.settings.Limits.{Limits};
 ghost use Rattle.zeb_engine.specs.Answers.{IsFailure, refused};
 ghost use Rattle.zeb_change.specs.Refused.{why_of, NeverUnready};
 ghost use Rattle.zeb_change.specs.Conditions.{Conditions, conditions};
+ghost use Rattle.zeb_engine.specs.Causes.{HasCauseOver};
 ghost use Rattle.zeb_engine.specs.Checking.{IsRemade, TellsSound};
 ghost use Rattle.zeb_engine.specs.Crashes.{Commits};
 ghost use Rattle.zeb_image.specs.Image.{IsImage};
@@ -19,8 +22,9 @@ ghost use Rattle.zeb_engine.specs.Steps.{holding, initialised, turned, created, 
 ghost use Rattle.zeb_engine.specs.Transactions.{Commanded};
 ghost use Rattle.zeb_change.specs.Inside.{Stays};
 ghost use Rattle.zeb_engine.specs.Works.{IsReady, Serves, Works};
-ghost use Rattle.zeb_engine.specs.PrivateWriting.{AreOf, Begins, CommitsRemade, IsFree, IsKnown, FailsAlone, Fits, IsReached, IsRuled, IsUpgradable, PutsTexts, ReadsSound, Remakes, answered, written};
-ghost use Rattle.zeb_engine.specs.PrivateConnections.{CommitsNothing, CommitsUnder, ServesUnder};
+ghost use Rattle.zeb_engine.specs.PrivateWriting.{AreOf, Begins, CommitsRemade, IsFree, IsKnown, FailsAlone, Fits, HindersWrite};
+ghost use Rattle.zeb_engine.specs.PrivateWriting.{IsReached, IsRuled, IsUpgradable, PutsTexts, ReadsSound, Remakes, answered, written};
+ghost use Rattle.zeb_engine.specs.PrivateConnections.{CommitsNothing, CommitsUnder, FailsForCause, ServesUnder};
 
 use crate::readiness::{IDENTIFIER, PROFILE, VERSION, existing_database};
 use crate::replies::Reply;
@@ -112,6 +116,8 @@ fn create<S: Alter, L: Layout>(tx: &mut Transaction<'_, S>, name: &DbName) -> Re
         → IsTrue (state S.Store tx.old.conn.now).is_open → (c : Conditions)
         → Works (IsFree (name_bytes name.now) c) (turned c (created (name_bytes name.now))) (state S.Store tx.old.conn.now)
         (state S.Store tx.new.conn.now) (answered result) }
+    ensures refused { IsHinderedInside (state S.Store tx.old.conn.now) (state S.Store tx.new.conn.now) result
+        (LacksRowids 1 databases_tree) }
     ensures crash { CommitsNothing S.Store tx.old.conn.now tx.new.conn.now }
 {
     database_put(tx, name.as_str(), 0)?;
@@ -131,6 +137,7 @@ fn take<S: Alter, L: Layout>(
         → Works (λ trees before. (c.version ≡ version_of L.format)
         × IsKnown (name_bytes name.now) id.0 c trees before) (turned c (dropped (name_bytes name.now))) (state S.Store tx.old.conn.now)
         (state S.Store tx.new.conn.now) (answered result) }
+    ensures refused { IsReasonedInside (state S.Store tx.old.conn.now) (state S.Store tx.new.conn.now) result }
     ensures crash { CommitsNothing S.Store tx.old.conn.now tx.new.conn.now }
 {
     L::database_take(tx, id)?;
@@ -198,6 +205,7 @@ fn apply<S: Alter, L: Layout>(
     ensures begun { HasCleanDisk (state S.Store tx.new.conn.now) → IsTrue (state S.Store tx.old.conn.now).in_transaction
         → OnOk result (Begins (version_of L.format) write.now (state S.Store tx.old.conn.now) (state S.Store tx.new.conn.now)) }
     ensures failed { FailsAlone write.now (answered result) }
+    ensures refused { IsHinderedInside (state S.Store tx.old.conn.now) (state S.Store tx.new.conn.now) result (HindersWrite write.now) }
     ensures crash { CommitsNothing S.Store tx.old.conn.now tx.new.conn.now }
     ensures sound { HasCleanDisk (state S.Store tx.new.conn.now) → IsTrue (state S.Store tx.old.conn.now).in_transaction
         → ReadsSound write.now (state S.Store tx.old.conn.now) (answered result) }
@@ -227,6 +235,8 @@ pub(crate) fn transact<S: Alter, L: Layout>(
     ensures begun { HasCleanDisk (state S.Store connection.new)
         → OnOk result (Begins (version_of L.format) write.now (state S.Store connection.old) (state S.Store connection.new)) }
     ensures failed { FailsAlone write.now result }
+    ensures caused { HasCleanDisk (state S.Store connection.new)
+        → HasCauseOver (HindersWrite write.now) (state S.Store connection.old) (state S.Store connection.new) result }
     ensures serves { HasCleanDisk (state S.Store connection.new) → (c : Conditions) → IsReached write.now (state S.Store connection.old)
         → Serves (Fits (version_of L.format) c write.now) (written c write.now) (state S.Store connection.old)
         (state S.Store connection.new) result }
@@ -289,6 +299,8 @@ pub(crate) fn create_database<S: Alter, L: Layout>(
         → Commits (IsReady c) (turned c (created (name_bytes name.now))) (state S.Store connection.old) db) }
     ensures unread { NoReadFault result }
     ensures ready { NeverUnready result }
+    ensures caused { HasCleanDisk (state S.Store connection.new)
+        → HasCauseOver (LacksRowids 1 databases_tree) (state S.Store connection.old) (state S.Store connection.new) result }
 {
     let found = database_of(connection, name.as_str())?;
     match found {
@@ -314,6 +326,7 @@ pub(crate) fn drop_database<S: Alter, L: Layout>(
         → Commits (IsReady c) (turned c (dropped (name_bytes name.now))) (state S.Store connection.old) db) }
     ensures unread { NoReadFault result }
     ensures ready { NeverUnready result }
+    ensures caused { FailsForCause S.Store connection.old connection.new result }
 {
     let database = existing_database::<S, L>(alloc, connection, name)?;
     transact::<S, L>(connection, &Write::Drop(name, database.id))

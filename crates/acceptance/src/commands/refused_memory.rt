@@ -89,7 +89,10 @@ const GIVEN: [Given; 22] = [
 ];
 
 pub fn lacks_memory(answer: &Result<Reply, Refusal>) -> bool {
-    matches!(answer, Err(Refusal::Memory | Refusal::Store))
+    matches!(
+        answer,
+        Err(Refusal::Memory | Refusal::Store | Refusal::Commit)
+    )
 }
 
 /// The command of a step, made again where memory was refused for it.

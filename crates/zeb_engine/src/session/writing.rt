@@ -4,14 +4,17 @@ ghost use Rattle.std.specs.Prelude.{◌≡◌};
 ghost use Rattle.sqlite.specs.Held.{state};
 ghost use Rattle.sqlite.specs.State.{HasCleanDisk, Survives};
 ghost use Rattle.zeb_register.specs.Formats.{version_of};
+ghost use Rattle.zeb_register.specs.Hindrances.{LacksRowids};
+ghost use Rattle.zeb_register.specs.Store.{databases_tree};
 ghost use Rattle.zeb_change.specs.Conditions.{conditions};
 ghost use Rattle.zeb_change.specs.Reading.{NoReadFault};
 ghost use Rattle.zeb_image.specs.NameOf.{name_bytes};
+ghost use Rattle.zeb_engine.specs.Causes.{HasCauseOver};
 ghost use Rattle.zeb_engine.specs.Crashes.{Commits};
 ghost use Rattle.zeb_engine.specs.Steps.{created, dropped, turned};
 ghost use Rattle.zeb_engine.specs.Transactions.{Commanded};
 ghost use Rattle.zeb_engine.specs.Works.{Always, Serves};
-ghost use Rattle.zeb_engine.specs.PrivateConnections.{TellsReady};
+ghost use Rattle.zeb_engine.specs.PrivateConnections.{FailsForCause, TellsReady};
 
 use crate::readiness::check_ready;
 use crate::replies::Reply;
@@ -36,6 +39,8 @@ impl<S: Alter, L: Layout> Session<S, L> {
         ensures unread { NoReadFault result }
         ensures ready { TellsReady S.Store (version_of L.format) self.old.profile self.old.connection self.new.connection result }
         ensures unworked { self.new.work ≡ self.old.work }
+        ensures caused { HasCleanDisk (state S.Store self.new.connection) → HasCauseOver (LacksRowids 1 databases_tree)
+            (state S.Store self.old.connection) (state S.Store self.new.connection) result }
     {
         check_ready::<S, L>(&mut self.connection, &self.profile)?;
         create_database::<S, L>(&mut self.connection, name)
@@ -54,6 +59,7 @@ impl<S: Alter, L: Layout> Session<S, L> {
         ensures unread { NoReadFault result }
         ensures ready { TellsReady S.Store (version_of L.format) self.old.profile self.old.connection self.new.connection result }
         ensures unworked { self.new.work ≡ self.old.work }
+        ensures caused { FailsForCause S.Store self.old.connection self.new.connection result }
     {
         check_ready::<S, L>(&mut self.connection, &self.profile)?;
         drop_database::<S, L>(self.alloc, &mut self.connection, name)

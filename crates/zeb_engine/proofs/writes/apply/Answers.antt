@@ -1,4 +1,4 @@
-use Rattle.std.proofs.Common.{[], IsTrue}
+use Rattle.std.proofs.Common.{[], IsTrue, inl, inr}
 use Rattle.sqlite.specs.Held.{state}
 use Rattle.zeb_register.specs.Store.{IsStore}
 use Rattle.zeb_change.specs.Conditions.{Conditions}
@@ -84,3 +84,18 @@ returns-in-Reindex-clause-remade g c clean inside =
 
 pub returns-in-Upgrade-clause-remade : goal.returns-in-Upgrade-clause-remade
 returns-in-Upgrade-clause-remade g c clean inside = rw c.in-Upgrade.is (nothing_so c.upgrade.result)
+
+pub returns-in-Init-clause-refused : goal.returns-in-Init-clause-refused
+returns-in-Init-clause-refused g c clean inside store is = rw c.in-Init.is (inr tt)
+
+pub returns-in-Create-clause-refused : goal.returns-in-Create-clause-refused
+returns-in-Create-clause-refused g c clean inside = rw c.in-Create.is (c.create.ensures.refused clean inside)
+
+pub returns-in-Drop-clause-refused : goal.returns-in-Drop-clause-refused
+returns-in-Drop-clause-refused g c clean inside store is = rw c.in-Drop.is (inl (c.take.ensures.refused clean inside store is))
+
+pub returns-in-Reindex-clause-refused : goal.returns-in-Reindex-clause-refused
+returns-in-Reindex-clause-refused g c clean inside store is = rw c.in-Reindex.is (inr tt)
+
+pub returns-in-Upgrade-clause-refused : goal.returns-in-Upgrade-clause-refused
+returns-in-Upgrade-clause-refused g c clean inside store is = rw c.in-Upgrade.is (inr tt)

@@ -1,10 +1,13 @@
-use Rattle.std.proofs.Common.{pos, subst}
+use Rattle.std.proofs.Common.{◌≡◌, ◌∙◌, Err, arith, inl, inr, pos, rules, subst, sym}
 use Rattle.sqlite.specs.Held.{state}
 use Rattle.zeb_register.specs.Catalog.{PutsDatabase}
 use Rattle.zeb_register.specs.Store.{Changes, databases_tree}
 use Rattle.zeb_image.specs.NameOf.{name_bytes}
 use Rattle.zeb_engine.proofs.WriteSteps.{create_leads}
 use Rattle.zeb_engine.proofs.writes.create.Goals as goal
+use Rattle.zeb_register.specs.Hindrances.{IsTooLarge}
+use Rattle.zeb_register.specs.Store.{database_columns}
+use Rattle.zeb_engine.proofs.WriteCauses.{name_fits}
 
 pub returns-clause-works : goal.returns-clause-works
 returns-clause-works g c clean inside opened k =
@@ -17,3 +20,14 @@ returns-clause-works g c clean inside opened k =
           let put = subst (λ n. Changes databases_tree (PutsDatabase id n (pos 0)) old new) c.as_str.ensures (c.in_ok-database_put.ensures.put clean inside store) in
           create_leads k old new name before image id c.args.name.now.named free put,
     )
+
+pub returns-in_err-database_put-clause-refused : goal.returns-in_err-database_put-clause-refused
+returns-in_err-database_put-clause-refused g c clean inside store is =
+    let fault = c.in_err-database_put.field-0.0 in
+    let told : c.from_residual.result ≡ Err fault = search rules in
+    elim (c.in_err-database_put.ensures.refused (omega arith) clean inside store (sym told ∙ is)) [
+      | inl cause ↦ inl cause
+      | inr (inl lacks) ↦ inr lacks
+      | inr (inr large) ↦
+          absurd (name_fits (name_bytes c.args.name.now) (pos 0) c.args.name.now.named.at_most_64 (subst (λ n. IsTooLarge (database_columns n (pos 0))) c.as_str.ensures large))
+    ]

@@ -2,7 +2,7 @@ use Rattle.std.proofs.Common.{◌≡◌, Ok, Err, inl, rules, arith, refl, sym, 
 use Rattle.sqlite.specs.State.{HasCleanDisk}
 use Rattle.sqlite.specs.Held.{state}
 use Rattle.zeb_register.specs.Calls.{ChangesNothing}
-use Rattle.zeb_change.specs.declared.refusals.Refusal.TheVariants.{Store}
+use Rattle.zeb_change.specs.declared.refusals.Refusal.TheVariants.{Commit}
 use Rattle.zeb_change.specs.Outcomes.{register_refusal}
 use Rattle.zeb_engine.specs.declared.replies.Reply.TheVariants.{Done}
 use Rattle.zeb_engine.specs.Works.{Serves}
@@ -12,6 +12,9 @@ use Rattle.zeb_engine.proofs.Remaking.{remade_survives, remakes_over}
 use Rattle.zeb_engine.proofs.Serving.{begins_over, early_serves, refusal_serves, reply_serves, reached_inside, sound_failed, sound_over}
 use Rattle.zeb_engine.proofs.writes.transact.Goals as goal
 use Rattle.zeb_register.specs.Formats.{version_of}
+use Rattle.zeb_engine.specs.Causes.{HasCauseOver}
+use Rattle.zeb_engine.specs.PrivateWriting.{HindersWrite}
+use Rattle.zeb_engine.proofs.WriteCauses.{write_caused}
 
 pub returns-in_err-apply-clause-serves : goal.returns-in_err-apply-clause-serves
 returns-in_err-apply-clause-serves g c clean k reached =
@@ -69,10 +72,10 @@ returns-in_err-commit-clause-serves g c clean k reached =
     let end = c.commit.new.self.0 in
     let late : HasCleanDisk (state g.S.Store end) = search rules in
     let same : end ≡ c.connection-2-1.given.0 = search rules in
-    let told : c.from_residual-in_err-commit.result ≡ Err Store = search rules in
+    let told : c.from_residual-in_err-commit.result ≡ Err Commit = search rules in
     let nothing : ChangesNothing old (state g.S.Store end) = search rules in
     subst₂ (λ h r. Serves (Fits (version_of g.L.Layout.format) k write) (written k write) old (state g.S.Store h) r) same (sym told)
-    (early_serves (written k write) (Fits (version_of g.L.Layout.format) k write) old (state g.S.Store end) Store nothing (λ before fits keeps. inl (inl refl)))
+    (early_serves (written k write) (Fits (version_of g.L.Layout.format) k write) old (state g.S.Store end) Commit nothing (λ before fits keeps. inl (inl refl)))
 
 pub returns-in_err-apply-clause-sound : goal.returns-in_err-apply-clause-sound
 returns-in_err-apply-clause-sound g c clean =
@@ -85,7 +88,7 @@ returns-in_err-apply-clause-sound g c clean =
 
 pub returns-in_err-commit-clause-sound : goal.returns-in_err-commit-clause-sound
 returns-in_err-commit-clause-sound g c clean =
-    let told : c.from_residual-in_err-commit.result ≡ Err Store = search rules in
+    let told : c.from_residual-in_err-commit.result ≡ Err Commit = search rules in
     rw told (sound_failed c.args.write.now (state g.S.Store c.args.connection.now))
 
 pub returns-clause-sound : goal.returns-clause-sound
@@ -115,3 +118,21 @@ pub returns-clause-survives_remade : goal.returns-clause-survives_remade
 returns-clause-survives_remade g c =
     remade_survives g.L.Layout.format g.S.Store c.args.connection.now c.transaction-tx.result.conn.now (state g.S.Store c.apply.new.tx.conn.now) c.transaction-tx.ensures.begun c.args.write.now c.commit.new.self.0 c.connection-2-1.given.0 (search rules)
     c.apply.ensures.crash c.commit.ensures.survives c.in_ok-apply.ensures.remade
+
+pub returns-in_err-apply-clause-caused : goal.returns-in_err-apply-clause-caused
+returns-in_err-apply-clause-caused g c clean =
+    let begun = c.transaction-tx.ensures.begun in
+    let write = c.args.write.now in
+    let fault = c.in_err-apply.field-0.0 in
+    let end = c.drop-tx.new.self.0 in
+    let late : HasCleanDisk (state g.S.Store end) = search rules in
+    let same : end ≡ c.connection-1.given.0 = search rules in
+    let told : c.from_residual.result ≡ Err (register_refusal fault) = search rules in
+    subst₂ (λ h r. HasCauseOver (HindersWrite write) (state g.S.Store c.args.connection.now) (state g.S.Store h) r) same (sym told)
+    (write_caused g.S.Store write c.args.connection.now c.transaction-tx.result.conn.now (state g.S.Store c.apply.new.tx.conn.now) (state g.S.Store end) fault begun
+    (omega (arith, c.drop-tx.ensures.survives.clean)) c.drop-tx.ensures.survives.counts c.in_err-apply.ensures.refused)
+
+pub returns-in_err-commit-clause-caused : goal.returns-in_err-commit-clause-caused
+returns-in_err-commit-clause-caused g c clean store =
+    let told : c.from_residual-in_err-commit.result ≡ Err Commit = search rules in
+    rw told (λ is. absurd cc)
