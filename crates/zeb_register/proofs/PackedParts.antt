@@ -11,8 +11,7 @@ use Rattle.sqlite_rules.proofs.ProbeLemmas.{has_mapped, mapped_has}
 use Rattle.zeb_blocks.specs.declared.postings.Posting.{Posting}
 use Rattle.zeb_blocks.specs.Blocks.{IsNumbered, LiesIn}
 use Rattle.zeb_register.specs.declared.registers.Place.{Place}
-use Rattle.zeb_register.specs.Content.{ArePlacesOf, IsListChanged, place_cmp, posting_at, posting_cmp}
-use Rattle.zeb_register.specs.PackedChanges.{AreStorablePlaces, IsStorablePlace}
+use Rattle.zeb_register.specs.Content.{ArePlacesOf, AreStorablePlaces, IsListChanged, IsStorablePlace, place_cmp, posting_at, posting_cmp}
 use Rattle.zeb_register.proofs.ContentChanges.{numbers_apart, posting_total}
 use Rattle.zeb_register.proofs.CountLemmas.{has_end, less_is}
 use Rattle.zeb_register.proofs.RisingLists.{joined_rises, kept_rises, pushed_rises, same_list}

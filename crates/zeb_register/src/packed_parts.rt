@@ -7,9 +7,9 @@ ghost use Rattle.std.specs.List.{AllByRecursion};
 ghost use Rattle.std.specs.List.Sorted.{IsStrictlySortedBy};
 ghost use Rattle.zeb_blocks.specs.Blocks.{LiesIn};
 ghost use Rattle.zeb_blocks.specs.declared.postings.Posting.{Posting};
-ghost use Rattle.zeb_register.specs.Content.{AreListChanges, ArePlacesOf, IsListChanged, OldsRise, place_cmp, posting_at, posting_cmp};
-ghost use Rattle.zeb_register.specs.PackedChanges.{AreStorablePlaces, CountsOn, IsHeld, IsInBlock, IsParted};
-ghost use Rattle.zeb_register.specs.PackedChanges.{IsStorableChange, IsStorablePlace};
+ghost use Rattle.zeb_register.specs.Content.{AreListChanges, ArePlacesOf, AreStorablePlaces, IsListChanged, IsStorablePlace};
+ghost use Rattle.zeb_register.specs.Content.{OldsRise, place_cmp, posting_at, posting_cmp};
+ghost use Rattle.zeb_register.specs.PackedChanges.{CountsOn, IsHeld, IsInBlock, IsParted, IsStorableChange};
 
 use crate::RegFault;
 use crate::registers::{Place, RecordChange};
