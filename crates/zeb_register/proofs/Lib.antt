@@ -56,6 +56,7 @@ pub mod WriteRefusals
 pub mod RowSizes
 pub mod Clashes
 pub mod NewRows
+pub mod TakenRowids
 pub mod InsertRefusals
 pub mod UpdateRefusals
 pub mod ReplaceRefusals
