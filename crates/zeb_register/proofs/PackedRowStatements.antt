@@ -21,10 +21,10 @@ use Rattle.zeb_register.proofs.PackedStatements.{blocks_keys, dict_keys}
 use Rattle.zeb_register.proofs.PostingStatements.{blocks, blocks_static, dict, dict_static}
 use Rattle.zeb_register.proofs.Prefix.{IsAfter, lists_after}
 use Rattle.zeb_register.proofs.Refusals.{IsFit, IsReasonedQuery, IsWhole, why_refused}
-use Rattle.zeb_register.proofs.InsertRefusals.{why_insert_hindered}
+use Rattle.zeb_register.proofs.InsertRefusals.{why_insert_hindered, why_insert_unbroken}
 use Rattle.zeb_register.proofs.NewRows.{IsRowFor}
 use Rattle.zeb_register.proofs.UpdateRefusals.{why_update_hindered}
-use Rattle.zeb_register.proofs.WriteRefusals.{IsHinderedWrite, IsReasonedWrite, why_delete_refused}
+use Rattle.zeb_register.proofs.WriteRefusals.{IsHinderedWrite, IsReasonedWrite, IsUnbrokenWrite, why_delete_refused}
 use Rattle.zeb_register.proofs.WriteRowids.{IsTakingWrite, delete_takes, insert_takes, update_takes}
 use Rattle.zeb_register.proofs.RowLemmas.{covered_some}
 use Rattle.zeb_register.proofs.Selects.{list_so}
@@ -148,6 +148,14 @@ add_block_refused db idx reg term block bytes =
 pub add_block_takes : (db idx reg : ℤ) (term : List ℕ) (block : ℤ) (bytes : List ℕ) → IsTakingWrite 1 blocks_tree add_block_text (block_columns db idx reg term block bytes)
 add_block_takes db idx reg term block bytes =
     let row = block_columns db idx reg term block bytes in insert_takes 4 blocks blocks_static row add_block_terms 7 row refl refl add_block_text add_block_is add_block_plain
+
+pub add_block_unbroken : (db idx reg : ℤ) (term : List ℕ) (block : ℤ) (bytes : List ℕ)
+    → IsUnbrokenWrite add_block_text (block_columns db idx reg term block bytes) (Hinders 1 blocks_tree (block_columns db idx reg term block bytes))
+add_block_unbroken db idx reg term block bytes =
+    let row = block_columns db idx reg term block bytes in
+    why_insert_unbroken 4 blocks blocks_static _ blocks_keys row (IsBlockOf db idx reg term block) (block_fits db idx reg term block bytes)
+    (λ id other was shares. elim shares [ inl m ↦ (m.0, m.1.0, m.1.1.0, m.1.1.1.0, m.1.1.1.1.0) | inr none ↦ absurd none ])
+    row add_block_terms 7 refl refl (λ trees. (refl, refl)) add_block_text add_block_is add_block_plain add_block_whole
 
 abbrev pub add_dict_text : List ℕ
 add_dict_text = codes "INSERT INTO dict VALUES (?1, ?2, ?3, ?4, ?5)"

@@ -7,7 +7,7 @@ ghost use Rattle.zeb_register.specs.Calls.{Inside};
 ghost use Rattle.zeb_register.specs.Clauses.{IsHinderedErrorInside, IsReasonedErrorInside, TakesInside, Writes};
 ghost use Rattle.zeb_register.specs.Hindrances.{Hinders, HindersNew};
 ghost use Rattle.zeb_register.specs.KeyColumns.{IsOfKey, IsOfNumbered, key_columns, numbered_columns};
-ghost use Rattle.zeb_register.specs.RowStatements.{Gains, IsUnchangedByViolation, ListsInside, Renews};
+ghost use Rattle.zeb_register.specs.RowStatements.{Gains, IsHinderedUnbroken, IsUnchangedByViolation, ListsInside, Renews};
 ghost use Rattle.zeb_register.specs.Sql.{Loses};
 ghost use Rattle.zeb_register.specs.Store.{IsRest, blocks_tree, dict_tree};
 
@@ -68,6 +68,8 @@ pub(crate) fn block_add<S: Alter>(
     ensures violated { IsUnchangedByViolation (state S.Store tx.old.conn.now) (state S.Store tx.new.conn.now) result }
     ensures refused { IsHinderedErrorInside (state S.Store tx.old.conn.now) (state S.Store tx.new.conn.now) result
         (HindersNew (IsOfNumbered at.entry number) blocks_tree (numbered_columns at.entry number ++ Blob bytes.now ∷ [])) }
+    ensures unbroken { IsHinderedUnbroken (state S.Store tx.old.conn.now) (state S.Store tx.new.conn.now) result
+        (Hinders 1 blocks_tree (numbered_columns at.entry number ++ Blob bytes.now ∷ [])) }
     ensures rowids { TakesInside (state S.Store tx.old.conn.now) (state S.Store tx.new.conn.now) result 1 blocks_tree }
 {
     let db = at.db.column();
