@@ -49,6 +49,8 @@ pub mod PackedTotals
 pub mod BetweenLemmas
 pub mod PlaceLemmas
 pub mod PackedChanges
+pub mod PackedHindrances
+pub mod PackedCauses
 pub mod RecordLemmas
 pub mod RecordReadings
 pub mod Refusals
