@@ -18,7 +18,6 @@ MADE_BY_HAND = {
     "crates/zeb_profile/src/indexes.rt": (["number_name"], "2^32 - 1 indexes are as many as a number of an index can tell apart"),
     "crates/zeb_profile/src/faults.rt": (["MEMORY"], "the one value that all conversions give"),
     "crates/zeb_query/src/faults.rt": (["about"], "an addinfo that there is no memory for"),
-    "crates/zeb_register/src/packed_changes.rt": (["block_begin", "block_begin"], "the refusal of a row, which is passed on as it was told"),
     "crates/zeb_register/src/packed_parts.rt": (["check_numbers", "check_place"], "a number or a place that no row has"),
     "crates/zeb_register/src/values.rt": (["stored"], "a number that no column stores"),
     "crates/zeb_change/src/key_notes.rt": (["note"], "more changes of a key than a number counts"),

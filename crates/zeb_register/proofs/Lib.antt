@@ -49,6 +49,8 @@ pub mod PackedTotals
 pub mod BetweenLemmas
 pub mod PlaceLemmas
 pub mod PackedChanges
+pub mod PackedHindrances
+pub mod PackedCauses
 pub mod RecordLemmas
 pub mod RecordReadings
 pub mod Refusals
@@ -56,6 +58,8 @@ pub mod WriteRefusals
 pub mod RowSizes
 pub mod Clashes
 pub mod NewRows
+pub mod TakenRowids
+pub mod WriteRowids
 pub mod InsertRefusals
 pub mod UpdateRefusals
 pub mod ReplaceRefusals

@@ -40,7 +40,7 @@ parts_of [] h = absurd cc
 parts_of (v ∷ columns) h = (id_in v, columns, ap (λ x. x ∷ columns) (int_is v h))
 
 -- the rowid for a new row is one above that of some row, or the first
-next_from : (rows : List Row) (start : ℤ) → (fold (λ _ r. id_in (rowid r) +ℤ pos 1) start rows ≡ start)
+pub next_from : (rows : List Row) (start : ℤ) → (fold (λ _ r. id_in (rowid r) +ℤ pos 1) start rows ≡ start)
     ⊎ ((r : Row) × Has rows r × (fold (λ _ r. id_in (rowid r) +ℤ pos 1) start rows ≡ id_in (rowid r) +ℤ pos 1))
 next_from [] start = inl refl
 next_from (r ∷ rows) start = inr (elim (next_from rows (id_in (rowid r) +ℤ pos 1)) [ inl same ↦ (r, inl refl, same) | inr later ↦ (later.0, inr later.1, later.2) ])

@@ -1,5 +1,5 @@
 -- One record's part of a list of postings: taken apart, compared and put together again.
-use Rattle.std.proofs.Common.{◌≡◌, ◌⊎◌, ◌∙◌, ◌<◌, ◌≤◌, ◌/◌, ◌^◌, ◌==◌, ℕ, nat_lt, true, List, [], ◌∷◌, ◌++◌, map, filter, refl, sym, ap, ap₂, subst, inl, inr, Ordering, Less, Equal, Greater, nat_cmp, arith}
+use Rattle.std.proofs.Common.{◌≡◌, ◌⊎◌, ◌∙◌, ◌+◌, ◌<◌, ◌≤◌, ◌/◌, ◌^◌, ◌==◌, ℕ, suc, nat_lt, true, List, [], ◌∷◌, ◌++◌, drop, drop-cons, get_or, length, map, filter, refl, sym, ap, ap₂, subst, inl, inr, Ordering, Less, Equal, Greater, nat_cmp, arith}
 use Rattle.std.proofs.lemmas.Bool.{eqb-true, eq-eqb}
 use Rattle.std.proofs.lemmas.Bool.Decides.{nat_tests}
 use Rattle.std.specs.Cmp.{IsTotalOrder, then_total, on_total, nat_cmp_total}
@@ -11,8 +11,7 @@ use Rattle.sqlite_rules.proofs.ProbeLemmas.{has_mapped, mapped_has}
 use Rattle.zeb_blocks.specs.declared.postings.Posting.{Posting}
 use Rattle.zeb_blocks.specs.Blocks.{IsNumbered, LiesIn}
 use Rattle.zeb_register.specs.declared.registers.Place.{Place}
-use Rattle.zeb_register.specs.Content.{ArePlacesOf, IsListChanged, place_cmp, posting_at, posting_cmp}
-use Rattle.zeb_register.specs.PackedChanges.{AreStorablePlaces, IsStorablePlace}
+use Rattle.zeb_register.specs.Content.{ArePlacesOf, AreStorablePlaces, IsListChanged, IsStorablePlace, place_cmp, posting_at, posting_cmp}
 use Rattle.zeb_register.proofs.ContentChanges.{numbers_apart, posting_total}
 use Rattle.zeb_register.proofs.CountLemmas.{has_end, less_is}
 use Rattle.zeb_register.proofs.RisingLists.{joined_rises, kept_rises, pushed_rises, same_list}
@@ -46,6 +45,26 @@ upto_more places last p are stored above = record {
       | inl same ↦ subst (λ (r : Place). place_cmp r p ≡ Less) (sym same) above
       | inr less ↦ place_total.trans q last p less above
     ]
+
+below_first : (m n : ℕ) (x : Ordering) → m < n → ordering_then (nat_cmp m n) x ≡ Less
+below_first m n x h = ap (λ o. ordering_then o x) (less_is m n h)
+
+-- places whose numbers are 1 and more rise above 0
+pub rise_from : (places : List Place) → AreStorablePlaces places → IsStrictlySortedBy place_cmp (record { seq = 0; pos = 0 } ∷ places)
+unfolding IsStrictlySortedBy
+rise_from places stored = (
+  all_from (λ q. place_cmp (record { seq = 0; pos = 0 }) q ≡ Less) places (λ q h. below_first 0 q.seq _ (omega (arith, (all_has IsStorablePlace places q stored.1 h).seq.0))),
+  stored.0,
+)
+
+-- of places that rise the first is below the second
+pub rise_next : (places : List Place) (i : ℕ) (d before : Place) → i < length places → IsStrictlySortedBy place_cmp (before ∷ drop i places)
+    → (place_cmp before (get_or places i d) ≡ Less) × IsStrictlySortedBy place_cmp (get_or places i d ∷ drop (i + 1) places)
+unfolding IsStrictlySortedBy
+rise_next places i d before below up =
+    let next : suc i ≡ i + 1 = omega arith in
+    let all = subst (λ l. IsStrictlySortedBy place_cmp (before ∷ l)) (drop-cons places i d below) up in
+    (all.0.0, subst (λ n. IsStrictlySortedBy place_cmp (get_or places i d ∷ drop n places)) next all.1)
 
 -- ---- the postings of a record
 
@@ -109,9 +128,6 @@ below_is p sysno h = grind (arith, nat_tests)
 
 is_below : (m n : ℕ) → m < n → nat_lt m n ≡ true
 is_below m n h = grind (arith, nat_tests)
-
-below_first : (m n : ℕ) (x : Ordering) → m < n → ordering_then (nat_cmp m n) x ≡ Less
-below_first m n x h = ap (λ o. ordering_then o x) (less_is m n h)
 
 module _ (sysno : ℕ) (list : List Posting) (places : List Place) (block : ℕ) (here : sysno / 256 ≡ block) (some : 1 ≤ sysno) (small : sysno < 2 ^ 64) (lies : LiesIn block list) (stored : AreStorablePlaces places) where
   abbrev lower : List Posting

@@ -1,5 +1,5 @@
 -- Why a statement that writes rows, and fits the tables, is refused inside a transaction.
-use Rattle.std.proofs.Common.{◌≡◌, ◌⊎◌, ◌∙◌, ◌||◌, ℕ, zero, suc, arith, ℤ, List, [], ◌∷◌, ◌==◌, nat_lt, length, length-append, Ok, Err, Result, Option, inl, inr, None, Some, Bool, true, false, refl, sym, ap, subst, append-nil, eqb-true}
+use Rattle.std.proofs.Common.{◌≡◌, ◌≢◌, ◌⊎◌, ◌∙◌, ◌||◌, ℕ, zero, suc, arith, ℤ, List, [], ◌∷◌, ◌==◌, nat_lt, length, length-append, Ok, Err, Result, Option, inl, inr, None, Some, Bool, true, false, refl, sym, ap, subst, append-nil, eqb-true}
 use Rattle.std.specs.Prelude.{IfErr}
 use Rattle.std.specs.List.{AllByRecursion}
 use Rattle.std.proofs.lemmas.Bool.{cases_Bool, both_ways, and_from, and_parts, not-true, not_from_false, false_from_ne_true}
@@ -19,6 +19,8 @@ use Rattle.sqlite_schema.specs.declared.program.Program.{Program}
 use Rattle.sqlite.specs.State.{State, mode_of, ExecutesInside, ExecutesIn, EndsScope, IsNotRun, IsStatement, RunsAlone, RunsCommand, Escapes, IsMisplaced, is_pragma, shows_rows}
 use Rattle.sqlite.specs.Clock.{timed}
 use Rattle.sqlite.specs.declared.error.Error.{Error}
+use Rattle.sqlite.specs.declared.error.Error.TheVariants.{SqliteFailure}
+use Rattle.sqlite.specs.declared.error.ErrorCode.TheVariants.{ConstraintViolation}
 use Rattle.sqlite.proofs.Callers.{IsPlain, command_of, statement_of}
 use Rattle.sqlite_resolve.specs.declared.compiled.Compiled.{Compiled}
 use Rattle.sqlite_rules.specs.Action.{Leads, Writes, works}
@@ -28,6 +30,7 @@ use Rattle.sqlite_rules.specs.declared.error.Refusal.{Refusal}
 use Rattle.sqlite_rules.specs.declared.error.Refusal.TheVariants as why
 use Rattle.sqlite_rules.proofs.ListLemmas.{all_has, some_has, some_from, test_has, test_from, has_got}
 use Rattle.sqlite_rules.proofs.RuleLemmas.{keeps_at, keeps_from, refers_from}
+use Rattle.sqlite_schema.specs.declared.schema.Constraint.{Constraint}
 use Rattle.sqlite_schema.specs.declared.schema.Constraint.TheVariants.{Datatype, NotNull, Check, PrimaryKey, Unique, ForeignKey}
 use Rattle.sqlite_schema.specs.declared.schema.Keys.TheVariants.{Enforced}
 use Rattle.sqlite_schema.specs.declared.schema.Among.TheVariants.{All}
@@ -83,8 +86,8 @@ module _ (sql : List ℕ) (params : Row) (command : Command) (writes : writes_ro
     (is : command_of (understood store_schema sql) ≡ command) (plain : IsPlain (understood store_schema sql))
     (whole : IsWhole sql (length params) (understood store_schema sql)) (old new : State) (store : IsStore old) where
   -- the command came to no end, with this error or for a row that cannot be stored
-  abbrev pub Stops : Type 0
-  Stops = (stop : Option Error) × Does old.step_limit (mode_of old) params old.now (statement_of sql (understood store_schema sql)) None command (Err stop)
+  abbrev pub Stops : Error → Type 0
+  Stops e = (stop : Option Error) × Does old.step_limit (mode_of old) params old.now (statement_of sql (understood store_schema sql)) None command (Err stop) × ((stop ≡ Some e) ⊎ (stop ≡ None))
 
   known : (c : Compiled) → IsStatement old sql params c → Ok c ≡ understood store_schema sql
   known c it = sym it.is ∙ ap (λ s. understood s sql) store.is
@@ -102,15 +105,15 @@ module _ (sql : List ℕ) (params : Row) (command : Command) (writes : writes_ro
       ]
   not_run e told (inr failed) = without_size old new failed.0 (ap fault_of (sym failed.1) ∙ told) failed.2
 
-  commanded : (c : Compiled) → Ok c ≡ understood store_schema sql → c.command ≡ command → c.returning ≡ None → (e : Error) → fault_of e ≡ Store → RunsCommand old new sql c params (Err e) → MayRefuse old new ⊎ Stops
+  commanded : (c : Compiled) → Ok c ≡ understood store_schema sql → c.command ≡ command → c.returning ≡ None → (e : Error) → fault_of e ≡ Store → RunsCommand old new sql c params (Err e) → MayRefuse old new ⊎ Stops e
   commanded c found same bare e told (inl (inl misplaced, kept)) = absurd (not_misplaced old c.command e (ap writes_rows same ∙ writes) misplaced)
-  commanded c found same bare e told (inl (inr does, kept)) = inr (Some e, rw (← same, ← ap (statement_of sql) found, ← bare) does.1)
+  commanded c found same bare e told (inl (inr does, kept)) = inr (Some e, rw (← same, ← ap (statement_of sql) found, ← bare) does.1, inl refl)
   commanded c found same bare e told (inr failed) = elim (by_cause old new _ failed.0 (ap fault_of (sym failed.1) ∙ told) failed.2) [
     | inl cause ↦ inl cause
-    | inr big ↦ inr (None, rw (← same, ← ap (statement_of sql) found, ← bare) big)
+    | inr big ↦ inr (None, rw (← same, ← ap (statement_of sql) found, ← bare) big, inr refl)
   ]
 
-  ran : (c : Compiled) (it : IsStatement old sql params c) (e : Error) → fault_of e ≡ Store → RunsAlone false old new sql c (timed params c.formats it.now) (Err e) → MayRefuse old new ⊎ Stops
+  ran : (c : Compiled) (it : IsStatement old sql params c) (e : Error) → fault_of e ≡ Store → RunsAlone false old new sql c (timed params c.formats it.now) (Err e) → MayRefuse old new ⊎ Stops e
   ran c it e told h =
       let found = known c it in
       let bare = subst IsPlain (sym found) plain in
@@ -118,7 +121,7 @@ module _ (sql : List ℕ) (params : Row) (command : Command) (writes : writes_ro
       let silent : shows_rows false c ≡ false = rw (same, bare.0) (quiet command writes) in
       commanded c found same bare.0 e told (rw (silent, bare.1, append-nil params) at h)
 
-  pub why_stopped : (e : Error) → fault_of e ≡ Store → ExecutesInside 0 sql params old new (Err e) → MayRefuse old new ⊎ Stops
+  pub why_stopped : (e : Error) → fault_of e ≡ Store → ExecutesInside 0 sql params old new (Err e) → MayRefuse old new ⊎ Stops e
   unfolding ExecutesIn EndsScope
   why_stopped e told (inl (inl unread, after)) = inl (not_run e told unread)
   why_stopped e told (inl (inr h, after)) = ran h.0 h.1 e told h.2
@@ -228,6 +231,12 @@ module _ (old : State) (params : Row) (at : ℕ) (table : Table) (static : IsPla
 abbrev pub IsHinderedWrite : List ℕ → Row → (Trees → Type 0) → Type 1
 IsHinderedWrite sql params Hindering =
     (old new : State) (r : Result ℕ Error) → IsStore old → ExecutesInside 0 sql params old new r → IfErr r (λ e. fault_of e ≡ Store → MayRefuse old new ⊎ Hindering old.now.trees)
+
+-- the same, where no rule of the tables refuses it
+abbrev pub IsUnbrokenWrite : List ℕ → Row → (Trees → Type 0) → Type 1
+IsUnbrokenWrite sql params Hindering =
+    (old new : State) (r : Result ℕ Error) → IsStore old → ExecutesInside 0 sql params old new r
+    → IfErr r (λ e. fault_of e ≡ Store → ((rule : Constraint) → e ≢ SqliteFailure (ConstraintViolation rule)) → MayRefuse old new ⊎ Hindering old.now.trees)
 
 -- the same, where nothing hinders it
 abbrev pub IsReasonedWrite : List ℕ → Row → Type 1

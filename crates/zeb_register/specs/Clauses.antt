@@ -12,6 +12,7 @@ use Rattle.zeb_register.specs.declared.faults.RegFault.TheVariants.{Damaged, Sto
 use Rattle.zeb_register.specs.Calls.{Alters, Inside, MayRefuse}
 use Rattle.zeb_register.specs.Content.{Content, IsStorable}
 use Rattle.zeb_register.specs.Faults.{fault_of}
+use Rattle.zeb_register.specs.Hindrances.{TakesRegisterRowids, TakesRowids}
 use Rattle.zeb_register.specs.Sql.{KeepsTables}
 use Rattle.zeb_register.specs.Store.{IsStore, Changes, KeepsLists}
 
@@ -84,6 +85,14 @@ IsHinderedInside old new result Hindering = InStore old new (λ trees. result �
 -- the same, of a statement whose error is told as that refusal
 abbrev pub IsHinderedErrorInside : {A : Type 0} → State → State → Result A Error → (Trees → Type 0) → Type 0
 IsHinderedErrorInside old new result Hindering = InStore old new (λ trees. IfErr result (λ e. fault_of e ≡ Store → MayRefuse old new ⊎ Hindering trees))
+
+-- where it is accepted, this table has at most so many new rows
+abbrev pub TakesInside : {A E : Type 0} → State → State → Result A E → ℕ → ℕ → Type 0
+TakesInside old new result count tree = InStore old new (λ trees. OnOk result (TakesRowids count tree trees new.now.trees))
+
+-- the same of each table of the registers
+abbrev pub TakesRegistersInside : {A E : Type 0} → State → State → Result A E → ℕ → Type 0
+TakesRegistersInside old new result count = InStore old new (λ trees. OnOk result (TakesRegisterRowids count trees new.now.trees))
 
 -- ---- calls on tables that hold a content in some format
 

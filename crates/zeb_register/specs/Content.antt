@@ -1,6 +1,6 @@
 -- What the registers hold: for each database and each key a list of postings, each the number of a record and a place in it, in
 -- rising order of number, unit and place.
-use Rattle.std.specs.Prelude.{◌≡◌, ◌≢◌, ◌↔◌, ◌≤◌, ℕ, ℤ, List, [], ◌∷◌, IsUtf8}
+use Rattle.std.specs.Prelude.{◌≡◌, ◌≢◌, ◌↔◌, ◌≤◌, ◌<◌, ◌^◌, ℕ, ℤ, List, [], ◌∷◌, IsUtf8}
 use Rattle.std.specs.List.{AllByRecursion}
 use Rattle.std.specs.List.Sorted.{IsStrictlySortedBy}
 use Rattle.std.specs.declared.cmp.Ordering.{Ordering}
@@ -46,6 +46,15 @@ pub record IsStorablePosting (key : Key) (p : Posting) : Type 0 where
 
 abbrev pub IsStorable : Content → Type 0
 IsStorable content = (db : ℤ) (key : Key) (p : Posting) → Has (content db key) p → IsStorablePosting key p
+
+-- a place whose numbers a column stores, and of which none is 0
+pub record IsStorablePlace (place : Place) : Type 0 where
+  pub seq : (1 ≤ place.seq) × (place.seq < 2 ^ 63)
+  pub pos : (1 ≤ place.pos) × (place.pos < 2 ^ 63)
+
+-- such places, rising
+abbrev pub AreStorablePlaces : List Place → Type 0
+AreStorablePlaces places = IsStrictlySortedBy place_cmp places × AllByRecursion IsStorablePlace places
 
 -- one record's part of one list is changed to these places, and nothing else is changed
 pub record IsChangedAt (db : ℤ) (key : Key) (sysno : ℕ) (places : List Place) (old new : Content) : Type 0 where

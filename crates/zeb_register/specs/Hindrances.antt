@@ -1,12 +1,20 @@
 -- What may hinder a table of the store from taking a row, beside the causes that each call has. Each of these unfolds by itself.
-use Rattle.std.specs.Prelude.{◌≡◌, ◌⊎◌, ◌+◌, ◌+ℤ◌, ◌<◌, ◌^◌, ◌&&◌, ℕ, ℤ, pos, false, List, ◌∷◌, length, sum_by}
+use Rattle.std.specs.Prelude.{◌≡◌, ◌⊎◌, ◌+◌, ◌+ℤ◌, ◌<◌, ◌≤◌, ◌^◌, ◌&&◌, ℕ, ℤ, pos, false, List, ◌∷◌, length, sum_by, IsTrue}
+use Rattle.std.specs.List.{AllByRecursion}
 use Rattle.sqlite.specs.declared.types.Value.TheVariants.{Int}
 use Rattle.sqlite.specs.Ops.{fits_i64}
 use Rattle.sqlite.specs.Order.{Row, bytes}
 use Rattle.sqlite.specs.Tree.{Trees}
 use Rattle.sqlite_rules.specs.Lists.{Has}
+use Rattle.zeb_blocks.specs.declared.postings.Posting.{Posting}
+use Rattle.zeb_blocks.specs.Blocks.{BlockSpells}
+use Rattle.zeb_extract.specs.declared.keys.Key.{Key}
+use Rattle.zeb_register.specs.declared.registers.Place.{Place}
+use Rattle.zeb_register.specs.declared.registers.RecordChange.{RecordChange}
+use Rattle.zeb_register.specs.Content.{AreStorablePlaces, posting_at}
+use Rattle.zeb_register.specs.PackedBlocks.{block_row}
 use Rattle.zeb_register.specs.Sql.{HasRow}
-use Rattle.zeb_register.specs.Store.{HasDatabase, database_columns, databases_tree}
+use Rattle.zeb_register.specs.Store.{HasDatabase, blocks_tree, database_columns, databases_tree, dict_tree, postings_tree}
 
 -- Some row's rowid is no 64-bit number, or fewer than so many of them lie above it. A new row gets the rowid above the last, so that one
 -- has to lie there. That no rowid is wider isn't said by the model of `sqlite`, though a file has none.
@@ -30,3 +38,61 @@ HindersNew P tree columns trees = ((was : Row) × HasRow trees tree was × P was
 abbrev pub HindersLast : ℤ → ℤ → Trees → Type 0
 HindersLast id last trees =
     LacksRowids 0 databases_tree trees ⊎ ((name : List ℕ) × (before : ℤ) × HasDatabase trees id name before × IsTooLarge (database_columns name last))
+
+-- ---- how many rows a table may still take
+
+-- each row's rowid is a 64-bit number, and so many of them lie above it
+abbrev pub HasRowids : ℕ → ℕ → Trees → Type 0
+HasRowids count tree trees = (id : ℤ) (columns : Row) → Has (trees tree) (Int id ∷ columns) → IsTrue (fits_i64 id && fits_i64 (id +ℤ pos count))
+
+-- At most so many rows are new: of the rowids that were left all but so many are left. A table without rows has no last one to count from.
+abbrev pub TakesRowids : ℕ → ℕ → Trees → Trees → Type 0
+TakesRowids count tree old new = (left : ℕ) → left + count < 2 ^ 62 → HasRowids (left + count) tree old → HasRowids left tree new
+
+-- the same of each table of the registers
+abbrev pub TakesRegisterRowids : ℕ → Trees → Trees → Type 0
+TakesRegisterRowids count old new = TakesRowids count postings_tree old new × TakesRowids count blocks_tree old new × TakesRowids count dict_tree old new
+
+-- one of these tables lacks rowids for so many rows, or they are more than any table is asked for
+abbrev pub LacksRegisterRowids : ℕ → Trees → Type 0
+LacksRegisterRowids count trees =
+    (2 ^ 62 ≤ count) ⊎ (LacksRowids count postings_tree trees ⊎ (LacksRowids count blocks_tree trees ⊎ LacksRowids count dict_tree trees))
+
+-- ---- why the tables of the registers may not take new places of a key
+
+-- the places that a key gets in a record, which has this number
+abbrev pub Placed : Type 0
+Placed = ℕ × List Place
+
+abbrev pub placed : RecordChange → Placed
+placed change = (change.sysno, change.new.now)
+
+-- numbers and orders that each layout stores
+abbrev pub IsStorablePlaced : Placed → Type 0
+IsStorablePlaced it = ((1 ≤ it.0) × (it.0 < 2 ^ 63)) × AreStorablePlaces it.1
+
+-- how many rows these take at most, in any table of the registers
+abbrev pub rows_of : List Placed → ℕ
+rows_of = sum_by (λ it. 1 + length it.1)
+
+-- one of these places, as a posting
+abbrev pub IsPlacedAt : List Placed → Posting → Type 0
+IsPlacedAt given p = (it : Placed) × (place : Place) × Has given it × Has it.1 place × (p ≡ posting_at it.0 place)
+
+-- a posting that some row of `blocks` spells for the key
+abbrev pub IsSpelledAt : ℤ → Key → Trees → Posting → Type 0
+IsSpelledAt db key trees p =
+    (block : ℕ) × (bytes : List ℕ) × (list : List Posting) × HasRow trees blocks_tree (block_row db key block bytes) × BlockSpells block list bytes × Has list p
+
+-- A row of the key is larger than a store takes: its text, with the bytes that spell postings of one block which stand there or are new.
+-- A row without such bytes has but its text.
+abbrev pub HasLargeRow : ℤ → Key → List Placed → Trees → Type 0
+HasLargeRow db key given trees =
+    (10 ^ 9 < 300 + length key.term)
+    ⊎ ((block : ℕ) × (bytes : List ℕ) × (list : List Posting) × BlockSpells block list bytes
+    × ((p : Posting) → Has list p → IsSpelledAt db key trees p ⊎ IsPlacedAt given p) × (10 ^ 9 < 300 + length key.term + length bytes))
+
+-- The tables of the registers may not take these places of a key: a number or an order is none that each layout stores, too few rowids are
+-- left, or a row is too large.
+abbrev pub HindersPlaces : ℤ → Key → List Placed → Trees → Type 0
+HindersPlaces db key given trees = (¬ AllByRecursion IsStorablePlaced given) ⊎ (LacksRegisterRowids (rows_of given) trees ⊎ HasLargeRow db key given trees)

@@ -17,6 +17,7 @@ pub mod RowTerms
 pub mod RowPlaces
 pub mod PackedRows
 pub mod PackedChanges
+pub mod PackedHindrances
 pub mod Formats
 pub mod Expected
 pub mod RowExpected

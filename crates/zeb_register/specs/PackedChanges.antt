@@ -1,7 +1,5 @@
 -- Steps of private functions, which no public clause speaks of: parts of a key's list changed block by block, and what is written of them.
 use Rattle.std.specs.Prelude.{◌≡◌, ◌≢◌, ◌↔◌, ◌⊎◌, ◌+◌, ◌/◌, ◌<◌, ◌≤◌, ◌^◌, ◌==◌, ℕ, ℤ, pos, nat_lt, Bool, true, false, List, [], ◌∷◌, filter, map, Result, Err}
-use Rattle.std.specs.List.{AllByRecursion}
-use Rattle.std.specs.List.Sorted.{IsStrictlySortedBy}
 use Rattle.sqlite.specs.declared.types.Value.TheVariants.{Int, Text, Blob}
 use Rattle.sqlite.specs.Order.{Row, column}
 use Rattle.sqlite.specs.State.{State}
@@ -20,7 +18,7 @@ use Rattle.zeb_register.specs.declared.faults.RegFault.{RegFault}
 use Rattle.zeb_register.specs.declared.faults.RegFault.TheVariants.{Damaged}
 use Rattle.zeb_register.specs.Calls.{Alters, Inside}
 use Rattle.zeb_register.specs.Clauses.{InStore}
-use Rattle.zeb_register.specs.Content.{AreChangedAt, AreListChanges, Content, IsRising, OldsRise, place_cmp, posting_at}
+use Rattle.zeb_register.specs.Content.{AreChangedAt, AreListChanges, AreStorablePlaces, Content, IsRising, OldsRise, posting_at}
 use Rattle.zeb_register.specs.Occurring.{IsCount}
 use Rattle.zeb_register.specs.PackedBlocks.{IsBlockRow, block_row, dict_row, part_in}
 use Rattle.zeb_register.specs.RowTerms.{IsInRecord}
@@ -89,15 +87,6 @@ CountsOn [] [] old new = new ≡ old
 CountsOn [] (p ∷ ps) old new = new ≡ old + 1
 CountsOn (p ∷ ps) [] old new = old ≡ new + 1
 CountsOn (p ∷ ps) (q ∷ qs) old new = new ≡ old
-
--- a place whose numbers a column stores, and of which none is 0
-pub record IsStorablePlace (place : Place) : Type 0 where
-  pub seq : (1 ≤ place.seq) × (place.seq < 2 ^ 63)
-  pub pos : (1 ≤ place.pos) × (place.pos < 2 ^ 63)
-
--- such places, rising
-abbrev pub AreStorablePlaces : List Place → Type 0
-AreStorablePlaces places = IsStrictlySortedBy place_cmp places × AllByRecursion IsStorablePlace places
 
 -- what the tables hold of a key's list: its postings in a block, and how many records it has at all
 pub record IsHeld (list : List Posting) (held : Held) : Type 0 where

@@ -1,18 +1,25 @@
 //! One row of a key in packed registers, read and written inside a transaction: that of a block, and that of `dict`.
 
-ghost use Rattle.std.specs.Prelude.{IsUtf8, ◌≡◌, ◌≢◌, ◌<◌, ◌≤◌, ◌^◌, List, false, length, pos, IfOk, OnOk};
+ghost use Rattle.std.specs.Prelude.{IsUtf8, ◌≡◌, ◌≢◌, ◌⊎◌, ◌<◌, ◌≤◌, ◌==◌, ◌^◌, List, true, false, length, not, pos, IfOk, OnOk};
+ghost use Rattle.sqlite.specs.declared.error.Error.TheVariants.{SqliteFailure};
+ghost use Rattle.sqlite.specs.declared.error.ErrorCode.TheVariants.{ConstraintViolation};
 ghost use Rattle.sqlite.specs.declared.types.Value.TheVariants.{Int};
 ghost use Rattle.sqlite.specs.Held.{state};
 ghost use Rattle.sqlite.specs.Order.{column};
+ghost use Rattle.sqlite_rules.specs.Lists.{Has};
+ghost use Rattle.sqlite_schema.specs.declared.schema.Constraint.{Constraint};
 ghost use Rattle.zeb_blocks.specs.Blocks.{LiesIn};
+ghost use Rattle.zeb_blocks.specs.declared.postings.Posting.{Posting};
 ghost use Rattle.zeb_register.specs.Calls.{Inside, OnlyReads};
+ghost use Rattle.zeb_register.specs.Clauses.{InStore, IsHinderedInside, IsReasonedInside, TakesInside, TellsHeldInside, TellsInside};
 ghost use Rattle.zeb_register.specs.Clauses.{Writes};
-ghost use Rattle.zeb_register.specs.Clauses.{InStore, TellsHeldInside};
 ghost use Rattle.zeb_register.specs.Content.{Content, IsStorable};
+ghost use Rattle.zeb_register.specs.Hindrances.{IsSpelledAt};
 ghost use Rattle.zeb_register.specs.KeyColumns.{IsOfNumbered};
 ghost use Rattle.zeb_register.specs.PackedBlocks.{HoldsBlocks, IsRecordNumber, part_in};
 ghost use Rattle.zeb_register.specs.PackedChanges.{HoldsBlockRows, IfTold, IsBlockIn, IsDictIn, IsKnown, IsTold};
 ghost use Rattle.zeb_register.specs.PackedChanges.{PutsBlock, PutsCount, SpellsIn};
+ghost use Rattle.zeb_register.specs.PackedHindrances.{HindersBlock, HindersCount, IsMistold, SpellsMore};
 ghost use Rattle.zeb_register.specs.Store.{blocks_tree, dict_tree};
 
 use crate::packed::{add_spelled, records_at};
@@ -34,6 +41,7 @@ pub(crate) fn block_list<S: Alter>(
     key: &Key,
     block: u64,
 ) -> Result<Vec<Posting>, RegFault>
+    requires { block < 2 ^ 63 }
     ensures same { tx.new.conn.ghost_name ≡ tx.old.conn.ghost_name }
     ensures call { Inside (state S.Store tx.old.conn.now) (state S.Store tx.new.conn.now) result (λ _. OnlyReads) }
     ensures value { TellsHeldInside HoldsBlockRows (state S.Store tx.old.conn.now) (state S.Store tx.new.conn.now) result
@@ -41,6 +49,11 @@ pub(crate) fn block_list<S: Alter>(
     ensures lies { IfOk result (λ list. LiesIn block list.items) }
     ensures honest { InStore (state S.Store tx.old.conn.now) (state S.Store tx.new.conn.now) (λ trees. result ≡ Err RegFault.Damaged
         → (content : Content) → ¬ HoldsBlockRows trees content) }
+    ensures told { TellsInside (state S.Store tx.old.conn.now) (state S.Store tx.new.conn.now) result
+        (λ trees list. IsTold (not (length list.items == 0)) (IsBlockIn db.0 key.now block) blocks_tree trees) }
+    ensures spelled { TellsInside (state S.Store tx.old.conn.now) (state S.Store tx.new.conn.now) result
+        (λ trees list. (p : Posting) → Has list.items p → IsSpelledAt db.0 key.now trees p) }
+    ensures refused { IsReasonedInside (state S.Store tx.old.conn.now) (state S.Store tx.new.conn.now) result }
 {
     let number = stored(block)?;
     let rows = block_bytes(tx, KeyOf { db, key }, number)?;
@@ -55,6 +68,7 @@ pub(crate) fn block_list<S: Alter>(
 fn spelled_list(alloc: Global, row: &Row, block: u64) -> Result<Vec<Posting>, RegFault>
     ensures ok { IfOk result (λ list. SpellsIn block row.now list.items) }
     ensures honest { result ≡ Err RegFault.Damaged → (list : List _) → ¬ SpellsIn block row.now list }
+    ensures unstored { result ≢ Err RegFault.Store }
 {
     let bytes: Vec<u8> = read(row, 0)?;
     let mut list = Vec::new(alloc);
@@ -103,6 +117,10 @@ pub(crate) fn key_known<S: Alter>(
     ensures honest { InStore (state S.Store tx.old.conn.now) (state S.Store tx.new.conn.now) (λ trees. result ≡ Err RegFault.Damaged
         → (content : Content) → IsStorable content → ¬ HoldsBlocks trees content) }
     ensures text { OnOk result (IsUtf8 key.now.term) }
+    ensures told { TellsInside (state S.Store tx.old.conn.now) (state S.Store tx.new.conn.now) result
+        (λ trees known. IsTold (not (known.records == 0)) (IsDictIn db.0 key.now) dict_tree trees) }
+    ensures few { IfOk result (λ known. known.records ≤ 999999999) }
+    ensures refused { IsReasonedInside (state S.Store tx.old.conn.now) (state S.Store tx.new.conn.now) result }
 {
     let rows = dict_records(tx, KeyOf { db, key })?;
     let alloc = *rows.allocator();
@@ -119,7 +137,9 @@ pub(crate) fn key_known<S: Alter>(
 /// What a row of `dict` tells of its key: how many records have it, and nothing of its blocks.
 fn known_at(alloc: Global, row: &Row) -> Result<Known, RegFault>
     ensures ok { IfOk result (λ known. (column row.now 0 ≡ Int (pos known.records)) × (2 ^ 56 ≤ known.clear_from)) }
+    ensures number { IfOk result (λ known. (1 ≤ known.records) × (known.records ≤ 999999999)) }
     ensures honest { result ≡ Err RegFault.Damaged → 0 < length row.now → ¬ IsRecordNumber (column row.now 0) }
+    ensures unstored { result ≢ Err RegFault.Store }
 {
     let records = records_at(row, 0)?;
     Ok(Known {
@@ -139,11 +159,15 @@ pub(crate) fn block_write<S: Alter>(
     list: &[Posting],
     is_there: bool,
 ) -> Result<(), RegFault>
-    requires { LiesIn block list.now }
+    requires lies { LiesIn block list.now }
+    requires small { block < 2 ^ 63 }
     ensures same { tx.new.conn.ghost_name ≡ tx.old.conn.ghost_name }
     ensures call { Writes blocks_tree (IfTold is_there (IsBlockIn db.0 key.now block) (PutsBlock db.0 key.now block list.now))
         (state S.Store tx.old.conn.now) (state S.Store tx.new.conn.now) result }
     ensures honest { result ≢ Err RegFault.Damaged }
+    ensures refused { IsHinderedInside (state S.Store tx.old.conn.now) (state S.Store tx.new.conn.now) result
+        (λ trees. IsMistold is_there (IsBlockIn db.0 key.now block) blocks_tree trees ⊎ HindersBlock key.now block list.now trees) }
+    ensures rowids { TakesInside (state S.Store tx.old.conn.now) (state S.Store tx.new.conn.now) result 1 blocks_tree }
 {
     let number = stored(block)?;
     let at = KeyOf { db, key };
@@ -169,12 +193,18 @@ pub(crate) fn block_begin<S: Alter>(
     block: u64,
     list: &[Posting],
 ) -> Result<(), RegFault>
-    requires { LiesIn block list.now }
+    requires lies { LiesIn block list.now }
+    requires small { block < 2 ^ 63 }
     ensures same { tx.new.conn.ghost_name ≡ tx.old.conn.ghost_name }
     ensures call { Writes blocks_tree (IfTold false (IsBlockIn db.0 key.now block) (PutsBlock db.0 key.now block list.now))
         (state S.Store tx.old.conn.now) (state S.Store tx.new.conn.now) result }
     ensures honest { InStore (state S.Store tx.old.conn.now) (state S.Store tx.new.conn.now) (λ trees. result ≡ Err RegFault.Damaged
         → ¬ IsTold false (IsBlockIn db.0 key.now block) blocks_tree trees) }
+    ensures spelled { InStore (state S.Store tx.old.conn.now) (state S.Store tx.new.conn.now) (λ trees. OnOk result
+        (SpellsMore db.0 key.now (Has list.now) trees (state S.Store tx.new.conn.now).now.trees)) }
+    ensures refused { IsHinderedInside (state S.Store tx.old.conn.now) (state S.Store tx.new.conn.now) result
+        (HindersBlock key.now block list.now) }
+    ensures rowids { TakesInside (state S.Store tx.old.conn.now) (state S.Store tx.new.conn.now) result 1 blocks_tree }
 {
     let number = stored(block)?;
     let at = KeyOf { db, key };
@@ -184,12 +214,24 @@ pub(crate) fn block_begin<S: Alter>(
     let bytes = spell(alloc, block, list)?;
     match block_add(tx, at, number, &bytes) {
         Ok(_) => Ok(()),
-        Err(Error::SqliteFailure(ErrorCode::ConstraintViolation(rule))) => {
+        Err(error) => {
+            if !breaks_rule(&error) {
+                return Err(error.into());
+            }
             block_absent(tx, at, number)?;
-            let refused = Error::SqliteFailure(ErrorCode::ConstraintViolation(rule));
-            Err(refused.into())
+            Err(error.into())
         }
-        Err(error) => Err(error.into()),
+    }
+}
+
+/// Whether a rule of the tables refused a statement.
+fn breaks_rule(error: &Error) -> bool
+    ensures broken { result ≡ true → (rule : Constraint) × (error.now ≡ SqliteFailure (ConstraintViolation rule)) }
+    ensures unbroken { result ≡ false → (rule : Constraint) → error.now ≢ SqliteFailure (ConstraintViolation rule) }
+{
+    match error {
+        Error::SqliteFailure(code) => matches!(code, ErrorCode::ConstraintViolation(_)),
+        _ => false,
     }
 }
 
@@ -203,6 +245,9 @@ fn block_absent<S: Alter>(
     ensures call { Inside (state S.Store tx.old.conn.now) (state S.Store tx.new.conn.now) result (λ _. OnlyReads) }
     ensures honest { InStore (state S.Store tx.old.conn.now) (state S.Store tx.new.conn.now) (λ trees. result ≡ Err RegFault.Damaged
         → ¬ IsTold false (IsOfNumbered at.entry number) blocks_tree trees) }
+    ensures absent { InStore (state S.Store tx.old.conn.now) (state S.Store tx.new.conn.now) (λ trees. OnOk result
+        (IsTold false (IsOfNumbered at.entry number) blocks_tree trees)) }
+    ensures refused { IsReasonedInside (state S.Store tx.old.conn.now) (state S.Store tx.new.conn.now) result }
 {
     let rows = block_bytes(tx, at, number)?;
     match rows.first() {
@@ -223,6 +268,9 @@ pub(crate) fn dict_write<S: Alter>(
     ensures call { Writes dict_tree (IfTold is_there (IsDictIn db.0 key.now) (PutsCount db.0 key.now records))
         (state S.Store tx.old.conn.now) (state S.Store tx.new.conn.now) result }
     ensures honest { result ≢ Err RegFault.Damaged }
+    ensures refused { IsHinderedInside (state S.Store tx.old.conn.now) (state S.Store tx.new.conn.now) result
+        (HindersCount is_there db.0 key.now records) }
+    ensures rowids { TakesInside (state S.Store tx.old.conn.now) (state S.Store tx.new.conn.now) result 1 dict_tree }
 {
     let number = stored(records)?;
     let at = KeyOf { db, key };

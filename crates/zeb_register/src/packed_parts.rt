@@ -1,15 +1,18 @@
 //! What the packed tables hold of a key in one block, and what they hold of it after records' places are changed.
 
-ghost use Rattle.std.specs.Prelude.{◌≡◌, ◌≢◌, ◌<◌, ◌≤◌, ◌++◌, ◌^◌, ◌==◌, ◌∷◌, [], ℕ, List};
-ghost use Rattle.std.specs.Prelude.{filter, map, true, false, IfOk, MatchOption, OnOk};
+ghost use Rattle.std.specs.Prelude.{◌≡◌, ◌≢◌, ◌⊎◌, ◌<◌, ◌≤◌, ◌+◌, ◌++◌, ◌^◌, ◌==◌, ◌∷◌, [], ℕ, List};
+ghost use Rattle.std.specs.Prelude.{filter, length, map, true, false, IfOk, MatchOption, OnOk};
 ghost use Rattle.std.specs.declared.cmp.Ordering.TheVariants.{Less};
 ghost use Rattle.std.specs.List.{AllByRecursion};
 ghost use Rattle.std.specs.List.Sorted.{IsStrictlySortedBy};
+ghost use Rattle.sqlite_rules.specs.Lists.{Has};
 ghost use Rattle.zeb_blocks.specs.Blocks.{LiesIn};
 ghost use Rattle.zeb_blocks.specs.declared.postings.Posting.{Posting};
-ghost use Rattle.zeb_register.specs.Content.{AreListChanges, ArePlacesOf, IsListChanged, OldsRise, place_cmp, posting_at, posting_cmp};
-ghost use Rattle.zeb_register.specs.PackedChanges.{AreStorablePlaces, CountsOn, IsHeld, IsInBlock, IsParted};
-ghost use Rattle.zeb_register.specs.PackedChanges.{IsStorableChange, IsStorablePlace};
+ghost use Rattle.zeb_register.specs.Content.{AreListChanges, ArePlacesOf, AreStorablePlaces, IsListChanged, IsStorablePlace};
+ghost use Rattle.zeb_register.specs.Content.{OldsRise, place_cmp, posting_at, posting_cmp};
+ghost use Rattle.zeb_register.specs.Hindrances.{IsStorablePlaced, placed};
+ghost use Rattle.zeb_register.specs.PackedChanges.{CountsOn, IsHeld, IsInBlock, IsParted, IsStorableChange};
+ghost use Rattle.zeb_register.specs.PackedHindrances.{IsPut};
 
 use crate::RegFault;
 use crate::registers::{Place, RecordChange};
@@ -39,6 +42,9 @@ impl Held {
         ensures block { IfOk result (λ held. held.block ≡ self.block) }
         ensures damaged { result ≡ Err RegFault.Damaged → OldsRise changes.now
             → (old new : List Posting) → IsStrictlySortedBy posting_cmp old → IsHeld old self → ¬ AreListChanges changes.now old new }
+        ensures made { IfOk result (λ held. (p : Posting) → Has held.list.items p → Has self.list.items p ⊎ IsPut changes.now p) }
+        ensures grows { IfOk result (λ held. held.records ≤ self.records + length changes.now) }
+        ensures refused { result ≡ Err RegFault.Store → 2 ^ 63 ≤ self.records + length changes.now }
     {
         let mut held = self;
         for change in changes {
@@ -63,6 +69,7 @@ impl Held {
         ensures count { IfOk result (λ held. CountsOn change.now.old.now change.now.new.now self.now.records held.records) }
         ensures damaged { result ≡ Err RegFault.Damaged → IsStrictlySortedBy place_cmp change.now.old.now → (list : List Posting)
             → IsStrictlySortedBy posting_cmp list → IsHeld list self.now → ¬ ArePlacesOf change.now.sysno change.now.old.now list }
+        ensures refused { result ≡ Err RegFault.Store → 2 ^ 63 ≤ self.now.records }
     {
         stored(self.records)?;
         let parted = parted_at(*self.list.allocator(), &self.list, change.sysno)?;
@@ -108,6 +115,7 @@ impl Parted {
         ensures parted { OnOk result ((list : List Posting) → IsParted sysno list self.old
             → IsParted sysno (list ++ posting ∷ []) self.new) }
         ensures honest { result ≢ Err RegFault.Damaged }
+        ensures unstored { result ≢ Err RegFault.Store }
     {
         if posting.sysno < sysno {
             self.before.push(posting)?;
@@ -127,6 +135,7 @@ impl Parted {
 fn parted_at(alloc: Global, list: &[Posting], sysno: u64) -> Result<Parted, RegFault>
     ensures parted { IfOk result (IsParted sysno list.now) }
     ensures honest { result ≢ Err RegFault.Damaged }
+    ensures unstored { result ≢ Err RegFault.Store }
 {
     let mut parted = Parted {
         before: Vec::new(alloc),
@@ -156,6 +165,7 @@ fn joined(
 ) -> Result<Vec<Posting>, RegFault>
     ensures list { IfOk result (λ list. list.items ≡ before.items ++ (map (posting_at sysno) places.now ++ behind.now)) }
     ensures honest { result ≢ Err RegFault.Damaged }
+    ensures unstored { result ≢ Err RegFault.Store }
 {
     let mut list = before;
     for place in places {
@@ -185,6 +195,7 @@ fn records_after(records: u64, old: &[Place], new: &[Place]) -> Option<u64>
 pub(crate) fn check_changes(changes: &[RecordChange<'_>]) -> Result<(), RegFault>
     ensures stored { OnOk result (AllByRecursion IsStorableChange changes.now) }
     ensures honest { result ≢ Err RegFault.Damaged }
+    ensures refused { result ≡ Err RegFault.Store → ¬ AllByRecursion IsStorablePlaced (map placed changes.now) }
 {
     for change in changes {
         check_numbers(change.sysno, change.new)?;
@@ -197,6 +208,7 @@ fn check_numbers(sysno: u64, places: &[Place]) -> Result<(), RegFault>
     ensures number { OnOk result ((1 ≤ sysno) × (sysno < 2 ^ 63)) }
     ensures stored { OnOk result (AreStorablePlaces places.now) }
     ensures honest { result ≢ Err RegFault.Damaged }
+    ensures refused { result ≡ Err RegFault.Store → ¬ IsStorablePlaced (sysno, places.now) }
 {
     stored(sysno)?;
     if sysno == 0 {
@@ -214,6 +226,7 @@ fn check_numbers(sysno: u64, places: &[Place]) -> Result<(), RegFault>
 fn check_place(before: Place, place: Place) -> Result<(), RegFault>
     ensures ok { OnOk result (IsStorablePlace place × (place_cmp before place ≡ Less)) }
     ensures honest { result ≢ Err RegFault.Damaged }
+    ensures refused { result ≡ Err RegFault.Store → ¬ (IsStorablePlace place × (place_cmp before place ≡ Less)) }
 {
     stored(place.seq)?;
     stored(place.pos)?;

@@ -1,16 +1,18 @@
 //! A key's places changed in many records, in packed registers: the row of a block is read and written once for the records of it that
 //! stand next to each other, and the row of `dict` once for all. A block that the key can have no row for is only written.
 
-ghost use Rattle.std.specs.Prelude.{IsUtf8, ◌≡◌, ◌≤◌, ◌∷◌, List, length, take, IsTrue, OnOk};
+ghost use Rattle.std.specs.Prelude.{IsUtf8, ◌≡◌, ◌≢◌, ◌<◌, ◌≤◌, ◌+◌, ◌^◌, ◌∷◌, [], List, length, map, take, IfOk, IsTrue, OnOk};
 ghost use Rattle.std.specs.List.{AllByRecursion};
 ghost use Rattle.sqlite.specs.Held.{state};
 ghost use Rattle.zeb_blocks.specs.declared.postings.Posting.{Posting};
 ghost use Rattle.zeb_register.specs.Calls.{GoesOn, Inside};
-ghost use Rattle.zeb_register.specs.Clauses.{ChangesTable, DamagedHeld, InStore};
+ghost use Rattle.zeb_register.specs.Clauses.{ChangesTable, DamagedHeld, InStore, IsHinderedInside, TakesInside, TakesRegistersInside};
 ghost use Rattle.zeb_register.specs.Content.{AreChangedAt, AreListChanges, Content, OldsRise};
+ghost use Rattle.zeb_register.specs.Hindrances.{HindersPlaces, placed, rows_of};
 ghost use Rattle.zeb_register.specs.PackedBlocks.{HoldsBlocks};
 ghost use Rattle.zeb_register.specs.PackedChanges.{IsClear, IsCounted, IsHonestRun, IsInBlock, IsKnown, IsStorableChange};
 ghost use Rattle.zeb_register.specs.PackedChanges.{PutsChanges, PutsRun};
+ghost use Rattle.zeb_register.specs.PackedHindrances.{HindersChanges, IsHinderedRun, SpellsRun};
 ghost use Rattle.zeb_register.specs.Store.{IsStore, KeepsLists, blocks_tree};
 ghost use Rattle.zeb_register.specs.Tallies.{Works};
 
@@ -43,7 +45,8 @@ pub(crate) fn changes_put<S: Alter>(
     key: &Key,
     changes: &[RecordChange<'_>],
 ) -> Result<(), RegFault>
-    requires { AllByRecursion IsStorableChange changes.now }
+    requires stored { AllByRecursion IsStorableChange changes.now }
+    requires some { changes.now ≢ [] }
     ensures same { tx.new.conn.ghost_name ≡ tx.old.conn.ghost_name }
     ensures call { Inside (state S.Store tx.old.conn.now) (state S.Store tx.new.conn.now) result (λ _. GoesOn) }
     ensures change { InStore (state S.Store tx.old.conn.now) (state S.Store tx.new.conn.now) (λ trees. OnOk result
@@ -53,6 +56,10 @@ pub(crate) fn changes_put<S: Alter>(
     ensures damaged { DamagedHeld HoldsBlocks (state S.Store tx.old.conn.now) (state S.Store tx.new.conn.now) result
         (OldsRise changes.now) (λ content. (new : List Posting) → ¬ AreListChanges changes.now (content db.0 key.now) new) }
     ensures text { OnOk result (IsUtf8 key.now.term) }
+    ensures refused { IsHinderedInside (state S.Store tx.old.conn.now) (state S.Store tx.new.conn.now) result
+        (HindersPlaces db.0 key.now (map placed changes.now)) }
+    ensures rowids { TakesRegistersInside (state S.Store tx.old.conn.now) (state S.Store tx.new.conn.now) result
+        (rows_of (map placed changes.now)) }
 {
     let known = key_known(tx, db, key)?;
     let after = runs_put(tx, db, key, known, changes)?;
@@ -74,6 +81,10 @@ fn runs_put<S: Alter>(
         (λ after. PutsChanges db.0 key.now changes.now (IsKnown known) (IsCounted after)) }
     ensures damaged { IsHonestRun db.0 key.now changes.now (IsKnown known)
         (state S.Store tx.old.conn.now) (state S.Store tx.new.conn.now) result }
+    ensures grows { IfOk result (λ after. after ≤ known.records + length changes.now) }
+    ensures refused { IsHinderedInside (state S.Store tx.old.conn.now) (state S.Store tx.new.conn.now) result
+        (HindersChanges (length changes.now) db.0 key.now known.records changes.now) }
+    ensures rowids { TakesInside (state S.Store tx.old.conn.now) (state S.Store tx.new.conn.now) result (length changes.now) blocks_tree }
 {
     let mut known = known;
     let mut done = 0;
@@ -113,11 +124,17 @@ fn run_put<S: Alter>(
 ) -> Result<u64, RegFault>
     requires stored { AllByRecursion IsStorableChange run.now }
     requires inside { AllByRecursion (IsInBlock block) run.now }
+    requires small { block < 2 ^ 63 }
     ensures same { tx.new.conn.ghost_name ≡ tx.old.conn.ghost_name }
     ensures call { PutsRun db.0 key.now run.now (IsKnown known)
         (state S.Store tx.old.conn.now) (state S.Store tx.new.conn.now) result }
     ensures damaged { IsHonestRun db.0 key.now run.now (IsKnown known)
         (state S.Store tx.old.conn.now) (state S.Store tx.new.conn.now) result }
+    ensures grows { IfOk result (λ after. after ≤ known.records + length run.now) }
+    ensures refused { IsHinderedRun db.0 key.now run.now known.records
+        (state S.Store tx.old.conn.now) (state S.Store tx.new.conn.now) result }
+    ensures rowids { TakesInside (state S.Store tx.old.conn.now) (state S.Store tx.new.conn.now) result 1 blocks_tree }
+    ensures spelled { SpellsRun db.0 key.now run.now (state S.Store tx.old.conn.now) (state S.Store tx.new.conn.now) result }
 {
     if block < known.clear_from {
         return row_renew(tx, db, key, block, known.records, run);
@@ -136,11 +153,17 @@ fn row_renew<S: Alter>(
 ) -> Result<u64, RegFault>
     requires stored { AllByRecursion IsStorableChange run.now }
     requires inside { AllByRecursion (IsInBlock block) run.now }
+    requires small { block < 2 ^ 63 }
     ensures same { tx.new.conn.ghost_name ≡ tx.old.conn.ghost_name }
     ensures call { PutsRun db.0 key.now run.now (IsCounted records)
         (state S.Store tx.old.conn.now) (state S.Store tx.new.conn.now) result }
     ensures damaged { IsHonestRun db.0 key.now run.now (IsCounted records)
         (state S.Store tx.old.conn.now) (state S.Store tx.new.conn.now) result }
+    ensures grows { IfOk result (λ after. after ≤ records + length run.now) }
+    ensures refused { IsHinderedRun db.0 key.now run.now records
+        (state S.Store tx.old.conn.now) (state S.Store tx.new.conn.now) result }
+    ensures rowids { TakesInside (state S.Store tx.old.conn.now) (state S.Store tx.new.conn.now) result 1 blocks_tree }
+    ensures spelled { SpellsRun db.0 key.now run.now (state S.Store tx.old.conn.now) (state S.Store tx.new.conn.now) result }
 {
     let list = block_list(tx, db, key, block)?;
     let is_there = !list.is_empty();
@@ -167,11 +190,17 @@ fn row_begin<S: Alter>(
 ) -> Result<u64, RegFault>
     requires stored { AllByRecursion IsStorableChange run.now }
     requires inside { AllByRecursion (IsInBlock block) run.now }
+    requires small { block < 2 ^ 63 }
     ensures same { tx.new.conn.ghost_name ≡ tx.old.conn.ghost_name }
     ensures call { PutsRun db.0 key.now run.now (IsClear block records)
         (state S.Store tx.old.conn.now) (state S.Store tx.new.conn.now) result }
     ensures damaged { IsHonestRun db.0 key.now run.now (IsClear block records)
         (state S.Store tx.old.conn.now) (state S.Store tx.new.conn.now) result }
+    ensures grows { IfOk result (λ after. after ≤ records + length run.now) }
+    ensures refused { IsHinderedRun db.0 key.now run.now records
+        (state S.Store tx.old.conn.now) (state S.Store tx.new.conn.now) result }
+    ensures rowids { TakesInside (state S.Store tx.old.conn.now) (state S.Store tx.new.conn.now) result 1 blocks_tree }
+    ensures spelled { SpellsRun db.0 key.now run.now (state S.Store tx.old.conn.now) (state S.Store tx.new.conn.now) result }
 {
     let held = Held {
         block,

@@ -6,7 +6,8 @@ ghost use Rattle.sqlite.specs.State.{IsUnchanged};
 ghost use Rattle.sqlite_rules.specs.Lists.{Has};
 ghost use Rattle.zeb_register.specs.Calls.{GoesOn, Inside, Reading};
 ghost use Rattle.zeb_register.specs.Clauses.{ChangesHeld, DamagedHeld, FindsHeld, InStore, IsHonestStorable};
-ghost use Rattle.zeb_register.specs.Clauses.{IsReasoned, IsReasonedInside, TellsHeld, TellsWhether};
+ghost use Rattle.zeb_register.specs.Clauses.{IsHinderedInside, IsReasoned, IsReasonedInside, TakesRegistersInside, TellsHeld};
+ghost use Rattle.zeb_register.specs.Clauses.{TellsWhether};
 ghost use Rattle.sqlite.specs.Tree.{Trees};
 ghost use Rattle.zeb_register.specs.Content.{Content, IsRising, IsChangedAt, IsWithout};
 ghost use Rattle.zeb_register.specs.Formats.{Format, holds_in, version_of};
@@ -73,7 +74,7 @@ pub struct Work {
 /// What the registers hold is, for each database and each key, a rising list of postings. The system numbers of records are 1 to
 /// 999,999,999.
 pub trait Layout {
-    ghost use Rattle.std.specs.Prelude.{List, ℕ, sum_by};
+    ghost use Rattle.std.specs.Prelude.{List, ◌∷◌, ℕ, map, sum_by};
     ghost use Rattle.std.specs.List.Sorted.{IsStrictlySortedBy};
     ghost use Rattle.sqlite.specs.Tree.{Trees};
     ghost use Rattle.zeb_register.specs.Formats.{Format, version_of, holds_in};
@@ -84,6 +85,7 @@ pub trait Layout {
     ghost use Rattle.zeb_register.specs.Tallies.{Works};
     ghost use Rattle.zeb_register.specs.declared.registers.TermCount.{TermCount};
     ghost use Rattle.zeb_register.specs.Between.{AreKeysBetween, IsPostingBetween};
+    ghost use Rattle.zeb_register.specs.Hindrances.{HindersPlaces, placed, rows_of};
     ghost use Rattle.zeb_extract.specs.declared.keys.Key.{Key};
     ghost use Rattle.zeb_blocks.specs.declared.postings.Posting.{Posting};
 
@@ -122,6 +124,10 @@ pub trait Layout {
         ensures damaged { DamagedHeld (holds_in format) (state S.Store tx.old.conn.now) (state S.Store tx.new.conn.now) result
             (IsStrictlySortedBy place_cmp old.now) (λ content. ¬ ArePlacesOf sysno old.now (content db.0 key.now)) }
         ensures text { OnOk result (IsUtf8 key.now.term) }
+        ensures refused { IsHinderedInside (state S.Store tx.old.conn.now) (state S.Store tx.new.conn.now) result
+            (HindersPlaces db.0 key.now ((sysno, new.now) ∷ [])) }
+        ensures rowids { TakesRegistersInside (state S.Store tx.old.conn.now) (state S.Store tx.new.conn.now) result
+            (rows_of ((sysno, new.now) ∷ [])) }
         ensures work { FindsHeld (holds_in format) (state S.Store tx.old.conn.now) (state S.Store tx.new.conn.now) result
             (λ _. Works row_work row_work row_work row_work work.old work.new) }
         ensures no_work { row_work ≡ 0 → work.new ≡ work.old };
@@ -147,6 +153,10 @@ pub trait Layout {
         ensures damaged { DamagedHeld (holds_in format) (state S.Store tx.old.conn.now) (state S.Store tx.new.conn.now) result
             (OldsRise changes.now) (λ content. (after : Content) → ¬ AreChangedAt db.0 key.now changes.now content after) }
         ensures text { OnOk result (changes.now ≢ [] → IsUtf8 key.now.term) }
+        ensures refused { IsHinderedInside (state S.Store tx.old.conn.now) (state S.Store tx.new.conn.now) result
+            (HindersPlaces db.0 key.now (map placed changes.now)) }
+        ensures rowids { TakesRegistersInside (state S.Store tx.old.conn.now) (state S.Store tx.new.conn.now) result
+            (rows_of (map placed changes.now)) }
         ensures work { FindsHeld (holds_in format) (state S.Store tx.old.conn.now) (state S.Store tx.new.conn.now) result
             (λ _. Works (row_work * length changes.now) (row_work * length changes.now) (row_work * length changes.now)
             (row_work * length changes.now) work.old work.new) }

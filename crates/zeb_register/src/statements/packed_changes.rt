@@ -4,10 +4,10 @@ ghost use Rattle.std.specs.Prelude.{IsUtf8, ◌≡◌, ◌++◌, [], ◌∷◌};
 ghost use Rattle.sqlite.specs.declared.types.Value.TheVariants.{Blob, Int};
 ghost use Rattle.sqlite.specs.Held.{state};
 ghost use Rattle.zeb_register.specs.Calls.{Inside};
-ghost use Rattle.zeb_register.specs.Clauses.{IsHinderedErrorInside, IsReasonedErrorInside, Writes};
+ghost use Rattle.zeb_register.specs.Clauses.{IsHinderedErrorInside, IsReasonedErrorInside, TakesInside, Writes};
 ghost use Rattle.zeb_register.specs.Hindrances.{Hinders, HindersNew};
 ghost use Rattle.zeb_register.specs.KeyColumns.{IsOfKey, IsOfNumbered, key_columns, numbered_columns};
-ghost use Rattle.zeb_register.specs.RowStatements.{Gains, IsUnchangedByViolation, ListsInside, Renews};
+ghost use Rattle.zeb_register.specs.RowStatements.{Gains, IsHinderedUnbroken, IsUnchangedByViolation, ListsInside, Renews};
 ghost use Rattle.zeb_register.specs.Sql.{Loses};
 ghost use Rattle.zeb_register.specs.Store.{IsRest, blocks_tree, dict_tree};
 
@@ -24,6 +24,7 @@ pub(crate) fn block_bytes<S: Alter>(
     ensures same { tx.new.conn.ghost_name ≡ tx.old.conn.ghost_name }
     ensures call { Inside (state S.Store tx.old.conn.now) (state S.Store tx.new.conn.now) result
         (λ rows a b. ListsInside (IsRest blocks_tree (numbered_columns at.entry number)) a b rows.items) }
+    ensures err { IsReasonedErrorInside (state S.Store tx.old.conn.now) (state S.Store tx.new.conn.now) result }
 {
     let db = at.db.column();
     let reg = u32::from(at.key.register.code());
@@ -42,6 +43,7 @@ pub(crate) fn dict_records<S: Alter>(
     ensures same { tx.new.conn.ghost_name ≡ tx.old.conn.ghost_name }
     ensures call { Inside (state S.Store tx.old.conn.now) (state S.Store tx.new.conn.now) result
         (λ rows a b. ListsInside (IsRest dict_tree (key_columns at.entry)) a b rows.items) }
+    ensures err { IsReasonedErrorInside (state S.Store tx.old.conn.now) (state S.Store tx.new.conn.now) result }
     ensures text { IsUtf8 at.entry.key.now.term }
 {
     let db = at.db.column();
@@ -66,6 +68,9 @@ pub(crate) fn block_add<S: Alter>(
     ensures violated { IsUnchangedByViolation (state S.Store tx.old.conn.now) (state S.Store tx.new.conn.now) result }
     ensures refused { IsHinderedErrorInside (state S.Store tx.old.conn.now) (state S.Store tx.new.conn.now) result
         (HindersNew (IsOfNumbered at.entry number) blocks_tree (numbered_columns at.entry number ++ Blob bytes.now ∷ [])) }
+    ensures unbroken { IsHinderedUnbroken (state S.Store tx.old.conn.now) (state S.Store tx.new.conn.now) result
+        (Hinders 1 blocks_tree (numbered_columns at.entry number ++ Blob bytes.now ∷ [])) }
+    ensures rowids { TakesInside (state S.Store tx.old.conn.now) (state S.Store tx.new.conn.now) result 1 blocks_tree }
 {
     let db = at.db.column();
     let reg = u32::from(at.key.register.code());
@@ -87,6 +92,7 @@ pub(crate) fn block_set<S: Alter>(
         (state S.Store tx.old.conn.now) (state S.Store tx.new.conn.now) result }
     ensures refused { IsHinderedErrorInside (state S.Store tx.old.conn.now) (state S.Store tx.new.conn.now) result
         (Hinders 0 blocks_tree (numbered_columns at.entry number ++ Blob bytes.now ∷ [])) }
+    ensures rowids { TakesInside (state S.Store tx.old.conn.now) (state S.Store tx.new.conn.now) result 0 blocks_tree }
 {
     let db = at.db.column();
     let reg = u32::from(at.key.register.code());
@@ -106,6 +112,7 @@ pub(crate) fn block_remove<S: Alter>(
     ensures call { Writes blocks_tree (Loses (IsOfNumbered at.entry number))
         (state S.Store tx.old.conn.now) (state S.Store tx.new.conn.now) result }
     ensures refused { IsReasonedErrorInside (state S.Store tx.old.conn.now) (state S.Store tx.new.conn.now) result }
+    ensures rowids { TakesInside (state S.Store tx.old.conn.now) (state S.Store tx.new.conn.now) result 0 blocks_tree }
 {
     let db = at.db.column();
     let reg = u32::from(at.key.register.code());
@@ -127,6 +134,7 @@ pub(crate) fn dict_add<S: Alter>(
         (state S.Store tx.old.conn.now) (state S.Store tx.new.conn.now) result }
     ensures refused { IsHinderedErrorInside (state S.Store tx.old.conn.now) (state S.Store tx.new.conn.now) result
         (HindersNew (IsOfKey at.entry) dict_tree (key_columns at.entry ++ Int records ∷ [])) }
+    ensures rowids { TakesInside (state S.Store tx.old.conn.now) (state S.Store tx.new.conn.now) result 1 dict_tree }
 {
     let db = at.db.column();
     let reg = u32::from(at.key.register.code());
@@ -147,6 +155,7 @@ pub(crate) fn dict_set<S: Alter>(
         (state S.Store tx.old.conn.now) (state S.Store tx.new.conn.now) result }
     ensures refused { IsHinderedErrorInside (state S.Store tx.old.conn.now) (state S.Store tx.new.conn.now) result
         (Hinders 0 dict_tree (key_columns at.entry ++ Int records ∷ [])) }
+    ensures rowids { TakesInside (state S.Store tx.old.conn.now) (state S.Store tx.new.conn.now) result 0 dict_tree }
 {
     let db = at.db.column();
     let reg = u32::from(at.key.register.code());
@@ -164,6 +173,7 @@ pub(crate) fn dict_remove<S: Alter>(
     ensures same { tx.new.conn.ghost_name ≡ tx.old.conn.ghost_name }
     ensures call { Writes dict_tree (Loses (IsOfKey at.entry)) (state S.Store tx.old.conn.now) (state S.Store tx.new.conn.now) result }
     ensures refused { IsReasonedErrorInside (state S.Store tx.old.conn.now) (state S.Store tx.new.conn.now) result }
+    ensures rowids { TakesInside (state S.Store tx.old.conn.now) (state S.Store tx.new.conn.now) result 0 dict_tree }
 {
     let db = at.db.column();
     let reg = u32::from(at.key.register.code());

@@ -11,7 +11,7 @@ ghost use Rattle.zeb_register.specs.Sql.{Loses};
 ghost use Rattle.zeb_register.specs.RowStatements.{Gains, Lists, ListsInside};
 ghost use Rattle.zeb_register.specs.Store.{postings_tree, IsPostingIn, IsRest};
 ghost use Rattle.zeb_register.specs.Calls.{Inside, Reading};
-ghost use Rattle.zeb_register.specs.Clauses.{IsHinderedErrorInside, IsReasonedErrorInside, Writes};
+ghost use Rattle.zeb_register.specs.Clauses.{IsHinderedErrorInside, IsReasonedErrorInside, TakesInside, Writes};
 ghost use Rattle.zeb_register.specs.Hindrances.{HindersNew};
 ghost use Rattle.zeb_register.specs.Clauses.{IsReasonedError};
 ghost use Rattle.zeb_register.specs.KeyColumns.{HasTermOf, IsOfNumbered, numbered_columns, register_columns};
@@ -59,6 +59,7 @@ pub(crate) fn place_rows<S: Alter>(
     ensures same { tx.new.conn.ghost_name ≡ tx.old.conn.ghost_name }
     ensures call { Inside (state S.Store tx.old.conn.now) (state S.Store tx.new.conn.now) result
         (λ rows a b. ListsInside (IsRest postings_tree (numbered_columns at.entry number)) a b rows.items) }
+    ensures err { IsReasonedErrorInside (state S.Store tx.old.conn.now) (state S.Store tx.new.conn.now) result }
     ensures text { IsUtf8 at.entry.key.now.term }
 {
     let db = at.db.column();
@@ -97,6 +98,7 @@ pub(crate) fn places_lift<S: Alter>(
     ensures call { Writes postings_tree (Loses (IsOfNumbered at.entry number))
         (state S.Store tx.old.conn.now) (state S.Store tx.new.conn.now) result }
     ensures refused { IsReasonedErrorInside (state S.Store tx.old.conn.now) (state S.Store tx.new.conn.now) result }
+    ensures rowids { TakesInside (state S.Store tx.old.conn.now) (state S.Store tx.new.conn.now) result 0 postings_tree }
 {
     let db = at.db.column();
     let reg = u32::from(at.key.register.code());
@@ -120,6 +122,7 @@ pub(crate) fn posting_put<S: Alter>(
     ensures refused { IsHinderedErrorInside (state S.Store tx.old.conn.now) (state S.Store tx.new.conn.now) result
         (HindersNew (λ was. IsOfNumbered at.entry number was × (column was 5 ≡ Int seq) × (column was 6 ≡ Int place)) postings_tree
         (numbered_columns at.entry number ++ Int seq ∷ Int place ∷ [])) }
+    ensures rowids { TakesInside (state S.Store tx.old.conn.now) (state S.Store tx.new.conn.now) result 1 postings_tree }
 {
     let db = at.db.column();
     let reg = u32::from(at.key.register.code());

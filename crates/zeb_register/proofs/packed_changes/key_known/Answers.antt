@@ -11,6 +11,7 @@ use Rattle.zeb_register.specs.Store.{IsRest, dict_tree}
 use Rattle.zeb_register.proofs.CountLemmas.{count_so}
 use Rattle.zeb_register.proofs.LookUps.{first_is}
 use Rattle.zeb_register.proofs.OccurringLemmas.{key_posted}
+use Rattle.zeb_register.proofs.PackedHindrances.{count_told, no_count_told}
 use Rattle.zeb_register.proofs.PackedReads.{no_row, row_counts, row_number}
 use Rattle.zeb_register.proofs.PackedWrites.{known_none, known_some}
 use Rattle.zeb_register.proofs.packed_changes.key_known.Goals as goal
@@ -45,3 +46,24 @@ returns-clause-value g c clean inside store content holds =
     let held : IsListOf (IsRest dict_tree (key_row db key) trees) c.in_ok-rows.rows.items = (c.in_ok-rows.ensures.call.ok clean inside).1 store in
     let count = no_row trees content db key holds c.in_ok-rows.rows.items held none in
     known_none _ (content db key) (count_so (HasKey (posted content db) key) (IsInRecord (content db key)) 0 (key_posted content db key) count) refl
+
+pub returns-in-Some-clause-told : goal.returns-in-Some-clause-told
+returns-in-Some-clause-told g c clean inside store =
+    let trees = (state g.S.Store c.args.tx.now.conn.now).now.trees in
+    let key = c.args.key.now in
+    let items = c.in_ok-rows.rows.items in
+    let got : slice_get items 0 ≡ Some c.in-Some.row.now = sym (c.first.ensures.value ∙ ap (λ l. slice_get l 0) c.deref.ensures.value) ∙ ap option_copied c.in-Some.is in
+    let held : IsListOf (IsRest dict_tree (key_row c.args.db.0 key) trees) items = (c.in_ok-rows.ensures.call.ok clean inside).1 store in
+    IfOk-weaker c.known_at.result _ _ (λ known number. count_told c.args.db.0 key c.in-Some.row.now known.records trees (first_is _ items c.in-Some.row.now held got) number.0) c.known_at.ensures.number
+
+pub returns-in-Some-clause-few : goal.returns-in-Some-clause-few
+returns-in-Some-clause-few g c = IfOk-weaker c.known_at.result _ _ (λ known number. number.1) c.known_at.ensures.number
+
+pub returns-clause-told : goal.returns-clause-told
+returns-clause-told g c clean inside store =
+    let trees = (state g.S.Store c.args.tx.now.conn.now).now.trees in
+    let key = c.args.key.now in
+    let items = c.in_ok-rows.rows.items in
+    let none : slice_get items 0 ≡ None = sym (c.first.ensures.value ∙ ap (λ l. slice_get l 0) c.deref.ensures.value) ∙ ap option_copied c.in-None.is in
+    let held : IsListOf (IsRest dict_tree (key_row c.args.db.0 key) trees) items = (c.in_ok-rows.ensures.call.ok clean inside).1 store in
+    no_count_told c.args.db.0 key items trees held none

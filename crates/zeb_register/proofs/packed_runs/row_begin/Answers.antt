@@ -1,10 +1,14 @@
-use Rattle.std.proofs.Common.{◌∙◌, ap, false, rules, subst, sym}
+use Rattle.std.proofs.Common.{◌∙◌, ap, false, inl, inr, rules, subst, sym}
 use Rattle.sqlite.specs.Held.{state}
+use Rattle.sqlite_rules.specs.Lists.{Has}
 use Rattle.zeb_blocks.specs.Blocks.{LiesIn}
 use Rattle.zeb_register.specs.PackedBlocks.{part_in}
 use Rattle.zeb_register.specs.PackedChanges.{IfTold, IsBlockIn, IsClear, IsCounted, PutsBlock, PutsChanges}
+use Rattle.zeb_register.specs.PackedHindrances.{HindersBlock, IsPut, SpellsMore}
 use Rattle.zeb_register.specs.Store.{Changes, blocks_tree}
 use Rattle.zeb_register.proofs.Calls.{changes_so}
+use Rattle.zeb_register.proofs.PackedCauses.{row_hinders}
+use Rattle.zeb_register.proofs.PackedHindrances.{spells_so}
 use Rattle.zeb_register.proofs.PackedReads.{empty_lies}
 use Rattle.zeb_register.proofs.PackedWrites.{clear_told, puts_run}
 use Rattle.zeb_register.proofs.packed_runs.row_begin.Goals as goal
@@ -42,3 +46,27 @@ returns-clause-call g c = record {
   err = search rules;
   crash = search rules;
 }
+
+pub returns-in_err-after-clause-refused : goal.returns-in_err-after-clause-refused
+returns-in_err-after-clause-refused g c clean inside store told = inr (inl (c.in_err-after.ensures.refused (search rules)))
+
+pub returns-in_err-block_begin-clause-refused : goal.returns-in_err-block_begin-clause-refused
+returns-in_err-block_begin-clause-refused g c clean inside store told =
+    let first = (state g.S.Store c.args.tx.now.conn.now).now.trees in
+    let list = c.in_ok-after.after.list.items in
+    elim (c.in_err-block_begin.ensures.refused clean inside store (search rules)) [
+      | inl cause ↦ inl cause
+      | inr hinders ↦
+          inr (row_hinders c.args.db.0 c.args.key.now c.args.block list c.args.records c.args.run.now first
+          (λ p here. elim (c.in_ok-after.ensures.made p here) [ inl was ↦ absurd (subst (λ l. Has l p) c.new.ensures.items was) | inr put ↦ inr put ])
+          (subst (λ l. HindersBlock c.args.key.now c.args.block l first) c.deref.ensures.value hinders))
+    ]
+
+pub returns-clause-spelled : goal.returns-clause-spelled
+returns-clause-spelled g c clean inside store =
+    let first = (state g.S.Store c.args.tx.now.conn.now).now.trees in
+    let second = (state g.S.Store c.block_begin.new.tx.conn.now).now.trees in
+    let list = c.in_ok-after.after.list.items in
+    spells_so c.args.db.0 c.args.key.now (Has list) (IsPut c.args.run.now) first second
+    (λ p here. elim (c.in_ok-after.ensures.made p here) [ inl was ↦ absurd (subst (λ l. Has l p) c.new.ensures.items was) | inr put ↦ inr put ])
+    (subst (λ l. SpellsMore c.args.db.0 c.args.key.now (Has l) first second) c.deref.ensures.value (c.in_ok-block_begin.ensures.spelled clean inside store))

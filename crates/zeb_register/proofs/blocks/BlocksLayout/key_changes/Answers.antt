@@ -1,11 +1,15 @@
-use Rattle.std.proofs.Common.{◌≡◌, ◌∙◌, [], ap, rules, subst, sym}
+use Rattle.std.proofs.Common.{◌≡◌, ◌∙◌, ◌==◌, List, [], true, false, ap, arith, inl, inr, length, map, rules, subst, sym}
 use Rattle.sqlite.specs.Effect.{Database}
 use Rattle.sqlite.specs.Held.{state}
+use Rattle.zeb_register.specs.declared.registers.RecordChange.{RecordChange}
 use Rattle.zeb_register.specs.Content.{AreChangedAt}
+use Rattle.zeb_register.specs.Hindrances.{placed, rows_of}
 use Rattle.zeb_register.specs.PackedBlocks.{HoldsBlocks}
+use Rattle.zeb_register.specs.Store.{blocks_tree, dict_tree, postings_tree}
 use Rattle.zeb_register.proofs.Calls.{store_same}
 use Rattle.zeb_register.proofs.ListChanges.{content_none, one_content_changed}
 use Rattle.zeb_register.proofs.PackedWrites.{none_of}
+use Rattle.zeb_register.proofs.TakenRowids.{takes_more, takes_none}
 use Rattle.zeb_register.proofs.blocks.BlocksLayout.key_changes.Goals as goal
 
 pub returns-then-is_empty-clause-change : goal.returns-then-is_empty-clause-change
@@ -43,3 +47,25 @@ returns-clause-found g c clean inside store content holds = let next = (c.in_ok-
 pub returns-in_err-changes_put-clause-damaged : goal.returns-in_err-changes_put-clause-damaged
 returns-in_err-changes_put-clause-damaged g c clean inside store is rises content storable holds after all =
     c.in_err-changes_put.ensures.damaged clean inside store (search rules) rises content storable holds (after c.args.db.0 c.args.key.now) all.list
+
+pub returns-in_err-check_changes-clause-refused : goal.returns-in_err-check_changes-clause-refused
+returns-in_err-check_changes-clause-refused g c clean inside store told = inr (inl (c.in_err-check_changes.ensures.refused (search rules)))
+
+pub returns-then-is_empty-clause-rowids : goal.returns-then-is_empty-clause-rowids
+returns-then-is_empty-clause-rowids g c clean inside store =
+    let first = state g.S.Store c.args.tx.now.conn.now in
+    let second = state g.S.Store c.nothing_inside.new.tx.conn.now in
+    let same = (c.in_ok-nothing_inside.ensures.call.ok clean inside).now_is in
+    let a = first.now.trees in
+    let b = second.now.trees in
+    let rows = rows_of (map placed c.args.changes.now) in (
+      takes_more 0 rows postings_tree a b (omega arith) (takes_none postings_tree a b (ap (λ (d : Database). d.trees postings_tree) same)),
+      takes_more 0 rows blocks_tree a b (omega arith) (takes_none blocks_tree a b (ap (λ (d : Database). d.trees blocks_tree) same)),
+      takes_more 0 rows dict_tree a b (omega arith) (takes_none dict_tree a b (ap (λ (d : Database). d.trees dict_tree) same)),
+    )
+
+pub changes_put-requires-clause-some : goal.changes_put-requires-clause-some
+changes_put-requires-clause-some g c none = absurd (let e : true ≡ false = sym (ap (λ (l : List RecordChange). length l == 0) none) ∙ sym c.is_empty.ensures ∙ c.if-is_empty.false in cc)
+
+pub returns-in_err-changes_put-clause-refused : goal.returns-in_err-changes_put-clause-refused
+returns-in_err-changes_put-clause-refused g c clean inside store told = c.in_err-changes_put.ensures.refused clean inside store (search rules)

@@ -3,8 +3,7 @@ use Rattle.zeb_blocks.specs.Blocks.{LiesIn}
 use Rattle.zeb_blocks.specs.declared.postings.Posting.{Posting}
 use Rattle.zeb_register.specs.declared.packed_parts.Held.{Held}
 use Rattle.zeb_register.specs.declared.registers.Place.{Place}
-use Rattle.zeb_register.specs.Content.{IsListChanged, posting_at}
-use Rattle.zeb_register.specs.PackedChanges.{AreStorablePlaces}
+use Rattle.zeb_register.specs.Content.{AreStorablePlaces, IsListChanged, posting_at}
 use Rattle.zeb_register.proofs.PackedParts.{own_of, whole_lies, whole_spliced}
 use Rattle.zeb_register.proofs.PackedChanges.{has_count, has_records, leaves_records, own_is}
 use Rattle.zeb_register.proofs.packed_parts.Held.changed.Goals as goal

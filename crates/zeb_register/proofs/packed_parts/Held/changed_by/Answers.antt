@@ -1,9 +1,13 @@
-use Rattle.std.proofs.Common.{◌∙◌, get_or, rules, subst, take}
+use Rattle.std.proofs.Common.{◌≡◌, ◌∙◌, ap, arith, get_or, inl, rules, subst, take}
+use Rattle.std.proofs.lemmas.List.{take_all}
 use Rattle.sqlite_trees.proofs.ListLemmas.{all-get_or}
+use Rattle.sqlite_rules.specs.Lists.{Has}
 use Rattle.zeb_blocks.specs.Blocks.{LiesIn}
 use Rattle.zeb_register.specs.PackedChanges.{IsInBlock}
+use Rattle.zeb_register.specs.PackedHindrances.{IsPut}
 use Rattle.zeb_register.proofs.ContentChanges.{at_sysno}
 use Rattle.zeb_register.proofs.ListChanges.{changes_more, changes_rise, list_changed, next_places, no_change}
+use Rattle.zeb_register.proofs.PackedCauses.{counts_grow, made_more}
 use Rattle.zeb_register.proofs.PackedChanges.{held_places, next_held}
 use Rattle.zeb_register.proofs.packed_parts.Held.changed_by.Goals as goal
 
@@ -26,6 +30,8 @@ loop-change-preserved c =
           let change = list_changed x.sysno x.new.now mid.0 (changes_rise (take i xs) old mid.0 up mid.1) in
           let next = at_sysno x.sysno x.new.now mid.0 in
           (next, changes_more xs i below old mid.0 next mid.1 found change, next_held x.sysno x.new.now mid.0 next change x.old.now held c.in_ok-held.held inside it.block found mid.2 it.list it.lies it.count);
+      made = made_more xs i below (Has c.args.self.list.items) held.list.items c.in_ok-held.held.list.items before.made it.list;
+      grows = let more = counts_grow x.old.now x.new.now held.records c.in_ok-held.held.records it.count in omega (arith, before.grows, more);
     }
 
 pub returns-in_err-held-clause-damaged : goal.returns-in_err-held-clause-damaged

@@ -1,0 +1,55 @@
+-- Steps of private functions, which no public clause speaks of: why rows of a key can't be put into packed tables, and what they spell then.
+use Rattle.std.specs.Prelude.{◌≡◌, ◌⊎◌, ◌+◌, ◌<◌, ◌≤◌, ◌^◌, ℕ, ℤ, Bool, false, List, length, map, Result, OnOk}
+use Rattle.sqlite.specs.Order.{Row}
+use Rattle.sqlite.specs.State.{State}
+use Rattle.sqlite.specs.Tree.{Trees}
+use Rattle.zeb_blocks.specs.declared.postings.Posting.{Posting}
+use Rattle.zeb_blocks.specs.Blocks.{BlockSpells}
+use Rattle.zeb_extract.specs.declared.keys.Key.{Key}
+use Rattle.zeb_register.specs.declared.registers.RecordChange.{RecordChange}
+use Rattle.zeb_register.specs.declared.faults.RegFault.{RegFault}
+use Rattle.zeb_register.specs.Clauses.{InStore, IsHinderedInside}
+use Rattle.zeb_register.specs.Hindrances.{HasLargeRow, IsPlacedAt, IsSpelledAt, LacksRowids, placed}
+use Rattle.zeb_register.specs.PackedChanges.{IsDictIn}
+use Rattle.zeb_register.specs.Sql.{HasRow}
+use Rattle.zeb_register.specs.Store.{blocks_tree, dict_tree}
+
+-- ---- one row
+
+-- it is told that no row of a table is P, and some row is
+abbrev pub IsMistold : Bool → (Row → Type 0) → ℕ → Trees → Type 0
+IsMistold is_there P tree trees = (is_there ≡ false) × ((row : Row) × HasRow trees tree row × P row)
+
+-- no rowid is left for a row of `blocks`, or bytes that spell the list are too many for a row of the key
+abbrev pub HindersBlock : Key → ℕ → List Posting → Trees → Type 0
+HindersBlock key block list trees =
+    LacksRowids 1 blocks_tree trees ⊎ ((bytes : List ℕ) × BlockSpells block list bytes × (10 ^ 9 < 300 + length key.term + length bytes))
+
+-- no column stores the number, the key has a row of `dict` of which it is told that it hasn't, no rowid is left, or its text is too long
+abbrev pub HindersCount : Bool → ℤ → Key → ℕ → Trees → Type 0
+HindersCount is_there db key records trees =
+    (2 ^ 63 ≤ records) ⊎ (IsMistold is_there (IsDictIn db key) dict_tree trees ⊎ (LacksRowids 1 dict_tree trees ⊎ (10 ^ 9 < 300 + length key.term)))
+
+-- each posting that the rows of the key spell then was spelled before, or is P
+abbrev pub SpellsMore : ℤ → Key → (Posting → Type 0) → Trees → Trees → Type 0
+SpellsMore db key P old new = (p : Posting) → IsSpelledAt db key new p → IsSpelledAt db key old p ⊎ P p
+
+-- ---- rows of many changes
+
+-- one of the places that the changes put, as a posting
+abbrev pub IsPut : List RecordChange → Posting → Type 0
+IsPut changes = IsPlacedAt (map placed changes)
+
+-- more records would have the key than a column stores, so many rows of `blocks` can't be new, or a row is too large
+abbrev pub HindersChanges : ℕ → ℤ → Key → ℕ → List RecordChange → Trees → Type 0
+HindersChanges count db key records changes trees =
+    (2 ^ 63 ≤ records + length changes)
+    ⊎ (((2 ^ 62 ≤ count) ⊎ LacksRowids count blocks_tree trees) ⊎ HasLargeRow db key (map placed changes) trees)
+
+-- changes of one block are refused as `Store` only for such a cause, where so many records have the key
+abbrev pub IsHinderedRun : ℤ → Key → List RecordChange → ℕ → State → State → Result ℕ RegFault → Type 0
+IsHinderedRun db key run records old new result = IsHinderedInside old new result (HindersChanges 1 db key records run)
+
+-- where they are accepted, the key's rows spell what they did, and the places that are put
+abbrev pub SpellsRun : ℤ → Key → List RecordChange → State → State → Result ℕ RegFault → Type 0
+SpellsRun db key run old new result = InStore old new (λ trees. OnOk result (SpellsMore db key (IsPut run) trees new.now.trees))
