@@ -58,6 +58,7 @@ pub mod RowSizes
 pub mod Clashes
 pub mod NewRows
 pub mod TakenRowids
+pub mod WriteRowids
 pub mod InsertRefusals
 pub mod UpdateRefusals
 pub mod ReplaceRefusals

@@ -20,14 +20,15 @@ use Rattle.zeb_register.proofs.Calls.{IsSilent}
 use Rattle.zeb_register.proofs.PackedStatements.{blocks_keys, dict_keys}
 use Rattle.zeb_register.proofs.PostingStatements.{blocks, blocks_static, dict, dict_static}
 use Rattle.zeb_register.proofs.Prefix.{IsAfter, lists_after}
-use Rattle.zeb_register.proofs.Refusals.{IsFit, IsWhole}
+use Rattle.zeb_register.proofs.Refusals.{IsFit, IsReasonedQuery, IsWhole, why_refused}
 use Rattle.zeb_register.proofs.InsertRefusals.{why_insert_hindered}
 use Rattle.zeb_register.proofs.NewRows.{IsRowFor}
 use Rattle.zeb_register.proofs.UpdateRefusals.{why_update_hindered}
 use Rattle.zeb_register.proofs.WriteRefusals.{IsHinderedWrite, IsReasonedWrite, why_delete_refused}
+use Rattle.zeb_register.proofs.WriteRowids.{IsTakingWrite, delete_takes, insert_takes, update_takes}
 use Rattle.zeb_register.proofs.RowLemmas.{covered_some}
 use Rattle.zeb_register.proofs.Selects.{list_so}
-use Rattle.zeb_register.proofs.StatementForms.{Condition, MeetsAll, alone, equals, keyed_from, no_limit, reading, shows}
+use Rattle.zeb_register.proofs.StatementForms.{Condition, MeetsAll, alone, equals, keyed_from, no_limit, reading, rising, shows}
 use Rattle.zeb_register.proofs.Writes.{RemakesRows, changed_so, deletes, gains, inserts, loses, updates}
 
 -- ---- SELECT
@@ -55,6 +56,18 @@ lists_block db idx reg term block old new rows store shown =
     let got = lists_after store_schema 4 blocks blocks_static _ blocks_keys block_text key [] [] 1 [] no_limit _ block_is block_plain.0 block_plain.1 refl refl refl refl (λ r s lower. absurd cc) old new rows store shown in
     list_so P (IsRest 9 key old.now.trees) rows (λ x. (λ h. (h.0, h.1), λ h. (h.0, h.1, tt))) (subst (IsListOf P) (sym got.2) got.1)
 
+block_whole : IsWhole block_text 5 (understood store_schema block_text)
+unfolding understood everything
+block_whole = (omega arith, refl)
+
+block_fit : (db idx reg : ℤ) (term : List ℕ) (block : ℤ) → IsFit (alone (reading 9 (keyed_from 1 0 5) (shows (6 ∷ [])) [] no_limit)) (block_key db idx reg term block)
+unfolding everything
+block_fit db idx reg term block trees mistyped = absurd (let t : true ≡ false = mistyped in cc)
+
+pub block_refused : (db idx reg : ℤ) (term : List ℕ) (block : ℤ) → IsReasonedQuery block_text (block_key db idx reg term block)
+block_refused db idx reg term block old new e store told failed =
+    why_refused block_text (block_key db idx reg term block) 9 (keyed_from 1 0 5) (shows (6 ∷ [])) (rising []) no_limit _ block_is block_plain.0 block_plain.1 block_whole (block_fit db idx reg term block) old new store e told failed
+
 abbrev pub records_text : List ℕ
 records_text = codes "SELECT records FROM dict WHERE db = ?1 AND idx = ?2 AND reg = ?3 AND term = ?4"
 
@@ -77,6 +90,18 @@ lists_records db idx reg term old new rows store shown =
     let P = IsAfter (old.now.trees 11) key [] [] in
     let got = lists_after store_schema 5 dict dict_static _ dict_keys records_text key [] [] 1 [] no_limit _ records_is records_plain.0 records_plain.1 refl refl refl refl (λ r s lower. absurd cc) old new rows store shown in
     list_so P (IsRest 11 key old.now.trees) rows (λ x. (λ h. (h.0, h.1), λ h. (h.0, h.1, tt))) (subst (IsListOf P) (sym got.2) got.1)
+
+records_whole : IsWhole records_text 4 (understood store_schema records_text)
+unfolding understood everything
+records_whole = (omega arith, refl)
+
+records_fit : (db idx reg : ℤ) (term : List ℕ) → IsFit (alone (reading 11 (keyed_from 1 0 4) (shows (5 ∷ [])) [] no_limit)) (key_of db idx reg term)
+unfolding everything
+records_fit db idx reg term trees mistyped = absurd (let t : true ≡ false = mistyped in cc)
+
+pub records_refused : (db idx reg : ℤ) (term : List ℕ) → IsReasonedQuery records_text (key_of db idx reg term)
+records_refused db idx reg term old new e store told failed =
+    why_refused records_text (key_of db idx reg term) 11 (keyed_from 1 0 4) (shows (5 ∷ [])) (rising []) no_limit _ records_is records_plain.0 records_plain.1 records_whole (records_fit db idx reg term) old new store e told failed
 
 -- ---- INSERT
 
@@ -120,6 +145,10 @@ add_block_refused db idx reg term block bytes =
     (λ id other was shares. elim shares [ inl m ↦ (m.0, m.1.0, m.1.1.0, m.1.1.1.0, m.1.1.1.1.0) | inr none ↦ absurd none ])
     row add_block_terms 7 refl refl (λ trees. (refl, refl)) add_block_text add_block_is add_block_plain add_block_whole
 
+pub add_block_takes : (db idx reg : ℤ) (term : List ℕ) (block : ℤ) (bytes : List ℕ) → IsTakingWrite 1 blocks_tree add_block_text (block_columns db idx reg term block bytes)
+add_block_takes db idx reg term block bytes =
+    let row = block_columns db idx reg term block bytes in insert_takes 4 blocks blocks_static row add_block_terms 7 row refl refl add_block_text add_block_is add_block_plain
+
 abbrev pub add_dict_text : List ℕ
 add_dict_text = codes "INSERT INTO dict VALUES (?1, ?2, ?3, ?4, ?5)"
 
@@ -160,6 +189,10 @@ add_dict_refused db idx reg term records =
     (λ id other was shares. elim shares [ inl m ↦ (m.0, m.1.0, m.1.1.0, m.1.1.1.0) | inr none ↦ absurd none ])
     row add_dict_terms 6 refl refl (λ trees. (refl, refl)) add_dict_text add_dict_is add_dict_plain add_dict_whole
 
+pub add_dict_takes : (db idx reg : ℤ) (term : List ℕ) (records : ℤ) → IsTakingWrite 1 dict_tree add_dict_text (dict_columns db idx reg term records)
+add_dict_takes db idx reg term records =
+    let row = dict_columns db idx reg term records in insert_takes 5 dict dict_static row add_dict_terms 6 row refl refl add_dict_text add_dict_is add_dict_plain
+
 -- ---- DELETE
 
 abbrev pub remove_block_text : List ℕ
@@ -195,6 +228,9 @@ remove_block_fit db idx reg term block trees mistyped = absurd (let t : true ≡
 pub remove_block_refused : (db idx reg : ℤ) (term : List ℕ) (block : ℤ) → IsReasonedWrite remove_block_text (block_key db idx reg term block)
 remove_block_refused db idx reg term block = why_delete_refused remove_block_text (block_key db idx reg term block) 4 blocks blocks_static block_wheres remove_block_is remove_block_plain remove_block_whole (remove_block_fit db idx reg term block)
 
+pub remove_block_takes : (db idx reg : ℤ) (term : List ℕ) (block : ℤ) → IsTakingWrite 0 blocks_tree remove_block_text (block_key db idx reg term block)
+remove_block_takes db idx reg term block = delete_takes 4 blocks blocks_static remove_block_text (block_key db idx reg term block) block_wheres remove_block_is remove_block_plain refl
+
 abbrev pub remove_dict_text : List ℕ
 remove_dict_text = codes "DELETE FROM dict WHERE db = ?1 AND idx = ?2 AND reg = ?3 AND term = ?4"
 
@@ -227,6 +263,9 @@ remove_dict_fit db idx reg term trees mistyped = absurd (let t : true ≡ false 
 
 pub remove_dict_refused : (db idx reg : ℤ) (term : List ℕ) → IsReasonedWrite remove_dict_text (key_of db idx reg term)
 remove_dict_refused db idx reg term = why_delete_refused remove_dict_text (key_of db idx reg term) 5 dict dict_static dict_wheres remove_dict_is remove_dict_plain remove_dict_whole (remove_dict_fit db idx reg term)
+
+pub remove_dict_takes : (db idx reg : ℤ) (term : List ℕ) → IsTakingWrite 0 dict_tree remove_dict_text (key_of db idx reg term)
+remove_dict_takes db idx reg term = delete_takes 5 dict dict_static remove_dict_text (key_of db idx reg term) dict_wheres remove_dict_is remove_dict_plain refl
 
 -- ---- UPDATE
 
@@ -285,6 +324,9 @@ set_block_refused db idx reg term block bytes =
     (Hinders 0 blocks_tree row) (λ old store h. elim h [ inl none ↦ inl none | inr large ↦ inr (subst IsTooLarge (shown large.0 large.2) large.3) ])
     set_block_text set_block_is set_block_plain set_block_whole (λ trees mistyped. absurd (let t : true ≡ false = mistyped in cc))
 
+pub set_block_takes : (db idx reg : ℤ) (term : List ℕ) (block : ℤ) (bytes : List ℕ) → IsTakingWrite 0 blocks_tree set_block_text (block_columns db idx reg term block bytes)
+set_block_takes db idx reg term block bytes = update_takes 4 blocks blocks_static set_block_text (block_columns db idx reg term block bytes) block_wheres set_block set_block_is set_block_plain refl refl refl
+
 abbrev pub set_dict_text : List ℕ
 set_dict_text = codes "UPDATE dict SET records = ?5 WHERE db = ?1 AND idx = ?2 AND reg = ?3 AND term = ?4"
 
@@ -337,3 +379,6 @@ set_dict_refused db idx reg term records =
     (λ was coded m. subst (IsRowFor dict) (sym (shown was m)) (dict_fits db idx reg term records)) (λ other was id h. h)
     (Hinders 0 dict_tree row) (λ old store h. elim h [ inl none ↦ inl none | inr large ↦ inr (subst IsTooLarge (shown large.0 large.2) large.3) ])
     set_dict_text set_dict_is set_dict_plain set_dict_whole (λ trees mistyped. absurd (let t : true ≡ false = mistyped in cc))
+
+pub set_dict_takes : (db idx reg : ℤ) (term : List ℕ) (records : ℤ) → IsTakingWrite 0 dict_tree set_dict_text (dict_columns db idx reg term records)
+set_dict_takes db idx reg term records = update_takes 5 dict dict_static set_dict_text (dict_columns db idx reg term records) dict_wheres set_dict set_dict_is set_dict_plain refl refl refl

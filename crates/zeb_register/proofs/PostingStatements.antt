@@ -24,6 +24,7 @@ use Rattle.zeb_register.specs.Hindrances.{HindersNew}
 use Rattle.zeb_register.proofs.InsertRefusals.{why_insert_hindered}
 use Rattle.zeb_register.proofs.NewRows.{IsRowFor}
 use Rattle.zeb_register.proofs.WriteRefusals.{IsHinderedWrite, IsReasonedWrite, why_delete_refused}
+use Rattle.zeb_register.proofs.WriteRowids.{IsTakingWrite, delete_takes, insert_takes}
 use Rattle.sqlite.specs.Order.{Row, column}
 
 abbrev pub postings : Table
@@ -172,6 +173,10 @@ put_refused db idx reg term sysno seq place =
     (λ id other was shares. elim shares [ inl m ↦ ((m.0, m.1.0, m.1.1.0, m.1.1.1.0, m.1.1.1.1.0), m.1.1.1.1.1.0, m.1.1.1.1.1.1.0) | inr none ↦ absurd none ])
     row put_terms 8 refl refl (λ trees. (refl, refl)) put_text put_is put_plain put_whole
 
+pub put_takes : (db idx reg : ℤ) (term : List ℕ) (sysno seq place : ℤ) → IsTakingWrite 1 postings_tree put_text (posting db idx reg term sysno seq place)
+put_takes db idx reg term sysno seq place =
+    let row = posting db idx reg term sysno seq place in insert_takes 3 postings postings_static row put_terms 8 row refl refl put_text put_is put_plain
+
 -- ---- SELECT
 
 abbrev pub key_text : List ℕ
@@ -240,6 +245,18 @@ lists_spots db idx reg term sysno old new rows store shown =
     let P = IsAfter (old.now.trees 7) key [] [] in
     let got = lists_after store_schema 3 postings postings_static _ postings_keys spot_text key [] [] 2 spots no_limit _ spot_is spot_plain.0 spot_plain.1 refl refl refl refl (λ r s lower. lower) old new rows store shown in
     list_so P (IsRest 7 key old.now.trees) rows (λ x. (λ h. (h.0, h.1), λ h. (h.0, h.1, tt))) (subst (IsListOf P) (sym got.2) got.1)
+
+spot_whole : IsWhole spot_text 5 (understood store_schema spot_text)
+unfolding understood everything
+spot_whole = (omega arith, refl)
+
+spot_fit : (db idx reg : ℤ) (term : List ℕ) (sysno : ℤ) → IsFit (alone (reading 7 (keyed_from 1 0 5) (shows spots) spots no_limit)) (place_key db idx reg term sysno)
+unfolding everything
+spot_fit db idx reg term sysno trees mistyped = absurd (let t : true ≡ false = mistyped in cc)
+
+pub spots_refused : (db idx reg : ℤ) (term : List ℕ) (sysno : ℤ) → IsReasonedQuery spot_text (place_key db idx reg term sysno)
+spots_refused db idx reg term sysno old new e store told failed =
+    why_refused spot_text (place_key db idx reg term sysno) 7 (keyed_from 1 0 5) (shows spots) (rising spots) no_limit _ spot_is spot_plain.0 spot_plain.1 spot_whole (spot_fit db idx reg term sysno) old new store e told failed
 
 abbrev pub register_text : List ℕ
 register_text = codes "SELECT term, sysno, seq, pos FROM postings WHERE db = ?1 AND idx = ?2 AND reg = ?3 ORDER BY term, sysno, seq, pos"
@@ -315,3 +332,6 @@ lift_fit db idx reg term sysno trees mistyped = absurd (let t : true ≡ false =
 
 pub lift_refused : (db idx reg : ℤ) (term : List ℕ) (sysno : ℤ) → IsReasonedWrite lift_text (place_key db idx reg term sysno)
 lift_refused db idx reg term sysno = why_delete_refused lift_text (place_key db idx reg term sysno) 3 postings postings_static lift_wheres lift_is lift_plain lift_whole (lift_fit db idx reg term sysno)
+
+pub lift_takes : (db idx reg : ℤ) (term : List ℕ) (sysno : ℤ) → IsTakingWrite 0 postings_tree lift_text (place_key db idx reg term sysno)
+lift_takes db idx reg term sysno = delete_takes 3 postings postings_static lift_text (place_key db idx reg term sysno) lift_wheres lift_is lift_plain refl
