@@ -62,8 +62,8 @@ HindersPlace db key sysno place trees =
     ((2 ^ 63 ≤ sysno) ⊎ ((2 ^ 63 ≤ place.seq) ⊎ (2 ^ 63 ≤ place.pos)))
     ⊎ HindersNew (IsPlaceAt db key sysno place) postings_tree (posting_columns db key sysno place) trees
 
--- These places of a key may not be put where none stand in their records. That one of them stands there twice is said by their order, and
--- of a row too large by the text.
+-- These places of a key may not be put in records that have none: a number or an order is none that each layout stores, so also where a
+-- place is given twice; too few rowids are left; or a row is too large, which its text alone decides.
 abbrev pub HindersRows : Key → List Placed → Trees → Type 0
 HindersRows key given trees =
     (¬ AllByRecursion IsStorablePlaced given)
