@@ -1,16 +1,19 @@
 //! A key's places in records changed, in registers with one row for each posting.
 
-ghost use Rattle.std.specs.Prelude.{IsUtf8, ◌≡◌, ◌≢◌, map, true, false, IsTrue, OnOk};
+ghost use Rattle.std.specs.Prelude.{IsUtf8, ◌≡◌, ◌≢◌, ◌⊎◌, ◌≤◌, ◌^◌, [], ◌∷◌, length, map, true, false, IsTrue, OnOk};
 ghost use Rattle.std.specs.List.Sorted.{IsStrictlySortedBy};
 ghost use Rattle.sqlite_rules.specs.Lists.{Has};
 ghost use Rattle.sqlite.specs.Held.{state};
 ghost use Rattle.zeb_register.specs.Calls.{GoesOn, OnlyReads, Inside};
 ghost use Rattle.zeb_register.specs.Clauses.{Writes};
 ghost use Rattle.zeb_register.specs.Clauses.{ChangesHeld, FindsHeld, InStore};
+ghost use Rattle.zeb_register.specs.Clauses.{IsHinderedInside, TakesInside, TakesRegistersInside};
 ghost use Rattle.zeb_register.specs.Content.{ArePlacesOf, Content, IsChangedAt, place_cmp};
+ghost use Rattle.zeb_register.specs.Hindrances.{rows_of};
 ghost use Rattle.zeb_register.specs.PlainRows.{HoldsRows};
 ghost use Rattle.zeb_register.specs.PackedBlocks.{first_two};
 ghost use Rattle.zeb_register.specs.RowPlaces.{place_row, IsTwoNumbers, IsPlaceIn, posting_columns, Puts};
+ghost use Rattle.zeb_register.specs.RowPlaces.{HasPlaceIn, HindersPlace, HindersRows};
 ghost use Rattle.zeb_register.specs.RowStatements.{Gains};
 ghost use Rattle.zeb_register.specs.Sql.{Loses};
 ghost use Rattle.zeb_register.specs.Store.{postings_tree};
@@ -43,6 +46,10 @@ pub(crate) fn key_change_plain<S: Alter>(
         → IsStrictlySortedBy place_cmp old.now → (content : Content) → HoldsRows trees content
         → ¬ ArePlacesOf sysno old.now (content db.0 key.now)) }
     ensures text { OnOk result (IsUtf8 key.now.term) }
+    ensures refused { IsHinderedInside (state S.Store tx.old.conn.now) (state S.Store tx.new.conn.now) result
+        (HindersRows key.now ((sysno, new.now) ∷ [])) }
+    ensures rowids { TakesRegistersInside (state S.Store tx.old.conn.now) (state S.Store tx.new.conn.now) result
+        (rows_of ((sysno, new.now) ∷ [])) }
 {
     if !holds_places(tx, db, key, sysno, old)? {
         return Err(RegFault::Damaged);
@@ -56,6 +63,7 @@ fn are_places(rows: &[Row], places: &[Place]) -> Result<bool, RegFault>
     ensures same { result ≡ Ok true → map first_two rows.now ≡ map place_row places.now }
     ensures other { result ≡ Ok false → map first_two rows.now ≢ map place_row places.now }
     ensures honest { result ≡ Err RegFault.Damaged → ¬ ((row : _) → Has rows.now row → IsTwoNumbers row) }
+    ensures unstored { result ≢ Err RegFault.Store }
 {
     if rows.len() != places.len() {
         return Ok(false);
@@ -73,6 +81,7 @@ fn is_place(row: &Row, place: Place) -> Result<bool, RegFault>
     ensures same { result ≡ Ok true → first_two row.now ≡ place_row place }
     ensures other { result ≡ Ok false → first_two row.now ≢ place_row place }
     ensures honest { result ≡ Err RegFault.Damaged → ¬ IsTwoNumbers row.now }
+    ensures unstored { result ≢ Err RegFault.Store }
 {
     let seq: u64 = read(row, 0)?;
     let pos: u64 = read(row, 1)?;
@@ -97,6 +106,7 @@ fn holds_places<S: Alter>(
     ensures honest { InStore (state S.Store tx.old.conn.now) (state S.Store tx.new.conn.now) (λ trees. (content : Content)
         → HoldsRows trees content → result ≢ Err RegFault.Damaged) }
     ensures text { OnOk result (IsUtf8 key.now.term) }
+    ensures refused { IsHinderedInside (state S.Store tx.old.conn.now) (state S.Store tx.new.conn.now) result (λ _. 2 ^ 63 ≤ sysno) }
 {
     let number = stored(sysno)?;
     let rows = place_rows(tx, KeyOf { db, key }, number)?;
@@ -114,6 +124,8 @@ fn places_take<S: Alter>(
     ensures call { Writes postings_tree (Loses (IsPlaceIn db.0 key.now sysno))
         (state S.Store tx.old.conn.now) (state S.Store tx.new.conn.now) result }
     ensures honest { result ≢ Err RegFault.Damaged }
+    ensures refused { IsHinderedInside (state S.Store tx.old.conn.now) (state S.Store tx.new.conn.now) result (λ _. 2 ^ 63 ≤ sysno) }
+    ensures rowids { TakesInside (state S.Store tx.old.conn.now) (state S.Store tx.new.conn.now) result 0 postings_tree }
 {
     let number = stored(sysno)?;
     places_lift(tx, KeyOf { db, key }, number)?;
@@ -133,6 +145,9 @@ fn places_put<S: Alter>(
     ensures put { InStore (state S.Store tx.old.conn.now) (state S.Store tx.new.conn.now) (λ _. OnOk result
         (Puts db.0 key.now sysno places.now (state S.Store tx.old.conn.now) (state S.Store tx.new.conn.now))) }
     ensures honest { result ≢ Err RegFault.Damaged }
+    ensures refused { IsHinderedInside (state S.Store tx.old.conn.now) (state S.Store tx.new.conn.now) result
+        (λ trees. HasPlaceIn db.0 key.now sysno trees ⊎ HindersRows key.now ((sysno, places.now) ∷ []) trees) }
+    ensures rowids { TakesInside (state S.Store tx.old.conn.now) (state S.Store tx.new.conn.now) result (length places.now) postings_tree }
 {
     for place in places {
         place_put(tx, db, key, sysno, *place)?;
@@ -152,6 +167,9 @@ fn place_put<S: Alter>(
     ensures call { Writes postings_tree (Gains (posting_columns db.0 key.now sysno place))
         (state S.Store tx.old.conn.now) (state S.Store tx.new.conn.now) result }
     ensures honest { result ≢ Err RegFault.Damaged }
+    ensures refused { IsHinderedInside (state S.Store tx.old.conn.now) (state S.Store tx.new.conn.now) result
+        (HindersPlace db.0 key.now sysno place) }
+    ensures rowids { TakesInside (state S.Store tx.old.conn.now) (state S.Store tx.new.conn.now) result 1 postings_tree }
 {
     let number = stored(sysno)?;
     let seq = stored(place.seq)?;

@@ -1,7 +1,8 @@
-use Rattle.std.proofs.Common.{◌≡◌, IsTrue, take}
+use Rattle.std.proofs.Common.{◌≡◌, ◌≤◌, IsTrue, length, take}
 use Rattle.sqlite.specs.Held.{state}
 use Rattle.sqlite.specs.State.{HasCleanDisk, Survives}
-use Rattle.zeb_register.specs.Store.{IsStore}
+use Rattle.zeb_register.specs.Hindrances.{TakesRowids}
+use Rattle.zeb_register.specs.Store.{IsStore, postings_tree}
 use Rattle.zeb_register.specs.RowPlaces.{Puts}
 use Rattle.zeb_register.proofs.Calls.{Stays}
 use Rattle.zeb_register.proofs.plain_changes.places_put.Given as goal
@@ -14,5 +15,7 @@ invariant-loop-place g l =
       same : l.tx.conn.ghost_name ≡ l.fn.tx.conn.ghost_name;
       crash : Survives old now (λ _. ⊥);
       stays : HasCleanDisk now → IsTrue old.in_transaction → Stays old now;
+      within : l.place-index ≤ length l.places;
       put : HasCleanDisk now → IsTrue old.in_transaction → IsStore old → Puts l.db.0 l.key l.sysno (take l.place-index l.places) old now;
+      rowids : HasCleanDisk now → IsTrue old.in_transaction → IsStore old → TakesRowids l.place-index postings_tree old.now.trees now.now.trees;
     }

@@ -1,8 +1,9 @@
-use Rattle.std.proofs.Common.{◌≡◌, ◌<◌, IsTrue, IsUtf8, take}
+use Rattle.std.proofs.Common.{◌≡◌, ◌<◌, IsTrue, IsUtf8, map, take}
 use Rattle.sqlite.specs.Held.{state}
 use Rattle.sqlite.specs.State.{HasCleanDisk, Survives}
 use Rattle.zeb_register.specs.Calls.{GoesOn}
 use Rattle.zeb_register.specs.Content.{AreChangedAt, Content}
+use Rattle.zeb_register.specs.Hindrances.{TakesRegisterRowids, placed, rows_of}
 use Rattle.zeb_register.specs.PlainRows.{HoldsRows}
 use Rattle.zeb_register.specs.Store.{IsStore, KeepsLists}
 use Rattle.zeb_register.proofs.plain.RowsLayout.key_changes.Given as goal
@@ -18,5 +19,7 @@ invariant-loop-change g l =
       kept : HasCleanDisk now → IsTrue old.in_transaction → IsStore old → IsStore now × KeepsLists old.now.trees now.now.trees;
       put : HasCleanDisk now → IsTrue old.in_transaction → IsStore old → (before : Content) → HoldsRows old.now.trees before
           → (next : Content) × AreChangedAt l.db.0 l.key (take l.change-index l.changes) before next × HoldsRows now.now.trees next;
+      rowids : HasCleanDisk now → IsTrue old.in_transaction → IsStore old
+          → TakesRegisterRowids (rows_of (map placed (take l.change-index l.changes))) old.now.trees now.now.trees;
       text : 0 < l.change-index → IsUtf8 l.key.term;
     }
