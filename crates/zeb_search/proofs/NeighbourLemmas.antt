@@ -1,9 +1,10 @@
 -- Terms that stand next to each other in a register, and the postings of such a run.
-use Rattle.std.proofs.Common.{◌≡◌, ◌↔◌, ◌⊎◌, ◌∙◌, ◌+◌, ◌-◌, ℕ, Bool, true, false, IsTrue, List, [], ◌∷◌, ◌++◌, Some, drop, length, map, slice_get, take, refl, sym, ap, subst, subst₂, inl, inr, Ordering, Less, Equal, Greater, arith}
+use Rattle.std.proofs.Common.{◌≡◌, ◌↔◌, ◌⊎◌, ◌∙◌, ◌+◌, ◌-◌, ℕ, Bool, true, false, IsTrue, List, [], ◌∷◌, ◌++◌, Some, Result, Ok, Err, Vec, OnOk, drop, length, map, slice_get, take, refl, sym, ap, subst, subst₂, inl, inr, Ordering, Less, Equal, Greater, arith}
 use Rattle.std.specs.Ordering.{nat_cmp, is_lt}
 use Rattle.std.specs.Cmp.Lexicographic.{slice_cmp}
 use Rattle.std.specs.List.Sorted.{IsStrictlySortedBy}
 use Rattle.std.proofs.lemmas.List.{take-append-drop}
+use Rattle.std.specs.declared.alloc.Global.{Global}
 use Rattle.sqlite.specs.State.{State, HasCleanDisk, Survives}
 use Rattle.sqlite_rules.specs.Lists.{Has}
 use Rattle.sqlite_rules.proofs.ListLemmas.{all_has, has_either, has_right}
@@ -13,21 +14,22 @@ use Rattle.zeb_register.specs.declared.registers.RegisterOf.{RegisterOf}
 use Rattle.zeb_register.specs.declared.registers.TermCount.{TermCount}
 use Rattle.zeb_register.specs.declared.registers.Work.{Work}
 use Rattle.zeb_register.specs.Between.{AreKeysBetween, IsPostingBetween}
-use Rattle.zeb_register.specs.Clauses.{OnStore}
+use Rattle.zeb_register.specs.Clauses.{OnStore, TellsHeld}
 use Rattle.zeb_register.specs.Content.{Content, Posting, posted}
 use Rattle.zeb_register.specs.Formats.{Format, holds_in}
 use Rattle.zeb_register.specs.Occurring.{key_in}
 use Rattle.zeb_register.specs.Store.{IsStore}
+use Rattle.zeb_register.specs.Tallies.{Works}
+use Rattle.zeb_register.specs.declared.RegFault.{RegFault}
 use Rattle.zeb_search.specs.Comparing.{Precedes}
 use Rattle.zeb_search.specs.Counted.{Counted, Counts, NoRows}
 use Rattle.zeb_search.specs.declared.keys.FoundKeys.{FoundKeys}
 use Rattle.zeb_search.specs.declared.terms.Wanted.{Wanted}
 use Rattle.zeb_search.specs.ListRows.{AreKeysOf, EntryRows, rows_under}
-use Rattle.zeb_search.specs.Lists.{ArePostings, Rise}
+use Rattle.zeb_search.specs.Lists.{Rise}
 use Rattle.zeb_search.specs.PrivateTerms.{AreFound, AreNeighbours, AreTaken, HasWanted, IsPostingOf, IsWanted, StandTogether, StandsWithin, TermsRise}
 use Rattle.zeb_search.proofs.Comparisons.{never_after, never_before_itself}
-use Rattle.zeb_search.proofs.CountedLemmas.{counts_then}
-use Rattle.zeb_search.proofs.JustLemmas.{just_same}
+use Rattle.zeb_search.proofs.CountedLemmas.{counts_then, list_counts}
 use Rattle.zeb_search.proofs.ReadLemmas.{IsRead, clean_before, still_store, still_trees}
 use Rattle.zeb_search.proofs.RisingTexts.{before_last_text, front_rise, last_got}
 
@@ -175,13 +177,30 @@ module _ (content : Content) (of : RegisterOf) (found : FoundKeys) (are : AreFou
   }
 
   -- they are those of the keys
-  pub run_postings : (list postings : List Posting) → ((p : Posting) → Has list p ↔ IsPostingBetween content of first.term last.term p) → ArePostings (Has list) postings → ArePostings (IsPostingOf content of.db.0 keys) postings
-  run_postings list postings is = just_same (Has list) (IsPostingOf content of.db.0 keys) postings (λ p. (
+  pub run_listed : (list : List Posting) → ((p : Posting) → Has list p ↔ IsPostingBetween content of first.term last.term p) → (p : Posting) → Has list p ↔ IsPostingOf content of.db.0 keys p
+  run_listed list is p = (
     λ here. let it = (is p).0 here in (key_in of.index of.register it.0, keys_between.all it.0 p it.1 it.2, it.2),
     λ posting.
         let key = keys_between.each posting.0 posting.1 in
         (is p).1 (posting.0.term, key.1, subst (λ (k : Key). Has (content of.db.0 k) p) key.0 posting.2),
-  ))
+  )
+
+-- a call that reads the lists from the first key to the last, whose texts are these
+module _ (format : Format) (of : RegisterOf) (found : FoundKeys) (joined : IsTrue found.are_neighbours) (first last : Key) (at : HaveEnds found.keys.items first last)
+    (low high : List ℕ) (is_low : low ≡ first.term) (is_high : high ≡ last.term) (old new : State) where
+  pub between_listed : (result : Result (Vec Posting Global) RegFault) → TellsHeld (holds_in format) old new result (λ content list. (p : Posting) → Has list.items p ↔ IsPostingBetween content of low high p)
+      → TellsHeld (holds_in format) old new result (λ content list. AreFound content of found → (p : Posting) → Has list.items p ↔ IsPostingOf content of.db.0 found.keys.items p)
+  between_listed (Err why) told = λ clean store. tt
+  between_listed (Ok list) told = λ clean store content has are.
+      run_listed content of found are joined first last at list.items (subst₂ (λ a b. (p : Posting) → Has list.items p ↔ IsPostingBetween content of a b p) is_low is_high (told clean store content has))
+
+  pub between_counted : (rows : List Posting → ℕ) (a b : Work) (result : Result (Vec Posting Global) RegFault)
+      → TellsHeld (holds_in format) old new result (λ content _. (keys : List Key) → AreKeysBetween content of low high keys → Works 0 0 (rows_under rows content of.db.0 keys) 0 a b)
+      → OnOk result (OnStore old new (λ trees. (content : Content) → holds_in format trees content → AreFound content of found → Counts 0 (rows_under rows content of.db.0 found.keys.items) a b))
+  between_counted rows a b (Err why) told = tt
+  between_counted rows a b (Ok list) told = λ clean store content has are.
+      let between = subst₂ (λ x y. AreKeysBetween content of x y found.keys.items) (sym is_low) (sym is_high) (keys_between content of found are joined first last at) in
+      list_counts (rows_under rows content of.db.0 found.keys.items) a b (told clean store content has found.keys.items between)
 
 -- ---- counts
 

@@ -1,5 +1,5 @@
 -- The list of a key that is the only one.
-use Rattle.std.proofs.Common.{◌≡◌, ◌∙◌, ◌∷◌, [], ℕ, ℤ, List, Result, Ok, Err, Vec, OnOk, arith, ap, get_or, inl, inr, length, refl, subst, sym}
+use Rattle.std.proofs.Common.{◌≡◌, ◌↔◌, ◌∙◌, ◌∷◌, [], ℕ, ℤ, List, Result, Ok, Err, Vec, OnOk, arith, ap, get_or, inl, inr, length, refl, subst, sym}
 use Rattle.std.specs.declared.alloc.Global.{Global}
 use Rattle.sqlite.specs.State.{State}
 use Rattle.sqlite_rules.specs.Lists.{Has}
@@ -17,12 +17,19 @@ use Rattle.zeb_search.specs.Lists.{ArePostings}
 use Rattle.zeb_search.specs.PrivateTerms.{IsPostingOf}
 use Rattle.zeb_search.proofs.CountedLemmas.{list_counts}
 
-one_alone : (keys : List Key) (key : Key) → length keys ≡ 1 → key ≡ get_or keys 0 key → keys ≡ key ∷ []
+pub one_alone : {X : Type 0} (keys : List X) (key : X) → length keys ≡ 1 → key ≡ get_or keys 0 key → keys ≡ key ∷ []
 one_alone [] key one is = absurd (omega arith)
-one_alone (first ∷ []) key one is = ap (λ (k : Key). k ∷ []) (sym is)
+one_alone (first ∷ []) key one is = ap (λ k. k ∷ []) (sym is)
 one_alone (first ∷ second ∷ more) key one is = absurd (omega arith)
 
 module _ (format : Format) (db : ℤ) (keys : List Key) (key : Key) (one : length keys ≡ 1) (is : key ≡ get_or keys 0 key) where
+  pub one_listed : (old new : State) (result : Result (Vec Posting Global) RegFault) → TellsHeld (holds_in format) old new result (λ content list. list.items ≡ content db key)
+      → TellsHeld (holds_in format) old new result (λ content list. (p : Posting) → Has list.items p ↔ IsPostingOf content db keys p)
+  one_listed old new (Err why) told = λ clean store. tt
+  one_listed old new (Ok list) told = λ clean store content has.
+      let same = told clean store content has in
+      rw (one_alone keys key one is, same) (λ p. (λ there. (key, inl refl, there), λ of. elim of.1 [ inl here ↦ subst (λ (k : Key). Has (content db k) p) here of.2 | inr none ↦ absurd none ]))
+
   -- it rises, as each list of a content does
   pub one_told : (old new : State) (result : Result (Vec Posting Global) RegFault) → TellsHeld (holds_in format) old new result (λ content list. list.items ≡ content db key)
       → TellsHeld (holds_in format) old new result (λ content list. ArePostings (IsPostingOf content db keys) list.items)

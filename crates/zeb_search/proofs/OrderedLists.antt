@@ -60,7 +60,21 @@ same_order p q = sym (ap is_lt (then_groups (nat_cmp p.sysno q.sysno) (nat_cmp p
 pub tuples_sorted : (ys : List Posting) → IsSorted tuple_cmp ys → IsSorted posting_cmp ys
 tuples_sorted ys sorted k d from within = same_order (get_or ys (k + 1) d) (get_or ys k d) ∙ sorted k d from within
 
--- ---- the numbers of postings that rise
+-- ---- the numbers of postings
+
+-- numbers in order, of those that a first `dedup` left
+pub numbers_from_any : (postings : List Posting) (all fewer numbers : List ℕ) → all ≡ map (λ (p : Posting). p.sysno) postings → IsFiltered (DiffersFromLast nat_eq) [] all fewer
+    → AreNumbers (Has fewer) numbers → AreNumbers (HasPosting postings) numbers
+numbers_from_any postings all fewer numbers mapped filtered are =
+    let number = λ (p : Posting). p.sysno in
+    let same = members_from_dedup nat_cmp_total number_ties numbers_apart all all fewer (IsPermutation-refl all) filtered in
+    record {
+      rising = are.rising;
+      each = λ n. (
+        λ h. let of = has_mapped number postings n (rw mapped at (has_contained all n ((same n).0 (contains_had fewer n ((are.each n).0 h))))) in (of.0, of.1, sym of.2),
+        λ h. (are.each n).1 (has_contained fewer n ((same n).1 (contains_had all n (rw mapped (subst (Has (map number postings)) h.2 (mapped_has number postings h.0 h.1)))))),
+      );
+    }
 
 first_less : (x y : Ordering) → ordering_then x y ≡ Less → (x ≡ Greater → ⊥)
 first_less Less y h is = cc

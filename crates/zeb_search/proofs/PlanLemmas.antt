@@ -66,18 +66,17 @@ module _ (O : ℕ → Occurrence → Type 0) (index : ℕ) where
 
   -- ---- words
 
-  -- the records in which a word stands that the pattern matches
-  pub word_hits : (pattern : List Symbol) (places : List Posting) (numbers : List ℕ) → ArePostings (IsWordAt pattern) places → AreNumbers (HasPosting places) numbers → AreNumbers (HasMatch O index pattern) numbers
-  word_hits pattern places numbers are = just_same (HasPosting places) (HasMatch O index pattern) numbers (λ n. (
-    λ has.
-        let p = has.0 in
-        let word = subst (λ (m : ℕ). HasWord O index pattern m p.seq p.pos) has.2 ((are.each p).0 has.1) in
-        (word.0, (record { key = key_in index register.Word word.0; seq = p.seq; pos = p.pos }, word.1, refl), word.2),
+  -- the records in which a word stands that the pattern matches, are those with the phrase of this word alone
+  pub one_word_hits : (pattern : List Symbol) (numbers : List ℕ) → AreNumbers (HasMatch O index pattern) numbers
+      → AreNumbers (λ n. ((pattern ∷ []) ≢ []) × HasPhrase O index (pattern ∷ []) false n) numbers
+  one_word_hits pattern numbers = just_same (HasMatch O index pattern) (λ n. ((pattern ∷ []) ≢ []) × HasPhrase O index (pattern ∷ []) false n) numbers (λ n. (
     λ entry.
         let o = entry.1.0 in
-        let p : Posting = record { sysno = n; seq = o.seq; pos = o.pos } in
         let word : O n (record { key = key_in index register.Word entry.0; seq = o.seq; pos = o.pos }) = subst (λ (k : Key). O n (record { key = k; seq = o.seq; pos = o.pos })) entry.1.2 entry.1.1 in
-        (p, (are.each p).1 (entry.0, word, entry.2), refl),
+        (some_patterns pattern [], (o.seq, o.pos, (λ is. absurd (cc)), ((entry.0, word, entry.2), tt))),
+    λ phrase.
+        let word = phrase.1.3.0 in
+        (word.0, (record { key = key_in index register.Word word.0; seq = phrase.1.0; pos = phrase.1.1 }, word.1, refl), word.2),
   ))
 
   -- ---- words one after another

@@ -1,5 +1,5 @@
 -- What the postings of keys tell of the records that have them.
-use Rattle.std.proofs.Common.{◌≡◌, ℕ, ℤ, List, refl, subst, sym}
+use Rattle.std.proofs.Common.{◌≡◌, ◌↔◌, ℕ, ℤ, List, refl, subst, sym}
 use Rattle.std.specs.List.Sorted.{IsStrictlySortedBy}
 use Rattle.sqlite_rules.specs.Lists.{Has}
 use Rattle.zeb_profile.specs.declared.Register.{Register}
@@ -24,21 +24,21 @@ module _ (content : Content) (db : ℤ) (index : ℕ) (register : Register) (P :
   posting_of p term has asked = (key_in index register term, are.all term p.sysno (record { key = key_in index register term; seq = p.seq; pos = p.pos }, has, refl) asked, has)
 
   -- the records that have such a posting are those that have such an entry
-  pub entry_numbers : (postings : List Posting) (numbers : List ℕ) → ArePostings (IsPostingOf content db keys) postings → AreNumbers (HasPosting postings) numbers
+  pub entry_numbers : (postings : List Posting) (numbers : List ℕ) → ((p : Posting) → Has postings p ↔ IsPostingOf content db keys p) → AreNumbers (HasPosting postings) numbers
       → AreNumbers (HasEntry (posted content db) index register P) numbers
   entry_numbers postings numbers list given = record {
     rising = given.rising;
     each = λ n. (
       λ there.
           let from = (given.each n).0 there in
-          let entry = entry_of from.0 ((list.each from.0).0 from.1) in
+          let entry = entry_of from.0 ((list from.0).0 from.1) in
           let key = key_in index register entry.0 in
           (entry.0, (record { key = key; seq = from.0.seq; pos = from.0.pos }, subst (λ (m : ℕ). Has (content db key) (record { sysno = m; seq = from.0.seq; pos = from.0.pos })) from.2 entry.1, refl), entry.2),
       λ entry.
           let o = entry.1.0 in
           let p : Posting = record { sysno = n; seq = o.seq; pos = o.pos } in
           let has : Has (content db (key_in index register entry.0)) p = subst (λ (k : Key). Has (content db k) p) entry.1.2 entry.1.1 in
-          (given.each n).1 (p, (list.each p).1 (posting_of p entry.0 has entry.2), refl),
+          (given.each n).1 (p, (list p).1 (posting_of p entry.0 has entry.2), refl),
     );
   }
 

@@ -42,6 +42,16 @@ pub(crate) fn numbers_of(alloc: Global, postings: &[Posting]) -> Result<Vec<u64>
     Ok(numbers)
 }
 
+/// The numbers of the records that have a posting, each once; the postings stand in any order.
+pub(crate) fn numbers_among(alloc: Global, postings: &[Posting]) -> Result<Vec<u64>, AllocError>
+    ensures { IfOk result (λ numbers. AreNumbers (HasPosting postings.now) numbers.items) }
+{
+    let mut numbers: Vec<u64> = postings.iter().map(|posting| posting.sysno).collect(alloc)?;
+    // The postings of a record mostly stand together, and fewer numbers are sorted sooner.
+    numbers.dedup();
+    Ok(in_order(numbers))
+}
+
 /// Whether a number that may stand in each of two lists holds under an operator.
 fn keeps(operator: Operator, in_left: bool, in_right: bool) -> bool
     ensures { IsTrue result ↔ AreJoined operator (IsTrue in_left) (IsTrue in_right) }

@@ -1,7 +1,8 @@
 //! The postings of several keys.
 
-ghost use Rattle.std.specs.Prelude.{◌≡◌, OnOk};
+ghost use Rattle.std.specs.Prelude.{◌≡◌, ◌↔◌, OnOk};
 ghost use Rattle.sqlite.specs.Held.{state};
+ghost use Rattle.sqlite_rules.specs.Lists.{Has};
 ghost use Rattle.zeb_register.specs.Calls.{Reading};
 ghost use Rattle.zeb_register.specs.Clauses.{IsHonestStorable, IsReasoned, OnStore, TellsHeld};
 ghost use Rattle.zeb_register.specs.Content.{Content, posted};
@@ -16,7 +17,7 @@ ghost use Rattle.zeb_search.specs.PrivateTerms.{AreFound, IsPostingOf, IsWanted,
 ghost use Rattle.zeb_search.specs.Untouched.{IsUntouched};
 
 use crate::keys::{FoundKeys, keys_wanted};
-use crate::lists::{numbers_of, postings_in_order};
+use crate::lists::{numbers_among, postings_in_order};
 use crate::registers::IndexOf;
 use crate::terms::Wanted;
 use sqlite::{Alter, Connection};
@@ -26,8 +27,8 @@ use zeb_profile::Register;
 use zeb_register::{DatabaseId, Layout, Posting, RegFault, RegisterOf, Work};
 use zeb_text::Pattern;
 
-/// The postings of the keys, in order and each once.
-fn postings_of<S: Alter, L: Layout>(
+/// The postings of the keys; in which order isn't said.
+fn list_of<S: Alter, L: Layout>(
     alloc: Global,
     connection: &mut Connection<S>,
     work: &mut Work,
@@ -36,14 +37,14 @@ fn postings_of<S: Alter, L: Layout>(
 ) -> Result<Vec<Posting>, RegFault>
     ensures call { Reading (state S.Store connection.old) (state S.Store connection.new) result (λ _. IsUntouched) }
     ensures value { TellsHeld (holds_in L.format) (state S.Store connection.old) (state S.Store connection.new) result
-        (λ content list. ArePostings (IsPostingOf content database.0 keys.now) list.items) }
+        (λ content list. (p : Posting) → Has list.items p ↔ IsPostingOf content database.0 keys.now p) }
     ensures honest { IsHonestStorable (holds_in L.format) (state S.Store connection.old) (state S.Store connection.new) result }
     ensures refused { IsReasoned (state S.Store connection.old) (state S.Store connection.new) result }
     ensures work { OnOk result (Counted L.format NoRows (λ content n. n ≡ rows_under L.block_rows content database.0 keys.now)
         (state S.Store connection.old) (state S.Store connection.new) work.old work.new) }
     ensures no_work { L.row_work ≡ 0 → work.new ≡ work.old }
 {
-    // The list of one key is in order as it is, and a copy of it would take as long as reading it.
+    // A copy of the list of one key would take as long as reading it.
     if keys.len() == 1 {
         return L::key_list(alloc, connection, work, database, &keys[0]);
     }
@@ -52,10 +53,38 @@ fn postings_of<S: Alter, L: Layout>(
         let list = L::key_list(alloc, connection, work, database, key)?;
         postings.extend_from_slice(&list)?;
     }
-    Ok(postings_in_order(postings))
+    Ok(postings)
 }
 
-/// The postings of keys that were found, in order and each once. Those of neighbours are read by one statement.
+/// The postings of keys that were found; in which order isn't said. Those of neighbours are read by one statement.
+fn list_found<S: Alter, L: Layout>(
+    alloc: Global,
+    connection: &mut Connection<S>,
+    work: &mut Work,
+    of: RegisterOf,
+    found: &FoundKeys,
+) -> Result<Vec<Posting>, RegFault>
+    ensures call { Reading (state S.Store connection.old) (state S.Store connection.new) result (λ _. IsUntouched) }
+    ensures value { TellsHeld (holds_in L.format) (state S.Store connection.old) (state S.Store connection.new) result
+        (λ content list. AreFound content of found.now
+        → (p : Posting) → Has list.items p ↔ IsPostingOf content of.db.0 found.now.keys.items p) }
+    ensures honest { IsHonestStorable (holds_in L.format) (state S.Store connection.old) (state S.Store connection.new) result }
+    ensures refused { IsReasoned (state S.Store connection.old) (state S.Store connection.new) result }
+    ensures work { OnOk result (OnStore (state S.Store connection.old) (state S.Store connection.new) (λ trees.
+        (content : Content) → holds_in L.format trees content → AreFound content of found.now
+        → Counts 0 (rows_under L.block_rows content of.db.0 found.now.keys.items) work.old work.new)) }
+    ensures no_work { L.row_work ≡ 0 → work.new ≡ work.old }
+{
+    match (found.keys.first(), found.keys.last()) {
+        (Some(first), Some(last)) if found.are_neighbours => {
+            let (first, last) = (first.term.as_str(), last.term.as_str());
+            L::postings_between(alloc, connection, work, of, first, last)
+        }
+        _ => list_of::<S, L>(alloc, connection, work, of.db, &found.keys),
+    }
+}
+
+/// The postings of keys that were found, in order and each once.
 fn postings_found<S: Alter, L: Layout>(
     alloc: Global,
     connection: &mut Connection<S>,
@@ -74,14 +103,12 @@ fn postings_found<S: Alter, L: Layout>(
         → Counts 0 (rows_under L.block_rows content of.db.0 found.now.keys.items) work.old work.new)) }
     ensures no_work { L.row_work ≡ 0 → work.new ≡ work.old }
 {
-    match (found.keys.first(), found.keys.last()) {
-        (Some(first), Some(last)) if found.are_neighbours => {
-            let (first, last) = (first.term.as_str(), last.term.as_str());
-            let list = L::postings_between(alloc, connection, work, of, first, last)?;
-            Ok(postings_in_order(list))
-        }
-        _ => postings_of::<S, L>(alloc, connection, work, of.db, &found.keys),
+    // The list of one key is in order as it is.
+    if found.keys.len() == 1 {
+        return L::key_list(alloc, connection, work, of.db, &found.keys[0]);
     }
+    let list = list_found::<S, L>(alloc, connection, work, of, found)?;
+    Ok(postings_in_order(list))
 }
 
 /// The numbers of the records that have an entry which is asked for, in a register.
@@ -104,8 +131,8 @@ pub(crate) fn numbers_wanted<S: Alter, L: Layout>(
     ensures no_work { L.row_work ≡ 0 → work.new ≡ work.old }
 {
     let found = keys_wanted::<S, L>(alloc, connection, work, of, wanted)?;
-    let postings = postings_found::<S, L>(alloc, connection, work, of, &found)?;
-    Ok(numbers_of(alloc, &postings)?)
+    let list = list_found::<S, L>(alloc, connection, work, of, &found)?;
+    Ok(numbers_among(alloc, &list)?)
 }
 
 /// The places of the words of an index that a pattern matches.

@@ -14,12 +14,14 @@ ghost use Rattle.zeb_search.specs.Registers.{HoldsIn};
 ghost use Rattle.zeb_search.specs.Untouched.{IsUntouched};
 
 use crate::lists::{joined, numbers_of, with_one_behind};
-use crate::postings::places_of_words;
+use crate::postings::{numbers_wanted, places_of_words};
 use crate::registers::IndexOf;
+use crate::terms::Wanted;
 use sqlite::{Alter, Connection};
 use std::alloc::{AllocError, Global};
+use zeb_profile::Register;
 use zeb_query::Operator;
-use zeb_register::{Layout, Posting, RegFault, Work};
+use zeb_register::{Layout, Posting, RegFault, RegisterOf, Work};
 use zeb_text::Pattern;
 
 /// The records in which the pattern matches some word.
@@ -39,8 +41,12 @@ fn word_hits<S: Alter, L: Layout>(
         (state S.Store connection.old) (state S.Store connection.new) work.old work.new) }
     ensures no_work { L.row_work ≡ 0 → work.new ≡ work.old }
 {
-    let places = places_of_words::<S, L>(alloc, connection, work, of, pattern)?;
-    Ok(numbers_of(alloc, &places)?)
+    let words = RegisterOf {
+        db: of.db,
+        index: of.index,
+        register: Register::Word,
+    };
+    numbers_wanted::<S, L>(alloc, connection, work, words, Wanted::Matching(pattern))
 }
 
 /// The records in which some pattern matches some word.
@@ -118,6 +124,10 @@ pub(crate) fn phrase_hits<S: Alter, L: Layout>(
         (state S.Store connection.old) (state S.Store connection.new) work.old work.new) }
     ensures no_work { L.row_work ≡ 0 → work.new ≡ work.old }
 {
+    // Of one word no place is asked for, unless it has to be a unit's first.
+    if let ([pattern], false) = (patterns, first) {
+        return word_hits::<S, L>(alloc, connection, work, of, pattern);
+    }
     let places = places_of_phrase::<S, L>(alloc, connection, work, of, patterns)?;
     if first {
         let firsts = at_first_words(alloc, &places)?;

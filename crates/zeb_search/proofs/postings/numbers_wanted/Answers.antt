@@ -1,10 +1,12 @@
-use Rattle.std.proofs.Common.{rules, ◌≡◌, Err}
+use Rattle.std.proofs.Common.{rules, ◌≡◌, ◌↔◌, Err, List, subst}
 use Rattle.sqlite.specs.Held.{state}
 use Rattle.zeb_search.specs.DictRows.{EntryDict}
-use Rattle.zeb_search.specs.Lists.{ArePostings}
-use Rattle.zeb_search.specs.PrivateTerms.{AreFound, IsPostingOf, IsWanted, NamesEntry}
+use Rattle.sqlite_rules.specs.Lists.{Has}
+use Rattle.zeb_register.specs.Content.{Posting}
+use Rattle.zeb_search.specs.Lists.{AreNumbers}
+use Rattle.zeb_search.specs.PrivateTerms.{AreFound, HasPosting, IsPostingOf, IsWanted, NamesEntry}
 use Rattle.zeb_search.proofs.NeighbourLemmas.{found_counted}
-use Rattle.zeb_search.proofs.PostingLemmas.{entry_numbers, numbers_told}
+use Rattle.zeb_search.proofs.PostingLemmas.{entry_numbers}
 use Rattle.zeb_search.proofs.ReadLemmas.{as_read, clean_before, told_behind}
 use Rattle.zeb_search.proofs.Reasons.{reasoned_error}
 use Rattle.zeb_search.proofs.postings.numbers_wanted.Goals as goal
@@ -16,28 +18,29 @@ returns-clause-value g c clean store content has =
     let db = c.args.of.db.0 in
     let found = c.in_ok-found.found in
     let keys = found.keys.items in
-    let postings = c.in_ok-postings.postings.items in
-    let new = state g.S.Store c.postings_found.new.connection in
-    let first = clean_before mid new c.postings_found.ensures.call.crash clean in
+    let postings = c.in_ok-list.list.items in
+    let new = state g.S.Store c.list_found.new.connection in
+    let first = clean_before mid new c.list_found.ensures.call.crash clean in
     let read = as_read old mid c.in_ok-found.found c.in_ok-found.ensures.call in
     let known = c.in_ok-found.ensures.value first store content has in
-    let list = told_behind g.L.Layout.format old mid new (λ content. AreFound content c.args.of found → ArePostings (IsPostingOf content db keys) postings) read c.postings_found.ensures.call.crash c.in_ok-postings.ensures.value clean store content has known.1 in
-    let numbers = numbers_told (IsPostingOf content db keys) c.deref.result.now postings c.in_ok-numbers_of.field-0.items c.deref.ensures.value list c.in_ok-numbers_of.ensures in
-    entry_numbers content db c.args.of.index c.args.of.register (IsWanted c.args.wanted) keys known.0 postings c.in_ok-numbers_of.field-0.items list numbers
+    let list = told_behind g.L.Layout.format old mid new (λ content. AreFound content c.args.of found → (p : Posting) → Has postings p ↔ IsPostingOf content db keys p) read c.list_found.ensures.call.crash c.in_ok-list.ensures.value clean store content has known.1 in
+    let numbers = c.in_ok-numbers_among.field-0.items in
+    let are = subst (λ (l : List Posting). AreNumbers (HasPosting l) numbers) c.deref.ensures.value c.in_ok-numbers_among.ensures in
+    entry_numbers content db c.args.of.index c.args.of.register (IsWanted c.args.wanted) keys known.0 postings numbers list are
 
 pub returns-clause-work : goal.returns-clause-work
 returns-clause-work g c =
     let old = state g.S.Store c.args.connection.now in
     let mid = state g.S.Store c.keys_wanted.new.connection in
     found_counted g.L.Layout.format (λ content. EntryDict g.L.Layout.row_work content c.args.of.db.0 (NamesEntry c.args.wanted) c.args.of.index c.args.of.register) g.L.Layout.block_rows c.args.of (IsWanted c.args.wanted) c.in_ok-found.found
-    old mid (state g.S.Store c.postings_found.new.connection) c.args.work.now c.keys_wanted.new.work c.postings_found.new.work (as_read old mid c.in_ok-found.found c.in_ok-found.ensures.call) c.postings_found.ensures.call.crash
-    c.in_ok-found.ensures.work c.in_ok-found.ensures.value c.in_ok-postings.ensures.work
+    old mid (state g.S.Store c.list_found.new.connection) c.args.work.now c.keys_wanted.new.work c.list_found.new.work (as_read old mid c.in_ok-found.found c.in_ok-found.ensures.call) c.list_found.ensures.call.crash
+    c.in_ok-found.ensures.work c.in_ok-found.ensures.value c.in_ok-list.ensures.work
 
-pub returns-in_err-postings-clause-refused : goal.returns-in_err-postings-clause-refused
-returns-in_err-postings-clause-refused g c =
+pub returns-in_err-list-clause-refused : goal.returns-in_err-list-clause-refused
+returns-in_err-list-clause-refused g c =
     let old = state g.S.Store c.args.connection.now in
     let mid = state g.S.Store c.keys_wanted.new.connection in
-    let new = state g.S.Store c.postings_found.new.connection in
-    let cause = c.in_err-postings.field-0.0 in
-    let told : c.from_residual-in_err-postings.result ≡ Err cause = search rules in
-    reasoned_error old mid new (as_read old mid c.in_ok-found.found c.in_ok-found.ensures.call) c.postings_found.ensures.call.crash cause c.from_residual-in_err-postings.result told c.in_err-postings.ensures.refused
+    let new = state g.S.Store c.list_found.new.connection in
+    let cause = c.in_err-list.field-0.0 in
+    let told : c.from_residual-in_err-list.result ≡ Err cause = search rules in
+    reasoned_error old mid new (as_read old mid c.in_ok-found.found c.in_ok-found.ensures.call) c.list_found.ensures.call.crash cause c.from_residual-in_err-list.result told c.in_err-list.ensures.refused

@@ -10,9 +10,9 @@ use Rattle.zeb_search.proofs.Gathering.{Gathers, gathers_next}
 use Rattle.zeb_search.proofs.ReadLemmas.{clean_before, one_read, read_then, told_behind}
 use Rattle.zeb_search.proofs.CountedLemmas.{counted_then, list_counts, no_rows_then}
 use Rattle.zeb_search.proofs.RowCounts.{rows_more}
-use Rattle.zeb_search.proofs.OneKey.{one_counted, one_told}
+use Rattle.zeb_search.proofs.OneKey.{one_counted, one_listed}
 use Rattle.zeb_search.proofs.Reasons.{reasoned_error}
-use Rattle.zeb_search.proofs.postings.postings_of.Goals as goal
+use Rattle.zeb_search.proofs.postings.list_of.Goals as goal
 
 pub loop-key-preserved : goal.loop-key-preserved
 loop-key-preserved g c =
@@ -49,11 +49,7 @@ loop-key-preserved g c =
 pub returns-clause-value : goal.returns-clause-value
 returns-clause-value g c clean store content has =
     let whole = take_whole c.args.keys.now c.loop-key.key-index (omega (arith, c.loop-key-test.false)) in
-    let gathered = subst (λ (l : List Key). Gathers (λ (key : Key) (p : Posting). Has (content c.args.database.0 key) p) l c.loop-key.postings.items) whole (c.loop-key.invariant.gathered clean store content has) in
-    record {
-      rising = c.postings_in_order.ensures.rising;
-      each = λ p. (λ there. (gathered p).0 ((c.postings_in_order.ensures.each p).0 there), λ of. (c.postings_in_order.ensures.each p).1 ((gathered p).1 of));
-    }
+    subst (λ (l : List Key). Gathers (λ (key : Key) (p : Posting). Has (content c.args.database.0 key) p) l c.loop-key.postings.items) whole (c.loop-key.invariant.gathered clean store content has)
 
 pub returns-clause-work : goal.returns-clause-work
 returns-clause-work g c =
@@ -72,7 +68,7 @@ returns-in_err-list-clause-refused g c =
 
 pub returns-then-keys-eq1-clause-value : goal.returns-then-keys-eq1-clause-value
 returns-then-keys-eq1-clause-value g c =
-    one_told g.L.Layout.format c.args.database.0 c.args.keys.now c.index-keys-0.result c.if-keys-eq1.true c.index-keys-0.is (state g.S.Store c.args.connection.now) (state g.S.Store c.key_list.new.conn) c.key_list.result c.key_list.ensures.value
+    one_listed g.L.Layout.format c.args.database.0 c.args.keys.now c.index-keys-0.result c.if-keys-eq1.true c.index-keys-0.is (state g.S.Store c.args.connection.now) (state g.S.Store c.key_list.new.conn) c.key_list.result c.key_list.ensures.value
 
 pub returns-then-keys-eq1-clause-work : goal.returns-then-keys-eq1-clause-work
 returns-then-keys-eq1-clause-work g c =

@@ -9,7 +9,7 @@ use Rattle.zeb_search.proofs.Gathering.{Gathers}
 use Rattle.zeb_search.proofs.ReadLemmas.{IsRead}
 use Rattle.zeb_search.specs.Counted.{Counted, NoRows}
 use Rattle.zeb_search.specs.ListRows.{rows_under}
-use Rattle.zeb_search.proofs.postings.postings_of.Given as goal
+use Rattle.zeb_search.proofs.postings.list_of.Given as goal
 
 abbrev pub invariant-loop-key : goal.invariant-loop-key
 invariant-loop-key g l =

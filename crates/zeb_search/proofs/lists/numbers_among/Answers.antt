@@ -1,0 +1,9 @@
+use Rattle.std.proofs.Common.{rules, ◌≡◌, map}
+use Rattle.zeb_register.specs.Content.{Posting}
+use Rattle.zeb_search.proofs.OrderedLists.{numbers_from_any}
+use Rattle.zeb_search.proofs.lists.numbers_among.Goals as goal
+
+pub returns : goal.returns
+returns c =
+    let mapped : c.in_ok-numbers.numbers.items ≡ map (λ (p : Posting). p.sysno) c.args.postings.now = search rules in
+    numbers_from_any c.args.postings.now c.in_ok-numbers.numbers.items c.dedup.new.self.items c.in_order.result.items mapped c.dedup.ensures.filtered c.in_order.ensures
