@@ -41,6 +41,7 @@ pub mod Lookups
 pub mod ReadyBases
 pub mod Scans
 pub mod StoreCauses
+pub mod WriteCauses
 pub mod Dumps
 pub mod Stats
 pub mod Readers

@@ -1,5 +1,5 @@
 -- Why a command answers that the store failed.
-use Rattle.std.specs.Prelude.{◌≡◌, ◌⊎◌, Result, IfErr, Unit}
+use Rattle.std.specs.Prelude.{◌≡◌, ◌⊎◌, Result, IfErr}
 use Rattle.sqlite.specs.State.{State}
 use Rattle.sqlite.specs.Tree.{Trees}
 use Rattle.zeb_register.specs.Calls.{MayRefuse}

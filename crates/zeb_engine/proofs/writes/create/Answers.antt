@@ -1,4 +1,4 @@
-use Rattle.std.proofs.Common.{◌≡◌, ◌∙◌, Err, arith, inl, inr, pos, rules, subst, sym}
+use Rattle.std.proofs.Common.{◌≡◌, ◌∙◌, Err, Result, ap, arith, inl, inr, pos, rules, subst, sym}
 use Rattle.sqlite.specs.Held.{state}
 use Rattle.zeb_register.specs.Catalog.{PutsDatabase}
 use Rattle.zeb_register.specs.Store.{Changes, databases_tree}
@@ -6,6 +6,8 @@ use Rattle.zeb_image.specs.NameOf.{name_bytes}
 use Rattle.zeb_engine.proofs.WriteSteps.{create_leads}
 use Rattle.zeb_engine.proofs.writes.create.Goals as goal
 use Rattle.zeb_register.specs.Hindrances.{IsTooLarge}
+use Rattle.zeb_register.specs.declared.RegFault.{RegFault}
+use Rattle.zeb_register.specs.declared.RegFault.TheVariants.{Store}
 use Rattle.zeb_register.specs.Store.{database_columns}
 use Rattle.zeb_engine.proofs.WriteCauses.{name_fits}
 
@@ -25,7 +27,9 @@ pub returns-in_err-database_put-clause-refused : goal.returns-in_err-database_pu
 returns-in_err-database_put-clause-refused g c clean inside store is =
     let fault = c.in_err-database_put.field-0.0 in
     let told : c.from_residual.result ≡ Err fault = search rules in
-    elim (c.in_err-database_put.ensures.refused (omega arith) clean inside store (sym told ∙ is)) [
+    let same : ◌≡◌ {A = Result (Unit {0}) RegFault} (Err fault) (Err Store) = sym told ∙ is in
+    let failed : fault ≡ Store = cc in
+    elim (c.in_err-database_put.ensures.refused (omega arith) clean inside store (ap Err failed)) [
       | inl cause ↦ inl cause
       | inr (inl lacks) ↦ inr lacks
       | inr (inr large) ↦
