@@ -27,6 +27,9 @@ use sqlite::{Alter, Transaction};
 use zeb_marc::{RecordBuf, Source, next_record};
 use zeb_register::Layout;
 
+/// How many bytes of memory what is noted of keys takes before it is written: 64 MB.
+const MOST_NOTED: usize = 67_108_864;
+
 /// Reads a file's next record into the buffer, and says whether there is one.
 fn read_record<R: Source>(
     reader: &mut R,
@@ -271,7 +274,7 @@ pub fn fold_files<S: Alter, L: Layout, R: Source>(
         → OnOk result ((n : ℕ) × IsFilesCost (conditions_of version setting.now) setting.now.kind 1 (splits_of texts) p n
         × IsWorkFor L.row_work n fold.old.progress.work fold.new.progress.work) }
 {
-    let mut pending = Pending::new(setting.alloc);
+    let mut pending = Pending::new(setting.alloc, MOST_NOTED);
     fold_readers::<S, L, R>(tx, setting, fold, &mut pending, buffer, readers)?;
     let database = fold.progress.database;
     write_pending::<S, L>(

@@ -10,9 +10,6 @@ use std::collections::BTreeMap;
 use zeb_extract::{Key, order_is_by_parts};
 use zeb_register::RecordChange;
 
-/// How many bytes may be noted before they are written: 64 MB.
-const MOST_WEIGHT: usize = 67_108_864;
-
 /// How many bytes a key takes beside its term and the words of its changes: 64 in the map, whose nodes are two thirds full or more, and
 /// what the allocator keeps beside two blocks of memory.
 const KEY_WEIGHT: usize = 144;
@@ -25,25 +22,28 @@ pub struct Pending {
     notes: BTreeMap<Key, KeyNotes>,
     /// How many bytes they take: room for words that isn't used yet is counted too.
     weight: usize,
+    /// How many they may take before they are to be written.
+    most_weight: usize,
 }
 
 impl Pending {
-    /// Nothing is noted.
-    pub fn new(alloc: Global) -> Pending
+    /// Nothing is noted. What is noted is to be written where it takes so many bytes.
+    pub fn new(alloc: Global, most_weight: usize) -> Pending
         ensures { IsNothingNoted result }
     {
         Pending {
             alloc,
             notes: BTreeMap::new(alloc),
             weight: 0,
+            most_weight,
         }
     }
 
     /// Whether so much is noted that it is to be written.
     pub(crate) fn is_full(&self) -> bool
-        ensures { IsTrue result ↔ (MOST_WEIGHT ≤ self.now.weight) }
+        ensures { IsTrue result ↔ (self.now.most_weight ≤ self.now.weight) }
     {
-        self.weight >= MOST_WEIGHT
+        self.weight >= self.most_weight
     }
 
     /// Notes one more change of a key, behind those that are noted of it.

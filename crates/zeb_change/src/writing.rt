@@ -112,7 +112,7 @@ pub fn write_pending<S: Alter, L: Layout>(
     Ok(())
 }
 
-/// Writes all noted changes, as `write_pending` does, where they take some 64 MB of memory, and else does nothing.
+/// Writes all noted changes, as `write_pending` does, where they take as much memory as they may, and else does nothing.
 pub fn write_where_full<S: Alter, L: Layout>(
     tx: &mut Transaction<'_, S>,
     alloc: Global,

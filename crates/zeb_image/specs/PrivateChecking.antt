@@ -26,6 +26,7 @@ use Rattle.zeb_register.specs.Store.{HasDatabase, HasRecord, IsRest, records_tre
 use Rattle.zeb_change.specs.Base.{Kept}
 use Rattle.zeb_change.specs.Occurs.{OccursIn, occurs}
 use Rattle.zeb_change.specs.Stored.{IsKept}
+use Rattle.zeb_image.specs.declared.fronted.Fronted.{Fronted}
 use Rattle.zeb_image.specs.Names.{IsDatabaseName}
 
 -- ---- one record
@@ -53,6 +54,10 @@ posting_of sysno o = record { key = o.key; posting = record { sysno = sysno; seq
 
 abbrev pub occurrence_of : KeyPosting → Occurrence
 occurrence_of it = record { key = it.key; seq = it.posting.seq; pos = it.posting.pos }
+
+-- a posting without the number of its term
+abbrev pub bare : Fronted → KeyPosting
+bare it = it.bare
 
 -- the postings are just those of the records' occurrences
 abbrev pub AreRecordsPostings : List Directive → List Record → List KeyPosting → Type 0

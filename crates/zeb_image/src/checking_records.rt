@@ -1,20 +1,21 @@
 //! Whether a database can keep its records, and the postings that these have.
 
-ghost use Rattle.std.specs.Prelude.{◌≡◌, ◌≢◌, ◌↔◌, ◌++◌, map, IsTrue, IfOk, OnOk};
+ghost use Rattle.std.specs.Prelude.{◌≡◌, ◌≢◌, ◌↔◌, map, IsTrue, IfOk};
 ghost use Rattle.std.specs.List.Sorted.{IsStrictlySortedBy};
 ghost use Rattle.sqlite_rules.specs.Lists.{Has};
 ghost use Rattle.zeb_marc.specs.Contents.{units_of};
 ghost use Rattle.zeb_extract.specs.Identifier.{identifier_of};
 ghost use Rattle.zeb_register.specs.declared.expected.KeyPosting.{KeyPosting};
 ghost use Rattle.zeb_register.specs.Expected.{key_posting_order};
-ghost use Rattle.zeb_image.specs.PrivateChecking.{AreOccurrencesOrNone, ArePostingsOrNone, posting_of};
+ghost use Rattle.zeb_image.specs.PrivateChecking.{AreOccurrencesOrNone, ArePostingsOrNone, bare};
 
+use crate::fronted::{Fronted, add_postings, sorted, without_fronts};
 use std::alloc::{AllocError, Global};
 use std::cmp::Ordering;
 use zeb_extract::{IdentFault, Occurrence, identifier, occurrences, order_is_by_parts};
 use zeb_marc::Marc;
 use zeb_profile::Profile;
-use zeb_register::{KeyPosting, Posting, Record, RegFault};
+use zeb_register::{KeyPosting, Record, RegFault};
 
 /// The postings of records, each once and rising by key, system number, unit and place; or `None` where one isn't a whole record that a
 /// database with this last number keeps under its identifier.
@@ -35,7 +36,7 @@ pub(crate) fn postings_of(
         };
         add_postings(&mut postings, kept.sysno, found)?;
     }
-    Ok(Some(in_order(postings)))
+    Ok(Some(in_order(alloc, postings)?))
 }
 
 /// The occurrences of a record, or `None` where it isn't a whole record that a database with this last number keeps under its identifier.
@@ -77,30 +78,16 @@ fn is_named(
     }
 }
 
-/// Adds the postings that a record with this number has by its occurrences.
-fn add_postings(
-    postings: &mut Vec<KeyPosting>,
-    sysno: u64,
-    found: Vec<Occurrence>,
-) -> Result<(), AllocError>
-    ensures { OnOk result (postings.new.items ≡ postings.old.items ++ map (posting_of sysno) found.items) }
-{
-    for occurrence in found {
-        let Occurrence { key, seq, pos } = occurrence;
-        let posting = Posting { sysno, seq, pos };
-        postings.push(KeyPosting { key, posting })?;
-    }
-    Ok(())
-}
-
 /// The postings rising by key, system number, unit and place, each once.
-fn in_order(mut postings: Vec<KeyPosting>) -> Vec<KeyPosting>
-    ensures rising { IsStrictlySortedBy key_posting_order result.items }
-    ensures members { (it : KeyPosting) → Has result.items it ↔ Has postings.items it }
+fn in_order(alloc: Global, postings: Vec<Fronted>) -> Result<Vec<KeyPosting>, AllocError>
+    ensures rising { IfOk result (λ list. IsStrictlySortedBy key_posting_order list.items) }
+    ensures members { IfOk result (λ list. (it : KeyPosting) → Has list.items it ↔ Has (map bare postings.items) it) }
 {
-    postings.sort_unstable_by(compare);
-    postings.dedup();
-    postings
+    let mut list = without_fronts(alloc, sorted(postings))?;
+    // That the list is in order here isn't proved. Where it is, a sort sees so by one look at each posting.
+    list.sort_unstable_by(compare);
+    list.dedup();
+    Ok(list)
 }
 
 /// By key, then system number, unit and place.

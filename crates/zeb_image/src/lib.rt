@@ -4,6 +4,7 @@
 mod checking;
 mod checking_databases;
 mod checking_records;
+mod fronted;
 mod names;
 mod rebuilding;
 mod rebuilding_records;

@@ -1,15 +1,23 @@
-use Rattle.std.proofs.Common.{rules}
+use Rattle.std.proofs.Common.{rules, IsPermutation, map, sym, subst}
 use Rattle.std.specs.Ordering.{is_lt}
-use Rattle.std.proofs.lemmas.List.Sorted.{answers_always, ranks_by}
+use Rattle.std.proofs.lemmas.List.Sorted.{answers_always, ranks_by, IsPermutation-map, IsPermutation-trans}
 use Rattle.zeb_register.specs.declared.expected.KeyPosting.{KeyPosting}
 use Rattle.zeb_register.specs.Expected.{key_posting_order}
+use Rattle.zeb_image.specs.PrivateChecking.{bare}
 use Rattle.zeb_image.proofs.OrderedPostings.{order_total, put_members, put_rises}
 use Rattle.zeb_image.proofs.checking_records.in_order.Goals as goal
 
 pub returns-clause-rising : goal.returns-clause-rising
 returns-clause-rising c =
+    let given = map bare c.args.postings.items in
+    let listed = subst (IsPermutation given) (sym c.in_ok-list.ensures) (IsPermutation-map bare c.args.postings.items c.sorted.result.items c.sorted.ensures) in
+    let moved = IsPermutation-trans given c.in_ok-list.list.items c.sort_unstable_by.new.self.items listed c.sort_unstable_by.ensures.permutation in
     let sorted = c.sort_unstable_by.ensures.sorted (λ (a b : KeyPosting). is_lt (key_posting_order a b)) (ranks_by order_total (λ (it : KeyPosting). it)) (answers_always _ _ _ (λ f a r f' called. search rules)) in
-    put_rises c.args.postings.items c.sort_unstable_by.new.self.items c.dedup.new.self.items c.sort_unstable_by.ensures.permutation c.dedup.ensures.filtered sorted
+    put_rises given c.sort_unstable_by.new.self.items c.dedup.new.self.items moved c.dedup.ensures.filtered sorted
 
 pub returns-clause-members : goal.returns-clause-members
-returns-clause-members c = put_members c.args.postings.items c.sort_unstable_by.new.self.items c.dedup.new.self.items c.sort_unstable_by.ensures.permutation c.dedup.ensures.filtered
+returns-clause-members c =
+    let given = map bare c.args.postings.items in
+    let listed = subst (IsPermutation given) (sym c.in_ok-list.ensures) (IsPermutation-map bare c.args.postings.items c.sorted.result.items c.sorted.ensures) in
+    let moved = IsPermutation-trans given c.in_ok-list.list.items c.sort_unstable_by.new.self.items listed c.sort_unstable_by.ensures.permutation in
+    put_members given c.sort_unstable_by.new.self.items c.dedup.new.self.items moved c.dedup.ensures.filtered

@@ -1,8 +1,8 @@
-use Rattle.std.proofs.Common.{◌≡◌, ◌∙◌, ◌+◌, ◌++◌, List, [], ◌∷◌, take, sym, ap, subst, arith}
+use Rattle.std.proofs.Common.{◌≡◌, ◌∙◌, ◌+◌, ◌++◌, List, [], ◌∷◌, map, take, sym, ap, subst, arith}
 use Rattle.std.proofs.lemmas.List.{take_more, take_all}
 use Rattle.sqlite_rules.proofs.ListLemmas.{has_at}
 use Rattle.zeb_register.specs.declared.kept.Record.{Record}
-use Rattle.zeb_image.specs.PrivateChecking.{AreOccurrencesOrNone, AreRecordsPostings, CanKeepAll}
+use Rattle.zeb_image.specs.PrivateChecking.{AreOccurrencesOrNone, AreRecordsPostings, CanKeepAll, bare}
 use Rattle.zeb_image.proofs.CheckedRecords.{one_kept, one_posted}
 use Rattle.zeb_image.proofs.checking_records.postings_of.Goals as goal
 
@@ -22,8 +22,8 @@ loop-kept-preserved c =
     let split : take (index + 1) records ≡ take index records ++ item ∷ [] = take_more records index item c.loop-kept-test.true ∙ ap (λ (x : Record). take index records ++ x ∷ []) (sym c.kept-item.is) in
     record {
       sound = subst (CanKeepAll profile c.args.last) (sym split) (one_kept profile c.args.last (take index records) item c.loop-kept.invariant.sound found.0);
-      postings = subst (λ (l : List Record). AreRecordsPostings profile l c.add_postings.new.postings.items) (sym split)
-          (one_posted profile (take index records) item c.loop-kept.postings.items c.add_postings.new.postings.items c.in-Some.found.items c.loop-kept.invariant.postings found.1 c.in_ok-add_postings.ensures);
+      postings = subst (λ (l : List Record). AreRecordsPostings profile l (map bare c.add_postings.new.postings.items)) (sym split)
+          (one_posted profile (take index records) item (map bare c.loop-kept.postings.items) (map bare c.add_postings.new.postings.items) c.in-Some.found.items c.loop-kept.invariant.postings found.1 c.in_ok-add_postings.ensures);
     }
 
 pub returns-clause-value : goal.returns-clause-value
@@ -32,9 +32,9 @@ returns-clause-value c =
     let records = c.args.records.now in
     let whole : take c.loop-kept.kept-index records ≡ records = take_all c.loop-kept.kept-index records (omega (arith, c.loop-kept-test.false, c.loop-kept.auto.kept-index-end)) in (
       subst (CanKeepAll profile c.args.last) whole c.loop-kept.invariant.sound,
-      c.in_order.ensures.rising,
+      c.in_ok-in_order.ensures.rising,
       λ it.
-          let are = subst (λ (l : List Record). AreRecordsPostings profile l c.loop-kept.postings.items) whole c.loop-kept.invariant.postings it in
-          let same = c.in_order.ensures.members it in
+          let are = subst (λ (l : List Record). AreRecordsPostings profile l (map bare c.loop-kept.postings.items)) whole c.loop-kept.invariant.postings it in
+          let same = c.in_ok-in_order.ensures.members it in
           (λ h. are.0 (same.0 h), λ h. same.1 (are.1 h)),
     )

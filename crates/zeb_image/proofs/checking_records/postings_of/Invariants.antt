@@ -1,9 +1,9 @@
-use Rattle.std.proofs.Common.{take}
-use Rattle.zeb_image.specs.PrivateChecking.{AreRecordsPostings, CanKeepAll}
+use Rattle.std.proofs.Common.{map, take}
+use Rattle.zeb_image.specs.PrivateChecking.{AreRecordsPostings, CanKeepAll, bare}
 use Rattle.zeb_image.proofs.checking_records.postings_of.Given as goal
 
 abbrev pub invariant-loop-kept : goal.invariant-loop-kept
 invariant-loop-kept l = record {
   sound : CanKeepAll l.profile l.last (take l.kept-index l.records);
-  postings : AreRecordsPostings l.profile (take l.kept-index l.records) l.postings.items;
+  postings : AreRecordsPostings l.profile (take l.kept-index l.records) (map bare l.postings.items);
 }
