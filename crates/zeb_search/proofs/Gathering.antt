@@ -1,6 +1,6 @@
 -- Lists that gather what each element of another list gives.
-use Rattle.std.proofs.Common.{◌↔◌, List, [], ◌∷◌, ◌++◌, ℕ, ◌+◌, ◌<◌, length, take, get_or, refl, sym, subst, inl, inr}
-use Rattle.std.proofs.lemmas.List.{append-nil, take_more}
+use Rattle.std.proofs.Common.{◌↔◌, List, [], ◌∷◌, ◌++◌, refl, subst, inl, inr}
+use Rattle.std.proofs.lemmas.List.{append-nil}
 use Rattle.sqlite_rules.specs.Lists.{Has}
 use Rattle.sqlite_rules.proofs.ListLemmas.{has_left, has_right, has_either}
 
@@ -31,7 +31,3 @@ module _ {X Y : Type 0} (R : X → Y → Type 0) where
   -- an element that gives nothing
   pub gathers_past : (xs : List X) (ys : List Y) (x : X) → Gathers xs ys → ((y : Y) → ¬ R x y) → Gathers (xs ++ x ∷ []) ys
   gathers_past xs ys x so_far none = subst (Gathers (xs ++ x ∷ [])) (append-nil ys) (gathers_more xs ys x [] so_far (λ y. (λ h. absurd h, λ r. absurd (none y r))))
-
-  -- the same for the element at an index of a list that is walked
-  pub gathers_next : (xs : List X) (i : ℕ) (d : X) (ys zs : List Y) → i < length xs → Gathers (take i xs) ys → ((y : Y) → Has zs y ↔ R (get_or xs i d) y) → Gathers (take (i + 1) xs) (ys ++ zs)
-  gathers_next xs i d ys zs within so_far gives = subst (λ l. Gathers l (ys ++ zs)) (sym (take_more xs i d within)) (gathers_more (take i xs) ys (get_or xs i d) zs so_far gives)

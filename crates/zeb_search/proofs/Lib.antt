@@ -20,6 +20,7 @@ pub mod ReadableNames
 pub mod Reasons
 pub mod RisingTexts
 pub mod RowCounts
+pub mod RunLemmas
 pub mod SeparatedPostings
 pub mod TermLemmas
 pub mod WordCounts

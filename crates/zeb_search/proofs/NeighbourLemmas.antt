@@ -1,5 +1,5 @@
 -- Terms that stand next to each other in a register, and the postings of such a run.
-use Rattle.std.proofs.Common.{◌≡◌, ◌↔◌, ◌⊎◌, ◌∙◌, ◌+◌, ◌-◌, ℕ, Bool, true, false, IsTrue, List, [], ◌∷◌, ◌++◌, Some, Result, Ok, Err, Vec, OnOk, drop, length, map, slice_get, take, refl, sym, ap, subst, subst₂, inl, inr, Ordering, Less, Equal, Greater, arith}
+use Rattle.std.proofs.Common.{◌≡◌, ◌↔◌, ◌⊎◌, ◌∙◌, ◌+◌, ◌-◌, ◌≤◌, ℕ, ℤ, suc, Bool, true, false, IsTrue, List, [], ◌∷◌, ◌++◌, Result, Ok, Err, Vec, OnOk, drop, get_or, length, map, take, refl, sym, ap, subst, subst₂, inl, inr, Ordering, Less, Equal, Greater, arith}
 use Rattle.std.specs.Ordering.{nat_cmp, is_lt}
 use Rattle.std.specs.Cmp.Lexicographic.{slice_cmp}
 use Rattle.std.specs.List.Sorted.{IsStrictlySortedBy}
@@ -27,11 +27,12 @@ use Rattle.zeb_search.specs.declared.keys.FoundKeys.{FoundKeys}
 use Rattle.zeb_search.specs.declared.terms.Wanted.{Wanted}
 use Rattle.zeb_search.specs.ListRows.{AreKeysOf, EntryRows, rows_under}
 use Rattle.zeb_search.specs.Lists.{Rise}
-use Rattle.zeb_search.specs.PrivateTerms.{AreFound, AreNeighbours, AreTaken, HasWanted, IsPostingOf, IsWanted, StandTogether, StandsWithin, TermsRise}
+use Rattle.zeb_search.specs.PrivateTerms.{AreFound, AreNeighbours, AreRun, AreTaken, HasWanted, IsPostingOf, IsWanted, StandTogether, StandsWithin, TermsRise}
 use Rattle.zeb_search.proofs.Comparisons.{never_after, never_before_itself}
 use Rattle.zeb_search.proofs.CountedLemmas.{counts_then, list_counts}
 use Rattle.zeb_search.proofs.ReadLemmas.{IsRead, clean_before, still_store, still_trees}
-use Rattle.zeb_search.proofs.RisingTexts.{before_last_text, front_rise, last_got}
+use Rattle.zeb_register.proofs.TermRows.{last_view}
+use Rattle.zeb_search.proofs.RisingTexts.{before_last_text, front_rise}
 
 -- ---- a walk over terms
 
@@ -126,15 +127,21 @@ pub record HaveEnds (keys : List Key) (first last : Key) : Type 0 where
   pub front : List Key
   pub ends : keys ≡ front ++ last ∷ []
 
-first_got : (keys : List Key) (first : Key) → slice_get keys 0 ≡ Some first → (rest : List Key) × (keys ≡ first ∷ rest)
-first_got [] first got = absurd (cc)
-first_got (key ∷ keys) first got = (keys, let e : key ≡ first = cc in ap (λ k. k ∷ keys) e)
+first_view : (keys : List Key) (first : Key) → 1 ≤ length keys → first ≡ get_or keys 0 first → (rest : List Key) × (keys ≡ first ∷ rest)
+first_view [] first some is = absurd (omega (arith, some))
+first_view (key ∷ keys) first some is = (keys, ap (λ k. k ∷ keys) (sym is))
 
--- as `first` and `last` get them of the slice
-pub ends_got : (keys one other : List Key) (first last : Key) → one ≡ keys → other ≡ keys → slice_get one 0 ≡ Some first → slice_get other (length other - 1) ≡ Some last → HaveEnds keys first last
-ends_got keys one other first last same alike at_first at_last =
-    let begins = first_got one first at_first in
-    record { rest = begins.0; begins = sym same ∙ begins.1; front = take (length other - 1) other; ends = sym alike ∙ last_got other last at_last }
+-- as an index gets them of the slice
+pub ends_got : (keys : List Key) (first last : Key) → 1 ≤ length keys → first ≡ get_or keys 0 first → last ≡ get_or keys (length keys - 1) last → HaveEnds keys first last
+ends_got keys first last some at_first at_last =
+    let begins = first_view keys first some at_first in
+    let long : length keys ≡ suc (length keys - 1) = omega (arith, some) in
+    record { rest = begins.0; begins = begins.1; front = take (length keys - 1) keys; ends = last_view (length keys - 1) keys last long at_last }
+
+pub several : (keys : List Key) → 1 ≤ length keys → (length keys ≡ 1 → ⊥) → 2 ≤ length keys
+several [] some more = absurd (omega (arith, some))
+several (key ∷ []) some more = absurd (more refl)
+several (key ∷ other ∷ keys) some more = omega arith
 
 not_lower : (a b : List ℕ) → ¬ Precedes a b → is_lt (slice_cmp nat_cmp a b) ≡ false
 not_lower a b never = by (slice_cmp nat_cmp a b) refl
@@ -147,10 +154,7 @@ not_lower a b never = by (slice_cmp nat_cmp a b) refl
 never_lower : (a b : List ℕ) → is_lt (slice_cmp nat_cmp a b) ≡ false → ¬ Precedes a b
 never_lower a b low is = let e : true ≡ false = sym (ap is_lt is) ∙ low in cc
 
-module _ (content : Content) (of : RegisterOf) (found : FoundKeys) (are : AreFound content of found) (joined : IsTrue found.are_neighbours) (first last : Key) (at : HaveEnds found.keys.items first last) where
-  abbrev keys : List Key
-  keys = found.keys.items
-
+module _ (content : Content) (of : RegisterOf) (keys : List Key) (are : AreRun content of keys) (many : 2 ≤ length keys) (first last : Key) (at : HaveEnds keys first last) where
   from_first : (key : Key) → Has keys key → ¬ Precedes key.term first.term
   unfolding IsStrictlySortedBy
   from_first key here low =
@@ -172,7 +176,7 @@ module _ (content : Content) (of : RegisterOf) (found : FoundKeys) (are : AreFou
     rising = are.rising;
     each = λ key here. (are.each key here, (not_lower key.term first.term (from_first key here), not_lower last.term key.term (up_to_last key here)));
     all = λ term p between here.
-        are.neighbours joined first last (subst (λ (l : List Key). Has l first) (sym at.begins) (inl refl)) (subst (λ (l : List Key). Has l last) (sym at.ends) (has_right at.front (last ∷ []) last (inl refl)))
+        are.neighbours many first last (subst (λ (l : List Key). Has l first) (sym at.begins) (inl refl)) (subst (λ (l : List Key). Has l last) (sym at.ends) (has_right at.front (last ∷ []) last (inl refl)))
         term p (never_lower term first.term between.0, never_lower last.term term between.1) here;
   }
 
@@ -186,34 +190,34 @@ module _ (content : Content) (of : RegisterOf) (found : FoundKeys) (are : AreFou
   )
 
 -- a call that reads the lists from the first key to the last, whose texts are these
-module _ (format : Format) (of : RegisterOf) (found : FoundKeys) (joined : IsTrue found.are_neighbours) (first last : Key) (at : HaveEnds found.keys.items first last)
+module _ (format : Format) (of : RegisterOf) (keys : List Key) (many : 2 ≤ length keys) (first last : Key) (at : HaveEnds keys first last)
     (low high : List ℕ) (is_low : low ≡ first.term) (is_high : high ≡ last.term) (old new : State) where
   pub between_listed : (result : Result (Vec Posting Global) RegFault) → TellsHeld (holds_in format) old new result (λ content list. (p : Posting) → Has list.items p ↔ IsPostingBetween content of low high p)
-      → TellsHeld (holds_in format) old new result (λ content list. AreFound content of found → (p : Posting) → Has list.items p ↔ IsPostingOf content of.db.0 found.keys.items p)
+      → TellsHeld (holds_in format) old new result (λ content list. AreRun content of keys → (p : Posting) → Has list.items p ↔ IsPostingOf content of.db.0 keys p)
   between_listed (Err why) told = λ clean store. tt
   between_listed (Ok list) told = λ clean store content has are.
-      run_listed content of found are joined first last at list.items (subst₂ (λ a b. (p : Posting) → Has list.items p ↔ IsPostingBetween content of a b p) is_low is_high (told clean store content has))
+      run_listed content of keys are many first last at list.items (subst₂ (λ a b. (p : Posting) → Has list.items p ↔ IsPostingBetween content of a b p) is_low is_high (told clean store content has))
 
   pub between_counted : (rows : List Posting → ℕ) (a b : Work) (result : Result (Vec Posting Global) RegFault)
       → TellsHeld (holds_in format) old new result (λ content _. (keys : List Key) → AreKeysBetween content of low high keys → Works 0 0 (rows_under rows content of.db.0 keys) 0 a b)
-      → OnOk result (OnStore old new (λ trees. (content : Content) → holds_in format trees content → AreFound content of found → Counts 0 (rows_under rows content of.db.0 found.keys.items) a b))
+      → OnOk result (OnStore old new (λ trees. (content : Content) → holds_in format trees content → AreRun content of keys → Counts 0 (rows_under rows content of.db.0 keys) a b))
   between_counted rows a b (Err why) told = tt
   between_counted rows a b (Ok list) told = λ clean store content has are.
-      let between = subst₂ (λ x y. AreKeysBetween content of x y found.keys.items) (sym is_low) (sym is_high) (keys_between content of found are joined first last at) in
-      list_counts (rows_under rows content of.db.0 found.keys.items) a b (told clean store content has found.keys.items between)
+      let between = subst₂ (λ x y. AreKeysBetween content of x y keys) (sym is_low) (sym is_high) (keys_between content of keys are many first last at) in
+      list_counts (rows_under rows content of.db.0 keys) a b (told clean store content has keys between)
 
 -- ---- counts
 
 counts_so : (k l m n : ℕ) (a b : Work) → k ≡ l → m ≡ n → Counts k m a b → Counts l n a b
 counts_so k l m n a b one two = subst₂ (λ x y. Counts x y a b) one two
 
--- the lists of keys that are read one by one
-pub each_counted : (format : Format) (rows : List Posting → ℕ) (of : RegisterOf) (found : FoundKeys) (seen : List Key) → seen ≡ found.keys.items → (s0 s1 : State) (a b : Work)
-    → Counted format NoRows (λ content n. n ≡ rows_under rows content of.db.0 seen) s0 s1 a b
-    → OnStore s0 s1 (λ trees. (content : Content) → holds_in format trees content → AreFound content of found → Counts 0 (rows_under rows content of.db.0 found.keys.items) a b)
-each_counted format rows of found seen same s0 s1 a b counted clean store content has are =
+-- the lists of keys that are read one by one, whatever else is given
+pub each_counted : (format : Format) (rows : List Posting → ℕ) (db : ℤ) (Given : Content → Type 0) (keys : List Key) (s0 s1 : State) (a b : Work)
+    → Counted format NoRows (λ content n. n ≡ rows_under rows content db keys) s0 s1 a b
+    → OnStore s0 s1 (λ trees. (content : Content) → holds_in format trees content → Given content → Counts 0 (rows_under rows content db keys) a b)
+each_counted format rows db Given keys s0 s1 a b counted clean store content has given =
     let x = counted clean store content has in
-    counts_so x.0 0 x.1 (rows_under rows content of.db.0 found.keys.items) a b x.2 (x.3 ∙ ap (rows_under rows content of.db.0) same) x.4
+    counts_so x.0 0 x.1 (rows_under rows content db keys) a b x.2 x.3 x.4
 
 -- keys, and then their lists
 pub found_counted : (format : Format) (D : Content → ℕ → Type 0) (rows : List Posting → ℕ) (of : RegisterOf) (P : List ℕ → Type 0) (found : FoundKeys) (s0 s1 s2 : State) (a b c : Work) → IsRead s0 s1 → Survives s1 s2 (λ _. ⊥)

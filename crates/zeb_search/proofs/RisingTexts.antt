@@ -1,12 +1,12 @@
 -- Lists of which the texts rise.
-use Rattle.std.proofs.Common.{◌≡◌, ◌++◌, ◌∷◌, ◌-◌, [], ℕ, suc, List, Ordering, Less, Some, length, map, slice_get, arith, sym, subst, subst₂, take}
+use Rattle.std.proofs.Common.{◌≡◌, ◌++◌, ◌∷◌, ◌-◌, [], ℕ, suc, List, Ordering, Less, Some, length, map, slice_get, arith, sym, subst, subst₂, take, inl, inr}
 use Rattle.std.specs.Ordering.{nat_cmp}
 use Rattle.std.specs.Cmp.Lexicographic.{slice_cmp, nat_list_cmp_total}
 use Rattle.std.specs.List.Sorted.{IsStrictlySortedBy}
 use Rattle.std.proofs.lemmas.List.{map-append}
 use Rattle.std.proofs.lemmas.Option.{get_or_from_slice_get, slice_get_within}
 use Rattle.sqlite_rules.specs.Lists.{Has}
-use Rattle.sqlite_rules.proofs.ListLemmas.{all_from, all_has}
+use Rattle.sqlite_rules.proofs.ListLemmas.{all_from, all_has, has_right}
 use Rattle.sqlite_rules.proofs.ProbeLemmas.{has_mapped, mapped_has}
 use Rattle.zeb_register.specs.declared.registers.TermCount.{TermCount}
 use Rattle.zeb_register.specs.Occurring.{term_cmp}
@@ -43,6 +43,18 @@ module _ {X : Type 0} (text : X → List ℕ) where
 
   pub front_rise : (xs ys : List X) → Rise text (xs ++ ys) → Rise text xs
   front_rise xs ys up = front_rises nat_list_cmp_total (map text xs) (map text ys) (cut_mapped xs ys up)
+
+  pub back_rise : (xs ys : List X) → Rise text (xs ++ ys) → Rise text ys
+  unfolding IsStrictlySortedBy
+  back_rise [] ys up = up
+  back_rise (x ∷ xs) ys up = back_rise xs ys up.1
+
+  pub before_behind : (xs ys : List X) → Rise text (xs ++ ys) → (z y : X) → Has xs z → Has ys y → Precedes (text z) (text y)
+  unfolding IsStrictlySortedBy
+  before_behind [] ys up z y here there = absurd here
+  before_behind (x ∷ xs) ys up z y (inl same) there =
+      subst (λ w. Precedes (text w) (text y)) (sym same) (all_has (λ k. slice_cmp nat_cmp (text x) k ≡ Less) (map text (xs ++ ys)) (text y) up.0 (mapped_has text (xs ++ ys) y (has_right xs ys y there)))
+  before_behind (x ∷ xs) ys up z y (inr later) there = before_behind xs ys up.1 z y later there
 
   -- one list behind the other
   pub joined_rise : (xs ys : List X) → Rise text xs → Rise text ys → ((x y : X) → Has xs x → Has ys y → Precedes (text x) (text y)) → Rise text (xs ++ ys)

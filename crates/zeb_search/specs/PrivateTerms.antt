@@ -1,5 +1,5 @@
 -- The terms that one step of a search asks for.
-use Rattle.std.specs.Prelude.{◌≡◌, ◌↔◌, ◌⊎◌, ◌+◌, ◌++◌, ◌≤◌, ℕ, ℤ, IsTrue, List, [], ◌∷◌, Option, Some, None, String, string_bytes}
+use Rattle.std.specs.Prelude.{◌≡◌, ◌↔◌, ◌⊎◌, ◌+◌, ◌++◌, ◌≤◌, ℕ, ℤ, IsTrue, List, [], ◌∷◌, Option, Some, None, String, length, string_bytes}
 use Rattle.std.specs.declared.alloc.Global.{Global}
 use Rattle.sqlite_rules.specs.Lists.{Has}
 use Rattle.zeb_profile.specs.declared.Register.{Register}
@@ -68,6 +68,12 @@ abbrev pub AreNeighbours : Content → RegisterOf → List Key → Type 0
 AreNeighbours content of keys =
     (first last : Key) → Has keys first → Has keys last → (term : List ℕ) (p : Posting) → StandsWithin first.term last.term term
     → Has (term_list content of term) p → Has keys (key_in of.index of.register term)
+
+-- keys of the register, each once, and neighbours where they are several
+pub record AreRun (content : Content) (of : RegisterOf) (keys : List Key) : Type 0 where
+  pub rising : Rise (λ (key : Key). key.term) keys
+  pub each : (key : Key) → Has keys key → key ≡ key_in of.index of.register key.term
+  pub neighbours : 2 ≤ length keys → AreNeighbours content of keys
 
 -- keys of the register, each once, and neighbours where this is said of them
 pub record AreFound (content : Content) (of : RegisterOf) (found : FoundKeys) : Type 0 where

@@ -1,6 +1,6 @@
 //! Lists that rise: of record numbers, and of postings.
 
-ghost use Rattle.std.specs.Prelude.{◌≡◌, ℕ, ◌<◌, ◌≤◌, ◌↔◌, IfOk, IsTrue, length, slice_index, slice_index_or};
+ghost use Rattle.std.specs.Prelude.{◌≡◌, ◌++◌, ℕ, ◌<◌, ◌≤◌, ◌↔◌, IfOk, IsTrue, length, slice_index, slice_index_or};
 ghost use Rattle.std.specs.List.Sorted.{IsStrictlySortedBy};
 ghost use Rattle.std.specs.Ordering.{nat_cmp};
 ghost use Rattle.sqlite_rules.specs.Lists.{Has};
@@ -31,6 +31,21 @@ pub(crate) fn postings_in_order(mut postings: Vec<Posting>) -> Vec<Posting>
     postings.sort_unstable_by_key(|posting| (posting.sysno, posting.seq, posting.pos));
     postings.dedup();
     postings
+}
+
+/// One list behind the other: the second itself where the first is empty, since a long list takes time to copy.
+pub(crate) fn postings_joined(
+    first: Vec<Posting>,
+    second: Vec<Posting>,
+) -> Result<Vec<Posting>, AllocError>
+    ensures { IfOk result (λ list. list.items ≡ first.items ++ second.items) }
+{
+    if first.is_empty() {
+        return Ok(second);
+    }
+    let mut list = first;
+    list.extend_from_slice(&second)?;
+    Ok(list)
 }
 
 /// The numbers of the records that have a posting, each once; postings rise by number.

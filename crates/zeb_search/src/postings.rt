@@ -1,62 +1,92 @@
 //! The postings of several keys.
 
-ghost use Rattle.std.specs.Prelude.{◌≡◌, ◌↔◌, OnOk};
+ghost use Rattle.std.specs.Prelude.{◌≡◌, ◌≤◌, ◌↔◌, ◌+◌, ◌++◌, IsTrue, OnOk, length};
 ghost use Rattle.sqlite.specs.Held.{state};
 ghost use Rattle.sqlite_rules.specs.Lists.{Has};
 ghost use Rattle.zeb_register.specs.Calls.{Reading};
 ghost use Rattle.zeb_register.specs.Clauses.{IsHonestStorable, IsReasoned, OnStore, TellsHeld};
 ghost use Rattle.zeb_register.specs.Content.{Content, posted};
 ghost use Rattle.zeb_register.specs.Formats.{holds_in};
-ghost use Rattle.zeb_search.specs.Counted.{Counted, Counts, NoRows};
+ghost use Rattle.zeb_search.specs.Counted.{Counted, Counts};
 ghost use Rattle.zeb_search.specs.DictRows.{EntryDict};
 ghost use Rattle.zeb_search.specs.Holds.{HasEntry, HasWord};
 ghost use Rattle.zeb_search.specs.ListRows.{EntryRows, rows_under};
 ghost use Rattle.zeb_search.specs.Lists.{AreNumbers, ArePostings};
 ghost use Rattle.zeb_search.specs.PrivateCounts.{CountedMatches};
-ghost use Rattle.zeb_search.specs.PrivateTerms.{AreFound, IsPostingOf, IsWanted, NamesEntry};
+ghost use Rattle.zeb_search.specs.PrivateTerms.{AreFound, AreRun, IsPostingOf, IsWanted, NamesEntry};
 ghost use Rattle.zeb_search.specs.Untouched.{IsUntouched};
 
 use crate::keys::{FoundKeys, keys_wanted};
-use crate::lists::{numbers_among, postings_in_order};
+use crate::lists::{numbers_among, postings_in_order, postings_joined};
 use crate::registers::IndexOf;
 use crate::terms::Wanted;
 use sqlite::{Alter, Connection};
 use std::alloc::Global;
 use zeb_extract::Key;
 use zeb_profile::Register;
-use zeb_register::{DatabaseId, Layout, Posting, RegFault, RegisterOf, Work};
+use zeb_register::{Layout, Posting, RegFault, RegisterOf, Work};
 use zeb_text::Pattern;
 
-/// The postings of the keys; in which order isn't said.
-fn list_of<S: Alter, L: Layout>(
+/// How many lists one statement reads at most, since it holds all their rows at once.
+const GREATEST_RUN: usize = 256;
+
+/// How many lists of these keys one statement may read.
+fn run_of(found: &FoundKeys) -> usize
+    ensures some { 1 ≤ result }
+    ensures several { 2 ≤ result → IsTrue found.now.are_neighbours }
+{
+    if found.are_neighbours {
+        GREATEST_RUN
+    } else {
+        1
+    }
+}
+
+/// The first keys, so many where there are so many, and those behind them.
+fn first_run(keys: &[Key], most: usize) -> (&[Key], &[Key])
+    ensures whole { keys.now ≡ result.0.now ++ result.1.now }
+    ensures lengths { length result.0.now + length result.1.now ≡ length keys.now }
+    ensures some { 1 ≤ most → 1 ≤ length keys.now → 1 ≤ length result.0.now }
+    ensures few { length result.0.now ≤ most }
+{
+    keys.split_at(keys.len().min(most))
+}
+
+/// The postings of one key, or of keys that are neighbours; in which order isn't said. They are read by one statement.
+fn list_of_run<S: Alter, L: Layout>(
     alloc: Global,
     connection: &mut Connection<S>,
     work: &mut Work,
-    database: DatabaseId,
-    keys: &[Key],
+    of: RegisterOf,
+    run: &[Key],
 ) -> Result<Vec<Posting>, RegFault>
+    requires { 1 ≤ length run.now }
     ensures call { Reading (state S.Store connection.old) (state S.Store connection.new) result (λ _. IsUntouched) }
     ensures value { TellsHeld (holds_in L.format) (state S.Store connection.old) (state S.Store connection.new) result
-        (λ content list. (p : Posting) → Has list.items p ↔ IsPostingOf content database.0 keys.now p) }
+        (λ content list. AreRun content of run.now → (p : Posting) → Has list.items p ↔ IsPostingOf content of.db.0 run.now p) }
     ensures honest { IsHonestStorable (holds_in L.format) (state S.Store connection.old) (state S.Store connection.new) result }
     ensures refused { IsReasoned (state S.Store connection.old) (state S.Store connection.new) result }
-    ensures work { OnOk result (Counted L.format NoRows (λ content n. n ≡ rows_under L.block_rows content database.0 keys.now)
-        (state S.Store connection.old) (state S.Store connection.new) work.old work.new) }
+    ensures work { OnOk result (OnStore (state S.Store connection.old) (state S.Store connection.new) (λ trees.
+        (content : Content) → holds_in L.format trees content → AreRun content of run.now
+        → Counts 0 (rows_under L.block_rows content of.db.0 run.now) work.old work.new)) }
     ensures no_work { L.row_work ≡ 0 → work.new ≡ work.old }
 {
-    // A copy of the list of one key would take as long as reading it.
-    if keys.len() == 1 {
-        return L::key_list(alloc, connection, work, database, &keys[0]);
+    if run.len() == 1 {
+        return L::key_list(alloc, connection, work, of.db, &run[0]);
     }
-    let mut postings = Vec::new(alloc);
-    for key in keys {
-        let list = L::key_list(alloc, connection, work, database, key)?;
-        postings.extend_from_slice(&list)?;
-    }
-    Ok(postings)
+    let first = &run[0];
+    let last = &run[run.len() - 1];
+    L::postings_between(
+        alloc,
+        connection,
+        work,
+        of,
+        first.term.as_str(),
+        last.term.as_str(),
+    )
 }
 
-/// The postings of keys that were found; in which order isn't said. Those of neighbours are read by one statement.
+/// The postings of keys that were found; in which order isn't said. One statement reads the lists of up to 256 neighbours.
 fn list_found<S: Alter, L: Layout>(
     alloc: Global,
     connection: &mut Connection<S>,
@@ -75,13 +105,16 @@ fn list_found<S: Alter, L: Layout>(
         → Counts 0 (rows_under L.block_rows content of.db.0 found.now.keys.items) work.old work.new)) }
     ensures no_work { L.row_work ≡ 0 → work.new ≡ work.old }
 {
-    match (found.keys.first(), found.keys.last()) {
-        (Some(first), Some(last)) if found.are_neighbours => {
-            let (first, last) = (first.term.as_str(), last.term.as_str());
-            L::postings_between(alloc, connection, work, of, first, last)
-        }
-        _ => list_of::<S, L>(alloc, connection, work, of.db, &found.keys),
+    let most = run_of(found);
+    let mut postings = Vec::new(alloc);
+    let mut left = found.keys.as_slice();
+    while !left.is_empty() {
+        let (run, behind) = first_run(left, most);
+        let list = list_of_run::<S, L>(alloc, connection, work, of, run)?;
+        postings = postings_joined(postings, list)?;
+        left = behind;
     }
+    Ok(postings)
 }
 
 /// The postings of keys that were found, in order and each once.

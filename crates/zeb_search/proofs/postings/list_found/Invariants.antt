@@ -1,0 +1,31 @@
+use Rattle.std.proofs.Common.{◌≡◌, ◌↔◌, ◌++◌, List, length}
+use Rattle.sqlite.specs.Held.{state}
+use Rattle.sqlite.specs.State.{HasCleanDisk}
+use Rattle.sqlite_rules.specs.Lists.{Has}
+use Rattle.zeb_extract.specs.declared.keys.Key.{Key}
+use Rattle.zeb_register.specs.Clauses.{OnStore}
+use Rattle.zeb_register.specs.Content.{Content, Posting}
+use Rattle.zeb_register.specs.Formats.{holds_in}
+use Rattle.zeb_register.specs.Store.{IsStore}
+use Rattle.zeb_search.specs.Counted.{Counts}
+use Rattle.zeb_search.specs.ListRows.{rows_under}
+use Rattle.zeb_search.specs.PrivateTerms.{AreFound, IsPostingOf}
+use Rattle.zeb_search.proofs.ReadLemmas.{IsRead}
+use Rattle.zeb_search.proofs.postings.list_found.Given as goal
+
+abbrev pub invariant-loop-left : goal.invariant-loop-left
+invariant-loop-left g l =
+    let old = state g.S.Store l.fn.connection in
+    let now = state g.S.Store l.connection in
+    record {
+      read : IsRead old now;
+      done : (done : List Key) × (l.found.keys.items ≡ done ++ l.left)
+          × (HasCleanDisk now → IsStore old → (content : Content) → holds_in g.L.Layout.format old.now.trees content → AreFound content l.of l.found
+          → (p : Posting) → Has l.postings.items p ↔ IsPostingOf content l.of.db.0 done p)
+          × OnStore old now (λ trees. (content : Content) → holds_in g.L.Layout.format trees content → AreFound content l.of l.found
+          → Counts 0 (rows_under g.L.Layout.block_rows content l.of.db.0 done) l.fn.work l.work);
+      no_work : g.L.Layout.row_work ≡ 0 → l.work ≡ l.fn.work;
+    }
+
+abbrev pub decreases-loop-left : goal.decreases-loop-left
+decreases-loop-left g l = length l.left
