@@ -12,7 +12,7 @@ ghost use Rattle.zeb_blocks.specs.Blocks.{BlockSpells};
 ghost use Rattle.zeb_register.specs.Tallies.{Rises};
 
 use crate::registers::TermCount;
-use crate::values::read;
+use crate::values::{read, read_bytes};
 use crate::{DatabaseId, RegFault};
 use sqlite::{Alter, Connection, Row};
 use std::alloc::Global;
@@ -51,8 +51,8 @@ fn add_part(postings: &mut Vec<Posting>, row: &Row) -> Result<(), RegFault>
     ensures unstored { result ≢ Err RegFault.Store }
 {
     let block: u64 = read(row, 0)?;
-    let bytes: Vec<u8> = read(row, 1)?;
-    add_spelled(postings, block, &bytes)
+    let bytes = read_bytes(row, 1)?;
+    add_spelled(postings, block, bytes)
 }
 
 /// Puts the postings that bytes spell in a block behind those before them.

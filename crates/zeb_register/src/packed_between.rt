@@ -17,7 +17,7 @@ use crate::packed::{add_spelled, counted};
 use crate::registers::{RegisterOf, Work};
 use crate::statements::between::block_rows_between;
 use crate::terms::text_above;
-use crate::values::read;
+use crate::values::{read, read_bytes};
 use sqlite::{Alter, Connection, Row};
 use std::alloc::Global;
 use zeb_blocks::Posting;
@@ -67,6 +67,6 @@ fn add_behind(postings: &mut Vec<Posting>, row: &Row) -> Result<(), RegFault>
     ensures unstored { result ≢ Err RegFault.Store }
 {
     let block: u64 = read(row, 1)?;
-    let bytes: Vec<u8> = read(row, 2)?;
-    add_spelled(postings, block, &bytes)
+    let bytes = read_bytes(row, 2)?;
+    add_spelled(postings, block, bytes)
 }

@@ -18,7 +18,7 @@ use crate::RegFault;
 use crate::packed::counted;
 use crate::registers::{RegisterOf, Work};
 use crate::statements::packed::block_rows;
-use crate::values::read;
+use crate::values::{read, read_bytes};
 use sqlite::{Alter, Connection, Row};
 use zeb_blocks::Postings;
 
@@ -73,8 +73,8 @@ fn row_postings(row: &Row) -> Result<u64, RegFault>
     ensures unstored { result ≢ Err RegFault.Store }
 {
     let block: u64 = read(row, 0)?;
-    let bytes: Vec<u8> = read(row, 1)?;
-    let Ok(part) = Postings::read(block, &bytes) else {
+    let bytes = read_bytes(row, 1)?;
+    let Ok(part) = Postings::read(block, bytes) else {
         return Err(RegFault::Damaged);
     };
     Ok(part.len() as u64)

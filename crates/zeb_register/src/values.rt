@@ -1,6 +1,6 @@
 //! Numbers on their way into a row, and values on their way out.
 
-ghost use Rattle.std.specs.Prelude.{◌≡◌, ◌≢◌, ◌<◌, ◌≤◌, ◌^◌, true, false, pos, length, IfOk, IfErr, FitsSigned};
+ghost use Rattle.std.specs.Prelude.{◌≡◌, ◌≢◌, ◌<◌, ◌≤◌, ◌^◌, ℕ, List, true, false, pos, length, IfOk, IfErr, FitsSigned};
 ghost use Rattle.std.specs.Int.{w64};
 ghost use Rattle.sqlite.specs.declared.types.Value.TheVariants.{Blob, Int, Text};
 ghost use Rattle.sqlite.specs.Values.{IsInt};
@@ -38,6 +38,18 @@ pub(crate) fn read_integer(row: &Row, at: usize) -> Result<i64, RegFault>
     ensures unstored { result ≢ Err RegFault.Store }
 {
     read(row, at)
+}
+
+/// The bytes at this place of a row, as they lie there. `Damaged` where it is of another type.
+pub(crate) fn read_bytes(row: &Row, at: usize) -> Result<&[u8], RegFault>
+    ensures ok { IfOk result (λ bytes. column row.now at ≡ Blob bytes.now) }
+    ensures honest { result ≡ Err RegFault.Damaged → (bytes : List ℕ) → column row.now at ≢ Blob bytes }
+    ensures unstored { result ≢ Err RegFault.Store }
+{
+    match row.get_ref(at) {
+        Ok(ValueRef::Blob(bytes)) => Ok(bytes),
+        _ => Err(RegFault::Damaged),
+    }
 }
 
 /// Whether the value at this place of a row is this number.
