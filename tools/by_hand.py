@@ -32,6 +32,7 @@ MADE_BY_HAND = {
     "crates/zeb_program/src/files.rt": (["readers_of", "contents_of"], "more files than could be held"),
     "crates/zeb_program/src/memory.rt": (["open_in_memory"], "whatever fails as a store is opened"),
     "crates/zeb_program/src/tasks.rt": (["open_register"], "an open that failed"),
+    "crates/small_catalogue/src/lib.rt": (["open"], "an open that failed"),
 }
 
 GHOST = re.compile(r"\bghost\s+use\b[^;]*;|\b(?:requires|ensures)\b\*?\s*(?:\w+\s*)?(?=\{)|\bghost\s+\w+\s*[:=]\s*(?=\{)")

@@ -69,7 +69,7 @@ impl From<AllocError> for Refusal {
     }
 }
 
-/// The engine itself asks only a commit of the store.
+/// The engine itself asks only a commit of the store: whoever opens one tells a failed open as `Store`.
 impl From<sqlite::Error> for Refusal {
     ghost use Rattle.zeb_change.specs.declared.refusals.Refusal.TheVariants.{Commit};
 

@@ -16,7 +16,7 @@ use Rattle.zeb_change.specs.declared.refusals.Refusal.{Refusal}
 use Rattle.zeb_change.specs.declared.refusals.Refusal.TheVariants as refusal
 use Rattle.zeb_change.specs.Conditions.{Conditions}
 use Rattle.zeb_change.specs.Outcomes.{query_refusal, register_refusal}
-use Rattle.zeb_change.specs.Refused.{why_of}
+use Rattle.zeb_change.specs.Refused.{out_of_memory, store_failed, why_of}
 use Rattle.zeb_engine.specs.Adopting.{StaysOpen}
 use Rattle.zeb_engine.specs.Analysed.{IsAnalysed}
 use Rattle.zeb_engine.specs.Answers.{answer_of, refused}
@@ -25,14 +25,14 @@ use Rattle.zeb_engine.specs.declared.replies.Reply.{Reply}
 use Rattle.zeb_engine.proofs.OwnAnswers.{IsOwn, analysed_own}
 
 -- a fault of the tables that is answered as a failed store is one
-pub fault_caused : {X : Type 0} (fault : RegFault) → (fault ≡ register.Store → X) → register_refusal fault ≡ refusal.Store → X
+pub fault_caused : {X : Type 0} (fault : RegFault) → (fault ≡ register.Store → X) → why_of (register_refusal fault) ≡ store_failed → X
 fault_caused register.Damaged caused is = absurd cc
 fault_caused register.Store caused is = caused refl
 fault_caused register.Memory caused is = absurd cc
 
 -- this refusal, where it is a failed store, has a cause
 abbrev pub HasCauseFor : State → State → Refusal → Type 0
-HasCauseFor old new why = IsStore old → why ≡ refusal.Store → MayRefuse old new
+HasCauseFor old new why = IsStore old → why_of why ≡ store_failed → MayRefuse old new
 
 -- a refusal that is passed on
 pub passed_cause : {T : Type 0} (old new : State) (why : Refusal) (result : Result T Refusal) → result ≡ Err why → HasCauseFor old new why → HasStoreCause old new result
@@ -47,8 +47,8 @@ query_caused old new query.Memory store is = absurd cc
 pub analysis_caused : (c : Conditions) (texts : List (List ℕ)) (old new : State) (result : Result Reply Refusal)
     → IsAnalysed c.profile c.limits.records texts (answer_of result) ⊎ (result ≡ Err refusal.Memory) → HasStoreCause old new result
 analysis_caused c texts old new (Ok reply) told store = tt
-analysis_caused c texts old new (Err why) (inl said) store = λ is. absurd (subst (λ (r : Refusal). IsOwn (why_of r)) is (analysed_own c texts (refused (why_of why)) said))
-analysis_caused c texts old new (Err why) (inr memory) store = λ is. absurd (let same : why ≡ refusal.Memory = cc in let e : refusal.Memory ≡ refusal.Store = sym same ∙ is in cc)
+analysis_caused c texts old new (Err why) (inl said) store = λ is. absurd (subst IsOwn is (analysed_own c texts (refused (why_of why)) said))
+analysis_caused c texts old new (Err why) (inr memory) store = λ is. absurd (let same : why ≡ refusal.Memory = cc in let e : out_of_memory ≡ store_failed = sym (ap why_of same) ∙ is in cc)
 
 -- ---- calls behind others
 

@@ -15,6 +15,7 @@ use Rattle.zeb_register.proofs.Causes.{may_after}
 use Rattle.zeb_change.specs.declared.refusals.Refusal.{Refusal}
 use Rattle.zeb_change.specs.declared.refusals.Refusal.TheVariants.{Store}
 use Rattle.zeb_change.specs.Outcomes.{register_refusal}
+use Rattle.zeb_change.specs.Refused.{why_of}
 use Rattle.zeb_engine.specs.Causes.{HasCauseOver, HasStoreCause}
 use Rattle.zeb_engine.specs.PrivateWriting.{HindersWrite}
 use Rattle.zeb_engine.specs.declared.writes.Write.{Write}
@@ -34,7 +35,7 @@ module _ {T : Type 0} (Hinders : Trees → Type 0) (old new : State) where
   -- a call that no tables hinder
   pub cause_over : (result : Result T Refusal) → HasStoreCause old new result → HasCauseOver Hinders old new result
   cause_over (Ok x) caused store = tt
-  cause_over (Err why) caused store = λ is. inl (caused store is)
+  cause_over (Err why) caused store = λ is. inl (caused store (ap why_of is))
 
   -- a call of which nothing is said over any tables
   pub unsaid : (result : Result T Refusal) → ((trees : Trees) → Hinders trees) → HasCauseOver Hinders old new result
@@ -54,17 +55,12 @@ module _ {T : Type 0} (Hinders : Trees → Type 0) (old new : State) where
     | inr shut ↦ inl (inl shut)
   ]
 
--- what no tables hinder has a cause
-pub cause_alone : {T : Type 0} (old new : State) (result : Result T Refusal) → HasCauseOver (λ _. ⊥) old new result → HasStoreCause old new result
-cause_alone old new (Ok x) caused store = tt
-cause_alone old new (Err why) caused store = λ is. elim (caused store is) [ inl cause ↦ cause | inr none ↦ absurd none ]
-
 -- the work of a write inside its transaction, which is given up
 pub write_caused : {S T A : Type 0} (g : Ghosts S) (w : Write) (old inside : Held S) (mid new : State) (fault : RegFault) → inside ≡ record old { in_transaction = true }
     → HasCleanDisk mid → mid.faults ≤ new.faults → IsHinderedInside {A = A} (state g inside) mid (Err fault) (HindersWrite w) → HasCauseOver {T = T} (HindersWrite w) (state g old) new (Err (register_refusal fault))
 write_caused g w old inside mid new fault begins clean counts caused store =
     let begun = subst (λ (held : Held _). IsHinderedInside (state g held) mid (Err fault) (HindersWrite w)) begins caused in
-    fault_caused fault (λ is. elim (begun clean refl (record { is = store.is; sound = store.sound; keyed = store.keyed }) (ap Err is)) [
+    λ said. fault_caused fault (λ is. elim (begun clean refl (record { is = store.is; sound = store.sound; keyed = store.keyed }) (ap Err is)) [
       | inl cause ↦ inl (may_later (state g old) mid new counts cause)
       | inr hinders ↦ inr hinders
-    ])
+    ]) (ap why_of said)

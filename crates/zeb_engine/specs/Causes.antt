@@ -6,16 +6,18 @@ use Rattle.zeb_register.specs.Calls.{MayRefuse}
 use Rattle.zeb_register.specs.Hindrances.{LacksRowids}
 use Rattle.zeb_register.specs.Store.{IsStore, databases_tree}
 use Rattle.zeb_change.specs.declared.refusals.Refusal.{Refusal}
+use Rattle.zeb_change.specs.Refused.{store_failed, why_of}
 use Rattle.zeb_change.specs.declared.refusals.Refusal.TheVariants.{Store}
 use Rattle.zeb_engine.specs.declared.commands.Command.{Command}
 use Rattle.zeb_engine.specs.declared.commands.Command.TheVariants.{Init, Create, Change, Reindex, Upgrade}
 
--- On the tables of a store it has a cause: the connection was shut, the disk failed during the call, or a limit on steps is set.
+-- On the tables of a store it has a cause: the connection was shut, the disk failed during the call, or a limit on steps is set. A failed
+-- commit is asked for one too.
 abbrev pub HasStoreCause : {T : Type 0} → State → State → Result T Refusal → Type 0
-HasStoreCause old new result = IsStore old → IfErr result (λ refusal. refusal ≡ Store → MayRefuse old new)
+HasStoreCause old new result = IsStore old → IfErr result (λ refusal. why_of refusal ≡ store_failed → MayRefuse old new)
 
 -- What of the tables may hinder a command, beside such a cause: a new database needs a rowid above the last. A drop and the commands that
--- only ask are hindered by nothing. Of the others, which put rows into more than one table, nothing is said.
+-- only ask are hindered by nothing. Of the others, which put texts, records or rows of the registers, nothing is said.
 abbrev pub MayHinder : Command → Trees → Type 0
 MayHinder Init trees = Unit {0}
 MayHinder (Create name) trees = LacksRowids 1 databases_tree trees
@@ -24,7 +26,8 @@ MayHinder Reindex trees = Unit {0}
 MayHinder Upgrade trees = Unit {0}
 MayHinder command trees = ⊥
 
--- the same of a call that these tables may hinder too
+-- The store failed before the commit for such a cause, or the tables hinder the call. A failed commit may come of want of memory, which has
+-- no cause.
 abbrev pub HasCauseOver : {T : Type 0} → (Trees → Type 0) → State → State → Result T Refusal → Type 0
 HasCauseOver Hinders old new result =
     IsStore old → IfErr result (λ refusal. refusal ≡ Store → MayRefuse old new ⊎ Hinders old.now.trees)

@@ -9,7 +9,7 @@ ghost use Rattle.zeb_register.specs.Formats.{version_of};
 ghost use Rattle.zeb_search.specs.Registers.{has_ident_in};
 ghost use Rattle.zeb_change.specs.declared.settings.Limits.{Limits};
 ghost use Rattle.zeb_engine.specs.Answers.{answer_of, refused, IsFailure};
-ghost use Rattle.zeb_change.specs.Refused.{why_of, NeverUnready, Meets};
+ghost use Rattle.zeb_change.specs.Refused.{why_of, store_failed, NeverUnready, Meets};
 ghost use Rattle.zeb_change.specs.Conditions.{conditions};
 ghost use Rattle.zeb_engine.specs.Alone.{Alone, FindSays, HidesOne, RefusedAlone, RefusesFind};
 ghost use Rattle.zeb_engine.specs.Finding.{AreShown, asked_of};
@@ -88,7 +88,7 @@ fn asked_for<'a>(
     question: &Question<'_>,
 ) -> Result<&'a [u64], Refusal>
     ensures asked { Meets (λ wanted asked. asked.now ≡ wanted) (asked_of hits.now question.now.first question.now.count) result }
-    ensures unstored { result ≢ Err Refusal.Store }
+    ensures unstored { IfErr result (λ refusal. why_of refusal ≢ store_failed) }
     ensures unread { NoReadFault result }
     ensures ready { NeverUnready result }
 {

@@ -24,7 +24,7 @@ ghost use Rattle.zeb_change.specs.Inside.{Stays};
 ghost use Rattle.zeb_engine.specs.Works.{IsReady, Serves, Works};
 ghost use Rattle.zeb_engine.specs.PrivateWriting.{AreOf, Begins, CommitsRemade, IsFree, IsKnown, FailsAlone, Fits, HindersWrite};
 ghost use Rattle.zeb_engine.specs.PrivateWriting.{IsReached, IsRuled, IsUpgradable, PutsTexts, ReadsSound, Remakes, answered, written};
-ghost use Rattle.zeb_engine.specs.PrivateConnections.{CommitsNothing, CommitsUnder, FailsForCause, ServesUnder};
+ghost use Rattle.zeb_engine.specs.PrivateConnections.{CommitsNothing, CommitsUnder, ServesUnder};
 
 use crate::readiness::{IDENTIFIER, PROFILE, VERSION, existing_database};
 use crate::replies::Reply;
@@ -326,7 +326,8 @@ pub(crate) fn drop_database<S: Alter, L: Layout>(
         → Commits (IsReady c) (turned c (dropped (name_bytes name.now))) (state S.Store connection.old) db) }
     ensures unread { NoReadFault result }
     ensures ready { NeverUnready result }
-    ensures caused { FailsForCause S.Store connection.old connection.new result }
+    ensures caused { HasCleanDisk (state S.Store connection.new)
+        → HasCauseOver (λ _. ⊥) (state S.Store connection.old) (state S.Store connection.new) result }
 {
     let database = existing_database::<S, L>(alloc, connection, name)?;
     transact::<S, L>(connection, &Write::Drop(name, database.id))

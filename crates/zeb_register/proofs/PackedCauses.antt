@@ -91,7 +91,7 @@ module _ (db : ℤ) (key : Key) (xs : List RecordChange) (d n : ℕ) (below : d 
       → HindersChanges 1 db key before (run xs d n) mid → HindersChanges (length xs) db key records xs first
   run_hinders records before first mid grows takes spells (inl wide) = let within = run_within xs d n (omega (arith, below)) in inl (omega (arith, wide, grows, within))
   run_hinders records before first mid grows takes spells (inr (inl (inl many))) = absurd (omega (arith, many))
-  run_hinders records before first mid grows takes spells (inr (inl (inr lacks))) = elim (cases_lt (1 + d) (2 ^ 62)) [
+  run_hinders records before first mid grows takes spells (inr (inl (inr lacks))) = elim (cases_lt (1 + d) (2 ^ 63)) [
     | inr high ↦ inr (inl (inl (omega (arith, high, below))))
     | inl few ↦ elim (has_or_lacks (1 + d) blocks_tree first) [
       | inl has ↦ absurd (not_both 1 blocks_tree mid (takes 1 few has) lacks)

@@ -55,10 +55,10 @@ rows_front : (it : Placed) (rest : List Placed) → rows_of (it ∷ rest) ≡ 1 
 rows_front it rest = sum_by-cons (λ (p : Placed). 1 + length p.1) it rest
 
 -- a table that lacks rowids for some rows behind others lacked them for all of these
-lacked : (before more most tree : ℕ) (old mid : Trees) → TakesRowids before tree old mid → before + more ≤ most → LacksRowids more tree mid → (2 ^ 62 ≤ most) ⊎ LacksRowids most tree old
+lacked : (before more most tree : ℕ) (old mid : Trees) → TakesRowids before tree old mid → before + more ≤ most → LacksRowids more tree mid → (2 ^ 63 ≤ most) ⊎ LacksRowids most tree old
 lacked before more most tree old mid takes within lacks = elim (has_or_lacks (more + before) tree old) [
   | inr none ↦ inr (lacks_more (more + before) most tree old (omega (arith, within)) none)
-  | inl has ↦ elim (cases_lt most (2 ^ 62)) [
+  | inl has ↦ elim (cases_lt most (2 ^ 63)) [
     | inl few ↦ absurd (not_both more tree mid (takes more (omega (arith, within, few)) has) lacks)
     | inr many ↦ inl many
   ]

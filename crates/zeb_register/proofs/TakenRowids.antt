@@ -105,7 +105,7 @@ pub takes_none : (tree : ℕ) (old new : Trees) → new tree ≡ old tree → Ta
 takes_none tree old new same = takes_kept tree old new (λ id columns here. (columns, subst (λ rows. Has rows (Int id ∷ columns)) same here))
 
 -- the rowid that a new row gets leaves all others that were left
-next_leaves : (left : ℕ) (rows : List Row) → IsKeyed rows → left + 1 < 2 ^ 62 → ((id : ℤ) (columns : Row) → Has rows (Int id ∷ columns) → leaves (left + 1) id ≡ true)
+next_leaves : (left : ℕ) (rows : List Row) → IsKeyed rows → left + 1 < 2 ^ 63 → ((id : ℤ) (columns : Row) → Has rows (Int id ∷ columns) → leaves (left + 1) id ≡ true)
     → leaves left (next_rowid rows) ≡ true
 next_leaves left rows keyed below has = elim (next_from rows (pos 1)) [
   | inl first ↦ subst (λ id. leaves left id ≡ true) (sym first) (and_from (fits_i64 (pos 1)) (fits_i64 (pos 1 +ℤ pos left)) refl (lt-ltb (1 + left) (2 ^ 63) (omega (arith, below))))

@@ -232,15 +232,15 @@ abbrev pub IsHinderedWrite : List ℕ → Row → (Trees → Type 0) → Type 1
 IsHinderedWrite sql params Hindering =
     (old new : State) (r : Result ℕ Error) → IsStore old → ExecutesInside 0 sql params old new r → IfErr r (λ e. fault_of e ≡ Store → MayRefuse old new ⊎ Hindering old.now.trees)
 
--- the same, where no rule of the tables refuses it
+-- the same, where nothing hinders it
+abbrev pub IsReasonedWrite : List ℕ → Row → Type 1
+IsReasonedWrite sql params = (old new : State) (r : Result ℕ Error) → IsStore old → ExecutesInside 0 sql params old new r → IfErr r (λ e. fault_of e ≡ Store → MayRefuse old new)
+
+-- where no rule of the tables refuses it, it has a reason, or this hinders the row
 abbrev pub IsUnbrokenWrite : List ℕ → Row → (Trees → Type 0) → Type 1
 IsUnbrokenWrite sql params Hindering =
     (old new : State) (r : Result ℕ Error) → IsStore old → ExecutesInside 0 sql params old new r
     → IfErr r (λ e. fault_of e ≡ Store → ((rule : Constraint) → e ≢ SqliteFailure (ConstraintViolation rule)) → MayRefuse old new ⊎ Hindering old.now.trees)
-
--- the same, where nothing hinders it
-abbrev pub IsReasonedWrite : List ℕ → Row → Type 1
-IsReasonedWrite sql params = (old new : State) (r : Result ℕ Error) → IsStore old → ExecutesInside 0 sql params old new r → IfErr r (λ e. fault_of e ≡ Store → MayRefuse old new)
 
 module _ (sql : List ℕ) (params : Row) (at : ℕ) (table : Table) (static : IsPlainTable store_schema at table) (wheres : List Condition)
     (is : command_of (understood store_schema sql) ≡ Delete at (alone (reading table.tree wheres (shows (0 ∷ [])) [] no_limit)))

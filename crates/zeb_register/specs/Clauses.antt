@@ -86,7 +86,7 @@ IsHinderedInside old new result Hindering = InStore old new (λ trees. result �
 abbrev pub IsHinderedErrorInside : {A : Type 0} → State → State → Result A Error → (Trees → Type 0) → Type 0
 IsHinderedErrorInside old new result Hindering = InStore old new (λ trees. IfErr result (λ e. fault_of e ≡ Store → MayRefuse old new ⊎ Hindering trees))
 
--- where it is accepted, this table has at most so many new rows
+-- where it is accepted, it takes at most so many of the rowids above the last of this table
 abbrev pub TakesInside : {A E : Type 0} → State → State → Result A E → ℕ → ℕ → Type 0
 TakesInside old new result count tree = InStore old new (λ trees. OnOk result (TakesRowids count tree trees new.now.trees))
 

@@ -45,9 +45,10 @@ HindersLast id last trees =
 abbrev pub HasRowids : ℕ → ℕ → Trees → Type 0
 HasRowids count tree trees = (id : ℤ) (columns : Row) → Has (trees tree) (Int id ∷ columns) → IsTrue (fits_i64 id && fits_i64 (id +ℤ pos count))
 
--- At most so many rows are new: of the rowids that were left all but so many are left. A table without rows has no last one to count from.
+-- At most so many of the rowids above the last one are taken: of those that were left all but so many are left. A table without rows has no
+-- last one to count from.
 abbrev pub TakesRowids : ℕ → ℕ → Trees → Trees → Type 0
-TakesRowids count tree old new = (left : ℕ) → left + count < 2 ^ 62 → HasRowids (left + count) tree old → HasRowids left tree new
+TakesRowids count tree old new = (left : ℕ) → left + count < 2 ^ 63 → HasRowids (left + count) tree old → HasRowids left tree new
 
 -- the same of each table of the registers
 abbrev pub TakesRegisterRowids : ℕ → Trees → Trees → Type 0
@@ -56,7 +57,7 @@ TakesRegisterRowids count old new = TakesRowids count postings_tree old new × T
 -- one of these tables lacks rowids for so many rows, or they are more than any table is asked for
 abbrev pub LacksRegisterRowids : ℕ → Trees → Type 0
 LacksRegisterRowids count trees =
-    (2 ^ 62 ≤ count) ⊎ (LacksRowids count postings_tree trees ⊎ (LacksRowids count blocks_tree trees ⊎ LacksRowids count dict_tree trees))
+    (2 ^ 63 ≤ count) ⊎ (LacksRowids count postings_tree trees ⊎ (LacksRowids count blocks_tree trees ⊎ LacksRowids count dict_tree trees))
 
 -- ---- why the tables of the registers may not take new places of a key
 
@@ -71,7 +72,7 @@ placed change = (change.sysno, change.new.now)
 abbrev pub IsStorablePlaced : Placed → Type 0
 IsStorablePlaced it = ((1 ≤ it.0) × (it.0 < 2 ^ 63)) × AreStorablePlaces it.1
 
--- how many rows these take at most, in any table of the registers
+-- how many rows these take at most, in any table of the registers: one for each place, and one for each record, also where that gets none
 abbrev pub rows_of : List Placed → ℕ
 rows_of = sum_by (λ it. 1 + length it.1)
 
@@ -84,8 +85,8 @@ abbrev pub IsSpelledAt : ℤ → Key → Trees → Posting → Type 0
 IsSpelledAt db key trees p =
     (block : ℕ) × (bytes : List ℕ) × (list : List Posting) × HasRow trees blocks_tree (block_row db key block bytes) × BlockSpells block list bytes × Has list p
 
--- A row of the key is larger than a store takes: its text, with the bytes that spell postings of one block which stand there or are new.
--- A row without such bytes has but its text.
+-- A row of the key may be larger than a store takes: its text, with the bytes that spell postings of one block which stand there or are new,
+-- and 300 for its other columns, which take less. A row without such bytes has but its text.
 abbrev pub HasLargeRow : ℤ → Key → List Placed → Trees → Type 0
 HasLargeRow db key given trees =
     (10 ^ 9 < 300 + length key.term)

@@ -44,7 +44,7 @@ IsPut changes = IsPlacedAt (map placed changes)
 abbrev pub HindersChanges : ℕ → ℤ → Key → ℕ → List RecordChange → Trees → Type 0
 HindersChanges count db key records changes trees =
     (2 ^ 63 ≤ records + length changes)
-    ⊎ (((2 ^ 62 ≤ count) ⊎ LacksRowids count blocks_tree trees) ⊎ HasLargeRow db key (map placed changes) trees)
+    ⊎ (((2 ^ 63 ≤ count) ⊎ LacksRowids count blocks_tree trees) ⊎ HasLargeRow db key (map placed changes) trees)
 
 -- changes of one block are refused as `Store` only for such a cause, where so many records have the key
 abbrev pub IsHinderedRun : ℤ → Key → List RecordChange → ℕ → State → State → Result ℕ RegFault → Type 0

@@ -67,7 +67,7 @@ HindersPlace db key sysno place trees =
 abbrev pub HindersRows : Key → List Placed → Trees → Type 0
 HindersRows key given trees =
     (¬ AllByRecursion IsStorablePlaced given)
-    ⊎ ((2 ^ 62 ≤ rows_of given) ⊎ (LacksRowids (rows_of given) postings_tree trees ⊎ (10 ^ 9 < 300 + length key.term)))
+    ⊎ ((2 ^ 63 ≤ rows_of given) ⊎ (LacksRowids (rows_of given) postings_tree trees ⊎ (10 ^ 9 < 300 + length key.term)))
 
 -- these postings are put, and nothing else is changed
 pub record Puts (db : ℤ) (key : Key) (sysno : ℕ) (places : List Place) (old new : State) : Type 0 where

@@ -14,7 +14,7 @@ ghost use Rattle.zeb_engine.specs.Crashes.{Commits};
 ghost use Rattle.zeb_engine.specs.Steps.{created, dropped, turned};
 ghost use Rattle.zeb_engine.specs.Transactions.{Commanded};
 ghost use Rattle.zeb_engine.specs.Works.{Always, Serves};
-ghost use Rattle.zeb_engine.specs.PrivateConnections.{FailsForCause, TellsReady};
+ghost use Rattle.zeb_engine.specs.PrivateConnections.{TellsReady};
 
 use crate::readiness::check_ready;
 use crate::replies::Reply;
@@ -59,7 +59,8 @@ impl<S: Alter, L: Layout> Session<S, L> {
         ensures unread { NoReadFault result }
         ensures ready { TellsReady S.Store (version_of L.format) self.old.profile self.old.connection self.new.connection result }
         ensures unworked { self.new.work ≡ self.old.work }
-        ensures caused { FailsForCause S.Store self.old.connection self.new.connection result }
+        ensures caused { HasCleanDisk (state S.Store self.new.connection) → HasCauseOver (λ _. ⊥)
+            (state S.Store self.old.connection) (state S.Store self.new.connection) result }
     {
         check_ready::<S, L>(&mut self.connection, &self.profile)?;
         drop_database::<S, L>(self.alloc, &mut self.connection, name)

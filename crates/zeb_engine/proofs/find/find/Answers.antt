@@ -181,7 +181,7 @@ pub returns-in_err-asked-clause-caused : goal.returns-in_err-asked-clause-caused
 returns-in_err-asked-clause-caused g c clean store =
     let refusal = c.in_err-asked.field-0.0 in
     let told : c.from_residual-in_err-asked.result ≡ Err refusal = search rules in
-    rw told (λ is. absurd (c.in_err-asked.ensures.unstored (ap Err is)))
+    rw told (λ is. absurd (c.in_err-asked.ensures.unstored is))
 
 pub returns-in_err-shown-clause-found : goal.returns-in_err-shown-clause-found
 returns-in_err-shown-clause-found g c clean opened limits before bases is keeps =

@@ -7,6 +7,7 @@ use Rattle.zeb_register.specs.declared.catalog.Database.{Database}
 use Rattle.zeb_change.specs.declared.refusals.Refusal.TheVariants.{Exists}
 use Rattle.zeb_image.specs.NameOf.{name_bytes}
 use Rattle.zeb_change.specs.Outcomes.{register_refusal}
+use Rattle.zeb_change.specs.Refused.{why_of}
 use Rattle.zeb_engine.specs.Steps.{turned, created}
 use Rattle.zeb_engine.specs.Works.{IsReady, Serves}
 use Rattle.zeb_engine.proofs.Crashing.{survives_after}
@@ -78,7 +79,7 @@ pub returns-in_err-found-clause-caused : goal.returns-in_err-found-clause-caused
 returns-in_err-found-clause-caused g c clean store =
     let fault = c.in_err-found.field-0.0 in
     let told : c.from_residual.result ≡ Err (register_refusal fault) = search rules in
-    rw told (λ is. inl (fault_caused fault (λ failed. c.in_err-found.ensures.refused clean store (ap Err failed)) is))
+    rw told (λ is. inl (fault_caused fault (λ failed. c.in_err-found.ensures.refused clean store (ap Err failed)) (ap why_of is)))
 
 pub returns-in-Some-clause-caused : goal.returns-in-Some-clause-caused
 returns-in-Some-clause-caused g c clean store = λ is. absurd cc

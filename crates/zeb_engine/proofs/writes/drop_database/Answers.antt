@@ -10,8 +10,8 @@ use Rattle.zeb_engine.proofs.Serving.{keeps_still, early_serves}
 use Rattle.zeb_engine.proofs.NamedDatabases.{known_there}
 use Rattle.zeb_engine.proofs.Turns.{step_missing}
 use Rattle.zeb_engine.proofs.writes.drop_database.Goals as goal
-use Rattle.zeb_engine.proofs.StoreCauses.{accepted_leaves, cause_after, passed_cause}
-use Rattle.zeb_engine.proofs.WriteCauses.{cause_alone}
+use Rattle.zeb_engine.proofs.StoreCauses.{accepted_leaves, passed_cause}
+use Rattle.zeb_engine.proofs.WriteCauses.{cause_over, over_after}
 
 pub returns-in_err-database-clause-serves : goal.returns-in_err-database-clause-serves
 returns-in_err-database-clause-serves g c clean k home =
@@ -56,14 +56,15 @@ returns-clause-survives g c =
 
 pub returns-in_err-database-clause-caused : goal.returns-in_err-database-clause-caused
 returns-in_err-database-clause-caused g c clean =
-    passed_cause (state g.S.Store c.args.connection.now) (state g.S.Store c.existing_database.new.connection) c.in_err-database.field-0.0 c.from_residual.result (search rules)
-    (c.in_err-database.ensures.caused clean)
+    let old = state g.S.Store c.args.connection.now in
+    let mid = state g.S.Store c.existing_database.new.connection in
+    let result = c.from_residual.result in
+    cause_over (λ _. ⊥) old mid result (passed_cause old mid c.in_err-database.field-0.0 result (search rules) (c.in_err-database.ensures.caused clean))
 
 pub returns-clause-caused : goal.returns-clause-caused
 returns-clause-caused g c clean =
     let old = state g.S.Store c.args.connection.now in
     let mid = state g.S.Store c.existing_database.new.connection in
-    let new = state g.S.Store c.transact.new.connection in
     let first : HasCleanDisk mid = omega (arith, c.transact.ensures.survives.clean) in
     let looked = accepted_leaves old mid c.existing_database.ensures.crash (c.in_ok-database.ensures.found first) (c.existing_database.ensures.same first) in
-    cause_after old mid new looked c.transact.result (cause_alone mid new c.transact.result (c.transact.ensures.caused clean))
+    over_after (λ _. ⊥) old (state g.S.Store c.transact.new.connection) mid looked c.transact.result (c.transact.ensures.caused clean)

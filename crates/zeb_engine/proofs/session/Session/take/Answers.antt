@@ -9,7 +9,8 @@ use Rattle.zeb_engine.proofs.Crashing.{survives_after}
 use Rattle.zeb_engine.proofs.session.Session.take.Goals as goal
 use Rattle.zeb_register.specs.Formats.{version_of}
 use Rattle.zeb_engine.proofs.ReadyTexts.{passed_texts, ready_then}
-use Rattle.zeb_engine.proofs.StoreCauses.{accepted_leaves, cause_after, passed_cause}
+use Rattle.zeb_engine.proofs.StoreCauses.{accepted_leaves, passed_cause}
+use Rattle.zeb_engine.proofs.WriteCauses.{cause_over, over_after}
 
 pub returns-in_err-check_ready-clause-serves : goal.returns-in_err-check_ready-clause-serves
 returns-in_err-check_ready-clause-serves g c clean =
@@ -50,13 +51,12 @@ returns-in_err-check_ready-clause-caused g c clean =
     let old = state g.S.Store c.args.self.now.connection in
     let mid = state g.S.Store c.check_ready.new.connection in
     let result = c.from_residual.result in
-    passed_cause old mid c.in_err-check_ready.field-0.0 result (search rules) (c.in_err-check_ready.ensures.caused clean)
+    cause_over (λ _. ⊥) old mid result (passed_cause old mid c.in_err-check_ready.field-0.0 result (search rules) (c.in_err-check_ready.ensures.caused clean))
 
 pub returns-clause-caused : goal.returns-clause-caused
 returns-clause-caused g c clean =
     let old = state g.S.Store c.args.self.now.connection in
     let mid = state g.S.Store c.check_ready.new.connection in
-    let new = state g.S.Store c.drop_database.new.connection in
     let first : HasCleanDisk mid = omega (arith, c.drop_database.ensures.survives.clean) in
     let looked = accepted_leaves old mid c.check_ready.ensures.crash (c.in_ok-check_ready.ensures.open first) (c.check_ready.ensures.same first) in
-    cause_after old mid new looked c.drop_database.result (c.drop_database.ensures.caused clean)
+    over_after (λ _. ⊥) old (state g.S.Store c.drop_database.new.connection) mid looked c.drop_database.result (c.drop_database.ensures.caused clean)
