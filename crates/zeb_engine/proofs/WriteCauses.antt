@@ -1,5 +1,5 @@
 -- Why the store may have failed in a command that writes.
-use Rattle.std.proofs.Common.{◌≡◌, ◌⊎◌, ◌≤◌, ℕ, ℤ, List, length, true, false, IsTrue, Result, Ok, Err, ap, arith, inl, inr, refl, subst, sym}
+use Rattle.std.proofs.Common.{◌≡◌, ◌⊎◌, ◌≤◌, ℕ, ℤ, List, length, true, false, IsTrue, Result, Ok, Err, IfErr, ap, arith, inl, inr, refl, subst, sym}
 use Rattle.std.proofs.lemmas.Bool.{cases_Bool}
 use Rattle.sqlite.specs.Held.{Held, state}
 use Rattle.sqlite.specs.State.{State, HasCleanDisk}
@@ -15,7 +15,7 @@ use Rattle.zeb_register.proofs.Causes.{may_after}
 use Rattle.zeb_change.specs.declared.refusals.Refusal.{Refusal}
 use Rattle.zeb_change.specs.declared.refusals.Refusal.TheVariants.{Store}
 use Rattle.zeb_change.specs.Outcomes.{register_refusal}
-use Rattle.zeb_change.specs.Refused.{why_of}
+use Rattle.zeb_change.specs.Refused.{store_failed, why_of}
 use Rattle.zeb_engine.specs.Causes.{HasCauseOver, HasStoreCause}
 use Rattle.zeb_engine.specs.PrivateWriting.{HindersWrite}
 use Rattle.zeb_engine.specs.declared.writes.Write.{Write}
@@ -54,6 +54,12 @@ module _ {T : Type 0} (Hinders : Trees → Type 0) (old new : State) where
         ]
     | inr shut ↦ inl (inl shut)
   ]
+
+-- a command that only asks
+pub asked_cause : {T : Type 0} (old new : State) (result : Result T Refusal) → HasStoreCause old new result
+    → IsStore old → IfErr result (λ refusal. why_of refusal ≡ store_failed → MayRefuse old new ⊎ ⊥)
+asked_cause old new (Ok x) caused store = tt
+asked_cause old new (Err why) caused store = λ is. inl (caused store is)
 
 -- the work of a write inside its transaction, which is given up
 pub write_caused : {S T A : Type 0} (g : Ghosts S) (w : Write) (old inside : Held S) (mid new : State) (fault : RegFault) → inside ≡ record old { in_transaction = true }

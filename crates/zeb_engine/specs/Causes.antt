@@ -9,7 +9,7 @@ use Rattle.zeb_change.specs.declared.refusals.Refusal.{Refusal}
 use Rattle.zeb_change.specs.Refused.{store_failed, why_of}
 use Rattle.zeb_change.specs.declared.refusals.Refusal.TheVariants.{Store}
 use Rattle.zeb_engine.specs.declared.commands.Command.{Command}
-use Rattle.zeb_engine.specs.declared.commands.Command.TheVariants.{Init, Create, Change, Reindex, Upgrade}
+use Rattle.zeb_engine.specs.declared.commands.Command.TheVariants.{Init, Create, Drop, Change, Reindex, Upgrade}
 
 -- On the tables of a store it has a cause: the connection was shut, the disk failed during the call, or a limit on steps is set. A failed
 -- commit is asked for one too.
@@ -26,8 +26,23 @@ MayHinder Reindex trees = Unit {0}
 MayHinder Upgrade trees = Unit {0}
 MayHinder command trees = ⊥
 
--- The store failed before the commit for such a cause, or the tables hinder the call. A failed commit may come of want of memory, which has
+-- The store failed for such a cause, or the tables hinder the call. A failed commit isn't spoken of: it may come of want of memory, which has
 -- no cause.
 abbrev pub HasCauseOver : {T : Type 0} → (Trees → Type 0) → State → State → Result T Refusal → Type 0
 HasCauseOver Hinders old new result =
     IsStore old → IfErr result (λ refusal. refusal ≡ Store → MayRefuse old new ⊎ Hinders old.now.trees)
+
+-- Which refusals of a command tell that the store failed, but for a commit of what it writes: one that only asks has nothing to commit.
+abbrev pub TellsFailure : Command → Refusal → Type 0
+TellsFailure Init refusal = refusal ≡ Store
+TellsFailure (Create name) refusal = refusal ≡ Store
+TellsFailure (Drop name) refusal = refusal ≡ Store
+TellsFailure (Change kind name files) refusal = refusal ≡ Store
+TellsFailure Reindex refusal = refusal ≡ Store
+TellsFailure Upgrade refusal = refusal ≡ Store
+TellsFailure command refusal = why_of refusal ≡ store_failed
+
+-- on the tables of a store such a failure has a cause, or the tables hinder the command
+abbrev pub HasCommandCause : {T : Type 0} → Command → State → State → Result T Refusal → Type 0
+HasCommandCause command old new result =
+    IsStore old → IfErr result (λ refusal. TellsFailure command refusal → MayRefuse old new ⊎ MayHinder command old.now.trees)

@@ -12,7 +12,7 @@ ghost use Rattle.zeb_engine.specs.Analysed.{AnswersAnalysis};
 ghost use Rattle.zeb_engine.specs.Answers.{IsFailure, answer_of, refused};
 ghost use Rattle.zeb_change.specs.Refused.{why_of};
 ghost use Rattle.zeb_change.specs.Conditions.{conditions};
-ghost use Rattle.zeb_engine.specs.Causes.{HasCauseOver, HasStoreCause, MayHinder};
+ghost use Rattle.zeb_engine.specs.Causes.{HasCommandCause};
 ghost use Rattle.zeb_engine.specs.Checking.{ChecksTables, ReindexLeaves, ReindexesTables, StaysUpgraded, UpgradesTables};
 ghost use Rattle.zeb_engine.specs.Readiness.{GoesByTexts, LooksFirst};
 ghost use Rattle.zeb_change.specs.Reading.{NoReadFault};
@@ -240,12 +240,9 @@ impl<S: Alter, L: Layout> Session<S, L> {
         ensures read_work { HasCleanDisk (state S.Store self.new.connection)
             → CommandReads L.format L.row_work L.block_rows self.old.profile command.now
             (state S.Store self.old.connection) result self.new.work }
-        // A command that only asks finds the store failed only for a cause.
-        ensures caused { HasCleanDisk (state S.Store self.new.connection) → OnlyAsks command.now
-            → HasStoreCause (state S.Store self.old.connection) (state S.Store self.new.connection) result }
-        // So do a drop and a create before they commit.
-        ensures hindered { HasCleanDisk (state S.Store self.new.connection)
-            → HasCauseOver (MayHinder command.now) (state S.Store self.old.connection) (state S.Store self.new.connection) result }
+        // A command that only asks finds the store failed only for a cause; so do a drop and a create, but for their commit.
+        ensures caused { HasCleanDisk (state S.Store self.new.connection)
+            → HasCommandCause command.now (state S.Store self.old.connection) (state S.Store self.new.connection) result }
         // Over a layout whose rows count nothing no work is counted.
         ensures no_work { HasCleanDisk (state S.Store self.new.connection) → L.row_work ≡ 0
             → CountsNothing command.now (state S.Store self.old.connection) result self.new.work }
@@ -300,10 +297,8 @@ impl<S: Alter, L: Layout> Session<S, L> {
         ensures read_work { HasCleanDisk (state S.Store self.new.connection)
             → CommandReads L.format L.row_work L.block_rows self.old.profile command.now
             (state S.Store self.old.connection) result self.new.work }
-        ensures caused { HasCleanDisk (state S.Store self.new.connection) → OnlyAsks command.now
-            → HasStoreCause (state S.Store self.old.connection) (state S.Store self.new.connection) result }
-        ensures hindered { HasCleanDisk (state S.Store self.new.connection)
-            → HasCauseOver (MayHinder command.now) (state S.Store self.old.connection) (state S.Store self.new.connection) result }
+        ensures caused { HasCleanDisk (state S.Store self.new.connection)
+            → HasCommandCause command.now (state S.Store self.old.connection) (state S.Store self.new.connection) result }
         ensures no_work { L.row_work ≡ 0 → IsNoChange command.now → self.new.work ≡ no_work }
     {
         self.work = Work::default();

@@ -17,8 +17,7 @@ use Rattle.zeb_engine.proofs.Crashing.{ends_commit, none_commits, survives_as}
 use Rattle.zeb_engine.proofs.AskedReads.{find_command_reads, scan_command_reads}
 use Rattle.zeb_engine.proofs.Serving.{on_ok}
 use Rattle.zeb_engine.proofs.StoreCauses.{analysis_caused}
-use Rattle.zeb_engine.specs.Causes.{MayHinder}
-use Rattle.zeb_engine.proofs.WriteCauses.{cause_over, unsaid}
+use Rattle.zeb_engine.proofs.WriteCauses.{asked_cause, unsaid}
 use Rattle.zeb_engine.proofs.Unasked.{reads_command}
 use Rattle.zeb_engine.specs.Costs.{CostsAlone, no_work}
 use Rattle.zeb_engine.proofs.session.Session.carry_out.Goals as goal
@@ -454,65 +453,41 @@ pub returns-in-Change-clause-no_work : goal.returns-in-Change-clause-no_work
 returns-in-Change-clause-no_work g c none is = absurd (subst IsNoChange c.in-Change.is is)
 
 pub returns-in-Init-clause-caused : goal.returns-in-Init-clause-caused
-returns-in-Init-clause-caused g c clean asks = absurd (subst OnlyAsks c.in-Init.is asks)
-
-pub returns-in-Create-clause-caused : goal.returns-in-Create-clause-caused
-returns-in-Create-clause-caused g c clean asks = absurd (subst OnlyAsks c.in-Create.is asks)
-
-pub returns-in-Drop-clause-caused : goal.returns-in-Drop-clause-caused
-returns-in-Drop-clause-caused g c clean asks = absurd (subst OnlyAsks c.in-Drop.is asks)
+returns-in-Init-clause-caused g c clean = rw c.in-Init.is (unsaid (λ _. Unit {0}) (state g.S.Store c.args.self.now.connection) (state g.S.Store c.init_register.new.connection) c.init_register.result (λ _. tt))
 
 pub returns-in-Change-clause-caused : goal.returns-in-Change-clause-caused
-returns-in-Change-clause-caused g c clean asks = absurd (subst OnlyAsks c.in-Change.is asks)
-
-pub returns-in-Upgrade-clause-caused : goal.returns-in-Upgrade-clause-caused
-returns-in-Upgrade-clause-caused g c clean asks = absurd (subst OnlyAsks c.in-Upgrade.is asks)
+returns-in-Change-clause-caused g c clean = rw c.in-Change.is (unsaid (λ _. Unit {0}) (state g.S.Store c.args.self.now.connection) (state g.S.Store c.change.new.self.connection) c.change.result (λ _. tt))
 
 pub returns-in-Reindex-clause-caused : goal.returns-in-Reindex-clause-caused
-returns-in-Reindex-clause-caused g c clean asks = absurd (subst OnlyAsks c.in-Reindex.is asks)
+returns-in-Reindex-clause-caused g c clean = rw c.in-Reindex.is (unsaid (λ _. Unit {0}) (state g.S.Store c.args.self.now.connection) (state g.S.Store c.reindex.new.connection) c.reindex.result (λ _. tt))
+
+pub returns-in-Upgrade-clause-caused : goal.returns-in-Upgrade-clause-caused
+returns-in-Upgrade-clause-caused g c clean = rw c.in-Upgrade.is (unsaid (λ _. Unit {0}) (state g.S.Store c.args.self.now.connection) (state g.S.Store c.upgrade.new.connection) c.upgrade.result (λ _. tt))
+
+pub returns-in-Create-clause-caused : goal.returns-in-Create-clause-caused
+returns-in-Create-clause-caused g c clean = rw c.in-Create.is (c.create.ensures.caused clean)
+
+pub returns-in-Drop-clause-caused : goal.returns-in-Drop-clause-caused
+returns-in-Drop-clause-caused g c clean = rw c.in-Drop.is (c.take.ensures.caused clean)
+
+pub returns-in-Find-clause-caused : goal.returns-in-Find-clause-caused
+returns-in-Find-clause-caused g c clean = rw c.in-Find.is (asked_cause (state g.S.Store c.args.self.now.connection) (state g.S.Store c.find.new.self.connection) c.find.result (c.find.ensures.caused clean))
+
+pub returns-in-Check-clause-caused : goal.returns-in-Check-clause-caused
+returns-in-Check-clause-caused g c clean = rw c.in-Check.is (asked_cause (state g.S.Store c.args.self.now.connection) (state g.S.Store c.check.new.self.connection) c.check.result (c.check.ensures.caused clean))
+
+pub returns-in-Stat-clause-caused : goal.returns-in-Stat-clause-caused
+returns-in-Stat-clause-caused g c clean = rw c.in-Stat.is (asked_cause (state g.S.Store c.args.self.now.connection) (state g.S.Store c.stat.new.connection) c.stat.result (c.stat.ensures.caused clean))
+
+pub returns-in-Dump-clause-caused : goal.returns-in-Dump-clause-caused
+returns-in-Dump-clause-caused g c clean = rw c.in-Dump.is (asked_cause (state g.S.Store c.args.self.now.connection) (state g.S.Store c.dump.new.connection) c.dump.result (c.dump.ensures.caused clean))
+
+pub returns-in-Scan-clause-caused : goal.returns-in-Scan-clause-caused
+returns-in-Scan-clause-caused g c clean = rw c.in-Scan.is (asked_cause (state g.S.Store c.args.self.now.connection) (state g.S.Store c.scan.new.self.connection) c.scan.result (c.scan.ensures.caused clean))
 
 pub returns-in-Analyse-clause-caused : goal.returns-in-Analyse-clause-caused
-returns-in-Analyse-clause-caused g c clean asks =
-    let k = conditions (version_of g.L.Layout.format) c.args.self.now.profile c.args.self.now.limits in
-    let s = state g.S.Store c.args.self.now.connection in
-    analysis_caused k (map (λ file. file.items) c.deref-in-Analyse.result.now) s s c.analyse_files.result c.analyse_files.ensures.told
-
-pub returns-in-Init-clause-hindered : goal.returns-in-Init-clause-hindered
-returns-in-Init-clause-hindered g c clean = rw c.in-Init.is (unsaid (λ _. Unit {0}) _ _ _ (λ _. tt))
-
-pub returns-in-Change-clause-hindered : goal.returns-in-Change-clause-hindered
-returns-in-Change-clause-hindered g c clean = rw c.in-Change.is (unsaid (λ _. Unit {0}) _ _ _ (λ _. tt))
-
-pub returns-in-Reindex-clause-hindered : goal.returns-in-Reindex-clause-hindered
-returns-in-Reindex-clause-hindered g c clean = rw c.in-Reindex.is (unsaid (λ _. Unit {0}) _ _ _ (λ _. tt))
-
-pub returns-in-Upgrade-clause-hindered : goal.returns-in-Upgrade-clause-hindered
-returns-in-Upgrade-clause-hindered g c clean = rw c.in-Upgrade.is (unsaid (λ _. Unit {0}) _ _ _ (λ _. tt))
-
-pub returns-in-Create-clause-hindered : goal.returns-in-Create-clause-hindered
-returns-in-Create-clause-hindered g c clean = rw c.in-Create.is (c.create.ensures.caused clean)
-
-pub returns-in-Drop-clause-hindered : goal.returns-in-Drop-clause-hindered
-returns-in-Drop-clause-hindered g c clean = rw c.in-Drop.is (c.take.ensures.caused clean)
-
-pub returns-in-Find-clause-hindered : goal.returns-in-Find-clause-hindered
-returns-in-Find-clause-hindered g c clean = cause_over (MayHinder c.args.command.now) _ _ c.find.result (c.find.ensures.caused clean)
-
-pub returns-in-Check-clause-hindered : goal.returns-in-Check-clause-hindered
-returns-in-Check-clause-hindered g c clean = cause_over (MayHinder c.args.command.now) _ _ c.check.result (c.check.ensures.caused clean)
-
-pub returns-in-Stat-clause-hindered : goal.returns-in-Stat-clause-hindered
-returns-in-Stat-clause-hindered g c clean = cause_over (MayHinder c.args.command.now) _ _ c.stat.result (c.stat.ensures.caused clean)
-
-pub returns-in-Dump-clause-hindered : goal.returns-in-Dump-clause-hindered
-returns-in-Dump-clause-hindered g c clean = cause_over (MayHinder c.args.command.now) _ _ c.dump.result (c.dump.ensures.caused clean)
-
-pub returns-in-Scan-clause-hindered : goal.returns-in-Scan-clause-hindered
-returns-in-Scan-clause-hindered g c clean = cause_over (MayHinder c.args.command.now) _ _ c.scan.result (c.scan.ensures.caused clean)
-
-pub returns-in-Analyse-clause-hindered : goal.returns-in-Analyse-clause-hindered
-returns-in-Analyse-clause-hindered g c clean =
+returns-in-Analyse-clause-caused g c clean =
     let k = conditions (version_of g.L.Layout.format) c.args.self.now.profile c.args.self.now.limits in
     let s = state g.S.Store c.args.self.now.connection in
     let result = c.analyse_files.result in
-    cause_over (MayHinder c.args.command.now) s s result (analysis_caused k (map (λ file. file.items) c.deref-in-Analyse.result.now) s s result c.analyse_files.ensures.told)
+    rw c.in-Analyse.is (asked_cause s s result (analysis_caused k (map (λ file. file.items) c.deref-in-Analyse.result.now) s s result c.analyse_files.ensures.told))
