@@ -152,6 +152,6 @@ registers_same old new same = (
 -- what hinders their rows hinders the places
 pub rows_hinder : (db : ℤ) (key : Key) (xs : List Placed) (trees : Trees) → HindersRows key xs trees → HindersPlaces db key xs trees
 rows_hinder db key xs trees (inl unfit) = inl unfit
-rows_hinder db key xs trees (inr (inl many)) = inr (inl (inl many))
+rows_hinder db key xs trees (inr (inl many)) = inr (inl (inl (omega (arith, many))))
 rows_hinder db key xs trees (inr (inr (inl lacks))) = inr (inl (inr (inl lacks)))
 rows_hinder db key xs trees (inr (inr (inr large))) = inr (inr (inl large))

@@ -57,7 +57,7 @@ TakesRegisterRowids count old new = TakesRowids count postings_tree old new × T
 -- one of these tables lacks rowids for so many rows, or they are more than any table is asked for
 abbrev pub LacksRegisterRowids : ℕ → Trees → Type 0
 LacksRegisterRowids count trees =
-    (2 ^ 63 ≤ count) ⊎ (LacksRowids count postings_tree trees ⊎ (LacksRowids count blocks_tree trees ⊎ LacksRowids count dict_tree trees))
+    (2 ^ 62 ≤ count) ⊎ (LacksRowids count postings_tree trees ⊎ (LacksRowids count blocks_tree trees ⊎ LacksRowids count dict_tree trees))
 
 -- ---- why the tables of the registers may not take new places of a key
 
