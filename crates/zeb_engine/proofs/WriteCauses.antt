@@ -50,7 +50,7 @@ module _ {T : Type 0} (Hinders : Trees → Type 0) (old new : State) where
         let still = (leaves.nothing (leaves.opened was_open)).1 in
         elim (caused (store_same old mid still store) is) [
           | inl cause ↦ inl (may_after old mid new leaves.survives leaves.opened (λ _. cause))
-          | inr hinders ↦ inr (subst (λ d. Hinders d.trees) still.0 hinders)
+          | inr hinders ↦ inr (subst (λ d. Hinders d.trees) still hinders)
         ]
     | inr shut ↦ inl (inl shut)
   ]
@@ -62,10 +62,10 @@ asked_cause old new (Ok x) caused store = tt
 asked_cause old new (Err why) caused store = λ is. inl (caused store is)
 
 -- the work of a write inside its transaction, which is given up
-pub write_caused : {S T A : Type 0} (g : Ghosts S) (w : Write) (old inside : Held S) (mid new : State) (fault : RegFault) → inside ≡ record old { in_transaction = true }
+pub write_caused : {S : Type 0} (T A : Type 0) (g : Ghosts S) (w : Write) (old inside : Held S) (mid new : State) (fault : RegFault) → inside ≡ record old { in_transaction = true }
     → HasCleanDisk mid → mid.faults ≤ new.faults → IsHinderedInside {A = A} (state g inside) mid (Err fault) (HindersWrite w) → HasCauseOver {T = T} (HindersWrite w) (state g old) new (Err (register_refusal fault))
-write_caused g w old inside mid new fault begins clean counts caused store =
-    let begun = subst (λ (held : Held _). IsHinderedInside (state g held) mid (Err fault) (HindersWrite w)) begins caused in
+write_caused T A g w old inside mid new fault begins clean counts caused store =
+    let begun = subst (λ (held : Held _). IsHinderedInside {A = A} (state g held) mid (Err fault) (HindersWrite w)) begins caused in
     λ said. fault_caused fault (λ is. elim (begun clean refl (record { is = store.is; sound = store.sound; keyed = store.keyed }) (ap Err is)) [
       | inl cause ↦ inl (may_later (state g old) mid new counts cause)
       | inr hinders ↦ inr hinders

@@ -4,6 +4,7 @@ use Rattle.sqlite.specs.Held.{state}
 use Rattle.zeb_register.specs.Calls.{ChangesNothing}
 use Rattle.zeb_change.specs.declared.refusals.Refusal.TheVariants.{Commit}
 use Rattle.zeb_change.specs.Outcomes.{register_refusal}
+use Rattle.zeb_engine.specs.declared.replies.Reply.{Reply}
 use Rattle.zeb_engine.specs.declared.replies.Reply.TheVariants.{Done}
 use Rattle.zeb_engine.specs.Works.{Serves}
 use Rattle.zeb_engine.specs.PrivateWriting.{Begins, Fits, Remakes, written}
@@ -129,7 +130,7 @@ returns-in_err-apply-clause-caused g c clean =
     let same : end ≡ c.connection-1.given.0 = search rules in
     let told : c.from_residual.result ≡ Err (register_refusal fault) = search rules in
     subst₂ (λ h r. HasCauseOver (HindersWrite write) (state g.S.Store c.args.connection.now) (state g.S.Store h) r) same (sym told)
-    (write_caused g.S.Store write c.args.connection.now c.transaction-tx.result.conn.now (state g.S.Store c.apply.new.tx.conn.now) (state g.S.Store end) fault begun
+    (write_caused Reply (Unit {0}) g.S.Store write c.args.connection.now c.transaction-tx.result.conn.now (state g.S.Store c.apply.new.tx.conn.now) (state g.S.Store end) fault begun
     (omega (arith, c.drop-tx.ensures.survives.clean)) c.drop-tx.ensures.survives.counts c.in_err-apply.ensures.refused)
 
 pub returns-in_err-commit-clause-caused : goal.returns-in_err-commit-clause-caused
