@@ -80,8 +80,8 @@ impl<S: Alter, L: Layout> Session<S, L> {
     ghost use Rattle.zeb_register.specs.Tables.{store_schema};
 
     /// Takes a store over: the tables of a store that has none are made, and no row changes. No work is counted yet. Refused
-    /// (`Store`, `Memory`), it gives the connection back, and the tables are as before. A store with other tables than this
-    /// store's six, as that of another program, is refused with `Store` before anything is written.
+    /// (`Store`, `Commit`, `Memory`), it gives the connection back, and the tables are as before. A store with other tables than
+    /// this store's six, as that of another program, is refused with `Store` before anything is written.
     pub fn adopt(
         alloc: Global,
         connection: Connection<S>,
