@@ -11,7 +11,7 @@ ghost use Rattle.zeb_words.specs.Parses.{AreBad, IsBadAct, IsPast, IsActRead, Is
 use crate::words::{Act, Usage, Words};
 use clap::ArgMatches;
 use std::alloc::{AllocError, Global};
-use zeb_engine::DbName;
+use zeb_image::DbName;
 
 /// The profile's file where `-c` names none.
 const CONFIG: &str = "zebra.cfg";

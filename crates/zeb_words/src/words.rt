@@ -9,7 +9,7 @@ use crate::reading::words_of;
 use clap::Error;
 use clap::error::ErrorKind;
 use std::alloc::{AllocError, Global};
-use zeb_engine::DbName;
+use zeb_image::DbName;
 
 /// What a command line names.
 #[derive(Debug, Drop)]
