@@ -2,13 +2,15 @@
 
 Contracts allow such a failure wherever a call takes memory or reaches the store, so a body that answers one for no reason meets any of
 them. It has to come from a call that failed: by `?`, by a conversion of what only such a call gives, or by an arm that passes it on.
+The program's status of a failure is one too, and a growth that asks for more than any memory has. What isn't seen: a call that is made so
+that it fails, as a statement without a sense.
 """
 import collections
 import re
 
 # What a failure is called, and of what it is one: variants of the crates' and the kit's faults, and the values without a path.
 VARIANTS = {"Memory": "memory", "OutOfMemory": "memory", "Store": "store", "Commit": "store"}
-VALUES = {"AllocError": "memory", "AllocFailed": "memory", "OpenFailed": "store"}
+VALUES = {"AllocError": "memory", "AllocFailed": "memory", "OpenFailed": "store", "FAILED": "status"}
 # What only a call that failed gives, by what its conversion may make of it.
 OF_CALLS = {"AllocError": "memory", "AllocFailed<T>": "memory", "Error": "store", "sqlite::Error": "store"}
 # What is called so and is no failure: a line of a profile.
@@ -29,9 +31,14 @@ MADE_BY_HAND = {
     "crates/zeb_paths/src/disk.rt": (["store"], "whatever fails as a store is opened"),
     "crates/zeb_paths/src/shelf.rt": (["store", "store"], "a shelf without a store under the path, or one that fails"),
     "crates/zeb_program/src/batch.rt": (["run_batch"], "an open that failed"),
+    "crates/zeb_program/src/command_line.rt": (["refuse_words"], "the status of words that memory ran out for"),
+    "crates/zeb_program/src/faults.rt": (["tell"], "the status of a path that can't be read, as a clause says"),
     "crates/zeb_program/src/files.rt": (["readers_of", "contents_of"], "more files than could be held"),
     "crates/zeb_program/src/memory.rt": (["open_in_memory"], "whatever fails as a store is opened"),
+    "crates/zeb_program/src/program.rt": (["run", "run", "finish", "run_script", "profile_status"], "the status of want of memory, of a failed write, of an input that is no text"),
+    "crates/zeb_program/src/shell.rt": (["serve_lines", "run_shell_lines"], "the status of a failed read and of a failed write, as clauses say"),
     "crates/zeb_program/src/tasks.rt": (["open_register"], "an open that failed"),
+    "crates/zebraidx/src/main.rt": (["main"], "an outside that failed"),
     "crates/small_catalogue/src/lib.rt": (["open"], "an open that failed"),
 }
 
@@ -49,8 +56,9 @@ PATTERN_ENDS = re.compile(r"\s*(?:\([\w\s,:.]*\)|\{[\w\s,:.]*\})?[\s)]*(?:\||=|i
 TYPE_ENDS = re.compile(r"\s*,?\s*>")
 # An arm that has only one failure, up to the failure that it gives.
 PASSES = re.compile(r"[{,}]\s*(?:[\w:]+\(\s*)*(?:(?:\w+::)+|(?=AllocError))(\w+)[\s)]*=>\s*\{?\s*(?:return\s+)?(?:[\w:]+\(\s*)*&?$")
-# As much memory as no call gives.
-TOO_MUCH = re.compile(r"\b(?:with_capacity|reserve|resize)\w*\([^;{}]*\bMAX\b")
+# As much memory as no call gives, or as a constant hides: of a growth, and of a list that is written with its length.
+GREAT = r"(?:\b[A-Z][A-Z\d_]+\b|<<|\b\d[\d_]{7,})"
+TOO_MUCH = re.compile(rf"\b(?:with_capacity|reserve|resize)\w*\([^;{{}}]*?{GREAT}|\bvec!\[in\b[^;{{}}]*;[^;{{}}]*;[^;{{}}]*?{GREAT}")
 
 
 def closed(text, at, opening="{", closing="}"):
