@@ -7,6 +7,7 @@
 # make real       takes in real records and compares what is found in them with another count; installs the same packages
 # make examples   proves and builds a small caller of the engine as a library
 # make hostile    runs the built program on the greatest inputs, and on scripts drawn by lot: SECONDS=3600 for more than a minute
+# make allocations  refuses each allocation of the tests that are made for it, one a run; proves and links those tests where they aren't there
 # make edits      tries the wrong bodies of edits/ too: CRATE=zeb_marc for one crate, EDIT=crates/zeb_marc/edits/no_units.edit for one
 # make cost       the gate, with the processor minutes of each crate written into docs/TESTING.md
 # make bench      times of the register's calls and of an update's statements, and how commands grow: RECORDS=1000 for fewer than 10,000
@@ -18,7 +19,7 @@
 PREFIX ?= /usr/local
 SOURCES := crates.txt $(wildcard crates/*/src/*.rt crates/*/src/*/*.rt crates/*/specs/*.antt crates/*/specs/*/*.antt)
 
-.PHONY: all help run quick check words session real examples hostile edits cost bench bench-zebra bench-larger man install uninstall clean
+.PHONY: all help run quick check words session real examples hostile allocations edits cost bench bench-zebra bench-larger man install uninstall clean
 all: bin/zebraidx
 
 help:
@@ -61,6 +62,9 @@ examples:
 hostile: bin/zebraidx
 	@tests/hostile/greatest
 	@tests/hostile/drawn --seconds $(or $(SECONDS),60)
+
+allocations:
+	@tests/each_allocation.py
 
 edits:
 	@tools/edits $(CRATE) $(EDIT)

@@ -2,6 +2,7 @@
 """Refuses each allocation of a crate's tests in turn, one a run: each test has to pass whichever it is.
 
 usage: tests/each_allocation.py CRATE TEST..   after `rt test` in the crate, which leaves its tests in out/
+       tests/each_allocation.py                all that are made for it (ALL below); `rt test` is run where a crate has none in out/
 
 It is for tests that pass where a call gives its ordinary answer or is refused for want of memory. As many run side by side as there are
 processors: a test of 44,768 allocations takes some six minutes on four. A library put before the C
@@ -48,13 +49,49 @@ __attribute__((destructor)) static void tell(void) {
 """
 
 
+# The tests that hold whichever allocation is refused, and what they call.
+ALL = {
+    "vectors": [
+        "texts::one_refused_allocation_refuses_one_call",
+        "profiles::faults::smallest",
+        "profiles::faults::directives",
+        "profiles::faults::words",
+        "profiles::faults::two_in_a_line",
+        "profiles::faults::two_in_a_text",
+        "profiles::faults::lines",
+        "profiles::faults::accepted",
+        "profiles::lookups::indexes",
+        "profiles::lookups::targets",
+        "profiles::lookups::first_line_and_each_pair_once",
+        "profiles::lookups::canonical_texts",
+        "profiles::lookups::first_spelling",
+        "profiles::lookups::printed_faults",
+        "profiles::lookups::patterns_and_registers",
+        "queries::memory::requests_for_memory_may_be_refused",
+        "extraction::memory_or_the_ordinary_answer",
+        "analyses::memory_or_the_ordinary_answer",
+    ],
+    "tables": ["tests::memory::one_request_for_memory_may_be_refused"],
+    "acceptance": [
+        "commands::refused_memory::memory_or_the_ordinary_answer",
+        "commands::refused_memory::a_refused_list_has_run_nothing",
+        "words::each_line_is_read",
+        "words::names_of_databases_are_read",
+    ],
+    "scripts": ["tests::memory::memory_or_the_ordinary_answer"],
+}
+
+
 def passes(folder, tests, test, refused, count=None):
     environment = {"LD_PRELOAD": f"{folder}/refuse.so", "REFUSED": str(refused)} | ({"COUNT": str(count)} if count else {})
     return subprocess.run([tests, test], env=environment, capture_output=True).returncode == 0
 
 
 def main(crate, names):
-    tests = pathlib.Path(__file__).parent.parent / "crates" / crate / "out" / f"{crate}_tests"
+    home = pathlib.Path(__file__).resolve().parent.parent / "crates" / crate
+    tests = home / "out" / f"{crate}_tests"
+    if not tests.exists():
+        subprocess.run(["rt", "test"], cwd=home, check=True)
     wrong = 0
     with tempfile.TemporaryDirectory() as name:
         folder = pathlib.Path(name)
@@ -75,6 +112,8 @@ def main(crate, names):
 
 
 if __name__ == "__main__":
-    if len(sys.argv) < 3:
+    if len(sys.argv) == 2:
         sys.exit(__doc__)
+    if len(sys.argv) == 1:
+        sys.exit(max(main(crate, names) for crate, names in ALL.items()))
     sys.exit(main(sys.argv[1], sys.argv[2:]))
