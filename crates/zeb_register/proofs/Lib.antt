@@ -52,6 +52,7 @@ pub mod PlaceRefusals
 pub mod PackedChanges
 pub mod PackedHindrances
 pub mod PackedCauses
+pub mod Room
 pub mod RecordLemmas
 pub mod RecordReadings
 pub mod Refusals
