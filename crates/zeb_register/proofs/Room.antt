@@ -18,9 +18,9 @@ use Rattle.zeb_register.specs.declared.registers.Place.{Place}
 use Rattle.zeb_register.specs.declared.registers.RecordChange.{RecordChange}
 use Rattle.zeb_register.specs.Content.{AreChangedAt, AreListChanges, Content, posting_at, posting_cmp}
 use Rattle.zeb_register.specs.Formats.{Format, holds_in, packed_blocks, plain_rows}
-use Rattle.zeb_register.specs.Hindrances.{HasRowids, HindersPlaces, IsPlacedAt, IsSpelledAt, IsStorablePlaced, Placed, TakesRegisterRowids, placed, rows_of}
+use Rattle.zeb_register.specs.Hindrances.{HasRowids, HindersPlaces, IsPlacedAt, IsSpelledAt, IsStorablePlaced, LacksRowids, Placed, TakesRegisterRowids, placed, rows_of}
 use Rattle.zeb_register.specs.PackedBlocks.{block_row, part_in}
-use Rattle.zeb_register.specs.Room.{FitInRow, HasRoom}
+use Rattle.zeb_register.specs.Room.{FitInRow, HasRoomBy}
 use Rattle.zeb_register.specs.Store.{KeepsRegisters, LacksRegisters, blocks_tree, dict_tree, postings_tree}
 use Rattle.zeb_register.proofs.ContentChanges.{numbers_apart, posting_total, told_spot}
 use Rattle.zeb_register.proofs.FormatLemmas.{registers_empty, registers_hold_one, registers_rise, registers_stay}
@@ -102,24 +102,23 @@ part_few block list whole given up inside made =
 
 -- ---- where there is room
 
--- each block of a key fits, also one in which the key has no posting
-block_fits : (format : Format) (count : ℕ) (db : ℤ) (key : Key) (block : ℕ) (trees : Trees) (content : Content) → holds_in format trees content → HasRoom format count trees → FitInRow count key
-    → FitInRow (length (part_in block (content db key)) + count) key
-block_fits format count db key block trees content holds room fits = from (part_in block (content db key)) refl
-  where
-    from : (part : List Posting) → part_in block (content db key) ≡ part → FitInRow (length part + count) key
-    from [] is = omega (arith, fits)
-    from (p ∷ part) is =
-        let here : Has (part_in block (content db key)) p = subst (λ l. Has l p) (sym is) (inl refl) in
-        let at : p.sysno / 256 ≡ block = part_in_block block (content db key) p here in
-        let all = room.sizes content holds db key p (part_in_list block (content db key) p here) in
-        let moved : FitInRow (length (part_in block (content db key)) + count) key = subst (λ b. FitInRow (length (part_in b (content db key)) + count) key) at all in
-        omega (arith, moved, ap length is)
+module _ (format : Format) (count : ℕ) (asked : Key → ℕ) (db : ℤ) (key : Key) (trees : Trees) (content : Content) (holds : holds_in format trees content) (room : HasRoomBy format count asked trees) where
+  -- where a key has a posting, its term leaves room for the places
+  pub held_fits : (p : Posting) → Has (content db key) p → FitInRow (asked key) key
+  held_fits p here = omega (arith, room.sizes content holds db key p here)
 
--- a key that has a posting needs no more
-pub held_fits : (format : Format) (count : ℕ) (db : ℤ) (key : Key) (trees : Trees) (content : Content) → holds_in format trees content → HasRoom format count trees → (p : Posting) → Has (content db key) p
-    → FitInRow count key
-held_fits format count db key trees content holds room p here = omega (arith, room.sizes content holds db key p here)
+  -- each block of a key fits, also one in which the key has no posting
+  block_fits : (block : ℕ) → FitInRow (asked key) key → FitInRow (length (part_in block (content db key)) + asked key) key
+  block_fits block fits = from (part_in block (content db key)) refl
+    where
+      from : (part : List Posting) → part_in block (content db key) ≡ part → FitInRow (length part + asked key) key
+      from [] is = omega (arith, fits)
+      from (p ∷ part) is =
+          let here : Has (part_in block (content db key)) p = subst (λ l. Has l p) (sym is) (inl refl) in
+          let at : p.sysno / 256 ≡ block = part_in_block block (content db key) p here in
+          let all = room.sizes content holds db key p (part_in_list block (content db key) p here) in
+          let moved : FitInRow (length (part_in block (content db key)) + asked key) key = subst (λ b. FitInRow (length (part_in b (content db key)) + asked key) key) at all in
+          omega (arith, moved, ap length is)
 
 -- what the rows of `blocks` spell for the key is in the content
 spelled_held : (format : Format) (db : ℤ) (key : Key) (trees : Trees) (content : Content) → holds_in format trees content → (p : Posting) → IsSpelledAt db key trees p → Has (content db key) p
@@ -129,92 +128,103 @@ spelled_held packed_blocks db key trees content holds p it =
     let same : it.2 ≡ part_in it.0 (content db key) = one_spelled it.0 it.1 it.2 (part_in it.0 (content db key)) it.4 spells in
     part_in_list it.0 (content db key) p (subst (λ l. Has l p) same it.5)
 
--- no places are hindered that are so many and that each layout stores
-pub room_serves : (format : Format) (count : ℕ) (db : ℤ) (key : Key) (given : List Placed) (trees : Trees) (content : Content) → holds_in format trees content → HasRoom format count trees → FitInRow count key
-    → AllByRecursion IsStorablePlaced given → rows_of given ≤ count → HindersPlaces db key given trees → ⊥
-room_serves format count db key given trees content holds room fits storable few (inl not_storable) = not_storable storable
-room_serves format count db key given trees content holds room fits storable few (inr (inl (inl wide))) = omega (arith, wide, few, fits)
-room_serves format count db key given trees content holds room fits storable few (inr (inl (inr (inl lacks)))) =
-    not_both count postings_tree trees room.postings (lacks_more (rows_of given) count postings_tree trees few lacks)
-room_serves format count db key given trees content holds room fits storable few (inr (inl (inr (inr (inl lacks))))) =
-    not_both count blocks_tree trees room.blocks (lacks_more (rows_of given) count blocks_tree trees few lacks)
-room_serves format count db key given trees content holds room fits storable few (inr (inl (inr (inr (inr lacks))))) =
-    not_both count dict_tree trees room.dict (lacks_more (rows_of given) count dict_tree trees few lacks)
-room_serves format count db key given trees content holds room fits storable few (inr (inr (inl long))) = omega (arith, long, fits)
-room_serves format count db key given trees content holds room fits storable few (inr (inr (inr large))) =
-    let made : (p : Posting) → Has large.2 p → Has (content db key) p ⊎ IsPlacedAt given p = λ p here. elim (large.4 p here) [
-      | inl spelled ↦ inl (spelled_held format db key trees content holds p spelled)
-      | inr put ↦ inr put
-    ] in
-    let many = part_few large.0 large.2 (content db key) given large.3.lies.rising (λ p here. all_has (λ q. q.sysno / 256 ≡ large.0) large.2 p large.3.lies.inside here) made in
-    let fit = block_fits format count db key large.0 trees content holds room fits in
-    let bytes = length-block large.0 large.2 large.1 large.3 in
-    let over = large.5 in
-    omega (arith, many, fit, bytes, over, few)
+-- nothing hinders places that are so many, where each layout stores their numbers
+pub room_serves : (format : Format) (count : ℕ) (asked : Key → ℕ) (db : ℤ) (key : Key) (given : List Placed) (trees : Trees) (content : Content) → holds_in format trees content → HasRoomBy format count asked trees
+    → FitInRow (asked key) key → AllByRecursion IsStorablePlaced given → rows_of given ≤ count → rows_of given ≤ asked key → HindersPlaces db key given trees → ⊥
+room_serves format count asked db key given trees content holds room fits storable few own = from
+  where
+    lacks_none : (tree : ℕ) → HasRowids count tree trees → LacksRowids (rows_of given) tree trees → ⊥
+    lacks_none tree has lacks = not_both count tree trees has (lacks_more (rows_of given) count tree trees few lacks)
+
+    from : HindersPlaces db key given trees → ⊥
+    from (inl not_storable) = not_storable storable
+    from (inr (inl (inl wide))) = omega (arith, wide, few, room.few)
+    from (inr (inl (inr (inl lacks)))) = lacks_none postings_tree room.postings lacks
+    from (inr (inl (inr (inr (inl lacks))))) = lacks_none blocks_tree room.blocks lacks
+    from (inr (inl (inr (inr (inr lacks))))) = lacks_none dict_tree room.dict lacks
+    from (inr (inr (inl long))) = omega (arith, long, fits)
+    from (inr (inr (inr large))) =
+        let made : (p : Posting) → Has large.2 p → Has (content db key) p ⊎ IsPlacedAt given p = λ p here. elim (large.4 p here) [
+          | inl spelled ↦ inl (spelled_held format db key trees content holds p spelled)
+          | inr put ↦ inr put
+        ] in
+        let inside = λ (p : Posting) (here : Has large.2 p). all_has (λ q. q.sysno / 256 ≡ large.0) large.2 p large.3.lies.inside here in
+        let many = part_few large.0 large.2 (content db key) given large.3.lies.rising inside made in
+        let fit = block_fits format count asked db key trees content holds room large.0 fits in
+        let bytes = length-block large.0 large.2 large.1 large.3 in
+        let over = large.5 in
+        omega (arith, many, fit, bytes, over, own)
 
 -- ---- what uses room up
 
--- places that are put use up as much as they are
-pub room_left : (format : Format) (count more : ℕ) (db : ℤ) (key : Key) (changes : List RecordChange) (old new : Trees) (before after : Content) → HasRoom format (count + more) old → FitInRow (count + more) key
-    → rows_of (map placed changes) ≤ more → TakesRegisterRowids more old new → holds_in format old before → holds_in format new after → AreChangedAt db key changes before after → HasRoom format count new
-room_left format count more db key changes old new before after room fits few takes held holds changed = record {
+-- Places that are put use up as much as they are: as much is left as was there beside them. Of other keys nothing is used up.
+pub room_left : (format : Format) (count more : ℕ) (asked left : Key → ℕ) (db : ℤ) (key : Key) (changes : List RecordChange) (old new : Trees) (before after : Content)
+    → HasRoomBy format (count + more) asked old → FitInRow (asked key) key → rows_of (map placed changes) ≤ more → left key + rows_of (map placed changes) ≤ asked key → ((k : Key) → left k ≤ asked k)
+    → TakesRegisterRowids more old new → holds_in format old before → holds_in format new after → AreChangedAt db key changes before after → HasRoomBy format count left new
+room_left format count more asked left db key changes old new before after room fits few own others takes held holds changed = record {
+  few = omega (arith, room.few);
   postings = takes.0 count below room.postings;
   blocks = takes.1 count below room.blocks;
   dict = takes.2 count below room.dict;
   sizes = λ content is d k p here.
       let same : content ≡ after = registers_hold_one format new content after is holds in
       let there : Has (after d k) p = subst (λ (c : Content). Has (c d k) p) same here in
-      subst (λ (c : Content). FitInRow (length (part_in (p.sysno / 256) (c d k)) + count) k) (sym same) (size d k p there (told_spot d db k key));
+      subst (λ (c : Content). FitInRow (length (part_in (p.sysno / 256) (c d k)) + left k) k) (sym same) (size d k p there (told_spot d db k key));
 }
   where
     below : count + more < 2 ^ 63
-    below = omega (arith, fits)
+    below = omega (arith, room.few)
 
     -- the key's own blocks
-    own : (block : ℕ) → FitInRow (length (part_in block (after db key)) + count) key
-    own block =
+    here_fits : (block : ℕ) → FitInRow (length (part_in block (after db key)) + left key) key
+    here_fits block =
         let list = after db key in
         let rising = kept_rises posting_total (λ q. q.sysno / 256 == block) list (registers_rise format new after holds db key) in
         let made = λ (q : Posting) (inside : Has (part_in block list) q). list_made changes (before db key) list changed.list q (part_in_list block list q inside) in
         let many = part_few block (part_in block list) (before db key) (map placed changes) rising (part_in_block block list) made in
-        let fit = block_fits format (count + more) db key block old before held room fits in
-        omega (arith, many, fit, few)
+        let fit = block_fits format (count + more) asked db key old before held room block fits in
+        omega (arith, many, fit, own)
 
-    size : (d : ℤ) (k : Key) (p : Posting) → Has (after d k) p → ((d ≡ db) × (k ≡ key)) ⊎ ¬ ((d ≡ db) × (k ≡ key)) → FitInRow (length (part_in (p.sysno / 256) (after d k)) + count) k
+    size : (d : ℤ) (k : Key) (p : Posting) → Has (after d k) p → ((d ≡ db) × (k ≡ key)) ⊎ ¬ ((d ≡ db) × (k ≡ key)) → FitInRow (length (part_in (p.sysno / 256) (after d k)) + left k) k
     size d k p here (inl same) =
-        subst (λ e. FitInRow (length (part_in (p.sysno / 256) (after e k)) + count) k) (sym same.0) (subst (λ l. FitInRow (length (part_in (p.sysno / 256) (after db l)) + count) l) (sym same.1) (own (p.sysno / 256)))
+        let block = p.sysno / 256 in
+        let at : FitInRow (length (part_in block (after db k)) + left k) k = subst (λ l. FitInRow (length (part_in block (after db l)) + left l) l) (sym same.1) (here_fits block) in
+        subst (λ e. FitInRow (length (part_in block (after e k)) + left k) k) (sym same.0) at
     size d k p here (inr other) =
         let stays : after d k ≡ before d k = changed.others d k other in
         let was = room.sizes before held d k p (subst (λ l. Has l p) stays here) in
-        let moved : FitInRow (length (part_in (p.sysno / 256) (after d k)) + (count + more)) k = subst (λ l. FitInRow (length (part_in (p.sysno / 256) l) + (count + more)) k) (sym stays) was in
-        omega (arith, moved)
+        let moved : FitInRow (length (part_in (p.sysno / 256) (after d k)) + asked k) k = subst (λ l. FitInRow (length (part_in (p.sysno / 256) l) + asked k) k) (sym stays) was in
+        omega (arith, moved, others k)
 
 -- ---- tables that have room
 
 -- where there is room for many places, there is for fewer
-pub room_less : (format : Format) (few many : ℕ) (trees : Trees) → few ≤ many → HasRoom format many trees → HasRoom format few trees
-room_less format few many trees less room = record {
+pub room_less : (format : Format) (few many : ℕ) (left asked : Key → ℕ) (trees : Trees) → few ≤ many → ((k : Key) → left k ≤ asked k) → HasRoomBy format many asked trees → HasRoomBy format few left trees
+room_less format few many left asked trees less each room = record {
+  few = omega (arith, less, room.few);
   postings = has_less few many postings_tree trees less room.postings;
   blocks = has_less few many blocks_tree trees less room.blocks;
   dict = has_less few many dict_tree trees less room.dict;
-  sizes = λ content holds db key p here. omega (arith, less, room.sizes content holds db key p here);
+  sizes = λ content holds db key p here. omega (arith, each key, room.sizes content holds db key p here);
 }
 
 rowids_stay : (count tree : ℕ) (old new : Trees) → new tree ≡ old tree → HasRowids count tree old → HasRowids count tree new
 rowids_stay count tree old new same has = λ id columns here. has id columns (subst (λ rows. Has rows (Int id ∷ columns)) same here)
 
 -- it is told by the tables of the registers alone
-pub room_stays : (format : Format) (count : ℕ) (old new : Trees) → KeepsRegisters old new → HasRoom format count old → HasRoom format count new
-room_stays format count old new kept room = record {
+pub room_stays : (format : Format) (count : ℕ) (asked : Key → ℕ) (old new : Trees) → KeepsRegisters old new → HasRoomBy format count asked old → HasRoomBy format count asked new
+room_stays format count asked old new kept room = record {
+  few = room.few;
   postings = rowids_stay count postings_tree old new kept.0 room.postings;
   blocks = rowids_stay count blocks_tree old new kept.1 room.blocks;
   dict = rowids_stay count dict_tree old new kept.2 room.dict;
   sizes = λ content holds. room.sizes content (registers_stay format new old content (sym kept.0, sym kept.1, sym kept.2) holds);
 }
 
--- tables without a row have room for as many as you like
-pub room_empty : (format : Format) (count : ℕ) (trees : Trees) → LacksRegisters trees → HasRoom format count trees
-room_empty format count trees none = record {
+-- tables without a row have room for as many as are ever asked for
+pub room_empty : (format : Format) (count : ℕ) (asked : Key → ℕ) (trees : Trees) → count < 2 ^ 62 → LacksRegisters trees → HasRoomBy format count asked trees
+room_empty format count asked trees few none = record {
+  few = few;
   postings = free postings_tree none.0;
   blocks = free blocks_tree none.1;
   dict = free dict_tree none.2;

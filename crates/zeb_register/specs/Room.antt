@@ -1,5 +1,5 @@
 -- How much room the tables of the registers have: how many places more they take, whatever these are.
-use Rattle.std.specs.Prelude.{◌+◌, ◌*◌, ◌/◌, ◌^◌, ◌≤◌, ℕ, ℤ, length}
+use Rattle.std.specs.Prelude.{◌+◌, ◌*◌, ◌/◌, ◌^◌, ◌<◌, ◌≤◌, ℕ, ℤ, length}
 use Rattle.sqlite.specs.Tree.{Trees}
 use Rattle.sqlite_rules.specs.Lists.{Has}
 use Rattle.zeb_blocks.specs.declared.postings.Posting.{Posting}
@@ -15,12 +15,18 @@ use Rattle.zeb_register.specs.Store.{blocks_tree, dict_tree, postings_tree}
 abbrev pub FitInRow : ℕ → Key → Type 0
 FitInRow count key = 300 + length key.term + 30 * count ≤ 10 ^ 9
 
--- The tables of the registers take so many places more, of whichever keys and records: each of them has a rowid left for each place, and
--- wherever a key has a posting, one row holds all those that the key has in that block, and the places as well. It is said of the content
--- that the tables hold in the format. A key that has no posting yet isn't spoken of: whether one row holds the places of it, its term says.
-pub record HasRoom (format : Format) (count : ℕ) (trees : Trees) : Type 0 where
+-- The tables of the registers take so many places more, and of each key as many as are asked for it, in whichever records: each table has a
+-- rowid left for each place, and wherever a key has a posting, one row holds all those that the key has in that block and the places that are
+-- asked for it. This is said of the content that the tables hold in the format. Of a key that has no posting it says nothing: whether one row
+-- holds its places, its term says.
+pub record HasRoomBy (format : Format) (count : ℕ) (asked : Key → ℕ) (trees : Trees) : Type 0 where
+  pub few : count < 2 ^ 62
   pub postings : HasRowids count postings_tree trees
   pub blocks : HasRowids count blocks_tree trees
   pub dict : HasRowids count dict_tree trees
   pub sizes : (content : Content) → holds_in format trees content → (db : ℤ) (key : Key) (p : Posting) → Has (content db key) p
-      → FitInRow (length (part_in (p.sysno / 256) (content db key)) + count) key
+      → FitInRow (length (part_in (p.sysno / 256) (content db key)) + asked key) key
+
+-- so many places more, also where all of them are of one key
+abbrev pub HasRoom : Format → ℕ → Trees → Type 0
+HasRoom format count = HasRoomBy format count (λ _. count)
