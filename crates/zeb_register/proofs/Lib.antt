@@ -52,7 +52,6 @@ pub mod PlaceRefusals
 pub mod PackedChanges
 pub mod PackedHindrances
 pub mod PackedCauses
-pub mod Room
 pub mod RecordLemmas
 pub mod RecordReadings
 pub mod Refusals
@@ -61,6 +60,7 @@ pub mod RowSizes
 pub mod Clashes
 pub mod NewRows
 pub mod TakenRowids
+pub mod Room
 pub mod WriteRowids
 pub mod InsertRefusals
 pub mod UpdateRefusals

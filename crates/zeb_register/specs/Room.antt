@@ -15,10 +15,10 @@ use Rattle.zeb_register.specs.Store.{blocks_tree, dict_tree, postings_tree}
 abbrev pub FitInRow : ℕ → Key → Type 0
 FitInRow count key = 300 + length key.term + 30 * count ≤ 10 ^ 9
 
--- The tables of the registers take so many places more, and of each key as many as are asked for it, in whichever records: each table has a
--- rowid left for each place, and wherever a key has a posting, one row holds all those that the key has in that block and the places that are
--- asked for it. This is said of the content that the tables hold in the format. Of a key that has no posting it says nothing: whether one row
--- holds its places, its term says.
+-- The tables of the registers take so many places more, in whichever records, and of each key as many as are asked for it: each table has
+-- a rowid left for each place, and where a key has postings in a block, one row holds these and the places that are asked for the key. What
+-- postings it has is told by the content that the tables hold in the format. Of a key that has none this says nothing: whether a row holds
+-- the places that are asked for it, its term says.
 pub record HasRoomBy (format : Format) (count : ℕ) (asked : Key → ℕ) (trees : Trees) : Type 0 where
   pub few : count < 2 ^ 62
   pub postings : HasRowids count postings_tree trees
