@@ -8,4 +8,5 @@ pub mod Taking
 pub mod Walking
 pub mod Pushing
 pub mod ShortestForms
+pub mod Sizes
 pub mod WorkedBlocks

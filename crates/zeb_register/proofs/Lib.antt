@@ -61,6 +61,7 @@ pub mod RowSizes
 pub mod Clashes
 pub mod NewRows
 pub mod TakenRowids
+pub mod Room
 pub mod WriteRowids
 pub mod InsertRefusals
 pub mod UpdateRefusals

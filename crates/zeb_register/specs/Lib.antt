@@ -19,6 +19,7 @@ pub mod PackedRows
 pub mod PackedChanges
 pub mod PackedHindrances
 pub mod Formats
+pub mod Room
 pub mod Expected
 pub mod RowExpected
 pub mod RowKeys
