@@ -107,6 +107,9 @@ module _ (profile : List Directive) (limit file : ℕ) (text : List ℕ) (old : 
 
 -- ---- the same, of what reading answers
 
+pub left_is_shorter : (file nth : ℕ) (left kept after : List ℕ) → ReadsPlace file nth (next_of left) (Ok true) kept after → 26 + length after ≤ length left
+left_is_shorter file nth left kept after read = slice_is_long left kept after (told_slice file nth (next_of left) kept after read)
+
 module _ (profile : List Directive) (limit file nth : ℕ) (text left : List ℕ) (old now : List Analysed) (under : Under profile limit file nth text left old now) (kept after : List ℕ) where
   pub walk_ends : ReadsPlace file nth (next_of left) (Ok false) kept after → Extends profile limit (standing_in file text) old now
   walk_ends read = ended profile limit file text old nth left now under (told_end file nth (next_of left) kept after read)
@@ -118,9 +121,6 @@ module _ (profile : List Directive) (limit file nth : ℕ) (text left : List ℕ
       fault_stands profile limit file text old nth left now under it.0 it.1 ∙ ap Some (sym it.2)
 
   module _ (read : ReadsPlace file nth (next_of left) (Ok true) kept after) (before : ℕ) (bytes : List ℕ) (many : before ≡ length now) (same : bytes ≡ kept) where
-    pub left_is_shorter : 26 + length after ≤ length left
-    left_is_shorter = slice_is_long left kept after (told_slice file nth (next_of left) kept after read)
-
     here : (o : Option AnalysisFault) → refusal_at profile limit before (at_place file nth (Ok bytes)) ≡ o → refusal_at profile limit (length now) (at_place file nth (Ok kept)) ≡ o
     here o is = subst₂ (λ n these. refusal_at profile limit n (at_place file nth (Ok these)) ≡ o) many same is
 

@@ -117,33 +117,6 @@ fn list_found<S: Alter, L: Layout>(
     Ok(postings)
 }
 
-/// The postings of keys that were found, in order and each once.
-fn postings_found<S: Alter, L: Layout>(
-    alloc: Global,
-    connection: &mut Connection<S>,
-    work: &mut Work,
-    of: RegisterOf,
-    found: &FoundKeys,
-) -> Result<Vec<Posting>, RegFault>
-    ensures call { Reading (state S.Store connection.old) (state S.Store connection.new) result (λ _. IsUntouched) }
-    ensures value { TellsHeld (holds_in L.format) (state S.Store connection.old) (state S.Store connection.new) result
-        (λ content list. AreFound content of found.now
-        → ArePostings (IsPostingOf content of.db.0 found.now.keys.items) list.items) }
-    ensures honest { IsHonestStorable (holds_in L.format) (state S.Store connection.old) (state S.Store connection.new) result }
-    ensures refused { IsReasoned (state S.Store connection.old) (state S.Store connection.new) result }
-    ensures work { OnOk result (OnStore (state S.Store connection.old) (state S.Store connection.new) (λ trees.
-        (content : Content) → holds_in L.format trees content → AreFound content of found.now
-        → Counts 0 (rows_under L.block_rows content of.db.0 found.now.keys.items) work.old work.new)) }
-    ensures no_work { L.row_work ≡ 0 → work.new ≡ work.old }
-{
-    // The list of one key is in order as it is.
-    if found.keys.len() == 1 {
-        return L::key_list(alloc, connection, work, of.db, &found.keys[0]);
-    }
-    let list = list_found::<S, L>(alloc, connection, work, of, found)?;
-    Ok(postings_in_order(list))
-}
-
 /// The numbers of the records that have an entry which is asked for, in a register.
 pub(crate) fn numbers_wanted<S: Alter, L: Layout>(
     alloc: Global,
@@ -168,7 +141,7 @@ pub(crate) fn numbers_wanted<S: Alter, L: Layout>(
     Ok(numbers_among(alloc, &list)?)
 }
 
-/// The places of the words of an index that a pattern matches.
+/// The places of the words of an index that a pattern matches, in order and each once.
 pub(crate) fn places_of_words<S: Alter, L: Layout>(
     alloc: Global,
     connection: &mut Connection<S>,
@@ -191,5 +164,10 @@ pub(crate) fn places_of_words<S: Alter, L: Layout>(
         register: Register::Word,
     };
     let found = keys_wanted::<S, L>(alloc, connection, work, words, Wanted::Matching(pattern))?;
-    postings_found::<S, L>(alloc, connection, work, words, &found)
+    // The list of one key is in order as it is.
+    if found.keys.len() == 1 {
+        return L::key_list(alloc, connection, work, words.db, &found.keys[0]);
+    }
+    let list = list_found::<S, L>(alloc, connection, work, words, &found)?;
+    Ok(postings_in_order(list))
 }

@@ -1,4 +1,4 @@
-use Rattle.std.proofs.Common.{rules, arith, ◌≡◌, ◌≢◌, ◌∙◌, ◌+◌, ◌++◌, ◌∷◌, [], length, map, true, false, IfErr, Ok, Err, Some, refl, sym, ap, subst}
+use Rattle.std.proofs.Common.{rules, arith, ◌≡◌, ◌≢◌, ◌∙◌, ◌+◌, ◌++◌, ◌∷◌, [], length, map, true, false, IfErr, Ok, Err, Some, sym, ap, subst}
 use Rattle.std.proofs.lemmas.List.{length-map, map-append}
 use Rattle.zeb_marc.specs.Splits.{next_of}
 use Rattle.zeb_analysis.specs.declared.faults.AnalysisFault.TheVariants.{Memory}
@@ -51,14 +51,9 @@ returns-in_err-analysis-clause-err c =
 
 pub loop-buffer-smaller : goal.loop-buffer-smaller
 loop-buffer-smaller c =
-    let setting = c.args.setting.now in
-    let old = map analysed c.args.analyses.now.items in
-    let now = map analysed c.loop-buffer.analyses.items in
     let some : c.in_ok-read_record.field-0 ≡ true = search rules in
     let read = subst (λ b. ReadsPlace c.args.file c.loop-buffer.nth (next_of c.loop-buffer.left) (Ok b) c.read_record.new.buffer c.read_record.new.left) some c.in_ok-read_record.ensures in
-    let shorter = left_is_shorter setting.profile.now setting.limit c.args.file c.loop-buffer.nth c.args.bytes.now c.loop-buffer.left old now c.loop-buffer.invariant.under c.read_record.new.buffer c.read_record.new.left read
-    (length now) c.read_record.new.buffer refl refl in
-    omega (arith, shorter)
+    omega (arith, left_is_shorter c.args.file c.loop-buffer.nth c.loop-buffer.left c.read_record.new.buffer c.read_record.new.left read)
 
 pub loop-buffer-preserved : goal.loop-buffer-preserved
 loop-buffer-preserved c =
@@ -67,8 +62,7 @@ loop-buffer-preserved c =
     let now = map analysed c.loop-buffer.analyses.items in
     let some : c.in_ok-read_record.field-0 ≡ true = search rules in
     let read = subst (λ b. ReadsPlace c.args.file c.loop-buffer.nth (next_of c.loop-buffer.left) (Ok b) c.read_record.new.buffer c.read_record.new.left) some c.in_ok-read_record.ensures in
-    let shorter = left_is_shorter setting.profile.now setting.limit c.args.file c.loop-buffer.nth c.args.bytes.now c.loop-buffer.left old now c.loop-buffer.invariant.under c.read_record.new.buffer c.read_record.new.left read
-    (length now) c.read_record.new.buffer refl refl in
+    let shorter = left_is_shorter c.args.file c.loop-buffer.nth c.loop-buffer.left c.read_record.new.buffer c.read_record.new.left read in
     let many : c.len.result ≡ length now = c.len.ensures ∙ c.loop-buffer.analyses.ok.0 ∙ sym (length-map c.loop-buffer.analyses.items analysed) in
     let analysis = analysed c.in_ok-analysis.analysis in
     let pushed : now ++ analysis ∷ [] ≡ map analysed c.push.new.self.items =

@@ -1,10 +1,11 @@
 -- The first byte, four more, and then as many as these five say.
-use Rattle.std.proofs.Common.{◌≡◌, ◌≤◌, ◌+◌, suc, refl, ◌-◌, ◌∷◌, ◌++◌, ◌∙◌, sym, ap, List, ℕ, Some, length, set, take, drop, length-take, length-drop, length-set, arith}
+use Rattle.std.proofs.Common.{◌≡◌, ◌≤◌, ◌+◌, suc, refl, ◌-◌, ◌∷◌, ◌++◌, ◌∙◌, sym, ap, List, ℕ, Option, Some, None, Ok, length, set, take, drop, length-take, length-drop, length-set, arith}
 use Rattle.std.proofs.lemmas.Result.{err_from_is_err_and}
 use Rattle.std.proofs.lemmas.List.{take-take, drop-drop}
 use Rattle.std.proofs.lemmas.Slice.{take-put_mid, take-put_mid_below}
 use borrow.Rule.Slice.PartMut.{put_mid}
-use Rattle.zeb_marc.specs.Leader.{first_failing}
+use Rattle.zeb_marc.specs.Leader.{first_failing, announced_checks, record_length}
+use Rattle.zeb_marc.specs.Reading.{FillGives}
 use Rattle.zeb_marc.proofs.RecordChecks.{slice_cut, slice_passes}
 use Rattle.zeb_marc.proofs.Runs.{take-add, length-put_mid}
 use Rattle.zeb_marc.proofs.ReadingLemmas.{announced_checks-five, record_length-five, five_are, fill_err, slice_short, slice_err, slice_cut_within, IsSlice-from_five}
@@ -20,6 +21,31 @@ length-with_five room part first e len = length-put_mid (set room 0 first) part 
 -- they are the record's first five
 same_five : (room part text : List ℕ) (first : ℕ) → length room ≡ 99999 → length part ≡ 4 → part ≡ take (length part) text → take 5 (with_five room first part) ≡ take 5 (first ∷ text)
 same_five room part text first e len same = five_are room part first (omega arith) len ∙ ap (λ (bytes : List ℕ). first ∷ bytes) (same ∙ ap (λ (k : ℕ). take k text) len)
+
+-- what is known of the text once they are in the room, and what is left of it
+record HasFive (text room part : List ℕ) (first : ℕ) (left : Option (List ℕ)) : Type 0 where
+  long : 5 ≤ length (first ∷ text)
+  five : take 5 (with_five room first part) ≡ take 5 (first ∷ text)
+  left_is : left ≡ Some (drop 4 text)
+
+has_five : (text room part : List ℕ) (first : ℕ) (left : Option (List ℕ)) → length room ≡ 99999 → length part ≡ 4 → FillGives text (Ok tt) part left → HasFive text room part first left
+has_five text room part first left e len filled = record {
+  long = omega (arith, filled.0);
+  five = same_five room part text first e len filled.1;
+  left_is = filled.2 ∙ ap (λ (k : ℕ). Some (drop k text)) len;
+}
+
+-- the length that they say is the text's, which passes the checks of a length
+record Announces (record_text : List ℕ) (n : ℕ) : Type 0 where
+  passed : first_failing (announced_checks record_text) ≡ None
+  is : n ≡ record_length record_text
+
+announces : (text room part : List ℕ) (first n : ℕ) (left : Option (List ℕ)) → HasFive text room part first left → first_failing (announced_checks (take 5 (with_five room first part))) ≡ None
+    → n ≡ record_length (take 5 (with_five room first part)) → Announces (first ∷ text) n
+announces text room part first n left has checked value = record {
+  passed = ap first_failing (sym (announced_checks-five (first ∷ text) _ has.five has.long)) ∙ checked;
+  is = value ∙ record_length-five (first ∷ text) _ has.five;
+}
 
 -- the room once the record is in it
 same_record : (room part text : List ℕ) (first n : ℕ) → length room ≡ 99999 → n ≡ 5 + length part → take 5 room ≡ take 5 (first ∷ text) → part ≡ take (length part) (drop 4 text) → take n (put_mid 5 (n - 5) room part) ≡ take n (first ∷ text)
@@ -45,53 +71,37 @@ returns-in_err-fill-clause-told g c = λ text told.
 pub returns-in_err-length-clause-told : goal.returns-in_err-length-clause-told
 returns-in_err-length-clause-told g c = λ text told.
     let p = err_from_is_err_and c.from_residual-in_err-length.result c.from_residual-in_err-length.ensures.1 in
-    let part = c.fill.new.part in
-    let len : length part ≡ 4 = omega arith in
-    let first = c.args.first in
-    let filled = c.in_ok-fill.ensures.told text told in
-    let long : 5 ≤ length (first ∷ text) = omega (arith, filled.0) in
-    let five = same_five c.args.room.now part text first c.requires len filled.1 in
-    let left = filled.2 ∙ ap (λ (k : ℕ). Some (drop k text)) len in
-    rw (p.1, p.2) (slice_err (first ∷ text) _ _ c.in_err-length.field-0.0 _ five long c.in_err-length.ensures.checked left)
+    let has = has_five text c.args.room.now c.fill.new.part c.args.first _ c.requires (omega arith) (c.in_ok-fill.ensures.told text told) in
+    rw (p.1, p.2) (slice_err (c.args.first ∷ text) _ _ c.in_err-length.field-0.0 _ has.five has.long c.in_err-length.ensures.checked has.left_is)
 
 pub returns-in_err-fill-2-clause-told : goal.returns-in_err-fill-2-clause-told
 returns-in_err-fill-2-clause-told g c = λ text told.
     let p = err_from_is_err_and c.from_residual-in_err-fill-2.result c.from_residual-in_err-fill-2.ensures.1 in
-    let part = c.fill.new.part in
-    let len : length part ≡ 4 = omega arith in
     let first = c.args.first in
-    let filled = c.in_ok-fill.ensures.told text told in
-    let long : 5 ≤ length (first ∷ text) = omega (arith, filled.0) in
-    let five = same_five c.args.room.now part text first c.requires len filled.1 in
-    let checks = announced_checks-five (first ∷ text) _ five long in
+    let rest = c.fill-2.new.part in
+    let has = has_five text c.args.room.now c.fill.new.part first _ c.requires (omega arith) (c.in_ok-fill.ensures.told text told) in
     let value = c.in_ok-length.ensures.value in
-    let same_length = record_length-five (first ∷ text) _ five in
-    let left = filled.2 ∙ ap (λ (k : ℕ). Some (drop k text)) len in
-    let after = g.R.Source.remaining c.fill-2.new.source in
-    let rest_len : length c.fill-2.new.part ≡ c.in_ok-length.length - 5 = omega arith in
-    rw (p.1, p.2) (fill_err (drop 4 text) c.fill-2.new.part (first ∷ text) _ 4 c.in_err-fill-2.field-0.0 after refl (c.in_err-fill-2.ensures.told (drop 4 text) left)
-    (λ short. slice_cut (first ∷ text) (ap first_failing (sym checks) ∙ c.in_ok-length.ensures.checked) (omega (arith, value.0, value.1, same_length, length-drop 4 text, rest_len)))
-    (λ k within. slice_cut_within (first ∷ text) _ c.in_ok-length.length k five long c.in_ok-length.ensures.checked value.0 (omega (arith, value.1, rest_len, within))))
+    let says = announces text c.args.room.now c.fill.new.part first c.in_ok-length.length _ has c.in_ok-length.ensures.checked value.0 in
+    let rest_len : length rest ≡ c.in_ok-length.length - 5 = omega arith in
+    rw (p.1, p.2) (fill_err (drop 4 text) rest (first ∷ text) _ 4 c.in_err-fill-2.field-0.0 (g.R.Source.remaining c.fill-2.new.source) refl (c.in_err-fill-2.ensures.told (drop 4 text) has.left_is)
+    (λ short. slice_cut (first ∷ text) says.passed (omega (arith, says.is, value.1, length-drop 4 text, rest_len)))
+    (λ k within. slice_cut_within (first ∷ text) _ c.in_ok-length.length k has.five has.long c.in_ok-length.ensures.checked value.0 (omega (arith, value.1, rest_len, within))))
 
 pub returns-clause-told : goal.returns-clause-told
 returns-clause-told g c = λ text told.
     let part = c.fill.new.part in
-    let len : length part ≡ 4 = omega arith in
     let first = c.args.first in
-    let filled = c.in_ok-fill.ensures.told text told in
-    let long : 5 ≤ length (first ∷ text) = omega (arith, filled.0) in
-    let five = same_five c.args.room.now part text first c.requires len filled.1 in
-    let checks = announced_checks-five (first ∷ text) _ five long in
+    let has = has_five text c.args.room.now part first _ c.requires (omega arith) (c.in_ok-fill.ensures.told text told) in
+    let n = c.in_ok-length.length in
     let value = c.in_ok-length.ensures.value in
-    let same_length = record_length-five (first ∷ text) _ five in
-    let left = filled.2 ∙ ap (λ (k : ℕ). Some (drop k text)) len in
+    let says = announces text c.args.room.now part first n _ has c.in_ok-length.ensures.checked value.0 in
     let rest = c.fill-2.new.part in
-    let rest_len : c.in_ok-length.length ≡ 5 + length rest = omega (arith, value.1) in
-    let others = c.in_ok-fill-2.ensures.told (drop 4 text) left in
-    let room_len = length-with_five c.args.room.now part first c.requires len in (
-      slice_passes (first ∷ text) (ap first_failing (sym checks) ∙ c.in_ok-length.ensures.checked) (omega (arith, value.0, same_length, others.0, length-drop 4 text)),
-      value.0 ∙ same_length,
-      same_record (with_five c.args.room.now first part) rest text first c.in_ok-length.length room_len rest_len five others.1,
+    let rest_len : n ≡ 5 + length rest = omega (arith, value.1) in
+    let others = c.in_ok-fill-2.ensures.told (drop 4 text) has.left_is in
+    let room_len = length-with_five c.args.room.now part first c.requires (omega arith) in (
+      slice_passes (first ∷ text) says.passed (omega (arith, says.is, others.0, length-drop 4 text)),
+      says.is,
+      same_record (with_five c.args.room.now first part) rest text first n room_len rest_len has.five others.1,
       others.2 ∙ ap (λ (r : List ℕ). Some r) (drop-drop (length rest) 5 (first ∷ text) ∙ ap (λ (k : ℕ). drop k (first ∷ text)) (sym rest_len)),
     )
 
