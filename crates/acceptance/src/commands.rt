@@ -8,8 +8,9 @@ use std::test::Fail;
 use zeb_engine::{
     Command, DbName, Kind, Limits, Refusal, Reply, Session, refusal_line, render, status,
 };
+use zeb_packed::Blocks;
 use zeb_profile::Profile;
-use zeb_register::{Blocks, Layout, Rows};
+use zeb_register::{Layout, Rows};
 
 mod analyses;
 mod beside_slow;

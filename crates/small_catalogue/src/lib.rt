@@ -10,8 +10,9 @@ use sqlite::{Alter, Connection, File, FileStore, Unknown};
 use std::alloc::Global;
 use zeb_engine::{Command, DbName, Kind, Limits, Refusal, Reply, Session};
 use zeb_marc::Source;
+use zeb_packed::Blocks;
 use zeb_profile::Profile;
-use zeb_register::{Blocks, Layout};
+use zeb_register::Layout;
 
 /// How many of the records found are shown.
 const SHOWN: u32 = 10;

@@ -7,8 +7,7 @@ use Rattle.zeb_extract.specs.declared.keys.Key.{Key}
 use Rattle.zeb_register.specs.declared.registers.RecordChange.{RecordChange}
 use Rattle.zeb_register.specs.Content.{AreChangedAt, AreListChanges, ArePlacesOf, Content, IsListChanged, IsRising, OldsRise, Posting, place_cmp, posting_at, posting_cmp}
 use Rattle.zeb_register.proofs.ContentChanges.{at_sysno, numbers_apart}
-use Rattle.zeb_register.proofs.ListChanges.{list_changed}
-use Rattle.zeb_register.proofs.PackedParts.{place_of, posting_is}
+use Rattle.zeb_register.proofs.ListChanges.{list_changed, place_of, posting_is}
 use Rattle.zeb_register.proofs.RisingLists.{told_by}
 use Rattle.zeb_change.specs.NoteWords.{KeyChange}
 use Rattle.zeb_change.specs.Noted.{AreTurns}

@@ -9,7 +9,7 @@ use Rattle.zeb_extract.specs.declared.keys.Occurrence.{Occurrence}
 use Rattle.zeb_register.specs.declared.registers.Place.{Place}
 use Rattle.zeb_register.specs.declared.registers.Work.{Work}
 use Rattle.zeb_register.specs.Tallies.{Rises}
-use Rattle.zeb_register.proofs.PackedTotals.{rises_then}
+use Rattle.zeb_register.proofs.CountLemmas.{rises_then}
 use Rattle.zeb_register.proofs.RisingLists.{same_list}
 use Rattle.zeb_change.specs.declared.changed_keys.ChangedKey.{ChangedKey}
 use Rattle.zeb_profile.specs.declared.directives.Directive.{Directive}

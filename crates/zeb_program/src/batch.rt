@@ -24,9 +24,10 @@ use sqlite::Alter;
 use std::alloc::{AllocError, Global};
 use std::io::Write;
 use zeb_engine::{Command, Limits, Refusal, Session, refusal_line, render, status};
+use zeb_packed::Blocks;
 use zeb_paths::Paths;
 use zeb_profile::Profile;
-use zeb_register::{Blocks, Layout};
+use zeb_register::Layout;
 
 /// Runs the lines of a batch over a register in memory, and answers the greatest status met.
 pub fn run_batch<P: Paths, W: Write>(

@@ -21,8 +21,8 @@ use std::alloc::{AllocError, Global};
 use std::io::Write;
 use zeb_engine::Session;
 use zeb_marc::Source;
+use zeb_packed::Blocks;
 use zeb_paths::Paths;
-use zeb_register::Blocks;
 use zeb_words::{Usage, Words, read_words};
 
 /// Does what the words ask for, and answers the status. Memory that runs out in the program itself is no status.

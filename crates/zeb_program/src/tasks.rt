@@ -19,9 +19,10 @@ use crate::warnings::{Place, unmarked_of, warning};
 use sqlite::Alter;
 use std::alloc::Global;
 use zeb_engine::{Command, DbName, Kind, Limits, Refusal, Reply, Session, render};
+use zeb_packed::Blocks;
 use zeb_paths::Paths;
 use zeb_profile::Profile;
-use zeb_register::{Blocks, Layout};
+use zeb_register::Layout;
 use zeb_words::Act;
 
 /// What words ask of a register.

@@ -33,10 +33,9 @@ use Rattle.zeb_register.specs.PlainRows.{HoldsRows, key_row, posting_row}
 use Rattle.zeb_register.specs.RowPlaces.{IsThreeNumbers}
 use Rattle.zeb_register.specs.Sql.{IsListOf}
 use Rattle.zeb_register.specs.Store.{IsRest, blocks_tree, postings_tree}
-use Rattle.zeb_register.proofs.ContentLemmas.{same_key, same_posting}
+use Rattle.zeb_register.proofs.ContentLemmas.{same_key, same_posting, some_posting}
 use Rattle.zeb_register.proofs.PackedLemmas.{block_rows, block_there, in_part, part_in_list}
 use Rattle.zeb_register.proofs.PackedLists.{all_spelled, key_blocks, key_spelled, one_part, spelled_behind}
-use Rattle.zeb_register.proofs.PackedTerms.{some_posting}
 use Rattle.zeb_register.proofs.RisingLists.{kept_rises, never_itself}
 use Rattle.zeb_register.proofs.RowLemmas.{same_bytes}
 use Rattle.zeb_register.proofs.Scans.{strictly_mapped, tied}

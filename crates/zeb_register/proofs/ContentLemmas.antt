@@ -1,5 +1,5 @@
 -- Rows of postings as the postings of a content.
-use Rattle.std.proofs.Common.{int_cmp, zero, suc, get_or, length, ◌<◌, ◌≡◌, ◌∙◌, ℕ, ℤ, pos, List, [], ◌∷◌, ◌++◌, map, drop, inl, inr, refl, sym, ap, ap₂, subst, Ordering, Less, Equal, Greater, arith}
+use Rattle.std.proofs.Common.{int_cmp, zero, suc, get_or, length, ◌<◌, ◌≡◌, ◌∙◌, ℕ, ℤ, pos, List, [], ◌∷◌, ◌++◌, map, drop, inl, inr, refl, sym, ap, ap₂, subst, Ordering, Less, Equal, Greater, arith, ◌≢◌}
 use Rattle.std.specs.List.Sorted.{IsStrictlySortedBy}
 use Rattle.std.specs.List.{AllByRecursion}
 use Rattle.std.proofs.lemmas.Bool.Decides.{nat_tests}
@@ -17,10 +17,10 @@ use Rattle.zeb_blocks.specs.declared.postings.Posting.{Posting}
 use Rattle.zeb_profile.specs.Indexes.{register_code}
 use Rattle.zeb_register.specs.Sql.{IsListOf}
 use Rattle.zeb_register.specs.Store.{postings_tree, IsRest}
-use Rattle.zeb_register.proofs.RisingLists.{same_list}
 use Rattle.zeb_register.specs.Content.{Content, posting_cmp}
 use Rattle.zeb_register.specs.PlainRows.{key_row, posting_row, HoldsRows}
 use Rattle.zeb_register.specs.RowPlaces.{first_three, IsThreeNumbers}
+use Rattle.zeb_register.proofs.RisingLists.{same_list}
 
 pub lower_then : (x y z : Ordering) → ordering_then x (ordering_then y z) ≡ Less → ordering_then x (ordering_then y (ordering_then z Equal)) ≡ Less
 lower_then Less y z h = refl
@@ -145,3 +145,8 @@ rows_numbered trees content db key rows holds list r here = let p = rows_known t
 -- the tables tell the content
 pub one_content : (trees : Trees) (one two : Content) (db : ℤ) (key : Key) → HoldsRows trees one → HoldsRows trees two → one db key ≡ two db key
 one_content trees one two db key left right = same_postings (one db key) (two db key) (one_list _ (map posting_row (one db key)) (map posting_row (two db key)) (list_held trees one db key left) (list_held trees two db key right))
+
+-- a list that isn't empty has a posting
+pub some_posting : (list : List Posting) → list ≢ [] → (p : Posting) × Has list p
+some_posting [] some = absurd (some refl)
+some_posting (p ∷ list) some = (p, inl refl)

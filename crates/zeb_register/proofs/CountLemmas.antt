@@ -1,5 +1,5 @@
 -- Counting occurrences that come in the order of their terms and then of their numbers.
-use Rattle.std.proofs.Common.{◌≡◌, ◌≢◌, ◌↔◌, ◌⊎◌, ◌∙◌, ◌<◌, ◌≤◌, ◌+◌, ℕ, List, [], ◌∷◌, ◌++◌, length, refl, sym, ap, subst, inl, inr, Less, Equal, nat_cmp, arith, length-append}
+use Rattle.std.proofs.Common.{◌≡◌, ◌≢◌, ◌↔◌, ◌⊎◌, ◌∙◌, ◌<◌, ◌≤◌, ◌+◌, ℕ, List, [], ◌∷◌, ◌++◌, length, refl, sym, ap, subst, inl, inr, Less, Equal, nat_cmp, arith, length-append, ◌^◌}
 use Rattle.std.specs.Cmp.{IsTotalOrder, on_total, nat_cmp_total}
 use Rattle.std.specs.Cmp.Lexicographic.{slice_cmp, nat_list_cmp_total}
 use Rattle.std.specs.List.{sum_by}
@@ -12,6 +12,7 @@ use Rattle.sqlite_rules.proofs.ListLemmas.{all_has, has_left, has_right, has_eit
 use Rattle.zeb_register.specs.declared.registers.TermCount.{TermCount}
 use Rattle.zeb_register.specs.Occurring.{IsCount, AreCounts, term_cmp}
 use Rattle.zeb_register.specs.RowTerms.{IsCountedIn, term_with}
+use Rattle.zeb_register.specs.Tallies.{Rises}
 use Rattle.zeb_register.proofs.RisingLists.{same_list, pushed_rises, before_last, front_rises, snoc_of, same_last}
 
 pub term_total : IsTotalOrder term_cmp
@@ -235,3 +236,19 @@ counted_upto n newest sysno term old new upto (inr fresh) t h = elim (has_end ol
 pub none_in_sum : {X : Type 0} (xs : List X) → sum_by (λ (x : X). 0) xs ≡ 0
 none_in_sum [] = refl
 none_in_sum {X} (x ∷ xs) = omega (arith, sum_by-cons (λ (x : X). 0) x xs, none_in_sum xs)
+
+-- a count that rises twice, and stays at its greatest value
+
+pub rises_then : (a b old mid new : ℕ) → new < 2 ^ 64 → Rises a old mid → Rises b mid new → Rises (a + b) old new
+rises_then a b old mid new fits (inl one) (inl two) = inl (omega (arith, one, two))
+rises_then a b old mid new fits (inl one) (inr two) = inr (omega (arith, one, two.0), two.1)
+rises_then a b old mid new fits (inr one) (inl two) = inr (omega (arith, one.0), omega (arith, one.1, two, fits))
+rises_then a b old mid new fits (inr one) (inr two) = inr (omega (arith, one.0), two.1)
+
+-- the same where it doesn't rise at first
+pub rises_last : (b old mid new : ℕ) → (new ≡ mid) ⊎ (new < 2 ^ 64) → Rises 0 old mid → Rises b mid new → Rises b old new
+rises_last b old mid new fits (inl one) (inl two) = inl (omega (arith, one, two))
+rises_last b old mid new fits (inl one) (inr two) = inr (omega (arith, one, two.0), two.1)
+rises_last b old mid new (inl same) (inr one) (inl two) = inr (omega (arith, one.0), omega (arith, one.1, same))
+rises_last b old mid new (inr fits) (inr one) (inl two) = inr (omega (arith, one.0), omega (arith, one.1, two, fits))
+rises_last b old mid new fits (inr one) (inr two) = inr (omega (arith, one.0), two.1)

@@ -23,7 +23,7 @@ use Rattle.zeb_register.specs.Store.{HasDatabase, IsStore}
 use Rattle.zeb_register.specs.Tables.{store_schema}
 use Rattle.zeb_register.proofs.Calls.{IsSilent}
 use Rattle.zeb_register.proofs.DatabaseStatements.{database_row, databases, databases_keys, databases_static, one_name}
-use Rattle.zeb_register.proofs.Falling.{alone_first}
+use Rattle.zeb_register.proofs.Prefix.{alone_first}
 use Rattle.zeb_register.proofs.Refusals.{IsWhole, IsFit, IsReasonedQuery, why_refused}
 use Rattle.zeb_register.proofs.RisingLists.{never_itself}
 use Rattle.zeb_register.proofs.RowLemmas.{same_bytes}

@@ -20,10 +20,8 @@ use Rattle.zeb_register.specs.Sql.{HasRow, IsListOf}
 use Rattle.zeb_register.specs.Store.{IsStore, IsRest, blocks_tree, dict_tree, meta_tree, postings_tree}
 use Rattle.zeb_register.specs.Tables.{store_schema, meta_table}
 use Rattle.zeb_register.proofs.Calls.{IsSilent}
-use Rattle.zeb_register.proofs.Falling.{alone_first}
-use Rattle.zeb_register.proofs.PostingStatements.{blocks, blocks_static, dict, dict_static, postings, postings_keys, postings_static}
-use Rattle.zeb_register.proofs.PackedStatements.{blocks_keys, dict_keys}
-use Rattle.zeb_register.proofs.Prefix.{IsAfter, lists_after}
+use Rattle.zeb_register.proofs.Prefix.{alone_first, IsAfter, lists_after}
+use Rattle.zeb_register.proofs.PostingStatements.{blocks, blocks_static, dict, dict_static, postings, postings_keys, postings_static, blocks_keys, dict_keys}
 use Rattle.zeb_register.proofs.Refusals.{IsFit, IsWhole, why_refused}
 use Rattle.zeb_register.proofs.RowLemmas.{int_of}
 use Rattle.zeb_register.proofs.Selects.{list_so}

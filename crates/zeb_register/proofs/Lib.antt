@@ -9,7 +9,6 @@ pub mod Writes
 pub mod FirstRows
 pub mod Selects
 pub mod Prefix
-pub mod Falling
 pub mod CreateTable
 pub mod TableStatements
 pub mod CallsInTurn
@@ -24,9 +23,7 @@ pub mod SharedKeys
 pub mod RowsAreLists
 pub mod PostingStatements
 pub mod TermStatements
-pub mod PackedStatements
 pub mod BetweenStatements
-pub mod PackedRowStatements
 pub mod WipeStatements
 pub mod LookUps
 pub mod FormatLemmas
@@ -40,19 +37,11 @@ pub mod TermsAmong
 pub mod TermRows
 pub mod PackedLemmas
 pub mod PackedLists
-pub mod PackedTerms
-pub mod PackedReads
-pub mod PackedWrites
-pub mod PackedParts
 pub mod ListChanges
-pub mod PackedTotals
 pub mod BetweenLemmas
 pub mod PlaceLemmas
 pub mod RowCounts
 pub mod PlaceRefusals
-pub mod PackedChanges
-pub mod PackedHindrances
-pub mod PackedCauses
 pub mod RecordLemmas
 pub mod RecordReadings
 pub mod Refusals

@@ -11,13 +11,26 @@ use Rattle.zeb_blocks.specs.Blocks.{LiesIn}
 use Rattle.zeb_extract.specs.declared.keys.Key.{Key}
 use Rattle.zeb_register.specs.declared.registers.Place.{Place}
 use Rattle.zeb_register.specs.declared.registers.RecordChange.{RecordChange}
-use Rattle.zeb_register.specs.Content.{AreChangedAt, AreListChanges, ArePlacesOf, Content, IsChangedAt, IsListChanged, IsRising, posting_cmp}
+use Rattle.zeb_register.specs.Content.{AreChangedAt, AreListChanges, ArePlacesOf, Content, IsChangedAt, IsListChanged, IsRising, posting_cmp, posting_at}
 use Rattle.zeb_register.specs.PackedBlocks.{part_in}
-use Rattle.zeb_register.specs.PackedChanges.{IsInBlock}
+use Rattle.zeb_register.specs.PackedRows.{IsInBlock}
 use Rattle.zeb_register.proofs.ContentChanges.{at_sysno, at_sysno_others, at_sysno_part, at_sysno_rises, changed_at, change_is, numbers_apart, posting_total, told_spot, with_list, with_list_here, with_list_there}
 use Rattle.zeb_register.proofs.PackedLemmas.{in_part, part_in_block, part_in_list}
-use Rattle.zeb_register.proofs.PackedParts.{place_of, posting_is}
 use Rattle.zeb_register.proofs.RisingLists.{kept_rises, same_list, told_by}
+
+pub place_by : ℕ → ℕ → Place
+place_by seq place = record { seq = seq; pos = place }
+
+pub place_of : Posting → Place
+place_of p = place_by p.seq p.pos
+
+pub posting_is : (p : Posting) (sysno : ℕ) → p.sysno ≡ sysno → p ≡ posting_at sysno (place_of p)
+unfolding place_of place_by
+posting_is p sysno same = ap (λ n. posting_at n (place_of p)) same
+
+pub place_is : (sysno : ℕ) (p q : Place) → posting_at sysno p ≡ posting_at sysno q → p ≡ q
+unfolding place_by
+place_is sysno p q same = ap₂ place_by (ap (λ (r : Posting). r.seq) same) (ap (λ (r : Posting). r.pos) same)
 
 -- ---- one record's part of a list
 

@@ -32,8 +32,7 @@ use Rattle.zeb_register.proofs.CountLemmas.{is_less}
 use Rattle.zeb_register.proofs.Expecting.{key_posting_total, under_has, under_rises}
 use Rattle.zeb_register.proofs.ExpectedLists.{then_joined}
 use Rattle.zeb_register.proofs.PackedLemmas.{in_part, not_empty, one_spelled, part_in_block, part_in_list, part_lies}
-use Rattle.zeb_register.proofs.PostingStatements.{blocks, blocks_static}
-use Rattle.zeb_register.proofs.PackedStatements.{blocks_keys}
+use Rattle.zeb_register.proofs.PostingStatements.{blocks, blocks_static, blocks_keys}
 use Rattle.zeb_register.proofs.RisingLists.{joined_rises, kept_rises, never_itself, same_list}
 use Rattle.zeb_register.proofs.SharedKeys.{single}
 use Rattle.zeb_register.proofs.Scans.{strictly_mapped}

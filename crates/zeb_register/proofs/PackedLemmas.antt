@@ -19,7 +19,7 @@ use Rattle.zeb_register.specs.declared.registers.TermCount.{TermCount}
 use Rattle.zeb_register.specs.Content.{Content, IsRising, IsWithout, posted, posting_cmp}
 use Rattle.zeb_register.specs.Occurring.{AreTermsOf, HasKey, key_in}
 use Rattle.zeb_register.specs.PackedBlocks.{HoldsBlocks, IsBlockRow, IsDictRow, block_row, dict_row, part_in}
-use Rattle.zeb_register.specs.PackedChanges.{HoldsBlockRows}
+use Rattle.zeb_register.specs.PackedRows.{HoldsBlockRows}
 use Rattle.zeb_register.specs.PlainRows.{key_row}
 use Rattle.zeb_register.specs.RowPlaces.{DropsRegisters}
 use Rattle.zeb_register.specs.RowTerms.{IsInRecord}

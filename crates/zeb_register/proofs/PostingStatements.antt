@@ -10,17 +10,17 @@ use Rattle.sqlite.proofs.Callers.{IsPlain, command_of}
 use Rattle.sqlite_tied.specs.Compute.{everything}
 use Rattle.zeb_register.specs.Tables.{store_schema, postings_table, blocks_table, dict_table}
 use Rattle.zeb_register.specs.Sql.{Loses, IsListOf}
-use Rattle.zeb_register.proofs.StatementForms.{Condition, equals, reading, alone, keyed_from, rising, shows, no_limit}
 use Rattle.zeb_register.specs.RowStatements.{Gains, posting, place_key, IsPlaceOf}
+use Rattle.zeb_register.specs.Store.{IsStore, Changes, postings_tree, blocks_tree, dict_tree, key_of, IsPostingIn, IsRest}
+use Rattle.zeb_register.specs.Hindrances.{HindersNew}
+use Rattle.zeb_register.proofs.StatementForms.{Condition, equals, reading, alone, keyed_from, rising, shows, no_limit}
 use Rattle.zeb_register.proofs.ValueKinds.{IsPlainTable, HasKeys}
 use Rattle.sqlite.specs.Table.{Table}
-use Rattle.zeb_register.specs.Store.{IsStore, Changes, postings_tree, blocks_tree, dict_tree, key_of, IsPostingIn, IsRest}
 use Rattle.zeb_register.proofs.Writes.{deletes, inserts, loses, gains}
 use Rattle.zeb_register.proofs.Selects.{list_so}
 use Rattle.zeb_register.proofs.Prefix.{IsAfter, lists_after}
 use Rattle.zeb_register.proofs.Calls.{IsSilent}
 use Rattle.zeb_register.proofs.Refusals.{IsFit, IsReasonedQuery, IsWhole, why_refused}
-use Rattle.zeb_register.specs.Hindrances.{HindersNew}
 use Rattle.zeb_register.proofs.InsertRefusals.{why_insert_hindered}
 use Rattle.zeb_register.proofs.NewRows.{IsRowFor}
 use Rattle.zeb_register.proofs.WriteRefusals.{IsHinderedWrite, IsReasonedWrite, why_delete_refused}
@@ -335,3 +335,12 @@ lift_refused db idx reg term sysno = why_delete_refused lift_text (place_key db 
 
 pub lift_takes : (db idx reg : ℤ) (term : List ℕ) (sysno : ℤ) → IsTakingWrite 0 postings_tree lift_text (place_key db idx reg term sysno)
 lift_takes db idx reg term sysno = delete_takes 3 postings postings_static lift_text (place_key db idx reg term sysno) lift_wheres lift_is lift_plain refl
+
+pub blocks_keys : HasKeys store_schema blocks ((1 ∷ 2 ∷ 3 ∷ 4 ∷ 5 ∷ []) ∷ [])
+blocks_keys = record { are = λ r new. refl; comparable = refl }
+
+pub dict_keys : HasKeys store_schema dict ((1 ∷ 2 ∷ 3 ∷ 4 ∷ []) ∷ [])
+dict_keys = record { are = λ r new. refl; comparable = refl }
+
+abbrev pub register_of : ℤ → ℤ → ℤ → Row
+register_of db idx reg = Int db ∷ Int idx ∷ Int reg ∷ []

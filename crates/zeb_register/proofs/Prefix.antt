@@ -1,5 +1,5 @@
 -- SELECT of the other columns WHERE the first columns are equal to parameters.
-use Rattle.std.proofs.Common.{◌≡◌, ◌↔◌, ℕ, ℤ, zero, suc, ◌+◌, ◌≤◌, true, false, List, [], ◌∷◌, ◌++◌, length, map, refl, sym, ap, ap₂, subst, ◌∙◌, arith, Less, length-append}
+use Rattle.std.proofs.Common.{◌≡◌, ◌↔◌, ℕ, ℤ, zero, suc, ◌+◌, ◌≤◌, true, false, List, [], ◌∷◌, ◌++◌, length, map, refl, sym, ap, ap₂, subst, ◌∙◌, arith, Less, length-append, Ordering, Equal, Greater}
 use Rattle.std.proofs.lemmas.List.{length-map}
 use Rattle.std.specs.List.{list_any, range_with_len}
 use Rattle.sqlite.specs.declared.types.Value.{Value}
@@ -25,6 +25,7 @@ use Rattle.zeb_register.proofs.ValueKinds.{IsPlainTable, HasKeys, are_fit, are_c
 use Rattle.zeb_register.proofs.RowLemmas.{later_columns}
 use Rattle.zeb_register.proofs.Writes.{keyed_there, codes_there}
 use Rattle.zeb_register.proofs.Selects.{IsSelected, selects, list_so}
+use Rattle.std.specs.Ordering.{ordering_then}
 
 shift_both : (v w : Value) (params row : Row) (p f n : ℕ) → MeetsAll (v ∷ params) (w ∷ row) (keyed_from (suc p) (suc f) n) ↔ MeetsAll params row (keyed_from p f n)
 shift_both v w params row p f zero = (λ h. h, λ h. h)
@@ -104,3 +105,8 @@ module _ (schema : Schema) (at : ℕ) (table : Table) (static : IsPlainTable sch
         ))) got.1,
         got.2,
       )
+
+pub alone_first : (o : Ordering) → ordering_then o Equal ≡ Less → o ≡ Less
+alone_first Less h = refl
+alone_first Equal h = absurd (let e : Equal ≡ Less = h in cc)
+alone_first Greater h = absurd (let e : Greater ≡ Less = h in cc)

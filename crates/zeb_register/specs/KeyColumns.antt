@@ -1,14 +1,24 @@
 -- Steps of private functions, which no public clause speaks of: the columns with which rows of a register, of a key and of a numbered key begin.
-use Rattle.std.specs.Prelude.{ℕ, ℤ, pos, List, [], ◌∷◌, ◌++◌}
-use Rattle.sqlite.specs.declared.types.Value.TheVariants.{Int}
-use Rattle.sqlite.specs.Order.{Row}
+use Rattle.std.specs.Prelude.{ℕ, ℤ, pos, List, [], ◌∷◌, ◌++◌, ◌≡◌}
+use Rattle.sqlite.specs.declared.types.Value.TheVariants.{Int, Text}
+use Rattle.sqlite.specs.Order.{Row, column}
 use Rattle.sqlite.specs.Tree.{Trees}
 use Rattle.zeb_profile.specs.Indexes.{register_code}
 use Rattle.zeb_register.specs.declared.statements.keys.KeyOf.{KeyOf}
 use Rattle.zeb_register.specs.declared.registers.RegisterOf.{RegisterOf}
-use Rattle.zeb_register.specs.PackedChanges.{IsBlockOf, IsDictIn}
 use Rattle.zeb_register.specs.PlainRows.{key_row, register_front}
 use Rattle.zeb_register.specs.RowTerms.{HasTerm}
+use Rattle.zeb_extract.specs.declared.keys.Key.{Key}
+
+abbrev pub IsRowOf : ℤ → ℤ → ℤ → List ℕ → Row → Type 0
+IsRowOf db idx reg term columns = (column columns 0 ≡ Int db) × (column columns 1 ≡ Int idx) × (column columns 2 ≡ Int reg) × (column columns 3 ≡ Text term)
+
+abbrev pub IsBlockOf : ℤ → ℤ → ℤ → List ℕ → ℤ → Row → Type 0
+IsBlockOf db idx reg term block columns =
+    (column columns 0 ≡ Int db) × (column columns 1 ≡ Int idx) × (column columns 2 ≡ Int reg) × (column columns 3 ≡ Text term) × (column columns 4 ≡ Int block)
+
+abbrev pub IsDictIn : ℤ → Key → Row → Type 0
+IsDictIn db key = IsRowOf db (pos key.index) (pos (register_code key.register)) key.term
 
 abbrev pub register_columns : RegisterOf → Row
 register_columns at = register_front at.db.0 at.index at.register

@@ -16,8 +16,6 @@ pub mod RowStatements
 pub mod RowTerms
 pub mod RowPlaces
 pub mod PackedRows
-pub mod PackedChanges
-pub mod PackedHindrances
 pub mod Formats
 pub mod Room
 pub mod Expected

@@ -1,31 +1,16 @@
 -- Steps of private functions, which no public clause speaks of: postings and terms as rows of the packed tables show them.
-use Rattle.std.specs.Prelude.{◌≡◌, ◌↔◌, ℤ, List, [], ◌∷◌, ◌++◌}
-use Rattle.std.specs.List.Sorted.{IsStrictlySortedBy}
-use Rattle.sqlite.specs.declared.types.Value.TheVariants.{Int}
-use Rattle.sqlite.specs.Order.{Row, row_cmp}
-use Rattle.sqlite.specs.State.{State, IsUnchanged}
-use Rattle.sqlite.specs.Tree.{Trees}
-use Rattle.sqlite_sql.specs.Query.{as_count, limited}
-use Rattle.sqlite_rules.specs.Lists.{Has}
+use Rattle.std.specs.Prelude.{◌≡◌, List, [], ◌∷◌, ◌++◌, ◌↔◌, ◌/◌, ℕ, ℤ}
+use Rattle.sqlite.specs.Order.{Row}
 use Rattle.zeb_blocks.specs.declared.postings.Posting.{Posting}
-use Rattle.zeb_register.specs.PackedBlocks.{SpellsPart}
-use Rattle.zeb_register.specs.Sql.{IsListOf}
-use Rattle.zeb_register.specs.Store.{IsStore}
-
--- ---- what statements list
-
--- the first of the rows that are P of the tables, rising, and at most so many, or all where that is below 0
-abbrev pub ListsFirst : ℤ → (Trees → Row → Type 0) → State → State → List Row → Type 0
-ListsFirst limit P old new rows = IsUnchanged old new × (IsStore old → (all : List Row) × IsListOf (P old.now.trees) all × (rows ≡ limited (as_count (Int limit)) all))
-
--- the rows that are P, each once, falling
-pub record IsFallingListOf (P : Row → Type 0) (rows : List Row) : Type 0 where
-  pub each : (x : Row) → Has rows x ↔ P x
-  pub falling : IsStrictlySortedBy (λ x y. row_cmp y x) rows
-
--- the last of the rows that are P of the tables, falling, and at most so many, or all where that is below 0
-abbrev pub ListsLast : ℤ → (Trees → Row → Type 0) → State → State → List Row → Type 0
-ListsLast limit P old new rows = IsUnchanged old new × (IsStore old → (all : List Row) × IsFallingListOf (P old.now.trees) all × (rows ≡ limited (as_count (Int limit)) all))
+use Rattle.zeb_register.specs.PackedBlocks.{SpellsPart, IsBlockRow}
+use Rattle.sqlite.specs.Tree.{Trees}
+use Rattle.sqlite_rules.specs.Lists.{Has}
+use Rattle.zeb_blocks.specs.Blocks.{IsNumbered}
+use Rattle.zeb_extract.specs.declared.keys.Key.{Key}
+use Rattle.zeb_register.specs.declared.registers.RecordChange.{RecordChange}
+use Rattle.zeb_register.specs.Content.{Content, IsRising}
+use Rattle.zeb_register.specs.Sql.{HasRow}
+use Rattle.zeb_register.specs.Store.{blocks_tree}
 
 -- ---- blocks
 
@@ -33,3 +18,13 @@ ListsLast limit P old new rows = IsUnchanged old new × (IsStore old → (all : 
 abbrev pub AreSpelled : List Row → List Posting → Type 0
 AreSpelled [] list = list ≡ []
 AreSpelled (row ∷ rows) list = (part : List Posting) × (rest : List Posting) × SpellsPart row part × AreSpelled rows rest × (list ≡ part ++ rest)
+
+-- the change is of a record of the block
+abbrev pub IsInBlock : ℕ → RecordChange → Type 0
+IsInBlock block change = change.sysno / 256 ≡ block
+
+-- the rows of `blocks` hold the content, whatever those of `dict` say
+pub record HoldsBlockRows (trees : Trees) (content : Content) : Type 0 where
+  pub rising : IsRising content
+  pub numbered : (db : ℤ) (key : Key) (p : Posting) → Has (content db key) p → IsNumbered p
+  pub blocks : (row : Row) → HasRow trees blocks_tree row ↔ IsBlockRow content row

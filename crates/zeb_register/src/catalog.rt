@@ -46,7 +46,7 @@ pub struct ListedDatabase {
 
 impl DatabaseId {
     /// The number as a column stores it.
-    pub(crate) fn column(self) -> i64
+    pub fn column(self) -> i64
         ensures value { result ≡ self.0 }
         ensures fits { FitsSigned w64 result }
     {

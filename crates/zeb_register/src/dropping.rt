@@ -17,7 +17,7 @@ use crate::{DatabaseId, RegFault};
 use sqlite::{Alter, Transaction};
 
 /// Takes a database out, with its records and its rows in every table of the registers.
-pub(crate) fn database_drop_whole<S: Alter>(
+pub fn database_drop_whole<S: Alter>(
     tx: &mut Transaction<'_, S>,
     db: DatabaseId,
 ) -> Result<(), RegFault>

@@ -8,23 +8,17 @@
 
 mod agreeing;
 mod belonging;
-mod blocks;
 mod catalog;
 mod dropping;
 mod expected;
 mod faults;
+pub mod for_layouts;
 mod kept;
 mod key_runs;
 mod lists;
 mod meta;
 mod occurring;
-mod packed;
 mod packed_agreeing;
-mod packed_between;
-mod packed_changes;
-mod packed_parts;
-mod packed_runs;
-mod packed_totals;
 mod plain;
 mod plain_between;
 mod plain_changes;
@@ -37,7 +31,6 @@ mod terms;
 mod values;
 mod wiping;
 
-pub use blocks::Blocks;
 pub use catalog::{
     Database, DatabaseId, ListedDatabase, database_of, database_put, databases, databases_inside,
 };

@@ -9,19 +9,40 @@ ghost use Rattle.sqlite.specs.Order.{column};
 ghost use Rattle.zeb_blocks.specs.Blocks.{BlockSpells};
 ghost use Rattle.zeb_register.specs.Calls.{Reading};
 ghost use Rattle.zeb_register.specs.Clauses.{IsReasoned, TellsWhether};
+ghost use Rattle.zeb_register.specs.Expected.{AreExpected, IsOrdered};
+ghost use Rattle.zeb_register.specs.Formats.{packed_blocks};
 ghost use Rattle.zeb_register.specs.RowExpected.{AreInOrder, HoldsExpected, HoldsKeysAlone, IsBlockBefore, with_key};
 
-use crate::agreeing::{Table, table_agrees};
+use crate::agreeing::{Table, lists_beside, table_agrees};
 use crate::belonging::belongs;
 use crate::expected::is_key;
-use crate::{ExpectedDatabase, KeyPosting, ListedDatabase, RegFault};
+use crate::{Expected, ExpectedDatabase, KeyPosting, ListedDatabase, RegFault};
 use sqlite::types::ValueRef;
 use sqlite::{Alter, Connection, Row};
+use std::alloc::Global;
 use zeb_blocks::{Posting, Postings};
 use zeb_extract::Key;
 
+/// Whether the tables hold just what is expected, in packed blocks. Unreadable rows are not expected. It changes nothing.
+pub fn blocks_agree<S: Alter>(
+    alloc: Global,
+    conn: &mut Connection<S>,
+    expected: &Expected,
+) -> Result<bool, RegFault>
+    ensures call { Reading (state S.Store conn.old) (state S.Store conn.new) result (λ _. IsUnchanged) }
+    ensures value { TellsWhether (λ trees. AreExpected packed_blocks trees expected.now) (IsOrdered expected.now)
+        (state S.Store conn.old) (state S.Store conn.new) result }
+    ensures honest { result ≢ Err RegFault.Damaged }
+    ensures refused { IsReasoned (state S.Store conn.old) (state S.Store conn.new) result }
+{
+    let Some(listed) = lists_beside(alloc, conn, expected)? else {
+        return Ok(false);
+    };
+    packed_agree(conn, &listed, &expected.databases)
+}
+
 /// Whether the packed tables have just the expected rows, and the table of single postings none.
-pub(crate) fn packed_agree<S: Alter>(
+fn packed_agree<S: Alter>(
     conn: &mut Connection<S>,
     listed: &[ListedDatabase],
     expected: &[ExpectedDatabase],

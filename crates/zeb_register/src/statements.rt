@@ -6,7 +6,6 @@ pub(crate) mod inside;
 pub(crate) mod keys;
 pub(crate) mod owners;
 pub(crate) mod packed;
-pub(crate) mod packed_changes;
 pub(crate) mod postings;
 pub(crate) mod records;
 pub(crate) mod texts;

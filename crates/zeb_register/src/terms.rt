@@ -113,7 +113,7 @@ pub(crate) fn term_count<S: Alter>(
 }
 
 /// The least text above this one.
-pub(crate) fn text_above(alloc: Global, text: &str) -> Result<String, AllocError>
+pub fn text_above(alloc: Global, text: &str) -> Result<String, AllocError>
     ensures { IfOk result (λ above. string_bytes above ≡ text.now ++ 0 ∷ []) }
 {
     let mut above = String::from_str(alloc, text)?;

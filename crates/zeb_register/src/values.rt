@@ -11,7 +11,7 @@ use sqlite::types::{FromSql, ValueRef};
 use sqlite::{Error, ErrorCode, Row};
 
 /// The number as a column stores it. `Store` above `2^63 - 1`, which no column stores.
-pub(crate) fn stored(number: u64) -> Result<i64, RegFault>
+pub fn stored(number: u64) -> Result<i64, RegFault>
     ensures ok { IfOk result (λ n. (n ≡ pos number) × FitsSigned w64 n) }
     ensures err { IfErr result (λ e. (e ≡ RegFault.Store) × (2 ^ 63 ≤ number)) }
 {
@@ -19,7 +19,7 @@ pub(crate) fn stored(number: u64) -> Result<i64, RegFault>
 }
 
 /// The value at this place of a row. `Damaged` where it is of another type, no number of this range or no UTF-8.
-pub(crate) fn read<T: FromSql>(row: &Row, at: usize) -> Result<T, RegFault>
+pub fn read<T: FromSql>(row: &Row, at: usize) -> Result<T, RegFault>
     ensures ok { IfOk result (T.FromSql.reads_as (column row.now at)) }
     ensures honest { result ≡ Err RegFault.Damaged → at < length row.now → ¬ T.FromSql.is_readable (column row.now at) }
     ensures unstored { result ≢ Err RegFault.Store }
@@ -41,7 +41,7 @@ pub(crate) fn read_integer(row: &Row, at: usize) -> Result<i64, RegFault>
 }
 
 /// The bytes at this place of a row, as they lie there. `Damaged` where it is of another type.
-pub(crate) fn read_bytes(row: &Row, at: usize) -> Result<&[u8], RegFault>
+pub fn read_bytes(row: &Row, at: usize) -> Result<&[u8], RegFault>
     ensures ok { IfOk result (λ bytes. column row.now at ≡ Blob bytes.now) }
     ensures honest { result ≡ Err RegFault.Damaged → (bytes : List ℕ) → column row.now at ≢ Blob bytes }
     ensures unstored { result ≢ Err RegFault.Store }

@@ -10,8 +10,9 @@ use std::alloc::{AllocError, AllocGlobal, Global};
 use std::process::Abort;
 use std::test::Fail;
 use zeb_engine::{Kind, Limits, Session};
+use zeb_packed::Blocks;
 use zeb_profile::Profile;
-use zeb_register::{Blocks, Layout, Rows};
+use zeb_register::{Layout, Rows};
 
 /// What is done with records, and their names.
 type Change = (Kind, &'static [u32]);

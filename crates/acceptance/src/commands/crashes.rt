@@ -14,7 +14,8 @@ use std::test::Fail;
 use tables::disks::connected;
 use tables::samples::{CAFE, CAFE_DOCK, CAFE_MOBY, DOCK, DOCK_ALONE, MOBY, MOBY_TEXT};
 use zeb_engine::{Limits, Session};
-use zeb_register::{Blocks, Layout, Rows};
+use zeb_packed::Blocks;
+use zeb_register::{Layout, Rows};
 
 /// What is printed for a dump, and then for a check: over a row for each posting under `BOOKS`, over packed tables under `BOOKS`, and over
 /// these under `SUBJECTS`.

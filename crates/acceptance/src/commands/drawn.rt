@@ -12,7 +12,8 @@ use std::test::Fail;
 use tables::queries::{TABLES, all_rows};
 use tables::samples::{BARE, CAFE, CUT, DOCK, MOBY};
 use zeb_engine::Limits;
-use zeb_register::{Blocks, Layout, Rows};
+use zeb_packed::Blocks;
+use zeb_register::{Layout, Rows};
 
 /// How many registers are made in each layout.
 const REGISTERS: usize = 500;

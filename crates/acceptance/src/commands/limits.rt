@@ -4,7 +4,7 @@ use super::{Script, Step, TITLES, name, run_in_memory};
 use std::test::Fail;
 use tables::samples::{CAFE, MOBY};
 use zeb_engine::{DbName, Limits};
-use zeb_register::Blocks;
+use zeb_packed::Blocks;
 
 /// One record in a command, and one number.
 const LIMITED: Script = &[(

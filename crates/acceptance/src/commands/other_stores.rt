@@ -8,7 +8,8 @@ use std::process::Abort;
 use std::test::Fail;
 use tables::queries::{execute, rows};
 use zeb_engine::Limits;
-use zeb_register::{Blocks, RegFault};
+use zeb_packed::Blocks;
+use zeb_register::RegFault;
 
 const META: &str =
     "CREATE TABLE meta (name TEXT NOT NULL, value TEXT NOT NULL, PRIMARY KEY (name)) STRICT";

@@ -8,7 +8,7 @@ use std::process::Abort;
 use std::test::Fail;
 use tables::samples::{DOCK, MOBY, MOBY_TEXT};
 use zeb_engine::Limits;
-use zeb_register::Blocks;
+use zeb_packed::Blocks;
 
 /// How many rows the packed tables have.
 const COUNTS: &str = "SELECT (SELECT count(*) FROM blocks), (SELECT count(*) FROM dict)";

@@ -12,7 +12,8 @@ use std::test::Fail;
 use tables::queries::state;
 use tables::samples::{CAFE, DOCK, MOBY, MOBY_CAFE};
 use zeb_engine::{Command, Limits, Refusal, Reply};
-use zeb_register::{Blocks, Layout, Rows};
+use zeb_packed::Blocks;
+use zeb_register::{Layout, Rows};
 
 /// In which layout and under which profile a command is given, and what is printed for it.
 type Given = (Kept, &'static str, Step<'static>, &'static str);

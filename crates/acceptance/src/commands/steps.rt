@@ -9,7 +9,7 @@ use std::process::Abort;
 use std::test::Fail;
 use tables::queries::{execute, rows};
 use zeb_engine::{Command, Kind, Limits};
-use zeb_register::Blocks;
+use zeb_packed::Blocks;
 
 /// More steps than any statement here needs.
 const MANY: u64 = 1_000_000;

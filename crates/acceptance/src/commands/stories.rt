@@ -7,7 +7,8 @@ use std::alloc::AllocGlobal;
 use std::process::Abort;
 use std::test::Fail;
 use zeb_engine::Limits;
-use zeb_register::{Blocks, Rows};
+use zeb_packed::Blocks;
+use zeb_register::Rows;
 
 /// Of which layout the rows are.
 #[derive(Clone, Copy)]

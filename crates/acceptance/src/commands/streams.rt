@@ -8,7 +8,7 @@ use std::test::Fail;
 use tables::samples::{BARE, CAFE, MOBY};
 use zeb_engine::{Kind, Limits, Refusal, Reply, Session};
 use zeb_marc::{ReadFailed, Source};
-use zeb_register::Blocks;
+use zeb_packed::Blocks;
 
 pub type Memory = Session<MemStore, Blocks>;
 

@@ -8,7 +8,7 @@ use std::process::Abort;
 use std::test::Fail;
 use tables::samples::MOBY;
 use zeb_engine::{Command, Refusal, Reply, Session};
-use zeb_register::Blocks;
+use zeb_packed::Blocks;
 
 /// They run on after a refusal.
 const ROWS: [Row<'static>; 3] = [

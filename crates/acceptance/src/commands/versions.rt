@@ -6,7 +6,8 @@ use sqlite::{Alter, Connection, MemStore};
 use std::test::Fail;
 use tables::samples::{DOCK, MOBY};
 use zeb_engine::Limits;
-use zeb_register::{Blocks, Layout, RegFault, Rows, meta_put};
+use zeb_packed::Blocks;
+use zeb_register::{Layout, RegFault, Rows, meta_put};
 
 const FOUND: Row<'static> = (Step::Find("@attr 1=4 moby"), "hits 1\n1 a1\n");
 

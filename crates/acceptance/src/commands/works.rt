@@ -8,7 +8,8 @@ use std::process::Abort;
 use std::test::Fail;
 use tables::samples::{AGAIN, DOCK, MOBY};
 use zeb_engine::Limits;
-use zeb_register::{Blocks, Layout, Rows, Work};
+use zeb_packed::Blocks;
+use zeb_register::{Layout, Rows, Work};
 
 /// Rows of `dict` that are read and written, and rows of `blocks`.
 type Counts = [u64; 4];

@@ -8,9 +8,9 @@ use std::process::Abort;
 use std::str;
 use std::test::Fail;
 use zeb_engine::{Command, DbName, Kind, Limits, Session};
+use zeb_packed::Blocks;
 use zeb_paths::{Shelf, Shelved};
 use zeb_profile::Profile;
-use zeb_register::Blocks;
 
 /// Titles by their words and whole, dates by their numbers, and any words.
 const BOOKS: &str = "\

@@ -6,9 +6,10 @@ use std::alloc::{AllocGlobal, Global};
 use std::fmt::Write;
 use std::process::Abort;
 use std::test::Fail;
+use zeb_packed::Blocks;
 use zeb_profile::Register;
 use zeb_register::{
-    Blocks, DatabaseId, Layout, Place, RegFault, RegisterOf, Rows, Work, database_put, make_tables,
+    DatabaseId, Layout, Place, RegFault, RegisterOf, Rows, Work, database_put, make_tables,
 };
 
 /// Words of index 0, each with the number of a record that has it once. The records of `a` lie in three blocks.

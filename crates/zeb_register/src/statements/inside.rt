@@ -14,7 +14,7 @@ use crate::RegFault;
 use sqlite::{Alter, Error, Row, Transaction, params};
 
 /// Reads nothing. It is refused where the connection is closed.
-pub(crate) fn nothing_inside<S: Alter>(tx: &mut Transaction<'_, S>) -> Result<(), Error>
+pub fn nothing_inside<S: Alter>(tx: &mut Transaction<'_, S>) -> Result<(), Error>
     ensures same { tx.new.conn.ghost_name ≡ tx.old.conn.ghost_name }
     ensures call { Inside (state S.Store tx.old.conn.now) (state S.Store tx.new.conn.now) result (λ _. OnlyReads) }
     ensures err { IsReasonedErrorInside (state S.Store tx.old.conn.now) (state S.Store tx.new.conn.now) result }

@@ -5,7 +5,7 @@ use zeb_extract::Key;
 
 /// A key of a database.
 #[derive(Clone, Copy, Debug)]
-pub(crate) struct KeyOf<'a> {
-    pub(crate) db: DatabaseId,
-    pub(crate) key: &'a Key,
+pub struct KeyOf<'a> {
+    pub db: DatabaseId,
+    pub key: &'a Key,
 }

@@ -6,7 +6,7 @@ use Rattle.zeb_register.specs.Store.{postings_tree}
 use Rattle.zeb_register.proofs.BetweenStatements.{lists_postings, postings_refused, postings_silent}
 use Rattle.zeb_register.proofs.Calls.{lists, nothing, quiet}
 use Rattle.zeb_register.proofs.Columns.{column_is}
-use Rattle.zeb_register.proofs.PackedStatements.{register_of}
+use Rattle.zeb_register.proofs.PostingStatements.{register_of}
 use Rattle.zeb_register.proofs.statements.between.posting_rows_between.Goals as goal
 
 pub returns-clause-call : goal.returns-clause-call

@@ -1,0 +1,12 @@
+pub mod Falling
+pub mod PackedStatements
+pub mod BetweenStatements
+pub mod PackedRowStatements
+pub mod PackedTerms
+pub mod PackedReads
+pub mod PackedWrites
+pub mod PackedParts
+pub mod PackedTotals
+pub mod PackedChanges
+pub mod PackedHindrances
+pub mod PackedCauses

@@ -1,0 +1,214 @@
+-- One record's part of a list of postings: taken apart, compared and put together again.
+use Rattle.std.proofs.Common.{◌≡◌, ◌⊎◌, ◌∙◌, ◌+◌, ◌<◌, ◌≤◌, ◌/◌, ◌^◌, ◌==◌, ℕ, suc, nat_lt, true, List, [], ◌∷◌, ◌++◌, drop, drop-cons, get_or, length, map, filter, refl, sym, ap, ap₂, subst, inl, inr, Ordering, Less, Equal, Greater, nat_cmp, arith}
+use Rattle.std.proofs.lemmas.Bool.{eqb-true, eq-eqb}
+use Rattle.std.proofs.lemmas.Bool.Decides.{nat_tests}
+use Rattle.std.specs.Cmp.{IsTotalOrder, then_total, on_total, nat_cmp_total}
+use Rattle.std.specs.Ordering.{ordering_then}
+use Rattle.std.specs.List.Sorted.{IsStrictlySortedBy}
+use Rattle.sqlite_rules.specs.Lists.{Has}
+use Rattle.sqlite_rules.proofs.ListLemmas.{all_from, all_has, has_either, has_filtered, has_kept, has_left, has_right}
+use Rattle.sqlite_rules.proofs.ProbeLemmas.{has_mapped, mapped_has}
+use Rattle.zeb_blocks.specs.declared.postings.Posting.{Posting}
+use Rattle.zeb_blocks.specs.Blocks.{IsNumbered, LiesIn}
+use Rattle.zeb_register.specs.declared.registers.Place.{Place}
+use Rattle.zeb_register.specs.Content.{ArePlacesOf, AreStorablePlaces, IsListChanged, IsStorablePlace, place_cmp, posting_at, posting_cmp}
+use Rattle.zeb_register.proofs.ContentChanges.{numbers_apart, posting_total}
+use Rattle.zeb_register.proofs.CountLemmas.{has_end, less_is}
+use Rattle.zeb_register.proofs.RisingLists.{joined_rises, kept_rises, pushed_rises, same_list}
+use Rattle.zeb_register.proofs.Scans.{strictly_mapped}
+use Rattle.zeb_register.proofs.ListChanges.{place_is, place_of, posting_is}
+
+-- ---- places that rise
+
+pub place_total : IsTotalOrder place_cmp
+place_total = then_total (on_total (λ (p : Place). p.seq) nat_cmp_total) (on_total (λ (p : Place). p.pos) nat_cmp_total)
+
+-- stored places, of which none is above the last that was looked at
+pub record AreUpTo (places : List Place) (last : Place) : Type 0 where
+  pub stored : AreStorablePlaces places
+  pub upto : (p : Place) → Has places p → (p ≡ last) ⊎ (place_cmp p last ≡ Less)
+
+pub upto_none : (last : Place) → AreUpTo [] last
+unfolding IsStrictlySortedBy
+upto_none last = record { stored = (tt, tt); upto = λ p here. absurd here }
+
+pub upto_more : (places : List Place) (last p : Place) → AreUpTo places last → IsStorablePlace p → place_cmp last p ≡ Less → AreUpTo (places ++ p ∷ []) p
+upto_more places last p are stored above = record {
+  stored = (
+    pushed_rises place_total places p are.stored.0 lower,
+    all_from IsStorablePlace (places ++ p ∷ []) (λ q h. elim (has_end places p q h) [ inl there ↦ all_has IsStorablePlace places q are.stored.1 there | inr same ↦ subst IsStorablePlace (sym same) stored ]),
+  );
+  upto = λ q h. elim (has_end places p q h) [ inl there ↦ inr (lower q there) | inr same ↦ inl same ];
+}
+  where
+    lower : (q : Place) → Has places q → place_cmp q p ≡ Less
+    lower q h = elim (are.upto q h) [
+      | inl same ↦ subst (λ (r : Place). place_cmp r p ≡ Less) (sym same) above
+      | inr less ↦ place_total.trans q last p less above
+    ]
+
+below_first : (m n : ℕ) (x : Ordering) → m < n → ordering_then (nat_cmp m n) x ≡ Less
+below_first m n x h = ap (λ o. ordering_then o x) (less_is m n h)
+
+-- places whose numbers are 1 and more rise above 0
+pub rise_from : (places : List Place) → AreStorablePlaces places → IsStrictlySortedBy place_cmp (record { seq = 0; pos = 0 } ∷ places)
+unfolding IsStrictlySortedBy
+rise_from places stored = (
+  all_from (λ q. place_cmp (record { seq = 0; pos = 0 }) q ≡ Less) places (λ q h. below_first 0 q.seq _ (omega (arith, (all_has IsStorablePlace places q stored.1 h).seq.0))),
+  stored.0,
+)
+
+-- of places that rise the first is below the second
+pub rise_next : (places : List Place) (i : ℕ) (d before : Place) → i < length places → IsStrictlySortedBy place_cmp (before ∷ drop i places)
+    → (place_cmp before (get_or places i d) ≡ Less) × IsStrictlySortedBy place_cmp (get_or places i d ∷ drop (i + 1) places)
+unfolding IsStrictlySortedBy
+rise_next places i d before below up =
+    let next : suc i ≡ i + 1 = omega arith in
+    let all = subst (λ l. IsStrictlySortedBy place_cmp (before ∷ l)) (drop-cons places i d below) up in
+    (all.0.0, subst (λ n. IsStrictlySortedBy place_cmp (get_or places i d ∷ drop n places)) next all.1)
+
+-- ---- the postings of a record
+
+then_again : (x : Ordering) (n : ℕ) → ordering_then (nat_cmp n n) x ≡ x
+then_again x n = ap (λ o. ordering_then o x) (Rattle.std.proofs.lemmas.Cmp.tied_itself nat_cmp_total n)
+
+pub places_rise : (sysno : ℕ) (places : List Place) → IsStrictlySortedBy place_cmp places → IsStrictlySortedBy posting_cmp (map (posting_at sysno) places)
+places_rise sysno places up = strictly_mapped place_cmp posting_cmp (posting_at sysno) places (λ p q here there less. then_again (place_cmp p q) sysno ∙ less) up
+
+abbrev pub own_of : ℕ → List Posting → List Posting
+own_of sysno list = filter (λ p. p.sysno == sysno) list
+
+-- where these are a record's places in a list, its postings there are those of the places
+pub own_places : (sysno : ℕ) (list : List Posting) (places : List Place) → map (posting_at sysno) places ≡ own_of sysno list → ArePlacesOf sysno places list
+own_places sysno list places same q = (
+  λ h. (has_filtered (λ p. p.sysno == sysno) list (posting_at sysno q) (subst (λ l. Has l (posting_at sysno q)) same (mapped_has (posting_at sysno) places q h))).0,
+  λ h.
+      let kept = has_kept (λ p. p.sysno == sysno) list (posting_at sysno q) h (eq-eqb sysno sysno refl) in
+      let found = has_mapped (posting_at sysno) places (posting_at sysno q) (subst (λ l. Has l (posting_at sysno q)) (sym same) kept) in
+      subst (Has places) (sym (place_is sysno q found.0 found.2)) found.1,
+)
+
+pub places_own : (sysno : ℕ) (list : List Posting) (places : List Place) → IsStrictlySortedBy posting_cmp list → IsStrictlySortedBy place_cmp places → ArePlacesOf sysno places list → map (posting_at sysno) places ≡ own_of sysno list
+places_own sysno list places up rising are =
+    same_list posting_total (map (posting_at sysno) places) (own_of sysno list) (places_rise sysno places rising) (kept_rises posting_total (λ p. p.sysno == sysno) list up)
+    (λ p h.
+    let q = has_mapped (posting_at sysno) places p h in
+    subst (Has (own_of sysno list)) (sym q.2) (has_kept (λ r. r.sysno == sysno) list (posting_at sysno q.0) ((are q.0).0 q.1) (eq-eqb sysno sysno refl)))
+    (λ p h.
+    let it = has_filtered (λ r. r.sysno == sysno) list p h in
+    let is = posting_is p sysno (eqb-true p.sysno sysno it.1) in
+    subst (Has (map (posting_at sysno) places)) (sym is) (mapped_has (posting_at sysno) places (place_of p) ((are (place_of p)).1 (subst (Has list) is it.0))))
+
+pub same_places : (sysno : ℕ) (ps qs : List Place) → map (posting_at sysno) ps ≡ map (posting_at sysno) qs → ps ≡ qs
+same_places sysno [] [] h = refl
+same_places sysno [] (q ∷ qs) h = absurd (cc)
+same_places sysno (p ∷ ps) [] h = absurd (cc)
+same_places sysno (p ∷ ps) (q ∷ qs) h =
+    let first : posting_at sysno p ≡ posting_at sysno q = cc in
+    let rest : map (posting_at sysno) ps ≡ map (posting_at sysno) qs = cc in
+    ap₂ (λ a as'. a ∷ as') (place_is sysno p q first) (same_places sysno ps qs rest)
+
+-- ---- a list put together
+
+below_is : (p : Posting) (sysno : ℕ) → nat_lt p.sysno sysno ≡ true → p.sysno < sysno
+below_is p sysno h = grind (arith, nat_tests)
+
+is_below : (m n : ℕ) → m < n → nat_lt m n ≡ true
+is_below m n h = grind (arith, nat_tests)
+
+module _ (sysno : ℕ) (list : List Posting) (places : List Place) (block : ℕ) (here : sysno / 256 ≡ block) (some : 1 ≤ sysno) (small : sysno < 2 ^ 64) (lies : LiesIn block list) (stored : AreStorablePlaces places) where
+  abbrev lower : List Posting
+  lower = filter (λ p. nat_lt p.sysno sysno) list
+
+  abbrev own : List Posting
+  own = map (posting_at sysno) places
+
+  abbrev higher : List Posting
+  higher = filter (λ p. nat_lt sysno p.sysno) list
+
+  abbrev whole : List Posting
+  whole = lower ++ (own ++ higher)
+
+  in_lower : (p : Posting) → Has lower p → Has list p × (p.sysno < sysno)
+  in_lower p h = let it = has_filtered (λ q. nat_lt q.sysno sysno) list p h in (it.0, below_is p sysno it.1)
+
+  in_higher : (p : Posting) → Has higher p → Has list p × (sysno < p.sysno)
+  in_higher p h = let it = has_filtered (λ q. nat_lt sysno q.sysno) list p h in (it.0, let e : sysno < p.sysno = let t = it.1 in grind (arith, nat_tests) in e)
+
+  in_own : (p : Posting) → Has own p → p.sysno ≡ sysno
+  in_own p h = let q = has_mapped (posting_at sysno) places p h in ap (λ (r : Posting). r.sysno) q.2
+
+  in_whole : (p : Posting) → Has whole p → Has lower p ⊎ (Has own p ⊎ Has higher p)
+  in_whole p h = elim (has_either lower (own ++ higher) p h) [ inl first ↦ inl first | inr rest ↦ inr (has_either own higher p rest) ]
+
+  behind_rises : IsStrictlySortedBy posting_cmp (own ++ higher)
+  behind_rises = joined_rises posting_total own higher (places_rise sysno places stored.0) (kept_rises posting_total (λ p. nat_lt sysno p.sysno) list lies.rising)
+      (λ p q h k. below_first p.sysno q.sysno _ (omega (arith, in_own p h, (in_higher q k).1)))
+
+  whole_rises : IsStrictlySortedBy posting_cmp whole
+  whole_rises = joined_rises posting_total lower (own ++ higher) (kept_rises posting_total (λ p. nat_lt p.sysno sysno) list lies.rising) behind_rises
+      (λ p q h k. elim (has_either own higher q k) [
+        | inl at ↦ below_first p.sysno q.sysno _ (omega (arith, (in_lower p h).1, in_own q at))
+        | inr behind ↦ below_first p.sysno q.sysno _ (omega (arith, (in_lower p h).1, (in_higher q behind).1))
+      ])
+
+  placed : (p : Posting) → Has own p → (q : Place) × Has places q × (p ≡ posting_at sysno q)
+  placed p h = has_mapped (posting_at sysno) places p h
+
+  own_numbered : (p : Posting) → Has own p → IsNumbered p
+  own_numbered p h =
+      let q = placed p h in
+      let it = all_has IsStorablePlace places q.0 stored.1 q.1 in
+      subst IsNumbered (sym q.2) (record { sysno = (some, small); seq = (it.seq.0, omega (arith, it.seq.1)); pos = (it.pos.0, omega (arith, it.pos.1)) })
+
+  pub whole_lies : LiesIn block whole
+  whole_lies = record {
+    rising = whole_rises;
+    numbered = all_from IsNumbered whole (λ p h. elim (in_whole p h) [
+      | inl first ↦ all_has IsNumbered list p lies.numbered (in_lower p first).0
+      | inr rest ↦ elim rest [ inl at ↦ own_numbered p at | inr behind ↦ all_has IsNumbered list p lies.numbered (in_higher p behind).0 ]
+    ]);
+    inside = all_from (λ p. p.sysno / 256 ≡ block) whole (λ p h. elim (in_whole p h) [
+      | inl first ↦ all_has (λ r. r.sysno / 256 ≡ block) list p lies.inside (in_lower p first).0
+      | inr rest ↦ elim rest [
+        | inl at ↦ ap (λ n. n / 256) (in_own p at) ∙ here
+        | inr behind ↦ all_has (λ r. r.sysno / 256 ≡ block) list p lies.inside (in_higher p behind).0
+      ]
+    ]);
+  }
+
+  pub whole_spliced : IsListChanged sysno places list whole
+  whole_spliced = record {
+    rising = whole_rises;
+    part = λ q. (
+      λ h. has_right lower (own ++ higher) (posting_at sysno q) (has_left own higher (posting_at sysno q) (mapped_has (posting_at sysno) places q h)),
+      λ h. elim (in_whole (posting_at sysno q) h) [
+        | inl first ↦ absurd (omega (arith, (in_lower (posting_at sysno q) first).1))
+        | inr rest ↦ elim rest [
+          | inl at ↦ let r = placed (posting_at sysno q) at in subst (Has places) (sym (place_is sysno q r.0 r.2)) r.1
+          | inr behind ↦ absurd (omega (arith, (in_higher (posting_at sysno q) behind).1))
+        ]
+      ],
+    );
+    others = λ p differs. (
+      λ h. elim (in_whole p h) [
+        | inl first ↦ (in_lower p first).0
+        | inr rest ↦ elim rest [ inl at ↦ absurd (differs (in_own p at)) | inr behind ↦ (in_higher p behind).0 ]
+      ],
+      λ h. elim (nat_cases p.sysno sysno) [
+        | inl low ↦ has_left lower (own ++ higher) p (has_kept (λ q. nat_lt q.sysno sysno) list p h (is_below p.sysno sysno low))
+        | inr rest ↦ elim rest [
+          | inl same ↦ absurd (differs same)
+          | inr high ↦ has_right lower (own ++ higher) p (has_right own higher p (has_kept (λ q. nat_lt sysno q.sysno) list p h (is_below sysno p.sysno high)))
+        ]
+      ],
+    );
+  }
+    where
+      nat_cases : (m n : ℕ) → (m < n) ⊎ ((m ≡ n) ⊎ (n < m))
+      nat_cases m n = from (nat_cmp m n) refl
+        where
+          from : (o : Ordering) → nat_cmp m n ≡ o → (m < n) ⊎ ((m ≡ n) ⊎ (n < m))
+          from Less is = inl (Rattle.zeb_register.proofs.CountLemmas.is_less m n is)
+          from Equal is = inr (inl (numbers_apart m n is))
+          from Greater is = inr (inr (Rattle.std.proofs.lemmas.Cmp.ranked m n Greater (sym is)))

@@ -1,0 +1,30 @@
+use Rattle.std.proofs.Common.{rules, ◌∙◌, ap, take, subst, sym}
+use Rattle.sqlite.specs.Held.{state}
+use Rattle.sqlite_rules.specs.Lists.{Has}
+use Rattle.zeb_register.proofs.ContentLemmas.{one_list}
+use Rattle.zeb_packed.proofs.PackedTerms.{first_taken, from_read, has_taken, rows_counted}
+use Rattle.zeb_packed.proofs.blocks.BlocksLayout.terms_from.Goals as goal
+
+pub returns-clause-value : goal.returns-clause-value
+returns-clause-value g c clean store content holds =
+    let raw = (c.in_ok-rows.ensures.call.ok clean).1 store in
+    let first = first_taken c.args.n c.limit_of-limit.result c.in_ok-rows.rows.items c.deref.result.now raw.0 c.limit_of-limit.ensures.fits c.limit_of-limit.ensures.limit raw.2 c.deref.ensures.value c.counts_in.ensures.few in
+    from_read (state g.S.Store c.args.conn.now).now.trees content c.args.at.db.0 c.args.at.index c.args.at.register holds c.args.start.now c.args.n c.deref.result.now raw.0 c.in_ok-counts.counts.items raw.1 first c.in_ok-counts.ensures.ok
+
+pub returns-in_err-counts-clause-honest : goal.returns-in_err-counts-clause-honest
+returns-in_err-counts-clause-honest g c clean store is content texts holds =
+    let raw = (c.in_ok-rows.ensures.call.ok clean).1 store in
+    let first = first_taken c.args.n c.limit_of-limit.result c.in_ok-rows.rows.items c.deref.result.now raw.0 c.limit_of-limit.ensures.fits c.limit_of-limit.ensures.limit raw.2 c.deref.ensures.value c.counts_in.ensures.few in
+    c.in_err-counts.ensures.honest (search rules) (λ row here. rows_counted (state g.S.Store c.args.conn.now).now.trees content c.args.at.db.0 c.args.at.index c.args.at.register holds texts row ((raw.1.each row).0 (has_taken c.args.n raw.0 row (subst (λ l. Has l row) first here))).0)
+
+pub returns-clause-sound : goal.returns-clause-sound
+returns-clause-sound g c clean store every are row here =
+    let raw = (c.in_ok-rows.ensures.call.ok clean).1 store in
+    let first = first_taken c.args.n c.limit_of-limit.result c.in_ok-rows.rows.items c.deref.result.now raw.0 c.limit_of-limit.ensures.fits c.limit_of-limit.ensures.limit raw.2 c.deref.ensures.value c.counts_in.ensures.few in
+    c.in_ok-counts.ensures.sound row (subst (λ l. Has l row) (ap (take c.args.n) (one_list _ every raw.0 are raw.1) ∙ sym first) here)
+
+pub returns-in_err-counts-clause-damaged : goal.returns-in_err-counts-clause-damaged
+returns-in_err-counts-clause-damaged g c clean store is all =
+    let raw = (c.in_ok-rows.ensures.call.ok clean).1 store in
+    let first = first_taken c.args.n c.limit_of-limit.result c.in_ok-rows.rows.items c.deref.result.now raw.0 c.limit_of-limit.ensures.fits c.limit_of-limit.ensures.limit raw.2 c.deref.ensures.value c.counts_in.ensures.few in
+    c.in_err-counts.ensures.honest (search rules) (λ row here. all raw.0 raw.1 row (subst (λ l. Has l row) first here))

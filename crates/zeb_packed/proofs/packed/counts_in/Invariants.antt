@@ -1,0 +1,11 @@
+use Rattle.std.proofs.Common.{◌≡◌, map, take}
+use Rattle.sqlite.specs.Order.{Row}
+use Rattle.sqlite_rules.specs.Lists.{Has}
+use Rattle.zeb_register.specs.PackedBlocks.{CountsTerm, count_row, first_two}
+use Rattle.zeb_packed.proofs.packed.counts_in.Given as goal
+
+abbrev pub invariant-loop-row : goal.invariant-loop-row
+invariant-loop-row l = record {
+  shown : map count_row l.counts.items ≡ map first_two (take l.row-index l.rows);
+  sound : (row : Row) → Has (take l.row-index l.rows) row → CountsTerm row;
+}

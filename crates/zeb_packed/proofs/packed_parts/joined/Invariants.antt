@@ -1,0 +1,6 @@
+use Rattle.std.proofs.Common.{◌≡◌, ◌++◌, map, take}
+use Rattle.zeb_register.specs.Content.{posting_at}
+use Rattle.zeb_packed.proofs.packed_parts.joined.Given as goal
+
+abbrev pub invariant-loop-place : goal.invariant-loop-place
+invariant-loop-place l = l.list.items ≡ l.fn.before.items ++ map (posting_at l.sysno) (take l.place-index l.places)

@@ -1,0 +1,6 @@
+use Rattle.std.proofs.Common.{take}
+use Rattle.zeb_packed.specs.PackedChanges.{IsParted}
+use Rattle.zeb_packed.proofs.packed_parts.parted_at.Given as goal
+
+abbrev pub invariant-loop-posting : goal.invariant-loop-posting
+invariant-loop-posting l = IsParted l.sysno (take l.posting-index l.list) l.parted

@@ -1,0 +1,155 @@
+use Rattle.std.proofs.Common.{◌≡◌, ◌≤◌, ◌+◌, ◌==◌, ◌∙◌, IsTrue, arith, inl, inr, map, not, refl, rules, subst, sym}
+use Rattle.std.proofs.lemmas.Result.{IfOk-weaker}
+use Rattle.sqlite.specs.Effect.{Database}
+use Rattle.sqlite.specs.Held.{state}
+use Rattle.sqlite.specs.State.{HasCleanDisk}
+use Rattle.zeb_register.specs.Calls.{GoesOn}
+use Rattle.zeb_register.specs.PackedBlocks.{HoldsBlocks}
+use Rattle.zeb_packed.specs.PackedChanges.{IsCounted, IsKnown, PutsChanges}
+use Rattle.zeb_register.specs.Hindrances.{TakesRowids, placed, rows_of}
+use Rattle.zeb_packed.specs.PackedHindrances.{HindersChanges, new_rows}
+use Rattle.zeb_register.specs.Store.{blocks_tree, dict_tree, postings_tree}
+use Rattle.zeb_register.proofs.Calls.{changes_after, goes_keeps, goes_then, on_err, on_err_so, on_ok_both, reads_goes, store_same}
+use Rattle.zeb_register.proofs.Causes.{hindered_after, may_after}
+use Rattle.zeb_register.proofs.CallsInTurn.{quiet_then}
+use Rattle.zeb_packed.proofs.PackedCauses.{blocks_hinder, count_hinders, new_counts}
+use Rattle.zeb_register.proofs.PackedLemmas.{block_rows}
+use Rattle.zeb_packed.proofs.PackedWrites.{all_lists, all_put, dict_told}
+use Rattle.zeb_register.proofs.TakenRowids.{takes_more, takes_none, takes_then}
+use Rattle.zeb_packed.proofs.packed_runs.changes_put.Goals as goal
+
+pub returns-clause-call : goal.returns-clause-call
+returns-clause-call g c =
+    let first = state g.S.Store c.args.tx.now.conn.now in
+    let third = state g.S.Store c.runs_put.new.tx.conn.now in
+    let done_before = λ (clean : HasCleanDisk (state g.S.Store c.dict_write.new.tx.conn.now)) (inside : IsTrue first.in_transaction). (
+    let clean2 : HasCleanDisk third = omega (arith, c.dict_write.ensures.call.crash.clean) in
+    let clean1 : HasCleanDisk (state g.S.Store c.key_known.new.tx.conn.now) = omega (arith, c.dict_write.ensures.call.crash.clean, c.runs_put.ensures.call.crash.clean) in
+    let reads = c.in_ok-known.ensures.call.ok clean1 inside in
+    let goes : GoesOn first third = goes_then _ _ _ (reads_goes _ _ reads) (c.in_ok-after.ensures.call.ok clean2 reads.mode reads.is_open) in
+    goes) in record {
+      ok = λ clean inside. let goes = done_before clean inside in
+          IfOk-weaker c.dict_write.result _ _ (λ _ done. goes_then _ _ _ goes done.on) (c.dict_write.ensures.call.ok clean goes.mode);
+      err = λ clean inside. let goes = done_before clean inside in
+          on_err_so c.dict_write.result _ _ (λ kept. goes_keeps _ _ _ goes kept) (c.dict_write.ensures.call.err clean goes.mode);
+      crash = search rules;
+    }
+
+pub returns-clause-change : goal.returns-clause-change
+returns-clause-change g c clean inside store =
+    let first = state g.S.Store c.args.tx.now.conn.now in
+    let second = state g.S.Store c.key_known.new.tx.conn.now in
+    let third = state g.S.Store c.runs_put.new.tx.conn.now in
+    let fourth = state g.S.Store c.dict_write.new.tx.conn.now in
+    let clean2 : HasCleanDisk third = omega (arith, c.dict_write.ensures.call.crash.clean) in
+    let clean1 : HasCleanDisk second = omega (arith, c.dict_write.ensures.call.crash.clean, c.runs_put.ensures.call.crash.clean) in
+    let reads = c.in_ok-known.ensures.call.ok clean1 inside in
+    let goes = goes_then first second third (reads_goes first second reads) (c.in_ok-after.ensures.call.ok clean2 reads.mode reads.is_open) in
+    let db = c.args.db.0 in
+    let key = c.args.key.now in
+    let changes = c.args.changes.now in
+    let known = c.in_ok-known.known in
+    let after = c.in_ok-after.after in
+    let there = not (known.records == 0) in
+    let runs = changes_after blocks_tree (PutsChanges db key changes (IsKnown known) (IsCounted after)) first second third reads inside (c.in_ok-after.ensures.put clean2 reads.mode (store_same first second reads.now_is store)) in
+    IfOk-weaker c.dict_write.result _ _ (λ _ done.
+    let dict = done.rows runs.layout in (
+      dict.layout,
+      all_lists db key changes known after first third fourth runs there dict,
+      λ before holds.
+          let is = c.in_ok-known.ensures.value clean1 inside store before holds in
+          all_put db key changes known after first third fourth runs there dict before holds is (dict_told db key known.records (known.records == 0) first.now.trees before holds is.count refl),
+    )) (c.dict_write.ensures.call.ok clean goes.mode)
+
+pub returns-in_err-known-clause-damaged : goal.returns-in_err-known-clause-damaged
+returns-in_err-known-clause-damaged g c clean inside store is rises content storable holds new all = c.in_err-known.ensures.honest clean inside store (search rules) content storable holds
+
+pub returns-in_err-after-clause-damaged : goal.returns-in_err-after-clause-damaged
+returns-in_err-after-clause-damaged g c clean inside store is rises content storable holds new all =
+    let first = state g.S.Store c.args.tx.now.conn.now in
+    let second = state g.S.Store c.key_known.new.tx.conn.now in
+    let clean1 : HasCleanDisk second = omega (arith, c.runs_put.ensures.call.crash.clean) in
+    let reads = c.in_ok-known.ensures.call.ok clean1 inside in
+    let db = c.args.db.0 in
+    let key = c.args.key.now in
+    let rows = block_rows second.now.trees content (subst (λ (d : Database). HoldsBlocks d.trees content) (sym reads.now_is) holds) in
+    let known = c.in_ok-known.ensures.value clean1 inside store content holds in
+    c.in_err-after.ensures.damaged clean reads.mode (store_same first second reads.now_is store) (search rules) rises content rows known new all
+
+pub returns-in_err-after-clause-refused : goal.returns-in_err-after-clause-refused
+returns-in_err-after-clause-refused g c clean inside store told =
+    let first = state g.S.Store c.args.tx.now.conn.now in
+    let second = state g.S.Store c.key_known.new.tx.conn.now in
+    let third = state g.S.Store c.runs_put.new.tx.conn.now in
+    let clean1 : HasCleanDisk second = omega (arith, c.runs_put.ensures.call.crash.clean) in
+    let reads = c.in_ok-known.ensures.call.ok clean1 inside in
+    let xs = c.args.changes.now in
+    let records = c.in_ok-known.known.records in
+    let why = hindered_after first second third (HindersChanges c.args.db.0 c.args.key.now records xs) reads c.key_known.ensures.call.crash
+    (c.in_err-after.ensures.refused clean reads.mode (store_same first second reads.now_is store) (search rules)) in
+    elim why [ inl cause ↦ inl cause | inr hinders ↦ inr (blocks_hinder c.args.db.0 c.args.key.now xs records c.in_ok-known.ensures.few first.now.trees hinders) ]
+
+pub returns-clause-refused : goal.returns-clause-refused
+returns-clause-refused g c clean inside store told =
+    let first = state g.S.Store c.args.tx.now.conn.now in
+    let second = state g.S.Store c.key_known.new.tx.conn.now in
+    let third = state g.S.Store c.runs_put.new.tx.conn.now in
+    let fourth = state g.S.Store c.dict_write.new.tx.conn.now in
+    let clean2 : HasCleanDisk third = omega (arith, c.dict_write.ensures.call.crash.clean) in
+    let clean1 : HasCleanDisk second = omega (arith, c.dict_write.ensures.call.crash.clean, c.runs_put.ensures.call.crash.clean) in
+    let reads = c.in_ok-known.ensures.call.ok clean1 inside in
+    let goes = goes_then first second third (reads_goes first second reads) (c.in_ok-after.ensures.call.ok clean2 reads.mode reads.is_open) in
+    let db = c.args.db.0 in
+    let key = c.args.key.now in
+    let xs = c.args.changes.now in
+    let known = c.in_ok-known.known in
+    let after = c.in_ok-after.after in
+    let runs = changes_after blocks_tree (PutsChanges db key xs (IsKnown known) (IsCounted after)) first second third reads inside (c.in_ok-after.ensures.put clean2 reads.mode (store_same first second reads.now_is store)) in
+    let same : third.now.trees dict_tree ≡ first.now.trees dict_tree = runs.others.1.1.1.1.1.0 (λ e. absurd (omega (arith, e))) in
+    elim (c.dict_write.ensures.refused clean goes.mode runs.layout told) [
+      | inl cause ↦ inl (may_after first third fourth (quiet_then first second third c.key_known.ensures.call.crash c.runs_put.ensures.call.crash) (λ _. goes.is_open) (λ _. cause))
+      | inr hinders ↦ inr (count_hinders db key xs known.records c.in_ok-known.ensures.few (not (known.records == 0)) after first.now.trees third.now.trees c.in_ok-after.ensures.grows
+          (new_counts known.records after (rows_of (map placed xs)) c.in_ok-after.ensures.grows) same
+          (c.in_ok-known.ensures.told clean1 inside store) hinders)
+    ]
+
+pub returns-clause-rowids : goal.returns-clause-rowids
+returns-clause-rowids g c clean inside store =
+    let first = state g.S.Store c.args.tx.now.conn.now in
+    let second = state g.S.Store c.key_known.new.tx.conn.now in
+    let third = state g.S.Store c.runs_put.new.tx.conn.now in
+    let fourth = state g.S.Store c.dict_write.new.tx.conn.now in
+    let clean2 : HasCleanDisk third = omega (arith, c.dict_write.ensures.call.crash.clean) in
+    let clean1 : HasCleanDisk second = omega (arith, c.dict_write.ensures.call.crash.clean, c.runs_put.ensures.call.crash.clean) in
+    let reads = c.in_ok-known.ensures.call.ok clean1 inside in
+    let goes = goes_then first second third (reads_goes first second reads) (c.in_ok-after.ensures.call.ok clean2 reads.mode reads.is_open) in
+    let xs = c.args.changes.now in
+    let known = c.in_ok-known.known in
+    let after = c.in_ok-after.after in
+    let runs = changes_after blocks_tree (PutsChanges c.args.db.0 c.args.key.now xs (IsKnown known) (IsCounted after)) first second third reads inside (c.in_ok-after.ensures.put clean2 reads.mode (store_same first second reads.now_is store)) in
+    let taken = subst (λ (d : Database). TakesRowids (rows_of (map placed xs)) blocks_tree d.trees third.now.trees) reads.now_is (c.in_ok-after.ensures.rowids clean2 reads.mode (store_same first second reads.now_is store)) in
+    let a = first.now.trees in
+    let b = third.now.trees in
+    let d = fourth.now.trees in
+    let rows = rows_of (map placed xs) in
+    let new = new_rows (not (known.records == 0)) after in
+    let few : new ≤ rows = new_counts known.records after rows c.in_ok-after.ensures.grows in
+    on_ok_both c.dict_write.result _ _ _ (λ done counted.
+    let dict = done.rows runs.layout in (
+      takes_more 0 rows postings_tree a d (omega arith) (takes_none postings_tree a d (dict.others.1.1.1.0 (λ e. absurd (omega (arith, e))) ∙ runs.others.1.1.1.0 (λ e. absurd (omega (arith, e))))),
+      takes_more (rows + 0) rows blocks_tree a d (omega arith) (takes_then rows 0 blocks_tree a b d taken (takes_none blocks_tree b d (dict.others.1.1.1.1.0 (λ e. absurd (omega (arith, e)))))),
+      takes_more (0 + new) rows dict_tree a d (omega (arith, few)) (takes_then 0 new dict_tree a b d (takes_none dict_tree a b (runs.others.1.1.1.1.1.0 (λ e. absurd (omega (arith, e))))) counted),
+    )) (c.dict_write.ensures.call.ok clean goes.mode) (c.dict_write.ensures.rowids clean goes.mode runs.layout)
+
+pub returns-in_err-after-clause-call : goal.returns-in_err-after-clause-call
+returns-in_err-after-clause-call g c = record {
+  ok = search rules;
+  err = λ clean inside.
+      let first = state g.S.Store c.args.tx.now.conn.now in
+      let second = state g.S.Store c.key_known.new.tx.conn.now in
+      let third = state g.S.Store c.runs_put.new.tx.conn.now in
+      let clean1 : HasCleanDisk second = omega (arith, c.runs_put.ensures.call.crash.clean) in
+      let reads = c.in_ok-known.ensures.call.ok clean1 inside in
+      on_err c.from_residual-in_err-after.result _ (goes_keeps first second third (reads_goes first second reads) (c.in_err-after.ensures.call.err clean reads.mode));
+  crash = quiet_then _ _ _ c.key_known.ensures.call.crash c.runs_put.ensures.call.crash;
+}

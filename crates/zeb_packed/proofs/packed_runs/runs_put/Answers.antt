@@ -1,0 +1,128 @@
+use Rattle.std.proofs.Common.{◌≡◌, ◌+◌, ◌<◌, ◌/◌, arith, drop, get_or, inl, inr, length, map, refl, rules, subst, suc, sym, take}
+use Rattle.std.proofs.lemmas.List.{take_all}
+use Rattle.sqlite.specs.Held.{state}
+use Rattle.sqlite.specs.State.{HasCleanDisk}
+use Rattle.zeb_register.specs.Hindrances.{TakesRowids, placed, rows_of}
+use Rattle.zeb_packed.specs.PackedChanges.{IsCounted, IsKnown, PutsChanges}
+use Rattle.zeb_register.specs.Store.{Changes, blocks_tree}
+use Rattle.zeb_register.proofs.Calls.{changes_so, changes_then, stays_then}
+use Rattle.zeb_register.proofs.CallsInTurn.{quiet_then}
+use Rattle.zeb_register.proofs.ListChanges.{no_change, run, run_all, run_first, run_long, run_made, run_more, run_within}
+use Rattle.zeb_register.proofs.Causes.{may_after}
+use Rattle.zeb_packed.proofs.PackedCauses.{rows_run, run_hinders, spells_run}
+use Rattle.zeb_register.proofs.RowCounts.{rows_taken}
+use Rattle.zeb_register.proofs.TakenRowids.{takes_more, takes_then}
+use Rattle.zeb_packed.proofs.PackedWrites.{puts_behind, puts_so, puts_then}
+use Rattle.zeb_packed.proofs.packed_runs.runs_put.Goals as goal
+
+pub loop-done-smaller : goal.loop-done-smaller
+loop-done-smaller g c =
+    let xs = c.args.changes.now in
+    let done = c.loop-done.done in
+    let n = c.run_length.result in
+    let below : done < length xs = c.loop-done-test.true in
+    let some = c.run_length.ensures.some (get_or xs done no_change) (drop (suc done) xs) (run_first xs done n below) refl in
+    let long = run_long xs done n c.run_length.ensures.within in
+    omega (arith, some, long, below)
+
+pub loop-done-preserved : goal.loop-done-preserved
+loop-done-preserved g c =
+    let first = state g.S.Store c.args.tx.now.conn.now in
+    let mid = state g.S.Store c.loop-done.tx.conn.now in
+    let last = state g.S.Store c.run_put.new.tx.conn.now in
+    let db = c.args.db.0 in
+    let key = c.args.key.now in
+    let xs = c.args.changes.now in
+    let done = c.loop-done.done in
+    let n = c.run_length.result in
+    let so_far = c.loop-done.invariant in
+    let it = c.in_ok-records.ensures in
+    record {
+      same = search rules;
+      within = run_within xs done n so_far.within;
+      crash = quiet_then _ _ _ so_far.crash c.run_put.ensures.call.crash;
+      stays = λ clean inside.
+          let was : HasCleanDisk mid = omega (arith, c.run_put.ensures.call.crash.clean) in
+          let before = so_far.stays was inside in
+          stays_then first mid last before (it.call.ok clean before.inside).on;
+      put = λ clean inside store.
+          let was : HasCleanDisk mid = omega (arith, c.run_put.ensures.call.crash.clean) in
+          let before = so_far.put was inside store in
+          let block = (get_or xs done no_change).sysno / 256 in
+          let known = c.loop-done.known in
+          let next = c.behind-known.result in
+          let counts = (it.call.ok clean (so_far.stays was inside).inside).rows before.layout in
+          let more = changes_so blocks_tree (PutsChanges db key (run xs done n) (IsKnown known) (IsCounted c.in_ok-records.records)) (PutsChanges db key (run xs done n) (IsKnown known) (IsKnown next)) mid last (λ puts.
+          puts_behind db key block (run xs done n) known next mid.now.trees last.now.trees c.run_length.ensures.inside c.behind-known.ensures.keeps c.behind-known.ensures.behind
+          (subst (λ records. PutsChanges db key (run xs done n) (IsKnown known) (IsCounted records) blocks_tree mid.now.trees last.now.trees) (sym c.behind-known.ensures.records) puts)) counts in
+          let both = changes_then blocks_tree (PutsChanges db key (take done xs) (IsKnown c.args.known) (IsKnown known)) (PutsChanges db key (run xs done n) (IsKnown known) (IsKnown next)) _ first mid last
+          (puts_then db key (take done xs) (run xs done n) (IsKnown c.args.known) (IsKnown known) (IsKnown next) first.now.trees mid.now.trees last.now.trees) before more in
+          subst (λ l. Changes blocks_tree (PutsChanges db key l (IsKnown c.args.known) (IsKnown next)) first last) (sym (run_more xs done n)) both;
+      takes = λ clean inside store.
+          let was : HasCleanDisk mid = omega (arith, c.run_put.ensures.call.crash.clean) in
+          let next = it.rowids clean (so_far.stays was inside).inside (so_far.put was inside store).layout in
+          subst (λ rows. TakesRowids rows blocks_tree first.now.trees last.now.trees) (sym (rows_run xs done n))
+          (takes_then (rows_of (map placed (take done xs))) (rows_of (map placed (run xs done n))) blocks_tree first.now.trees mid.now.trees last.now.trees (so_far.takes was inside store) next);
+      spells = λ clean inside store.
+          let was : HasCleanDisk mid = omega (arith, c.run_put.ensures.call.crash.clean) in
+          let next = it.spelled clean (so_far.stays was inside).inside (so_far.put was inside store).layout in
+          spells_run db key xs done n first.now.trees mid.now.trees last.now.trees (done + length (run xs done n)) (run_more xs done n) (so_far.spells was inside store) next;
+      grows = let rows = rows_run xs done n in omega (arith, c.behind-known.ensures.records, it.grows, so_far.grows, rows);
+    }
+
+pub returns-in_err-records-clause-damaged : goal.returns-in_err-records-clause-damaged
+returns-in_err-records-clause-damaged g c clean inside store is rises now holds known new all =
+    let mid = state g.S.Store c.loop-done.tx.conn.now in
+    let key = c.args.key.now in
+    let db = c.args.db.0 in
+    let xs = c.args.changes.now in
+    let done = c.loop-done.done in
+    let n = c.run_length.result in
+    let was : HasCleanDisk mid = omega (arith, c.run_put.ensures.call.crash.clean) in
+    let so_far = c.loop-done.invariant in
+    let before = so_far.put was inside store in
+    let next = before.rows now holds known in
+    let made = run_made xs done n (now db key) (next.0 db key) new next.1.list all in
+    c.in_err-records.ensures.damaged clean (so_far.stays was inside).inside before.layout (search rules) (run_all xs done n _ rises) next.0 next.2 next.3 made.0 made.1
+
+pub returns-clause-put : goal.returns-clause-put
+returns-clause-put g c clean inside store =
+    let first = state g.S.Store c.args.tx.now.conn.now in
+    let mid = state g.S.Store c.loop-done.tx.conn.now in
+    let db = c.args.db.0 in
+    let key = c.args.key.now in
+    let xs = c.args.changes.now in
+    let done = c.loop-done.done in
+    let known = c.loop-done.known in
+    let all : take done xs ≡ xs = take_all done xs c.loop-done-test.false in
+    let puts = changes_so blocks_tree (PutsChanges db key (take done xs) (IsKnown c.args.known) (IsKnown known)) (PutsChanges db key (take done xs) (IsKnown c.args.known) (IsCounted known.records)) first mid
+    (puts_so db key (take done xs) (IsKnown c.args.known) (IsKnown c.args.known) (IsKnown known) (IsCounted known.records) first.now.trees mid.now.trees (λ list is. is) (λ list is. is.count)) (c.loop-done.invariant.put clean inside store) in
+    subst (λ l. Changes blocks_tree (PutsChanges db key l (IsKnown c.args.known) (IsCounted known.records)) first mid) all puts
+
+pub returns-in_err-records-clause-refused : goal.returns-in_err-records-clause-refused
+returns-in_err-records-clause-refused g c clean inside store told =
+    let first = state g.S.Store c.args.tx.now.conn.now in
+    let mid = state g.S.Store c.loop-done.tx.conn.now in
+    let last = state g.S.Store c.run_put.new.tx.conn.now in
+    let xs = c.args.changes.now in
+    let done = c.loop-done.done in
+    let was : HasCleanDisk mid = omega (arith, c.run_put.ensures.call.crash.clean) in
+    let so_far = c.loop-done.invariant in
+    let stays = so_far.stays was inside in
+    elim (c.in_err-records.ensures.refused clean stays.inside (so_far.put was inside store).layout (search rules)) [
+      | inl cause ↦ inl (may_after first mid last so_far.crash stays.open_still (λ _. cause))
+      | inr hinders ↦ inr (run_hinders c.args.db.0 c.args.key.now xs done c.run_length.result c.args.known.records c.loop-done.known.records first.now.trees mid.now.trees so_far.grows
+          (so_far.takes was inside store) (so_far.spells was inside store) hinders)
+    ]
+
+pub returns-clause-rowids : goal.returns-clause-rowids
+returns-clause-rowids g c clean inside store =
+    let done = c.loop-done.done in
+    let xs = c.args.changes.now in
+    takes_more (rows_of (map placed (take done xs))) (rows_of (map placed xs)) blocks_tree (state g.S.Store c.args.tx.now.conn.now).now.trees (state g.S.Store c.loop-done.tx.conn.now).now.trees (rows_taken done xs)
+    (c.loop-done.invariant.takes clean inside store)
+
+pub returns-clause-grows : goal.returns-clause-grows
+returns-clause-grows g c =
+    let so_far = rows_taken c.loop-done.done c.args.changes.now in
+    omega (arith, so_far, c.loop-done.invariant.grows)

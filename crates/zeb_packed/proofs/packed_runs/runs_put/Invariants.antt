@@ -1,0 +1,27 @@
+use Rattle.std.proofs.Common.{◌≡◌, ◌≤◌, ◌+◌, ◌-◌, IsTrue, length, map, take}
+use Rattle.sqlite.specs.Held.{state}
+use Rattle.sqlite.specs.State.{HasCleanDisk, Survives}
+use Rattle.zeb_register.specs.Hindrances.{TakesRowids, placed, rows_of}
+use Rattle.zeb_packed.specs.PackedChanges.{IsKnown, PutsChanges}
+use Rattle.zeb_packed.specs.PackedHindrances.{IsPut, SpellsMore}
+use Rattle.zeb_register.specs.Store.{Changes, IsStore, blocks_tree}
+use Rattle.zeb_register.proofs.Calls.{Stays}
+use Rattle.zeb_packed.proofs.packed_runs.runs_put.Given as goal
+
+abbrev pub invariant-loop-done : goal.invariant-loop-done
+invariant-loop-done g l =
+    let old = state g.S.Store l.fn.tx.conn.now in
+    let now = state g.S.Store l.tx.conn.now in
+    record {
+      same : l.tx.conn.ghost_name ≡ l.fn.tx.conn.ghost_name;
+      within : l.done ≤ length l.changes;
+      crash : Survives old now (λ _. ⊥);
+      stays : HasCleanDisk now → IsTrue old.in_transaction → Stays old now;
+      put : HasCleanDisk now → IsTrue old.in_transaction → IsStore old → Changes blocks_tree (PutsChanges l.db.0 l.key (take l.done l.changes) (IsKnown l.fn.known) (IsKnown l.known)) old now;
+      takes : HasCleanDisk now → IsTrue old.in_transaction → IsStore old → TakesRowids (rows_of (map placed (take l.done l.changes))) blocks_tree old.now.trees now.now.trees;
+      spells : HasCleanDisk now → IsTrue old.in_transaction → IsStore old → SpellsMore l.db.0 l.key (IsPut (take l.done l.changes)) old.now.trees now.now.trees;
+      grows : l.known.records ≤ l.fn.known.records + rows_of (map placed (take l.done l.changes));
+    }
+
+abbrev pub decreases-loop-done : goal.decreases-loop-done
+decreases-loop-done g l = length l.changes - l.done

@@ -1,0 +1,18 @@
+use Rattle.std.proofs.Common.{rules, ◌++◌, arith, length-append}
+use Rattle.zeb_register.proofs.ContentLemmas.{has_at}
+use Rattle.zeb_register.proofs.PackedLists.{each_spelled, spelled_more}
+use Rattle.zeb_packed.proofs.packed_totals.rows_postings.Goals as goal
+
+pub returns-in_err-row_postings-clause-honest : goal.returns-in_err-row_postings-clause-honest
+returns-in_err-row_postings-clause-honest c is list are =
+    let spells = each_spelled c.args.rows.now list are c.row-item.result (has_at _ _ _ c.row-item.is c.loop-row-test.true) in
+    c.in_err-row_postings.ensures.honest (search rules) spells.0 spells.1
+
+pub loop-row-preserved : goal.loop-row-preserved
+loop-row-preserved c =
+    let before = c.loop-row.invariant in
+    let part = c.in_ok-row_postings.ensures.ok in (
+      before.0 ++ part.0,
+      spelled_more c.args.rows.now c.loop-row.row-index c.row-item.result before.0 part.0 c.loop-row-test.true c.row-item.is before.1 part.1,
+      omega (arith, c.saturating_add-count.ensures, before.2, part.2, length-append before.0 part.0),
+    )

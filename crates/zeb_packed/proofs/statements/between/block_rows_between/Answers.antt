@@ -1,0 +1,22 @@
+use Rattle.std.proofs.Common.{rules, pos}
+use Rattle.std.proofs.lemmas.Result.{IfErr-weaker}
+use Rattle.zeb_profile.specs.Indexes.{register_code}
+use Rattle.zeb_register.specs.BetweenRows.{IsRestBetween}
+use Rattle.zeb_register.specs.Store.{blocks_tree}
+use Rattle.zeb_packed.proofs.BetweenStatements.{lists_blocks, blocks_refused, blocks_silent}
+use Rattle.zeb_register.proofs.Calls.{lists, nothing, quiet}
+use Rattle.zeb_register.proofs.Columns.{column_is}
+use Rattle.zeb_register.proofs.PostingStatements.{register_of}
+use Rattle.zeb_packed.proofs.statements.between.block_rows_between.Goals as goal
+
+pub returns-clause-call : goal.returns-clause-call
+returns-clause-call g c = record {
+  idle = search rules;
+  ok = λ clean. lists (λ rows. rows.items) (IsRestBetween blocks_tree (register_of c.args.at.db.0 (pos c.args.at.index) (pos (register_code c.args.at.register))) c.args.first.now c.args.end.now) _ _ _ _ c.query_all.result blocks_silent (c.query_all.ensures.ok clean)
+      (λ rows store shown. lists_blocks c.args.at.db.0 (pos c.args.at.index) (pos (register_code c.args.at.register)) c.args.first.now c.args.end.now _ _ rows store (simp (c.params-to_sql.ensures, c.params-to_sql-2.ensures, c.params-to_sql-3.ensures, c.params-to_sql-4.ensures, c.params-to_sql-5.ensures, column_is c.column-db.ensures.fits c.column-db.ensures.value, c.from-reg.ensures, c.code.ensures) at shown));
+  same = λ clean. nothing (λ rows. rows.items) _ _ _ _ c.query_all.result _ blocks_silent c.is_autocommit-idle.ensures.value c.is_autocommit-idle.ensures.settled (c.query_all.ensures.ok clean) (c.query_all.ensures.err clean);
+  crash = quiet _ _ _ _ blocks_silent c.query_all.ensures.survives;
+}
+
+pub returns-clause-err : goal.returns-clause-err
+returns-clause-err g c clean store = IfErr-weaker c.query_all.result _ _ (λ e failed told. blocks_refused c.args.at.db.0 (pos c.args.at.index) (pos (register_code c.args.at.register)) c.args.first.now c.args.end.now _ _ e store told (simp (c.params-to_sql.ensures, c.params-to_sql-2.ensures, c.params-to_sql-3.ensures, c.params-to_sql-4.ensures, c.params-to_sql-5.ensures, column_is c.column-db.ensures.fits c.column-db.ensures.value, c.from-reg.ensures, c.code.ensures) at failed)) (c.query_all.ensures.err clean)

@@ -1,0 +1,3 @@
+pub mod PackedRows
+pub mod PackedChanges
+pub mod PackedHindrances

@@ -1,0 +1,122 @@
+//! Registers packed in blocks: a row of `blocks` for each block of a key's postings, and a row of `dict` for each key.
+
+ghost use Rattle.std.specs.Prelude.{◌≡◌, ◌≢◌, ◌^◌, ◌<◌, ◌≤◌, ◌++◌, List, length, map, pos, take, IfOk, OnOk, FitsSigned};
+ghost use Rattle.std.specs.Int.{w64};
+ghost use Rattle.sqlite.specs.Order.{Row as Columns, column};
+ghost use Rattle.sqlite.specs.declared.types.Value.TheVariants.{Int};
+ghost use Rattle.sqlite_rules.specs.Lists.{Has};
+ghost use Rattle.sqlite_sql.specs.Query.{as_count, limited};
+ghost use Rattle.zeb_register.specs.PackedBlocks.{AreShown, CountsTerm, IsRecordNumber, SpellsPart, count_row, first_two};
+ghost use Rattle.zeb_register.specs.PackedRows.{AreSpelled};
+ghost use Rattle.zeb_blocks.specs.Blocks.{BlockSpells};
+ghost use Rattle.zeb_register.specs.Tallies.{Rises};
+
+use sqlite::{Alter, Connection, Row};
+use std::alloc::Global;
+use zeb_blocks::{Damaged, Posting, push_block};
+use zeb_extract::Term;
+use zeb_profile::Register;
+use zeb_register::for_layouts::{read, read_bytes};
+use zeb_register::{DatabaseId, RegFault, TermCount};
+
+/// How many records a database has at most, since each has a number of 1 to this.
+const MOST_RECORDS: u64 = 999_999_999;
+
+/// A count with so many rows more; it stays at its greatest value.
+pub(crate) fn counted(count: u64, rows: usize) -> u64
+    ensures rises { Rises rows count result }
+    ensures keeps { count ≤ result }
+{
+    count.saturating_add(rows as u64)
+}
+
+/// The postings that blocks spell, one block behind the other.
+pub(crate) fn postings_in(alloc: Global, rows: &[Row]) -> Result<Vec<Posting>, RegFault>
+    ensures ok { IfOk result (λ list. AreSpelled rows.now list.items) }
+    ensures honest { result ≡ Err RegFault.Damaged → (list : List _) → ¬ AreSpelled rows.now list }
+    ensures unstored { result ≢ Err RegFault.Store }
+{
+    let mut postings = Vec::new(alloc);
+    for row in rows {
+        add_part(&mut postings, row)?;
+    }
+    Ok(postings)
+}
+
+/// Puts the postings that a row's block spells behind those before it.
+fn add_part(postings: &mut Vec<Posting>, row: &Row) -> Result<(), RegFault>
+    ensures ok { OnOk result ((part : List _) × SpellsPart row.now part × (postings.new.items ≡ postings.old.items ++ part)) }
+    ensures honest { result ≡ Err RegFault.Damaged → (part : List _) → ¬ SpellsPart row.now part }
+    ensures unstored { result ≢ Err RegFault.Store }
+{
+    let block: u64 = read(row, 0)?;
+    let bytes = read_bytes(row, 1)?;
+    add_spelled(postings, block, bytes)
+}
+
+/// Puts the postings that bytes spell in a block behind those before them.
+pub(crate) fn add_spelled(
+    postings: &mut Vec<Posting>,
+    block: u64,
+    bytes: &[u8],
+) -> Result<(), RegFault>
+    ensures ok { OnOk result ((part : List _) × BlockSpells block part bytes.now × (postings.new.items ≡ postings.old.items ++ part)) }
+    ensures honest { result ≡ Err RegFault.Damaged → (part : List _) → ¬ BlockSpells block part bytes.now }
+    ensures unstored { result ≢ Err RegFault.Store }
+{
+    match push_block(postings, block, bytes)? {
+        Ok(()) => Ok(()),
+        Err(Damaged) => Err(RegFault::Damaged),
+    }
+}
+
+/// How many rows a statement gives at most: a number that no column stores, and no list has, is no limit, as -1 says.
+pub(crate) fn limit_of(n: u64) -> i64
+    ensures fits { FitsSigned w64 result }
+    ensures limit { (rows all : List Columns) → rows ≡ limited (as_count (Int result)) all → length rows < 2 ^ 63 → rows ≡ take n all }
+{
+    i64::try_from(n).unwrap_or(-1)
+}
+
+/// The terms that rows show, each with the number of its records.
+pub(crate) fn counts_in(alloc: Global, rows: &[Row]) -> Result<Vec<TermCount>, RegFault>
+    ensures ok { IfOk result (λ list. AreShown list.items rows.now) }
+    ensures few { length rows.now < 2 ^ 63 }
+    ensures sound { OnOk result ((row : _) → Has rows.now row → CountsTerm row) }
+    ensures honest { result ≡ Err RegFault.Damaged → ¬ ((row : _) → Has rows.now row → CountsTerm row) }
+    ensures unstored { result ≢ Err RegFault.Store }
+{
+    let mut counts = Vec::new(alloc);
+    for row in rows {
+        counts.push(count_of(row)?)?;
+    }
+    Ok(counts)
+}
+
+/// The term that a row shows, with the number of its records.
+fn count_of(row: &Row) -> Result<TermCount, RegFault>
+    ensures ok { IfOk result (λ t. count_row t ≡ first_two row.now) }
+    ensures sound { OnOk result (CountsTerm row.now) }
+    ensures honest { result ≡ Err RegFault.Damaged → ¬ CountsTerm row.now }
+    ensures unstored { result ≢ Err RegFault.Store }
+{
+    let term: String = read(row, 0)?;
+    let records = records_at(row, 1)?;
+    Ok(TermCount {
+        term: Term::new(term),
+        records,
+    })
+}
+
+/// The number of records at this place of a row. `Damaged` where it isn't 1 to 999,999,999, as every number of records is.
+pub(crate) fn records_at(row: &Row, at: usize) -> Result<u64, RegFault>
+    ensures ok { IfOk result (λ records. (column row.now at ≡ Int (pos records)) × (1 ≤ records) × (records ≤ 999999999)) }
+    ensures honest { result ≡ Err RegFault.Damaged → at < length row.now → ¬ IsRecordNumber (column row.now at) }
+    ensures unstored { result ≢ Err RegFault.Store }
+{
+    let records: u64 = read(row, at)?;
+    if records == 0 || records > MOST_RECORDS {
+        return Err(RegFault::Damaged);
+    }
+    Ok(records)
+}

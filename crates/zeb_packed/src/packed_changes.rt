@@ -1,0 +1,292 @@
+//! One row of a key in packed registers, read and written inside a transaction: that of a block, and that of `dict`.
+
+ghost use Rattle.std.specs.Prelude.{IsUtf8, ◌≡◌, ◌≢◌, ◌⊎◌, ◌<◌, ◌≤◌, ◌==◌, ◌^◌, List, true, false, length, not, pos, IfOk, OnOk};
+ghost use Rattle.sqlite.specs.declared.error.Error.TheVariants.{SqliteFailure};
+ghost use Rattle.sqlite.specs.declared.error.ErrorCode.TheVariants.{ConstraintViolation};
+ghost use Rattle.sqlite.specs.declared.types.Value.TheVariants.{Int};
+ghost use Rattle.sqlite.specs.Held.{state};
+ghost use Rattle.sqlite.specs.Order.{column};
+ghost use Rattle.sqlite_rules.specs.Lists.{Has};
+ghost use Rattle.sqlite_schema.specs.declared.schema.Constraint.{Constraint};
+ghost use Rattle.zeb_blocks.specs.Blocks.{LiesIn};
+ghost use Rattle.zeb_blocks.specs.declared.postings.Posting.{Posting};
+ghost use Rattle.zeb_register.specs.Calls.{Inside, OnlyReads};
+ghost use Rattle.zeb_register.specs.Clauses.{InStore, IsHinderedInside, IsReasonedInside, TakesInside, TellsHeldInside, TellsInside};
+ghost use Rattle.zeb_register.specs.Clauses.{Writes};
+ghost use Rattle.zeb_register.specs.Content.{Content, IsStorable};
+ghost use Rattle.zeb_register.specs.Hindrances.{IsSpelledAt};
+ghost use Rattle.zeb_register.specs.KeyColumns.{IsOfNumbered};
+ghost use Rattle.zeb_register.specs.PackedBlocks.{HoldsBlocks, IsRecordNumber, part_in};
+ghost use Rattle.zeb_packed.specs.PackedChanges.{IfTold, IsBlockIn, IsKnown, IsTold};
+ghost use Rattle.zeb_register.specs.KeyColumns.{IsDictIn};
+ghost use Rattle.zeb_register.specs.PackedRows.{HoldsBlockRows};
+ghost use Rattle.zeb_packed.specs.PackedChanges.{PutsBlock, PutsCount, SpellsIn};
+ghost use Rattle.zeb_packed.specs.PackedHindrances.{HindersBlock, HindersCount, IsMistold, SpellsMore, new_rows};
+ghost use Rattle.zeb_register.specs.Store.{blocks_tree, dict_tree};
+
+use crate::packed::{add_spelled, records_at};
+use crate::statements::packed_changes::{
+    block_add, block_bytes, block_remove, block_set, dict_add, dict_records, dict_remove, dict_set,
+};
+use sqlite::{Alter, Error, ErrorCode, Row, Transaction};
+use std::alloc::Global;
+use zeb_blocks::{Posting, spell};
+use zeb_extract::Key;
+use zeb_register::for_layouts::{KeyOf, read, stored};
+use zeb_register::{DatabaseId, RegFault};
+
+/// The postings that a key has in the block: none where it has no row there. `Damaged` where the row spells none.
+pub(crate) fn block_list<S: Alter>(
+    tx: &mut Transaction<'_, S>,
+    db: DatabaseId,
+    key: &Key,
+    block: u64,
+) -> Result<Vec<Posting>, RegFault>
+    requires { block < 2 ^ 63 }
+    ensures same { tx.new.conn.ghost_name ≡ tx.old.conn.ghost_name }
+    ensures call { Inside (state S.Store tx.old.conn.now) (state S.Store tx.new.conn.now) result (λ _. OnlyReads) }
+    ensures value { TellsHeldInside HoldsBlockRows (state S.Store tx.old.conn.now) (state S.Store tx.new.conn.now) result
+        (λ content list. list.items ≡ part_in block (content db.0 key.now)) }
+    ensures lies { IfOk result (λ list. LiesIn block list.items) }
+    ensures honest { InStore (state S.Store tx.old.conn.now) (state S.Store tx.new.conn.now) (λ trees. result ≡ Err RegFault.Damaged
+        → (content : Content) → ¬ HoldsBlockRows trees content) }
+    ensures told { TellsInside (state S.Store tx.old.conn.now) (state S.Store tx.new.conn.now) result
+        (λ trees list. IsTold (not (length list.items == 0)) (IsBlockIn db.0 key.now block) blocks_tree trees) }
+    ensures spelled { TellsInside (state S.Store tx.old.conn.now) (state S.Store tx.new.conn.now) result
+        (λ trees list. (p : Posting) → Has list.items p → IsSpelledAt db.0 key.now trees p) }
+    ensures refused { IsReasonedInside (state S.Store tx.old.conn.now) (state S.Store tx.new.conn.now) result }
+{
+    let number = stored(block)?;
+    let rows = block_bytes(tx, KeyOf { db, key }, number)?;
+    let alloc = *rows.allocator();
+    match rows.first() {
+        Some(row) => spelled_list(alloc, row, block),
+        None => Ok(Vec::new(alloc)),
+    }
+}
+
+/// The postings that the bytes of a row spell in the block.
+fn spelled_list(alloc: Global, row: &Row, block: u64) -> Result<Vec<Posting>, RegFault>
+    ensures ok { IfOk result (λ list. SpellsIn block row.now list.items) }
+    ensures honest { result ≡ Err RegFault.Damaged → (list : List _) → ¬ SpellsIn block row.now list }
+    ensures unstored { result ≢ Err RegFault.Store }
+{
+    let bytes: Vec<u8> = read(row, 0)?;
+    let mut list = Vec::new(alloc);
+    add_spelled(&mut list, block, &bytes)?;
+    Ok(list)
+}
+
+/// What is known of a key before changes are put into its rows, and behind each run of them.
+#[derive(Clone, Copy, Debug)]
+pub(crate) struct Known {
+    /// Where lists are made.
+    pub(crate) alloc: Global,
+    /// How many records have the key.
+    pub(crate) records: u64,
+    /// The key has no posting in this block, and none in a block behind it.
+    pub(crate) clear_from: u64,
+}
+
+impl Known {
+    /// What is known behind changes of records of a block, after which so many records have the key.
+    pub(crate) fn behind(self, block: u64, records: u64) -> Known
+        requires { block < 2 ^ 56 }
+        ensures records { result.records ≡ records }
+        ensures keeps { self.clear_from ≤ result.clear_from }
+        ensures behind { block < result.clear_from }
+    {
+        let clear_from = self.clear_from.max(block + 1);
+        Known {
+            alloc: self.alloc,
+            records,
+            clear_from,
+        }
+    }
+}
+
+/// What the row of `dict` tells of a key: without one no record has it, and no block. `Damaged` where the row doesn't say 1 to 999,999,999.
+pub(crate) fn key_known<S: Alter>(
+    tx: &mut Transaction<'_, S>,
+    db: DatabaseId,
+    key: &Key,
+) -> Result<Known, RegFault>
+    ensures same { tx.new.conn.ghost_name ≡ tx.old.conn.ghost_name }
+    ensures call { Inside (state S.Store tx.old.conn.now) (state S.Store tx.new.conn.now) result (λ _. OnlyReads) }
+    ensures value { TellsHeldInside HoldsBlocks (state S.Store tx.old.conn.now) (state S.Store tx.new.conn.now) result
+        (λ content known. IsKnown known (content db.0 key.now)) }
+    ensures honest { InStore (state S.Store tx.old.conn.now) (state S.Store tx.new.conn.now) (λ trees. result ≡ Err RegFault.Damaged
+        → (content : Content) → IsStorable content → ¬ HoldsBlocks trees content) }
+    ensures text { OnOk result (IsUtf8 key.now.term) }
+    ensures told { TellsInside (state S.Store tx.old.conn.now) (state S.Store tx.new.conn.now) result
+        (λ trees known. IsTold (not (known.records == 0)) (IsDictIn db.0 key.now) dict_tree trees) }
+    ensures few { IfOk result (λ known. known.records ≤ 999999999) }
+    ensures refused { IsReasonedInside (state S.Store tx.old.conn.now) (state S.Store tx.new.conn.now) result }
+{
+    let rows = dict_records(tx, KeyOf { db, key })?;
+    let alloc = *rows.allocator();
+    match rows.first() {
+        Some(row) => known_at(alloc, row),
+        None => Ok(Known {
+            alloc,
+            records: 0,
+            clear_from: 0,
+        }),
+    }
+}
+
+/// What a row of `dict` tells of its key: how many records have it, and nothing of its blocks.
+fn known_at(alloc: Global, row: &Row) -> Result<Known, RegFault>
+    ensures ok { IfOk result (λ known. (column row.now 0 ≡ Int (pos known.records)) × (2 ^ 56 ≤ known.clear_from)) }
+    ensures number { IfOk result (λ known. (1 ≤ known.records) × (known.records ≤ 999999999)) }
+    ensures honest { result ≡ Err RegFault.Damaged → 0 < length row.now → ¬ IsRecordNumber (column row.now 0) }
+    ensures unstored { result ≢ Err RegFault.Store }
+{
+    let records = records_at(row, 0)?;
+    Ok(Known {
+        alloc,
+        records,
+        clear_from: u64::MAX,
+    })
+}
+
+/// Puts a list in the place of the row of a key's block, or takes the row where the list is empty. It is told whether the row is there.
+pub(crate) fn block_write<S: Alter>(
+    alloc: Global,
+    tx: &mut Transaction<'_, S>,
+    db: DatabaseId,
+    key: &Key,
+    block: u64,
+    list: &[Posting],
+    is_there: bool,
+) -> Result<(), RegFault>
+    requires lies { LiesIn block list.now }
+    requires small { block < 2 ^ 63 }
+    ensures same { tx.new.conn.ghost_name ≡ tx.old.conn.ghost_name }
+    ensures call { Writes blocks_tree (IfTold is_there (IsBlockIn db.0 key.now block) (PutsBlock db.0 key.now block list.now))
+        (state S.Store tx.old.conn.now) (state S.Store tx.new.conn.now) result }
+    ensures honest { result ≢ Err RegFault.Damaged }
+    ensures refused { IsHinderedInside (state S.Store tx.old.conn.now) (state S.Store tx.new.conn.now) result
+        (λ trees. IsMistold is_there (IsBlockIn db.0 key.now block) blocks_tree trees
+        ⊎ HindersBlock is_there key.now block list.now trees) }
+    ensures rowids { TakesInside (state S.Store tx.old.conn.now) (state S.Store tx.new.conn.now) result
+        (new_rows is_there (length list.now)) blocks_tree }
+{
+    let number = stored(block)?;
+    let at = KeyOf { db, key };
+    if list.is_empty() {
+        block_remove(tx, at, number)?;
+        return Ok(());
+    }
+    let bytes = spell(alloc, block, list)?;
+    if is_there {
+        block_set(tx, at, number, &bytes)?;
+        return Ok(());
+    }
+    block_add(tx, at, number, &bytes)?;
+    Ok(())
+}
+
+/// Puts the row of a key's block where the key is told to have none: none either where the list is empty. `Damaged` where it has one.
+pub(crate) fn block_begin<S: Alter>(
+    alloc: Global,
+    tx: &mut Transaction<'_, S>,
+    db: DatabaseId,
+    key: &Key,
+    block: u64,
+    list: &[Posting],
+) -> Result<(), RegFault>
+    requires lies { LiesIn block list.now }
+    requires small { block < 2 ^ 63 }
+    ensures same { tx.new.conn.ghost_name ≡ tx.old.conn.ghost_name }
+    ensures call { Writes blocks_tree (IfTold false (IsBlockIn db.0 key.now block) (PutsBlock db.0 key.now block list.now))
+        (state S.Store tx.old.conn.now) (state S.Store tx.new.conn.now) result }
+    ensures honest { InStore (state S.Store tx.old.conn.now) (state S.Store tx.new.conn.now) (λ trees. result ≡ Err RegFault.Damaged
+        → ¬ IsTold false (IsBlockIn db.0 key.now block) blocks_tree trees) }
+    ensures spelled { InStore (state S.Store tx.old.conn.now) (state S.Store tx.new.conn.now) (λ trees. OnOk result
+        (SpellsMore db.0 key.now (Has list.now) trees (state S.Store tx.new.conn.now).now.trees)) }
+    ensures refused { IsHinderedInside (state S.Store tx.old.conn.now) (state S.Store tx.new.conn.now) result
+        (HindersBlock false key.now block list.now) }
+    ensures rowids { TakesInside (state S.Store tx.old.conn.now) (state S.Store tx.new.conn.now) result
+        (new_rows false (length list.now)) blocks_tree }
+{
+    let number = stored(block)?;
+    let at = KeyOf { db, key };
+    if list.is_empty() {
+        return block_absent(tx, at, number);
+    }
+    let bytes = spell(alloc, block, list)?;
+    match block_add(tx, at, number, &bytes) {
+        Ok(_) => Ok(()),
+        Err(error) => {
+            if !breaks_rule(&error) {
+                return Err(error.into());
+            }
+            block_absent(tx, at, number)?;
+            Err(error.into())
+        }
+    }
+}
+
+/// Whether a rule of the tables refused a statement.
+fn breaks_rule(error: &Error) -> bool
+    ensures broken { result ≡ true → (rule : Constraint) × (error.now ≡ SqliteFailure (ConstraintViolation rule)) }
+    ensures unbroken { result ≡ false → (rule : Constraint) → error.now ≢ SqliteFailure (ConstraintViolation rule) }
+{
+    match error {
+        Error::SqliteFailure(code) => matches!(code, ErrorCode::ConstraintViolation(_)),
+        _ => false,
+    }
+}
+
+/// `Damaged` where the key has a row for the block.
+fn block_absent<S: Alter>(
+    tx: &mut Transaction<'_, S>,
+    at: KeyOf<'_>,
+    number: i64,
+) -> Result<(), RegFault>
+    ensures same { tx.new.conn.ghost_name ≡ tx.old.conn.ghost_name }
+    ensures call { Inside (state S.Store tx.old.conn.now) (state S.Store tx.new.conn.now) result (λ _. OnlyReads) }
+    ensures honest { InStore (state S.Store tx.old.conn.now) (state S.Store tx.new.conn.now) (λ trees. result ≡ Err RegFault.Damaged
+        → ¬ IsTold false (IsOfNumbered at.entry number) blocks_tree trees) }
+    ensures absent { InStore (state S.Store tx.old.conn.now) (state S.Store tx.new.conn.now) (λ trees. OnOk result
+        (IsTold false (IsOfNumbered at.entry number) blocks_tree trees)) }
+    ensures refused { IsReasonedInside (state S.Store tx.old.conn.now) (state S.Store tx.new.conn.now) result }
+{
+    let rows = block_bytes(tx, at, number)?;
+    match rows.first() {
+        Some(_) => Err(RegFault::Damaged),
+        None => Ok(()),
+    }
+}
+
+/// Puts a number in the row of a key, or takes the row where no record has the key. It is told whether the row is there.
+pub(crate) fn dict_write<S: Alter>(
+    tx: &mut Transaction<'_, S>,
+    db: DatabaseId,
+    key: &Key,
+    records: u64,
+    is_there: bool,
+) -> Result<(), RegFault>
+    ensures same { tx.new.conn.ghost_name ≡ tx.old.conn.ghost_name }
+    ensures call { Writes dict_tree (IfTold is_there (IsDictIn db.0 key.now) (PutsCount db.0 key.now records))
+        (state S.Store tx.old.conn.now) (state S.Store tx.new.conn.now) result }
+    ensures honest { result ≢ Err RegFault.Damaged }
+    ensures refused { IsHinderedInside (state S.Store tx.old.conn.now) (state S.Store tx.new.conn.now) result
+        (HindersCount is_there db.0 key.now records) }
+    ensures rowids { TakesInside (state S.Store tx.old.conn.now) (state S.Store tx.new.conn.now) result
+        (new_rows is_there records) dict_tree }
+{
+    let number = stored(records)?;
+    let at = KeyOf { db, key };
+    if records == 0 {
+        dict_remove(tx, at)?;
+        return Ok(());
+    }
+    if is_there {
+        dict_set(tx, at, number)?;
+        return Ok(());
+    }
+    dict_add(tx, at, number)?;
+    Ok(())
+}

@@ -1,0 +1,238 @@
+//! What the packed tables hold of a key in one block, and what they hold of it after records' places are changed.
+
+ghost use Rattle.std.specs.Prelude.{◌≡◌, ◌≢◌, ◌⊎◌, ◌<◌, ◌≤◌, ◌+◌, ◌++◌, ◌^◌, ◌==◌, ◌∷◌, [], ℕ, List};
+ghost use Rattle.std.specs.Prelude.{filter, map, true, false, IfOk, MatchOption, OnOk};
+ghost use Rattle.std.specs.declared.cmp.Ordering.TheVariants.{Less};
+ghost use Rattle.std.specs.List.{AllByRecursion};
+ghost use Rattle.std.specs.List.Sorted.{IsStrictlySortedBy};
+ghost use Rattle.sqlite_rules.specs.Lists.{Has};
+ghost use Rattle.zeb_blocks.specs.Blocks.{LiesIn};
+ghost use Rattle.zeb_blocks.specs.declared.postings.Posting.{Posting};
+ghost use Rattle.zeb_register.specs.Content.{AreListChanges, ArePlacesOf, AreStorablePlaces, IsListChanged, IsStorablePlace};
+ghost use Rattle.zeb_register.specs.Content.{OldsRise, place_cmp, posting_at, posting_cmp};
+ghost use Rattle.zeb_register.specs.Hindrances.{IsStorablePlaced, placed, rows_of};
+ghost use Rattle.zeb_packed.specs.PackedChanges.{CountsOn, IsHeld, IsParted, IsStorableChange};
+ghost use Rattle.zeb_register.specs.PackedRows.{IsInBlock};
+ghost use Rattle.zeb_packed.specs.PackedHindrances.{IsPut};
+
+use std::alloc::Global;
+use zeb_blocks::Posting;
+use zeb_register::for_layouts::stored;
+use zeb_register::{Place, RecordChange, RegFault};
+
+/// What the tables hold of a key: its postings in one block, and how many records have it at all.
+#[derive(Debug, Drop)]
+pub(crate) struct Held {
+    pub(crate) block: u64,
+    pub(crate) list: Vec<Posting>,
+    pub(crate) records: u64,
+}
+
+impl Held {
+    /// What is held after changes of records of the block, one after the other.
+    ///
+    /// `Damaged` where a record has other places than the change says, or where no record has a key with a posting.
+    pub(crate) fn changed_by(self, changes: &[RecordChange<'_>]) -> Result<Held, RegFault>
+        requires lies { LiesIn self.block self.list.items }
+        requires inside { AllByRecursion (IsInBlock self.block) changes.now }
+        requires stored { AllByRecursion IsStorableChange changes.now }
+        ensures held { IfOk result (λ held. (old : List Posting) → IsStrictlySortedBy posting_cmp old → IsHeld old self
+            → (new : List Posting) × AreListChanges changes.now old new × IsHeld new held) }
+        ensures lies { IfOk result (λ held. LiesIn self.block held.list.items) }
+        ensures block { IfOk result (λ held. held.block ≡ self.block) }
+        ensures damaged { result ≡ Err RegFault.Damaged → OldsRise changes.now
+            → (old new : List Posting) → IsStrictlySortedBy posting_cmp old → IsHeld old self → ¬ AreListChanges changes.now old new }
+        ensures made { IfOk result (λ held. (p : Posting) → Has held.list.items p → Has self.list.items p ⊎ IsPut changes.now p) }
+        ensures grows { IfOk result (λ held. held.records ≤ self.records + rows_of (map placed changes.now)) }
+        ensures refused { result ≡ Err RegFault.Store → 2 ^ 63 ≤ self.records + rows_of (map placed changes.now) }
+    {
+        let mut held = self;
+        for change in changes {
+            held = held.changed(change)?;
+        }
+        Ok(held)
+    }
+
+    /// What is held after a change of a record of the block.
+    ///
+    /// `Damaged` where the record has other places than the change says, or where no record has a key with a posting. `Store` where more
+    /// records have the key than a column stores.
+    fn changed(&self, change: &RecordChange<'_>) -> Result<Held, RegFault>
+        requires lies { LiesIn self.now.block self.now.list.items }
+        requires inside { IsInBlock self.now.block change.now }
+        requires stored { IsStorableChange change.now }
+        ensures list { IfOk result (λ held. IsListChanged change.now.sysno change.now.new.now self.now.list.items held.list.items) }
+        ensures lies { IfOk result (λ held. LiesIn self.now.block held.list.items) }
+        ensures block { IfOk result (λ held. held.block ≡ self.now.block) }
+        ensures own { OnOk result (map (posting_at change.now.sysno) change.now.old.now
+            ≡ filter (λ p. p.sysno == change.now.sysno) self.now.list.items) }
+        ensures count { IfOk result (λ held. CountsOn change.now.old.now change.now.new.now self.now.records held.records) }
+        ensures damaged { result ≡ Err RegFault.Damaged → IsStrictlySortedBy place_cmp change.now.old.now → (list : List Posting)
+            → IsStrictlySortedBy posting_cmp list → IsHeld list self.now → ¬ ArePlacesOf change.now.sysno change.now.old.now list }
+        ensures refused { result ≡ Err RegFault.Store → 2 ^ 63 ≤ self.now.records }
+    {
+        stored(self.records)?;
+        let parted = parted_at(*self.list.allocator(), &self.list, change.sysno)?;
+        if !are_same(&parted.own, change.old) || self.lacks_records() {
+            return Err(RegFault::Damaged);
+        }
+        let Some(records) = records_after(self.records, change.old, change.new) else {
+            return Err(RegFault::Damaged);
+        };
+        let list = joined(parted.before, change.sysno, change.new, &parted.behind)?;
+        let block = self.block;
+        let held = Held {
+            block,
+            list,
+            records,
+        };
+        if held.lacks_records() {
+            return Err(RegFault::Damaged);
+        }
+        Ok(held)
+    }
+
+    /// Whether no record has the key, though it has a posting.
+    fn lacks_records(&self) -> bool
+        ensures lacks { result ≡ true → (self.now.records ≡ 0) × (self.now.list.items ≢ []) }
+        ensures has { result ≡ false → self.now.list.items ≢ [] → 1 ≤ self.now.records }
+    {
+        self.records == 0 && !self.list.is_empty()
+    }
+}
+
+/// Postings parted at a record: those of the records before it, its own places, and the postings of the records behind it.
+#[derive(Debug, Drop)]
+struct Parted {
+    before: Vec<Posting>,
+    own: Vec<Place>,
+    behind: Vec<Posting>,
+}
+
+impl Parted {
+    /// Puts a posting that stands behind the others.
+    fn put(&mut self, posting: Posting, sysno: u64) -> Result<(), RegFault>
+        ensures parted { OnOk result ((list : List Posting) → IsParted sysno list self.old
+            → IsParted sysno (list ++ posting ∷ []) self.new) }
+        ensures honest { result ≢ Err RegFault.Damaged }
+        ensures unstored { result ≢ Err RegFault.Store }
+    {
+        if posting.sysno < sysno {
+            self.before.push(posting)?;
+        } else if posting.sysno == sysno {
+            self.own.push(Place {
+                seq: posting.seq,
+                pos: posting.pos,
+            })?;
+        } else {
+            self.behind.push(posting)?;
+        }
+        Ok(())
+    }
+}
+
+/// The postings of a list, parted at a record.
+fn parted_at(alloc: Global, list: &[Posting], sysno: u64) -> Result<Parted, RegFault>
+    ensures parted { IfOk result (IsParted sysno list.now) }
+    ensures honest { result ≢ Err RegFault.Damaged }
+    ensures unstored { result ≢ Err RegFault.Store }
+{
+    let mut parted = Parted {
+        before: Vec::new(alloc),
+        own: Vec::new(alloc),
+        behind: Vec::new(alloc),
+    };
+    for posting in list {
+        parted.put(*posting, sysno)?;
+    }
+    Ok(parted)
+}
+
+/// Whether two lists have the same places, in the same order.
+fn are_same(one: &[Place], two: &[Place]) -> bool
+    ensures same { result ≡ true → one.now ≡ two.now }
+    ensures other { result ≡ false → one.now ≢ two.now }
+{
+    one == two
+}
+
+/// The postings before a record, those of its places, and those behind it.
+fn joined(
+    before: Vec<Posting>,
+    sysno: u64,
+    places: &[Place],
+    behind: &[Posting],
+) -> Result<Vec<Posting>, RegFault>
+    ensures list { IfOk result (λ list. list.items ≡ before.items ++ (map (posting_at sysno) places.now ++ behind.now)) }
+    ensures honest { result ≢ Err RegFault.Damaged }
+    ensures unstored { result ≢ Err RegFault.Store }
+{
+    let mut list = before;
+    for place in places {
+        list.push(Posting {
+            sysno,
+            seq: place.seq,
+            pos: place.pos,
+        })?;
+    }
+    list.extend_from_slice(behind)?;
+    Ok(list)
+}
+
+/// How many records have a key after one record's places are changed; `None` where none had it, and this one did.
+fn records_after(records: u64, old: &[Place], new: &[Place]) -> Option<u64>
+    requires { records < 2 ^ 63 }
+    ensures { MatchOption result ((after : ℕ) → ¬ CountsOn old.now new.now records after) (CountsOn old.now new.now records) }
+{
+    match (old.is_empty(), new.is_empty()) {
+        (true, false) => Some(records + 1),
+        (false, true) => records.checked_sub(1),
+        _ => Some(records),
+    }
+}
+
+/// Refuses changes that no row has, as `Store`: one with a number of 0 or above `2^63 - 1`, and one to places that don't rise.
+pub(crate) fn check_changes(changes: &[RecordChange<'_>]) -> Result<(), RegFault>
+    ensures stored { OnOk result (AllByRecursion IsStorableChange changes.now) }
+    ensures honest { result ≢ Err RegFault.Damaged }
+    ensures refused { result ≡ Err RegFault.Store → ¬ AllByRecursion IsStorablePlaced (map placed changes.now) }
+{
+    for change in changes {
+        check_numbers(change.sysno, change.new)?;
+    }
+    Ok(())
+}
+
+/// Refuses what no row has, as `Store`: a number of 0 or above `2^63 - 1`, and places that don't rise.
+fn check_numbers(sysno: u64, places: &[Place]) -> Result<(), RegFault>
+    ensures number { OnOk result ((1 ≤ sysno) × (sysno < 2 ^ 63)) }
+    ensures stored { OnOk result (AreStorablePlaces places.now) }
+    ensures honest { result ≢ Err RegFault.Damaged }
+    ensures refused { result ≡ Err RegFault.Store → ¬ IsStorablePlaced (sysno, places.now) }
+{
+    stored(sysno)?;
+    if sysno == 0 {
+        return Err(RegFault::Store);
+    }
+    let mut before = Place { seq: 0, pos: 0 };
+    for place in places {
+        check_place(before, *place)?;
+        before = *place;
+    }
+    Ok(())
+}
+
+/// Refuses a place that isn't above the one before it, or that no column stores.
+fn check_place(before: Place, place: Place) -> Result<(), RegFault>
+    ensures ok { OnOk result (IsStorablePlace place × (place_cmp before place ≡ Less)) }
+    ensures honest { result ≢ Err RegFault.Damaged }
+    ensures refused { result ≡ Err RegFault.Store → ¬ (IsStorablePlace place × (place_cmp before place ≡ Less)) }
+{
+    stored(place.seq)?;
+    stored(place.pos)?;
+    let rises = before.seq < place.seq || (before.seq == place.seq && before.pos < place.pos);
+    if place.seq == 0 || place.pos == 0 || !rises {
+        return Err(RegFault::Store);
+    }
+    Ok(())
+}

@@ -1,0 +1,33 @@
+//! Statements that read the rows of a register's terms from one text to another.
+
+ghost use Rattle.sqlite.specs.Held.{state};
+ghost use Rattle.zeb_register.specs.BetweenRows.{IsRestBetween};
+ghost use Rattle.zeb_register.specs.Calls.{Reading};
+ghost use Rattle.zeb_register.specs.Clauses.{IsReasonedError};
+ghost use Rattle.zeb_register.specs.KeyColumns.{register_columns};
+ghost use Rattle.zeb_register.specs.RowStatements.{Lists};
+ghost use Rattle.zeb_register.specs.Store.{blocks_tree};
+
+use sqlite::{Alter, Connection, Error, Row, params};
+use zeb_register::{RegFault, RegisterOf};
+
+/// The blocks of the terms that are not below `first` and are below `end`: the term, the number of the block, and its bytes.
+pub(crate) fn block_rows_between<S: Alter>(
+    conn: &mut Connection<S>,
+    at: RegisterOf,
+    first: &str,
+    end: &str,
+) -> Result<Vec<Row>, Error>
+    ensures call { Reading (state S.Store conn.old) (state S.Store conn.new) result
+        (λ rows a b. Lists (IsRestBetween blocks_tree (register_columns at) first.now end.now) a b rows.items) }
+    ensures err { IsReasonedError (state S.Store conn.old) (state S.Store conn.new) result }
+{
+    // What is seen outside a transaction is what was committed.
+    let _idle = conn.is_autocommit();
+    let db = at.db.column();
+    let reg = u32::from(at.register.code());
+    conn.query_all(
+        "SELECT term, block, data FROM blocks WHERE db = ?1 AND idx = ?2 AND reg = ?3 AND term >= ?4 AND term < ?5 ORDER BY term, block",
+        params![db, at.index, reg, first, end],
+    )
+}

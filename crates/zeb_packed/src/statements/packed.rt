@@ -1,0 +1,97 @@
+//! Statements on the tables `blocks` and `dict`, which hold packed registers.
+
+ghost use Rattle.std.specs.Prelude.{[], ◌∷◌, ◌++◌};
+ghost use Rattle.sqlite.specs.Held.{state};
+ghost use Rattle.sqlite.specs.declared.types.Value.TheVariants.{Text};
+ghost use Rattle.zeb_register.specs.Store.{blocks_tree, dict_tree, IsRest};
+ghost use Rattle.zeb_register.specs.Calls.{Reading};
+ghost use Rattle.zeb_register.specs.Clauses.{IsReasonedError};
+ghost use Rattle.zeb_register.specs.KeyColumns.{register_columns};
+ghost use Rattle.zeb_register.specs.PackedBlocks.{IsRestBefore, IsRestFrom};
+ghost use Rattle.zeb_packed.specs.PackedRows.{ListsFirst, ListsLast};
+ghost use Rattle.zeb_register.specs.RowStatements.{Lists};
+
+use sqlite::{Alter, Connection, Error, Row, params};
+use zeb_register::{RegFault, RegisterOf};
+
+/// The blocks of a key: the number of each, and its bytes.
+pub(crate) fn block_rows<S: Alter>(
+    conn: &mut Connection<S>,
+    at: RegisterOf,
+    term: &str,
+) -> Result<Vec<Row>, Error>
+    ensures call { Reading (state S.Store conn.old) (state S.Store conn.new) result
+        (λ rows a b. Lists (IsRest blocks_tree (register_columns at ++ Text term.now ∷ [])) a b rows.items) }
+    ensures err { IsReasonedError (state S.Store conn.old) (state S.Store conn.new) result }
+{
+    // What is seen outside a transaction is what was committed.
+    let _idle = conn.is_autocommit();
+    let db = at.db.column();
+    let reg = u32::from(at.register.code());
+    conn.query_all(
+        "SELECT block, data FROM blocks WHERE db = ?1 AND idx = ?2 AND reg = ?3 AND term = ?4 ORDER BY block",
+        params![db, at.index, reg, term],
+    )
+}
+
+/// The terms of a register, each with the number of its records.
+pub(crate) fn dict_rows<S: Alter>(
+    conn: &mut Connection<S>,
+    at: RegisterOf,
+) -> Result<Vec<Row>, Error>
+    ensures call { Reading (state S.Store conn.old) (state S.Store conn.new) result
+        (λ rows a b. Lists (IsRest dict_tree (register_columns at)) a b rows.items) }
+    ensures err { IsReasonedError (state S.Store conn.old) (state S.Store conn.new) result }
+{
+    // What is seen outside a transaction is what was committed.
+    let _idle = conn.is_autocommit();
+    let db = at.db.column();
+    let reg = u32::from(at.register.code());
+    conn.query_all(
+        "SELECT term, records FROM dict WHERE db = ?1 AND idx = ?2 AND reg = ?3 ORDER BY term",
+        params![db, at.index, reg],
+    )
+}
+
+/// The first of the terms that are not below `start`, with the numbers of their records: at most `limit`, or all where that is below 0.
+pub(crate) fn dict_rows_from<S: Alter>(
+    conn: &mut Connection<S>,
+    at: RegisterOf,
+    start: &str,
+    limit: i64,
+) -> Result<Vec<Row>, Error>
+    ensures call { Reading (state S.Store conn.old) (state S.Store conn.new) result
+        (λ rows a b. ListsFirst limit (IsRestFrom dict_tree (register_columns at) start.now) a b rows.items) }
+    ensures err { IsReasonedError (state S.Store conn.old) (state S.Store conn.new) result }
+{
+    // What is seen outside a transaction is what was committed.
+    let _idle = conn.is_autocommit();
+    let db = at.db.column();
+    let reg = u32::from(at.register.code());
+    conn.query_all(
+        "SELECT term, records FROM dict WHERE db = ?1 AND idx = ?2 AND reg = ?3 AND term >= ?4 ORDER BY term LIMIT ?5",
+        params![db, at.index, reg, start, limit],
+    )
+}
+
+/// The last of the terms that are below `start`, the last first, with the numbers of their records: at most `limit`, or all where
+/// that is below 0.
+pub(crate) fn dict_rows_before<S: Alter>(
+    conn: &mut Connection<S>,
+    at: RegisterOf,
+    start: &str,
+    limit: i64,
+) -> Result<Vec<Row>, Error>
+    ensures call { Reading (state S.Store conn.old) (state S.Store conn.new) result
+        (λ rows a b. ListsLast limit (IsRestBefore dict_tree (register_columns at) start.now) a b rows.items) }
+    ensures err { IsReasonedError (state S.Store conn.old) (state S.Store conn.new) result }
+{
+    // What is seen outside a transaction is what was committed.
+    let _idle = conn.is_autocommit();
+    let db = at.db.column();
+    let reg = u32::from(at.register.code());
+    conn.query_all(
+        "SELECT term, records FROM dict WHERE db = ?1 AND idx = ?2 AND reg = ?3 AND term < ?4 ORDER BY term DESC LIMIT ?5",
+        params![db, at.index, reg, start, limit],
+    )
+}

@@ -1,0 +1,185 @@
+//! Statements on one row of `blocks` or `dict`: it is read, put where none was, put in the place of the one that was there, or taken.
+
+ghost use Rattle.std.specs.Prelude.{IsUtf8, ◌≡◌, ◌++◌, [], ◌∷◌};
+ghost use Rattle.sqlite.specs.declared.types.Value.TheVariants.{Blob, Int};
+ghost use Rattle.sqlite.specs.Held.{state};
+ghost use Rattle.zeb_register.specs.Calls.{Inside};
+ghost use Rattle.zeb_register.specs.Clauses.{IsHinderedErrorInside, IsReasonedErrorInside, TakesInside, Writes};
+ghost use Rattle.zeb_register.specs.Hindrances.{Hinders, HindersNew};
+ghost use Rattle.zeb_register.specs.KeyColumns.{IsOfKey, IsOfNumbered, key_columns, numbered_columns};
+ghost use Rattle.zeb_register.specs.RowStatements.{Gains, IsHinderedUnbroken, IsUnchangedByViolation, ListsInside, Renews};
+ghost use Rattle.zeb_register.specs.Sql.{Loses};
+ghost use Rattle.zeb_register.specs.Store.{IsRest, blocks_tree, dict_tree};
+
+use sqlite::{Alter, Error, Row, Transaction, params};
+use zeb_register::RegFault;
+use zeb_register::for_layouts::KeyOf;
+
+/// The bytes of a key's block.
+pub(crate) fn block_bytes<S: Alter>(
+    tx: &mut Transaction<'_, S>,
+    at: KeyOf<'_>,
+    number: i64,
+) -> Result<Vec<Row>, Error>
+    ensures same { tx.new.conn.ghost_name ≡ tx.old.conn.ghost_name }
+    ensures call { Inside (state S.Store tx.old.conn.now) (state S.Store tx.new.conn.now) result
+        (λ rows a b. ListsInside (IsRest blocks_tree (numbered_columns at.entry number)) a b rows.items) }
+    ensures err { IsReasonedErrorInside (state S.Store tx.old.conn.now) (state S.Store tx.new.conn.now) result }
+{
+    let db = at.db.column();
+    let reg = u32::from(at.key.register.code());
+    let term = at.key.term.as_str();
+    tx.query_all(
+        "SELECT data FROM blocks WHERE db = ?1 AND idx = ?2 AND reg = ?3 AND term = ?4 AND block = ?5",
+        params![db, at.key.index, reg, term, number],
+    )
+}
+
+/// The number of the records that have a key.
+pub(crate) fn dict_records<S: Alter>(
+    tx: &mut Transaction<'_, S>,
+    at: KeyOf<'_>,
+) -> Result<Vec<Row>, Error>
+    ensures same { tx.new.conn.ghost_name ≡ tx.old.conn.ghost_name }
+    ensures call { Inside (state S.Store tx.old.conn.now) (state S.Store tx.new.conn.now) result
+        (λ rows a b. ListsInside (IsRest dict_tree (key_columns at.entry)) a b rows.items) }
+    ensures err { IsReasonedErrorInside (state S.Store tx.old.conn.now) (state S.Store tx.new.conn.now) result }
+    ensures text { IsUtf8 at.entry.key.now.term }
+{
+    let db = at.db.column();
+    let reg = u32::from(at.key.register.code());
+    let term = at.key.term.as_str();
+    tx.query_all(
+        "SELECT records FROM dict WHERE db = ?1 AND idx = ?2 AND reg = ?3 AND term = ?4",
+        params![db, at.key.index, reg, term],
+    )
+}
+
+/// Puts a row. It is refused where the key has one for the block.
+pub(crate) fn block_add<S: Alter>(
+    tx: &mut Transaction<'_, S>,
+    at: KeyOf<'_>,
+    number: i64,
+    bytes: &[u8],
+) -> Result<usize, Error>
+    ensures same { tx.new.conn.ghost_name ≡ tx.old.conn.ghost_name }
+    ensures call { Writes blocks_tree (Gains (numbered_columns at.entry number ++ Blob bytes.now ∷ []))
+        (state S.Store tx.old.conn.now) (state S.Store tx.new.conn.now) result }
+    ensures violated { IsUnchangedByViolation (state S.Store tx.old.conn.now) (state S.Store tx.new.conn.now) result }
+    ensures refused { IsHinderedErrorInside (state S.Store tx.old.conn.now) (state S.Store tx.new.conn.now) result
+        (HindersNew (IsOfNumbered at.entry number) blocks_tree (numbered_columns at.entry number ++ Blob bytes.now ∷ [])) }
+    ensures unbroken { IsHinderedUnbroken (state S.Store tx.old.conn.now) (state S.Store tx.new.conn.now) result
+        (Hinders 1 blocks_tree (numbered_columns at.entry number ++ Blob bytes.now ∷ [])) }
+    ensures rowids { TakesInside (state S.Store tx.old.conn.now) (state S.Store tx.new.conn.now) result 1 blocks_tree }
+{
+    let db = at.db.column();
+    let reg = u32::from(at.key.register.code());
+    let term = at.key.term.as_str();
+    tx.execute(
+        "INSERT INTO blocks VALUES (?1, ?2, ?3, ?4, ?5, ?6)",
+        params![db, at.key.index, reg, term, number, bytes],
+    )
+}
+
+pub(crate) fn block_set<S: Alter>(
+    tx: &mut Transaction<'_, S>,
+    at: KeyOf<'_>,
+    number: i64,
+    bytes: &[u8],
+) -> Result<usize, Error>
+    ensures same { tx.new.conn.ghost_name ≡ tx.old.conn.ghost_name }
+    ensures call { Writes blocks_tree (Renews (IsOfNumbered at.entry number) (numbered_columns at.entry number ++ Blob bytes.now ∷ []))
+        (state S.Store tx.old.conn.now) (state S.Store tx.new.conn.now) result }
+    ensures refused { IsHinderedErrorInside (state S.Store tx.old.conn.now) (state S.Store tx.new.conn.now) result
+        (Hinders 0 blocks_tree (numbered_columns at.entry number ++ Blob bytes.now ∷ [])) }
+    ensures rowids { TakesInside (state S.Store tx.old.conn.now) (state S.Store tx.new.conn.now) result 0 blocks_tree }
+{
+    let db = at.db.column();
+    let reg = u32::from(at.key.register.code());
+    let term = at.key.term.as_str();
+    tx.execute(
+        "UPDATE blocks SET data = ?6 WHERE db = ?1 AND idx = ?2 AND reg = ?3 AND term = ?4 AND block = ?5",
+        params![db, at.key.index, reg, term, number, bytes],
+    )
+}
+
+pub(crate) fn block_remove<S: Alter>(
+    tx: &mut Transaction<'_, S>,
+    at: KeyOf<'_>,
+    number: i64,
+) -> Result<usize, Error>
+    ensures same { tx.new.conn.ghost_name ≡ tx.old.conn.ghost_name }
+    ensures call { Writes blocks_tree (Loses (IsOfNumbered at.entry number))
+        (state S.Store tx.old.conn.now) (state S.Store tx.new.conn.now) result }
+    ensures refused { IsReasonedErrorInside (state S.Store tx.old.conn.now) (state S.Store tx.new.conn.now) result }
+    ensures rowids { TakesInside (state S.Store tx.old.conn.now) (state S.Store tx.new.conn.now) result 0 blocks_tree }
+{
+    let db = at.db.column();
+    let reg = u32::from(at.key.register.code());
+    let term = at.key.term.as_str();
+    tx.execute(
+        "DELETE FROM blocks WHERE db = ?1 AND idx = ?2 AND reg = ?3 AND term = ?4 AND block = ?5",
+        params![db, at.key.index, reg, term, number],
+    )
+}
+
+/// Puts a row. It is refused where the key has one.
+pub(crate) fn dict_add<S: Alter>(
+    tx: &mut Transaction<'_, S>,
+    at: KeyOf<'_>,
+    records: i64,
+) -> Result<usize, Error>
+    ensures same { tx.new.conn.ghost_name ≡ tx.old.conn.ghost_name }
+    ensures call { Writes dict_tree (Gains (key_columns at.entry ++ Int records ∷ []))
+        (state S.Store tx.old.conn.now) (state S.Store tx.new.conn.now) result }
+    ensures refused { IsHinderedErrorInside (state S.Store tx.old.conn.now) (state S.Store tx.new.conn.now) result
+        (HindersNew (IsOfKey at.entry) dict_tree (key_columns at.entry ++ Int records ∷ [])) }
+    ensures rowids { TakesInside (state S.Store tx.old.conn.now) (state S.Store tx.new.conn.now) result 1 dict_tree }
+{
+    let db = at.db.column();
+    let reg = u32::from(at.key.register.code());
+    let term = at.key.term.as_str();
+    tx.execute(
+        "INSERT INTO dict VALUES (?1, ?2, ?3, ?4, ?5)",
+        params![db, at.key.index, reg, term, records],
+    )
+}
+
+pub(crate) fn dict_set<S: Alter>(
+    tx: &mut Transaction<'_, S>,
+    at: KeyOf<'_>,
+    records: i64,
+) -> Result<usize, Error>
+    ensures same { tx.new.conn.ghost_name ≡ tx.old.conn.ghost_name }
+    ensures call { Writes dict_tree (Renews (IsOfKey at.entry) (key_columns at.entry ++ Int records ∷ []))
+        (state S.Store tx.old.conn.now) (state S.Store tx.new.conn.now) result }
+    ensures refused { IsHinderedErrorInside (state S.Store tx.old.conn.now) (state S.Store tx.new.conn.now) result
+        (Hinders 0 dict_tree (key_columns at.entry ++ Int records ∷ [])) }
+    ensures rowids { TakesInside (state S.Store tx.old.conn.now) (state S.Store tx.new.conn.now) result 0 dict_tree }
+{
+    let db = at.db.column();
+    let reg = u32::from(at.key.register.code());
+    let term = at.key.term.as_str();
+    tx.execute(
+        "UPDATE dict SET records = ?5 WHERE db = ?1 AND idx = ?2 AND reg = ?3 AND term = ?4",
+        params![db, at.key.index, reg, term, records],
+    )
+}
+
+pub(crate) fn dict_remove<S: Alter>(
+    tx: &mut Transaction<'_, S>,
+    at: KeyOf<'_>,
+) -> Result<usize, Error>
+    ensures same { tx.new.conn.ghost_name ≡ tx.old.conn.ghost_name }
+    ensures call { Writes dict_tree (Loses (IsOfKey at.entry)) (state S.Store tx.old.conn.now) (state S.Store tx.new.conn.now) result }
+    ensures refused { IsReasonedErrorInside (state S.Store tx.old.conn.now) (state S.Store tx.new.conn.now) result }
+    ensures rowids { TakesInside (state S.Store tx.old.conn.now) (state S.Store tx.new.conn.now) result 0 dict_tree }
+{
+    let db = at.db.column();
+    let reg = u32::from(at.key.register.code());
+    let term = at.key.term.as_str();
+    tx.execute(
+        "DELETE FROM dict WHERE db = ?1 AND idx = ?2 AND reg = ?3 AND term = ?4",
+        params![db, at.key.index, reg, term],
+    )
+}

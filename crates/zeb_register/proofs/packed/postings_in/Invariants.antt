@@ -1,6 +1,0 @@
-use Rattle.std.proofs.Common.{take}
-use Rattle.zeb_register.specs.PackedRows.{AreSpelled}
-use Rattle.zeb_register.proofs.packed.postings_in.Given as goal
-
-abbrev pub invariant-loop-row : goal.invariant-loop-row
-invariant-loop-row l = AreSpelled (take l.row-index l.rows) l.postings.items

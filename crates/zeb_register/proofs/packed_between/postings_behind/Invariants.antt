@@ -1,7 +1,0 @@
-use Rattle.std.proofs.Common.{map, take}
-use Rattle.zeb_register.specs.BetweenRows.{two_behind}
-use Rattle.zeb_register.specs.PackedRows.{AreSpelled}
-use Rattle.zeb_register.proofs.packed_between.postings_behind.Given as goal
-
-abbrev pub invariant-loop-row : goal.invariant-loop-row
-invariant-loop-row l = AreSpelled (map two_behind (take l.row-index l.rows)) l.postings.items

@@ -1,7 +1,0 @@
-use Rattle.std.proofs.Common.{take}
-use Rattle.std.specs.List.{AllByRecursion}
-use Rattle.zeb_register.specs.PackedChanges.{IsStorableChange}
-use Rattle.zeb_register.proofs.packed_parts.check_changes.Given as goal
-
-abbrev pub invariant-loop-change : goal.invariant-loop-change
-invariant-loop-change l = AllByRecursion IsStorableChange (take l.change-index l.changes)

@@ -1,6 +1,0 @@
-use Rattle.std.proofs.Common.{take}
-use Rattle.zeb_register.specs.PackedChanges.{IsParted}
-use Rattle.zeb_register.proofs.packed_parts.parted_at.Given as goal
-
-abbrev pub invariant-loop-posting : goal.invariant-loop-posting
-invariant-loop-posting l = IsParted l.sysno (take l.posting-index l.list) l.parted

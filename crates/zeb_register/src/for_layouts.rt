@@ -1,0 +1,9 @@
+//! What those who write a `Layout` over the tables need, beside the public calls: values on their way into a row and out of it, and what
+//! every layout has to do in the same way.
+
+pub use crate::dropping::database_drop_whole;
+pub use crate::packed_agreeing::blocks_agree;
+pub use crate::statements::inside::nothing_inside;
+pub use crate::statements::keys::KeyOf;
+pub use crate::terms::text_above;
+pub use crate::values::{read, read_bytes, stored};
