@@ -42,6 +42,7 @@ pub mod ReadyBases
 pub mod Scans
 pub mod StoreCauses
 pub mod WriteCauses
+pub mod InitCauses
 pub mod Dumps
 pub mod Stats
 pub mod Readers

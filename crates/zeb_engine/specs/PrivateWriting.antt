@@ -1,6 +1,6 @@
 -- What only the contracts of private functions speak of; no public clause reaches it.
 -- The commands that write without reading records: what each makes of what is held, and what was found out before it began.
-use Rattle.std.specs.Prelude.{◌≡◌, ℕ, ℤ, pos, List, [], Some, None, Result, Ok, Err, IfErr, IsTrue}
+use Rattle.std.specs.Prelude.{◌≡◌, ◌⊎◌, ℕ, ℤ, pos, List, [], Some, None, Result, Ok, Err, IfErr, IsTrue, codes}
 use Rattle.std.specs.Option.{option_map}
 use Rattle.sqlite.specs.Tree.{Trees}
 use Rattle.sqlite.specs.State.{State}
@@ -10,8 +10,8 @@ use Rattle.zeb_profile.specs.Canonical.{canonical_text, pattern_text}
 use Rattle.zeb_profile.specs.Laws.{IsProfile}
 use Rattle.zeb_register.specs.declared.RegFault.{RegFault}
 use Rattle.zeb_register.specs.Formats.{Format, version_of}
-use Rattle.zeb_register.specs.Hindrances.{LacksRowids}
-use Rattle.zeb_register.specs.Store.{IsStore, HasDatabase, databases_tree}
+use Rattle.zeb_register.specs.Hindrances.{IsTooLarge, LacksRowids}
+use Rattle.zeb_register.specs.Store.{IsStore, HasDatabase, databases_tree, entry}
 use Rattle.zeb_engine.specs.declared.writes.Write.{Write}
 use Rattle.zeb_engine.specs.declared.writes.Write.TheVariants as write
 use Rattle.zeb_change.specs.declared.refusals.Refusal.{Refusal}
@@ -112,9 +112,13 @@ FailsAlone (write.Drop name id) result = Unit {0}
 FailsAlone (write.Reindex alloc profile) result = Unit {0}
 FailsAlone (write.Upgrade alloc profile) result = Unit {0}
 
--- what of the tables may hinder a write, as far as it is said
+-- one of these two texts of a register is too large for a row
+abbrev pub HasLargeText : List ℕ → List ℕ → Type 0
+HasLargeText text pattern = IsTooLarge (entry (codes "profile") text) ⊎ IsTooLarge (entry (codes "identifier") pattern)
+
+-- what may hinder a write, as far as it is said
 abbrev pub HindersWrite : Write → Trees → Type 0
-HindersWrite (write.Init profile pattern) trees = Unit {0}
+HindersWrite (write.Init profile pattern) trees = HasLargeText (canonical_text profile.now) pattern.now
 HindersWrite (write.Create name) trees = LacksRowids 1 databases_tree trees
 HindersWrite (write.Drop name id) trees = ⊥
 HindersWrite (write.Reindex alloc profile) trees = Unit {0}

@@ -240,9 +240,9 @@ impl<S: Alter, L: Layout> Session<S, L> {
         ensures read_work { HasCleanDisk (state S.Store self.new.connection)
             → CommandReads L.format L.row_work L.block_rows self.old.profile command.now
             (state S.Store self.old.connection) result self.new.work }
-        // A command that only asks finds the store failed only for a cause; so do a drop and a create, but for their commit.
+        // A command that only asks finds the store failed only for a cause; so do an init, a create and a drop, but for their commit.
         ensures caused { HasCleanDisk (state S.Store self.new.connection)
-            → HasCommandCause command.now (state S.Store self.old.connection) (state S.Store self.new.connection) result }
+            → HasCommandCause self.old.profile command.now (state S.Store self.old.connection) (state S.Store self.new.connection) result }
         // Over a layout whose rows count nothing no work is counted.
         ensures no_work { HasCleanDisk (state S.Store self.new.connection) → L.row_work ≡ 0
             → CountsNothing command.now (state S.Store self.old.connection) result self.new.work }
@@ -298,7 +298,7 @@ impl<S: Alter, L: Layout> Session<S, L> {
             → CommandReads L.format L.row_work L.block_rows self.old.profile command.now
             (state S.Store self.old.connection) result self.new.work }
         ensures caused { HasCleanDisk (state S.Store self.new.connection)
-            → HasCommandCause command.now (state S.Store self.old.connection) (state S.Store self.new.connection) result }
+            → HasCommandCause self.old.profile command.now (state S.Store self.old.connection) (state S.Store self.new.connection) result }
         ensures no_work { L.row_work ≡ 0 → IsNoChange command.now → self.new.work ≡ no_work }
     {
         self.work = Work::default();

@@ -1,13 +1,14 @@
 //! The commands that write without reading records, each in one transaction.
 
-ghost use Rattle.std.specs.Prelude.{◌≡◌, false, [], IsTrue, OnOk, OnErr, IfErr};
+ghost use Rattle.std.specs.Prelude.{◌≡◌, ◌⊎◌, false, [], IsTrue, OnOk, OnErr, IfErr, codes};
 ghost use Rattle.sqlite.specs.Held.{state};
 ghost use Rattle.sqlite.specs.State.{HasCleanDisk, KeepsCommit, Survives};
 ghost use Rattle.zeb_register.specs.Calls.{GoesOn};
 ghost use Rattle.zeb_register.specs.Clauses.{IsHinderedInside, IsReasonedInside};
 ghost use Rattle.zeb_register.specs.Formats.{version_of};
-ghost use Rattle.zeb_register.specs.Hindrances.{LacksRowids};
-ghost use Rattle.zeb_register.specs.Store.{IsStore, databases_tree, meta_tree};
+ghost use Rattle.zeb_register.specs.Hindrances.{IsTooLarge, LacksRowids};
+ghost use Rattle.zeb_register.specs.Store.{IsStore, databases_tree, entry, meta_tree};
+ghost use Rattle.zeb_profile.specs.Canonical.{canonical_text};
 ghost use Rattle.zeb_change.specs.declared.settings.Limits.{Limits};
 ghost use Rattle.zeb_engine.specs.Answers.{IsFailure, refused};
 ghost use Rattle.zeb_change.specs.Refused.{why_of, NeverUnready};
@@ -22,7 +23,7 @@ ghost use Rattle.zeb_engine.specs.Steps.{holding, initialised, turned, created, 
 ghost use Rattle.zeb_engine.specs.Transactions.{Commanded};
 ghost use Rattle.zeb_change.specs.Inside.{Stays};
 ghost use Rattle.zeb_engine.specs.Works.{IsReady, Serves, Works};
-ghost use Rattle.zeb_engine.specs.PrivateWriting.{AreOf, Begins, CommitsRemade, IsFree, IsKnown, FailsAlone, Fits, HindersWrite};
+ghost use Rattle.zeb_engine.specs.PrivateWriting.{AreOf, Begins, CommitsRemade, IsFree, IsKnown, FailsAlone, Fits, HasLargeText, HindersWrite};
 ghost use Rattle.zeb_engine.specs.PrivateWriting.{IsReached, IsRuled, IsUpgradable, PutsTexts, ReadsSound, Remakes, answered, written};
 ghost use Rattle.zeb_engine.specs.PrivateConnections.{CommitsNothing, CommitsUnder, ServesUnder};
 
@@ -75,6 +76,9 @@ fn put_texts<S: Alter>(
         → IsStore (state S.Store tx.old.conn.now) → (state S.Store tx.old.conn.now).now.trees meta_tree ≡ []
         → OnOk result (PutsTexts version.now text.now pattern.now (state S.Store tx.old.conn.now) (state S.Store tx.new.conn.now)) }
     ensures failed { IfErr (answered result) (λ refusal. IsFailure (refused (why_of refusal))) }
+    ensures refused { (state S.Store tx.old.conn.now).now.trees meta_tree ≡ []
+        → IsHinderedInside (state S.Store tx.old.conn.now) (state S.Store tx.new.conn.now) result
+        (λ _. IsTooLarge (entry (codes "version") version.now) ⊎ HasLargeText text.now pattern.now) }
     ensures crash { CommitsNothing S.Store tx.old.conn.now tx.new.conn.now }
 {
     meta_put(tx, VERSION, version)?;
@@ -100,6 +104,8 @@ fn init<S: Alter, L: Layout>(
         × ((c : Conditions) → AreOf (version_of L.format) profile.now pattern.now c
         → IsImage (state S.Store tx.new.conn.now).now.trees (holding c []))) }
     ensures failed { IfErr (answered result) (λ refusal. IsFailure (refused (why_of refusal))) }
+    ensures refused { IsHinderedInside (state S.Store tx.old.conn.now) (state S.Store tx.new.conn.now) result
+        (λ _. HasLargeText (canonical_text profile.now) pattern.now) }
     ensures crash { CommitsNothing S.Store tx.old.conn.now tx.new.conn.now }
 {
     wipe(tx)?;
@@ -267,6 +273,9 @@ pub(crate) fn init_register<S: Alter, L: Layout>(
         → IsStore (state S.Store connection.new)
         × IsImage (state S.Store connection.new).now.trees (holding (conditions (version_of L.format) profile.now limits) [])) }
     ensures failed { IfErr result (λ refusal. IsFailure (refused (why_of refusal))) }
+    ensures caused { HasCleanDisk (state S.Store connection.new)
+        → HasCauseOver (λ _. IsTooLarge (entry (codes "profile") (canonical_text profile.now))) (state S.Store connection.old)
+        (state S.Store connection.new) result }
     ensures idle { connection.new.in_transaction ≡ false }
     ensures call { Commanded (state S.Store connection.old) (state S.Store connection.new) result }
     ensures survives { CommitsUnder S.Store initialised (version_of L.format) profile.now connection.old connection.new }

@@ -96,6 +96,11 @@ takes_then a b tree old mid new first second = λ left below has.
 pub takes_more : (a b tree : ℕ) (old new : Trees) → a ≤ b → TakesRowids a tree old new → TakesRowids b tree old new
 takes_more a b tree old new less takes = λ left below has. takes left (omega (arith, less, below)) (has_less (left + a) (left + b) tree old (omega (arith, less)) has)
 
+-- a table that had no row lacks no rowid after few are taken
+pub begun_lacks : (taken more tree : ℕ) (old mid : Trees) → old tree ≡ [] → TakesRowids taken tree old mid → more + taken < 2 ^ 63 → LacksRowids more tree mid → ⊥
+begun_lacks taken more tree old mid none takes few lacks =
+    not_both more tree mid (takes more few (λ id columns here. absurd (subst (λ rows. Has rows (Int id ∷ columns)) none here))) lacks
+
 -- a table that lacks rowids for some rows behind others lacked them for all of these
 pub lacked : (before more most tree : ℕ) (old mid : Trees) → TakesRowids before tree old mid → before + more ≤ most → LacksRowids more tree mid → (2 ^ 63 ≤ most) ⊎ LacksRowids most tree old
 lacked before more most tree old mid takes within lacks = elim (has_or_lacks (more + before) tree old) [

@@ -86,7 +86,7 @@ pub returns-in-Upgrade-clause-remade : goal.returns-in-Upgrade-clause-remade
 returns-in-Upgrade-clause-remade g c clean inside = rw c.in-Upgrade.is (nothing_so c.upgrade.result)
 
 pub returns-in-Init-clause-refused : goal.returns-in-Init-clause-refused
-returns-in-Init-clause-refused g c clean inside store is = rw c.in-Init.is (inr tt)
+returns-in-Init-clause-refused g c clean inside = rw c.in-Init.is (c.init.ensures.refused clean inside)
 
 pub returns-in-Create-clause-refused : goal.returns-in-Create-clause-refused
 returns-in-Create-clause-refused g c clean inside = rw c.in-Create.is (c.create.ensures.refused clean inside)

@@ -453,7 +453,7 @@ pub returns-in-Change-clause-no_work : goal.returns-in-Change-clause-no_work
 returns-in-Change-clause-no_work g c none is = absurd (subst IsNoChange c.in-Change.is is)
 
 pub returns-in-Init-clause-caused : goal.returns-in-Init-clause-caused
-returns-in-Init-clause-caused g c clean = rw c.in-Init.is (unsaid (λ _. Unit {0}) (state g.S.Store c.args.self.now.connection) (state g.S.Store c.init_register.new.connection) c.init_register.result (λ _. tt))
+returns-in-Init-clause-caused g c clean = rw c.in-Init.is (c.init_register.ensures.caused clean)
 
 pub returns-in-Change-clause-caused : goal.returns-in-Change-clause-caused
 returns-in-Change-clause-caused g c clean = rw c.in-Change.is (unsaid (λ _. Unit {0}) (state g.S.Store c.args.self.now.connection) (state g.S.Store c.change.new.self.connection) c.change.result (λ _. tt))
