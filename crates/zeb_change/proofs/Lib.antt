@@ -8,6 +8,7 @@ pub mod Reposted
 pub mod NoteWords
 pub mod NotedChanges
 pub mod Leading
+pub mod Asked
 pub mod Reordering
 pub mod Commuting
 pub mod UnderWay
