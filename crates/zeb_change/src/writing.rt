@@ -1,12 +1,15 @@
 //! Noted changes of keys, written into the registers key by key.
 
-ghost use Rattle.std.specs.Prelude.{◌≡◌, List, Err, IsTrue, OnOk, IfOk, length, map};
+ghost use Rattle.std.specs.Prelude.{◌≡◌, ◌+◌, ℕ, List, Err, IsTrue, OnOk, IfOk, length, map};
 ghost use Rattle.sqlite.specs.Held.{state};
 ghost use Rattle.sqlite.specs.State.{HasCleanDisk};
-ghost use Rattle.zeb_register.specs.Calls.{GoesOn, Inside};
+ghost use Rattle.zeb_register.specs.Calls.{GoesOn, Inside, MayRefuse};
+ghost use Rattle.zeb_register.specs.Clauses.{InStore};
 ghost use Rattle.zeb_register.specs.Content.{Content, IsStorable};
 ghost use Rattle.zeb_register.specs.Formats.{holds_in};
+ghost use Rattle.zeb_register.specs.Room.{FitInRow, HasRoom};
 ghost use Rattle.zeb_register.specs.Store.{IsStore, KeepsLists};
+ghost use Rattle.zeb_change.specs.Asked.{PutsPlaces};
 ghost use Rattle.zeb_change.specs.Costs.{IsWorkFor};
 ghost use Rattle.zeb_change.specs.NoteWords.{KeyChange};
 ghost use Rattle.zeb_change.specs.Noted.{IsNothingNoted, Settles};
@@ -81,6 +84,11 @@ fn write_key<S: Alter, L: Layout>(
         → IsStore (state S.Store tx.old.conn.now)
         → OnOk result ((content : Content) → holds_in L.format (state S.Store tx.old.conn.now).now.trees content
         → IsWorkFor L.row_work notes.now.count work.old work.new) }
+    ensures room { (content : Content) (n left : ℕ) → PutsPlaces notes.now n → FitInRow (n + left) key.now
+        → InStore (state S.Store tx.old.conn.now) (state S.Store tx.new.conn.now) (λ trees. holds_in L.format trees content
+        → HasRoom L.format (n + left) trees
+        → (result ≡ Err RegFault.Store → MayRefuse (state S.Store tx.old.conn.now) (state S.Store tx.new.conn.now))
+        × OnOk result (HasRoom L.format left (state S.Store tx.new.conn.now).now.trees)) }
 {
     let (counts, places) = notes.read(alloc)?;
     let given = given(alloc, &counts, &places)?;
