@@ -16,6 +16,7 @@ use Rattle.zeb_change.specs.declared.key_notes.KeyNotes.{KeyNotes}
 use Rattle.zeb_change.specs.declared.pending.Pending.{Pending}
 use Rattle.zeb_change.specs.Asked.{HasRoomFor, PutAmong, PutsPlaces, placed_by}
 use Rattle.zeb_change.specs.NoteWords.{KeyChange}
+use Rattle.zeb_change.specs.Noted.{IsNothingNoted}
 use Rattle.zeb_change.specs.PrivatePending.{AreGivenAs, AreGivenInOrder, number_in}
 use Rattle.zeb_change.proofs.Reordering.{all_of, of_reordered}
 
@@ -74,6 +75,16 @@ module _ (changes : List KeyChange) (given : List RecordChange) (is : AreGivenIn
         room_left format left more (λ k. left + more) (λ k. left) db key given old new content after there fit (omega arith) (omega arith) (λ k. omega arith) takes held holds changed
 
 -- ---- a key is taken out of what is noted
+
+-- where nothing is noted there is as much room beside another that notes nothing
+pub none_known : (format : Format) (most : ℕ) (trees : Trees) (before after : Pending) (spare : ℕ) → IsNothingNoted before → IsNothingNoted after → HasRoomFor format most trees before spare
+    → HasRoomFor format most trees after spare
+none_known format most trees before after spare none none' has = record {
+  noted = has.noted;
+  few = has.few;
+  among = subst (λ (es : List (Key × KeyNotes)). PutAmong most es has.noted) (none ∙ sym none') has.among;
+  room = has.room;
+}
 
 -- what is known where the first key's changes are to be written
 pub record IsFirst (format : Format) (most : ℕ) (notes : KeyNotes) (key : Key) (trees : Trees) (after : Pending) (spare : ℕ) : Type 0 where

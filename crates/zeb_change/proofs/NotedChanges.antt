@@ -96,6 +96,7 @@ first_out : (key : Key) (v : KeyNotes) (old new : Pending) → old.notes.entries
 first_out key v old new entries found updates = record {
   here = found;
   gone = updates.1;
+  first = entries;
   others = λ k differs. updates.2 k (apart_at key k differs);
   count = ap changes_among entries;
   fewer = ap length entries ∙ omega arith;

@@ -29,6 +29,7 @@ pub record IsNotedAlso (key : Key) (change : KeyChange) (old new : Pending) : Ty
 pub record IsTakenOut (key : Key) (notes : KeyNotes) (old new : Pending) : Type 0 where
   pub here : notes_at old key ≡ Some notes
   pub gone : notes_at new key ≡ None
+  pub first : old.notes.entries ≡ (key, notes) ∷ new.notes.entries
   pub others : (k : Key) → k ≢ key → notes_at new k ≡ notes_at old k
   pub count : noted_count old ≡ notes.count + noted_count new
   pub fewer : length old.notes.entries ≡ length new.notes.entries + 1
