@@ -18,6 +18,7 @@ use Rattle.zeb_change.specs.Asked.{HasRoomFor, PutAmong, PutsPlaces, placed_by}
 use Rattle.zeb_change.specs.NoteWords.{KeyChange}
 use Rattle.zeb_change.specs.Noted.{IsNothingNoted}
 use Rattle.zeb_change.specs.PrivatePending.{AreGivenAs, AreGivenInOrder, number_in}
+use Rattle.zeb_change.proofs.PutNotes.{among_less}
 use Rattle.zeb_change.proofs.Reordering.{all_of, of_reordered}
 
 -- ---- the changes of a key in the order in which a layout takes them
@@ -82,7 +83,7 @@ pub none_known : (format : Format) (most : ℕ) (trees : Trees) (before after : 
 none_known format most trees before after spare none none' has = record {
   noted = has.noted;
   few = has.few;
-  among = subst (λ (es : List (Key × KeyNotes)). PutAmong most es has.noted) (none ∙ sym none') has.among;
+  among = subst (λ (es : List (Key × KeyNotes)). PutAmong (has.noted + spare) es has.noted) (none ∙ sym none') has.among;
   room = has.room;
 }
 
@@ -98,7 +99,7 @@ pub record IsFirst (format : Format) (most : ℕ) (notes : KeyNotes) (key : Key)
 pub first_known : (format : Format) (most : ℕ) (notes : KeyNotes) (key : Key) (trees : Trees) (before after : Pending) (spare : ℕ) → before.notes.entries ≡ (key, notes) ∷ after.notes.entries
     → HasRoomFor format most trees before spare → IsFirst format most notes key trees after spare
 first_known format most notes key trees before after spare entries has =
-    let among : PutAmong most ((key, notes) ∷ after.notes.entries) has.noted = subst (λ (es : List (Key × KeyNotes)). PutAmong most es has.noted) entries has.among in
+    let among : PutAmong (has.noted + spare) ((key, notes) ∷ after.notes.entries) has.noted = subst (λ (es : List (Key × KeyNotes)). PutAmong (has.noted + spare) es has.noted) entries has.among in
     let few = has.few in
     let sum : has.noted ≡ among.0 + among.1 = among.5 in
     let all : has.noted + spare ≡ among.0 + (among.1 + spare) = omega (arith, sum) in
@@ -107,7 +108,7 @@ first_known format most notes key trees before after spare entries has =
       own = among.0;
       rest = among.1;
       puts = among.2;
-      fits = omega (arith, fit, few, sum);
+      fits = omega (arith, fit, sum);
       room = subst (λ m. HasRoom format m trees) all has.room;
-      leaves = λ new room. record { noted = among.1; few = omega (arith, few, sum); among = among.4; room = room };
+      leaves = λ new room. record { noted = among.1; few = omega (arith, few, sum); among = among_less (among.1 + spare) (has.noted + spare) after.notes.entries among.1 (omega (arith, sum)) among.4; room = room };
     }

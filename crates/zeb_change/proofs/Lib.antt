@@ -6,6 +6,7 @@ pub mod StoredLemmas
 pub mod PostedLemmas
 pub mod Reposted
 pub mod NoteWords
+pub mod PutNotes
 pub mod NotedChanges
 pub mod Leading
 pub mod Asked

@@ -31,17 +31,17 @@ pub record PutsPlaces (notes : KeyNotes) (n : ℕ) : Type 0 where
   pub storable : AllByRecursion IsStorablePlaced (map placed_by changes)
   pub many : n ≡ rows_of (map placed_by changes)
 
--- the notes put so many places in all, and a row of each of their keys holds the most that are ever put
-abbrev pub PutAmong : (most : ℕ) → List (Key × KeyNotes) → ℕ → Type 0
-PutAmong most [] n = n ≡ 0
-PutAmong most (entry ∷ entries) n =
-    (first : ℕ) × (rest : ℕ) × PutsPlaces entry.1 first × FitInRow most entry.0 × PutAmong most entries rest × (n ≡ first + rest)
+-- the notes put so many places in all, and a row of each of their keys holds as many as this bound says
+abbrev pub PutAmong : (bound : ℕ) → List (Key × KeyNotes) → ℕ → Type 0
+PutAmong bound [] n = n ≡ 0
+PutAmong bound (entry ∷ entries) n =
+    (first : ℕ) × (rest : ℕ) × PutsPlaces entry.1 first × FitInRow bound entry.0 × PutAmong bound entries rest × (n ≡ first + rest)
 
 -- the tables have room for the places that are noted and for so many more, of the most that are ever put
 pub record HasRoomFor (format : Format) (most : ℕ) (trees : Trees) (pending : Pending) (spare : ℕ) : Type 0 where
   pub noted : ℕ
   pub few : noted + spare ≤ most
-  pub among : PutAmong most pending.notes.entries noted
+  pub among : PutAmong (noted + spare) pending.notes.entries noted
   pub room : HasRoom format (noted + spare) trees
 
 -- Of the room that there is a call takes so much: where there is room for these places and for others, it is refused as a failed store only

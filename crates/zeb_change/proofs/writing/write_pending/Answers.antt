@@ -59,7 +59,7 @@ loop-key-preserved g c =
           let so_far = c.loop-key.invariant.written was mode store in
           let held = (so_far.2 ahead storable holds).0 in
           let first = first_known g.L.Layout.format most notes key now.now.trees c.loop-key.pending c.take_first.new.self spare out.first
-              (c.loop-key.invariant.room was mode store ahead most spare storable holds has) in
+          (c.loop-key.invariant.room was mode store ahead most spare storable holds has) in
           let left = c.in_ok-write_key.ensures.room held.behind first.own (first.rest + spare) first.puts first.fits clean stays.mode so_far.0 held.held first.room in
           first.leaves next.now.trees left.1;
     }
@@ -105,7 +105,7 @@ returns-in_err-write_key-clause-room g c ahead most spare storable clean mode st
     let so_far = c.loop-key.invariant.written was mode store in
     let held = (so_far.2 ahead storable holds).0 in
     let first = first_known g.L.Layout.format most notes key now.now.trees c.loop-key.pending c.take_first.new.self spare out.first
-        (c.loop-key.invariant.room was mode store ahead most spare storable holds has) in
+    (c.loop-key.invariant.room was mode store ahead most spare storable holds has) in
     let one = c.write_key.ensures.room held.behind first.own (first.rest + spare) first.puts first.fits clean stays.mode so_far.0 held.held first.room in (
       (λ told.
           let fault : c.write_key.result ≡ Err Store = c.in_err-write_key.was ∙ sym given ∙ told in
