@@ -26,6 +26,7 @@ use Rattle.zeb_register.proofs.InsertRefusals.{why_insert_hindered}
 use Rattle.zeb_register.proofs.NewRows.{IsRowFor}
 use Rattle.zeb_register.proofs.UpdateRefusals.{why_update_hindered}
 use Rattle.zeb_register.proofs.WriteRefusals.{IsHinderedWrite, IsReasonedWrite, why_delete_refused}
+use Rattle.zeb_register.proofs.WriteRowids.{IsTakingWrite, insert_takes, update_takes}
 use Rattle.sqlite.specs.Order.{Row, column}
 use Rattle.sqlite.specs.Tree.{Trees}
 use Rattle.sqlite_rules.specs.Lists.{Has}
@@ -143,7 +144,13 @@ add_refused name last =
     (λ id other was shares. elim shares [ inl m ↦ m.0 | inr none ↦ absurd none ])
     (Text name ∷ Int last ∷ []) add_terms 4 refl refl (λ trees. (refl, refl)) add_text add_is add_plain add_whole
 
--- ---- why the UPDATE by the rowid is refused
+pub add_takes : (name : List ℕ) (last : ℤ) → IsTakingWrite 1 databases_tree add_text (Text name ∷ Int last ∷ [])
+add_takes name last = insert_takes 1 databases databases_static (Text name ∷ Int last ∷ []) add_terms 4 (database_columns name last) refl refl add_text add_is add_plain
+
+-- ---- the UPDATE by the rowid: what it takes, and why it is refused
+
+pub last_takes : (id last : ℤ) → IsTakingWrite 0 databases_tree last_text (Int id ∷ Int last ∷ [])
+last_takes id last = update_takes 1 databases databases_static last_text (Int id ∷ Int last ∷ []) (equals 0 0 ∷ []) (lit Null ∷ col 1 2 ∷ col 0 1 ∷ []) last_is last_plain refl refl refl
 
 last_whole : IsWhole last_text 2 (understood store_schema last_text)
 unfolding understood everything

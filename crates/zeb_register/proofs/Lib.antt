@@ -48,6 +48,7 @@ pub mod ListChanges
 pub mod PackedTotals
 pub mod BetweenLemmas
 pub mod PlaceLemmas
+pub mod RowCounts
 pub mod PlaceRefusals
 pub mod PackedChanges
 pub mod PackedHindrances

@@ -1,5 +1,5 @@
 -- Why rows of a key can't be put into packed tables, and what they spell then.
-use Rattle.std.proofs.Common.{◌≡◌, ◌≢◌, ◌⊎◌, ◌∙◌, ◌+◌, ◌<◌, ◌≤◌, ◌==◌, ◌^◌, ℕ, ℤ, pos, Bool, true, false, not, IsTrue, List, [], ◌∷◌, ◌++◌, drop, length, map, slice_get, Some, None, refl, sym, ap, subst, inl, inr, arith}
+use Rattle.std.proofs.Common.{◌≡◌, ◌≢◌, ◌⊎◌, ◌∙◌, ◌≤◌, ◌==◌, ℕ, zero, suc, ℤ, pos, Bool, true, false, not, List, [], ◌∷◌, ◌++◌, drop, length, map, slice_get, None, refl, sym, ap, subst, inl, inr, arith}
 use Rattle.std.proofs.lemmas.Bool.{cases_Bool, eqb-true}
 use Rattle.sqlite.specs.declared.types.Value.TheVariants.{Int, Text, Blob}
 use Rattle.sqlite.specs.Effect.{Database}
@@ -13,11 +13,11 @@ use Rattle.zeb_extract.specs.declared.keys.Key.{Key}
 use Rattle.zeb_profile.specs.Indexes.{register_code}
 use Rattle.zeb_register.specs.declared.statements.keys.KeyOf.{KeyOf}
 use Rattle.zeb_register.specs.Calls.{MayRefuse}
-use Rattle.zeb_register.specs.Hindrances.{Hinders, HindersNew, IsSpelledAt, IsTooLarge}
+use Rattle.zeb_register.specs.Hindrances.{Hinders, HindersNew, IsSpelledAt, IsTooLarge, LacksRowids}
 use Rattle.zeb_register.specs.KeyColumns.{IsOfNumbered, numbered_columns}
 use Rattle.zeb_register.specs.PackedBlocks.{block_row, dict_row}
 use Rattle.zeb_register.specs.PackedChanges.{IsBlockIn, IsBlockOf, IsDictIn, IsRowOf, IsTold, PutsBlock, SpellsIn, block_key}
-use Rattle.zeb_register.specs.PackedHindrances.{HindersBlock, HindersCount, IsMistold, SpellsMore}
+use Rattle.zeb_register.specs.PackedHindrances.{HindersBlock, HindersCount, IsMistold, SpellsMore, new_rows}
 use Rattle.zeb_register.specs.PlainRows.{key_row}
 use Rattle.zeb_register.specs.RowStatements.{Gains}
 use Rattle.zeb_register.specs.Sql.{HasRow, IsListOf}
@@ -139,25 +139,40 @@ not_mistold is_there P tree trees told mistold = let none = subst (λ t. IsTold 
 
 -- ---- what hinders a row
 
+pub new_few : (is_there : Bool) (count : ℕ) → new_rows is_there count ≤ count
+new_few true count = omega arith
+new_few false zero = omega arith
+new_few false (suc more) = omega arith
+
+pub new_one : (is_there : Bool) (count : ℕ) → is_there ≡ false → count ≢ 0 → new_rows is_there count ≡ 1
+new_one true count is some = absurd cc
+new_one false zero is some = absurd (some refl)
+new_one false (suc more) is some = refl
+
+-- a row that tells of some postings is new where none was there
+pub list_one : (is_there : Bool) (list : List Posting) → is_there ≡ false → list ≢ [] → new_rows is_there (length list) ≡ 1
+list_one is_there [] is some = absurd (some refl)
+list_one is_there (p ∷ list) is some = new_one is_there (length (p ∷ list)) is (λ none. absurd (omega (arith, none)))
+
 module _ (db : ℤ) (key : Key) (block : ℕ) (list : List Posting) (bytes : List ℕ) (spells : BlockSpells block list bytes) (trees : Trees) where
-  large : IsTooLarge (block_row db key block bytes) → HindersBlock key block list trees
-  large over = inr (bytes, spells, omega (arith, over))
+  large : (is_there : Bool) → IsTooLarge (block_row db key block bytes) → HindersBlock is_there key block list trees
+  large is_there over = inr (bytes, spells, omega (arith, over))
 
-  pub set_hinders : Hinders 0 blocks_tree (block_row db key block bytes) trees → HindersBlock key block list trees
-  set_hinders (inl none) = inl (lacks_more 0 1 blocks_tree trees (omega arith) none)
-  set_hinders (inr over) = large over
+  pub set_hinders : (is_there : Bool) → Hinders 0 blocks_tree (block_row db key block bytes) trees → HindersBlock is_there key block list trees
+  set_hinders is_there (inl none) = inl (lacks_more 0 (new_rows is_there (length list)) blocks_tree trees (omega arith) none)
+  set_hinders is_there (inr over) = large is_there over
 
-  pub add_hinders : Hinders 1 blocks_tree (block_row db key block bytes) trees → HindersBlock key block list trees
-  add_hinders (inl none) = inl none
-  add_hinders (inr over) = large over
+  pub add_hinders : Hinders 1 blocks_tree (block_row db key block bytes) trees → HindersBlock false key block list trees
+  add_hinders (inl none) = inl (subst (λ n. LacksRowids n blocks_tree trees) (sym (list_one false list refl spells.some)) none)
+  add_hinders (inr over) = large false over
 
   pub new_hinders : (is_there : Bool) → is_there ≡ false → HindersNew (IsBlockIn db key block) blocks_tree (block_row db key block bytes) trees
-      → IsMistold is_there (IsBlockIn db key block) blocks_tree trees ⊎ HindersBlock key block list trees
+      → IsMistold is_there (IsBlockIn db key block) blocks_tree trees ⊎ HindersBlock is_there key block list trees
   new_hinders is_there is (inl there) = inl (is, there)
-  new_hinders is_there is (inr hinders) = inr (add_hinders hinders)
+  new_hinders is_there is (inr hinders) = inr (subst (λ b. HindersBlock b key block list trees) (sym is) (add_hinders hinders))
 
   -- a rule of the table refuses the row only where another is there
-  pub no_clash : IsTold false (IsBlockIn db key block) blocks_tree trees → HindersNew (IsBlockIn db key block) blocks_tree (block_row db key block bytes) trees → HindersBlock key block list trees
+  pub no_clash : IsTold false (IsBlockIn db key block) blocks_tree trees → HindersNew (IsBlockIn db key block) blocks_tree (block_row db key block bytes) trees → HindersBlock false key block list trees
   no_clash told (inl there) = absurd (told there.0 there.1 there.2)
   no_clash told (inr hinders) = add_hinders hinders
 
@@ -166,13 +181,13 @@ module _ (db : ℤ) (key : Key) (records : ℕ) (is_there : Bool) (trees : Trees
   long over = inr (inr (inr (omega (arith, over))))
 
   pub set_count_hinders : Hinders 0 dict_tree (dict_row db key records) trees → HindersCount is_there db key records trees
-  set_count_hinders (inl none) = inr (inr (inl (lacks_more 0 1 dict_tree trees (omega arith) none)))
+  set_count_hinders (inl none) = inr (inr (inl (lacks_more 0 (new_rows is_there records) dict_tree trees (omega arith) none)))
   set_count_hinders (inr over) = long over
 
-  pub new_count_hinders : is_there ≡ false → HindersNew (IsDictIn db key) dict_tree (dict_row db key records) trees → HindersCount is_there db key records trees
-  new_count_hinders is (inl there) = inr (inl (is, there))
-  new_count_hinders is (inr (inl none)) = inr (inr (inl none))
-  new_count_hinders is (inr (inr over)) = long over
+  pub new_count_hinders : is_there ≡ false → records ≢ 0 → HindersNew (IsDictIn db key) dict_tree (dict_row db key records) trees → HindersCount is_there db key records trees
+  new_count_hinders is some (inl there) = inr (inl (is, there))
+  new_count_hinders is some (inr (inl none)) = inr (inr (inl (subst (λ n. LacksRowids n dict_tree trees) (sym (new_one is_there records is some)) none)))
+  new_count_hinders is some (inr (inr over)) = long over
 
 -- ---- what the rows spell then
 

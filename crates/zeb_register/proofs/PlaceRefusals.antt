@@ -1,11 +1,8 @@
 -- Why places of a key may not be put as rows, one after the other.
-use Rattle.std.proofs.Common.{◌≡◌, ◌⊎◌, ◌∙◌, ◌<◌, ◌≤◌, ◌+◌, ◌^◌, ℕ, zero, suc, ℤ, pos, List, [], ◌∷◌, ◌++◌, length, map, take, get_or, Less, inl, inr, sym, ap, subst, arith}
+use Rattle.std.proofs.Common.{◌≡◌, ◌⊎◌, ◌∙◌, ◌<◌, ◌≤◌, ◌+◌, ℕ, zero, suc, ℤ, pos, List, [], ◌∷◌, ◌++◌, length, map, take, get_or, Less, inl, inr, sym, ap, subst, arith}
 use Rattle.std.specs.List.{AllByRecursion}
 use Rattle.std.specs.List.Sorted.{IsStrictlySortedBy}
 use Rattle.std.specs.Ordering.{nat_cmp, ordering_then}
-use Rattle.std.proofs.lemmas.Bool.{cases_lt}
-use Rattle.std.proofs.lemmas.List.{take_more, map-append}
-use Rattle.std.proofs.lemmas.List.Sums.{sum_by-append, sum_by-cons}
 use Rattle.sqlite.specs.declared.types.Value.TheVariants.{Int}
 use Rattle.sqlite.specs.Effect.{Database}
 use Rattle.sqlite.specs.Order.{column}
@@ -17,13 +14,14 @@ use Rattle.zeb_profile.specs.Indexes.{register_code}
 use Rattle.zeb_register.specs.declared.registers.Place.{Place}
 use Rattle.zeb_register.specs.declared.registers.RecordChange.{RecordChange}
 use Rattle.zeb_register.specs.Content.{IsStorablePlace, place_cmp}
-use Rattle.zeb_register.specs.Hindrances.{HindersNew, HindersPlaces, IsStorablePlaced, LacksRowids, Placed, TakesRegisterRowids, TakesRowids, placed, rows_of}
+use Rattle.zeb_register.specs.Hindrances.{HindersNew, HindersPlaces, IsStorablePlaced, Placed, TakesRegisterRowids, TakesRowids, placed, rows_of}
 use Rattle.zeb_register.specs.PlainRows.{key_row}
 use Rattle.zeb_register.specs.RowPlaces.{GainsPlaces, HasPlaceIn, HindersPlace, HindersRows, IsPlaceIn, KeepsBesidePostings}
 use Rattle.zeb_register.specs.RowStatements.{IsPlaceOf}
 use Rattle.zeb_register.specs.Sql.{Loses}
 use Rattle.zeb_register.specs.Store.{blocks_tree, dict_tree, postings_tree}
-use Rattle.zeb_register.proofs.TakenRowids.{has_or_lacks, lacks_more, not_both, takes_more, takes_none, takes_then}
+use Rattle.zeb_register.proofs.RowCounts.{rows_front}
+use Rattle.zeb_register.proofs.TakenRowids.{lacked, takes_more, takes_none, takes_then}
 
 -- ---- one place
 
@@ -50,19 +48,6 @@ not_twice q place less seq number =
     let two : q.pos ≡ place.pos = cc in
     let same : place_cmp place place ≡ Less = subst (λ n. ordering_then (nat_cmp place.seq place.seq) (nat_cmp n place.pos) ≡ Less) two (subst (λ n. ordering_then (nat_cmp n place.seq) (nat_cmp q.pos place.pos) ≡ Less) one less) in
     absurd (grind (arith, same))
-
-rows_front : (it : Placed) (rest : List Placed) → rows_of (it ∷ rest) ≡ 1 + length it.1 + rows_of rest
-rows_front it rest = sum_by-cons (λ (p : Placed). 1 + length p.1) it rest
-
--- a table that lacks rowids for some rows behind others lacked them for all of these
-lacked : (before more most tree : ℕ) (old mid : Trees) → TakesRowids before tree old mid → before + more ≤ most → LacksRowids more tree mid → (2 ^ 63 ≤ most) ⊎ LacksRowids most tree old
-lacked before more most tree old mid takes within lacks = elim (has_or_lacks (more + before) tree old) [
-  | inr none ↦ inr (lacks_more (more + before) most tree old (omega (arith, within)) none)
-  | inl has ↦ elim (cases_lt most (2 ^ 63)) [
-    | inl few ↦ absurd (not_both more tree mid (takes more (omega (arith, within, few)) has) lacks)
-    | inr many ↦ inl many
-  ]
-]
 
 module _ (db : ℤ) (key : Key) (sysno : ℕ) (places : List Place) (i : ℕ) (d : Place) (below : i < length places) (old mid : Trees) where
   abbrev place : Place
@@ -106,13 +91,6 @@ placed_rowids sysno places old mid new one left two kept =
     )
 
 -- ---- places of several records
-
-module _ (xs : List RecordChange) (i : ℕ) (d : RecordChange) (below : i < length xs) where
-  abbrev change : RecordChange
-  change = get_or xs i d
-
-  pub rows_more : rows_of (map placed (take (i + 1) xs)) ≡ rows_of (map placed (take i xs)) + rows_of (placed change ∷ [])
-  rows_more = ap (λ l. rows_of (map placed l)) (take_more xs i d below) ∙ ap rows_of (map-append placed (take i xs) (change ∷ [])) ∙ sum_by-append (λ (it : Placed). 1 + length it.1) (map placed (take i xs)) (placed change ∷ [])
 
 rows_within : (xs : List RecordChange) (i : ℕ) (d : RecordChange) → i < length xs → rows_of (map placed (take i xs)) + rows_of (placed (get_or xs i d) ∷ []) ≤ rows_of (map placed xs)
 rows_within [] i d below = absurd (omega (arith, below))

@@ -27,6 +27,7 @@ use Rattle.zeb_register.specs.Hindrances.{Hinders}
 use Rattle.zeb_register.proofs.NewRows.{IsRowFor}
 use Rattle.zeb_register.proofs.ReplaceRefusals.{why_replace_hindered}
 use Rattle.zeb_register.proofs.WriteRefusals.{IsHinderedWrite, IsReasonedWrite, why_delete_refused}
+use Rattle.zeb_register.proofs.WriteRowids.{IsTakingWrite, delete_takes, replace_takes}
 use Rattle.sqlite.specs.Order.{Row, column}
 use Rattle.sqlite_rules.specs.Lists.{Has}
 
@@ -93,6 +94,10 @@ keep_refused db sysno ident bytes =
     let row = record_row db sysno ident bytes in
     why_replace_hindered 2 records records_static _ records_keys row (record_fits db sysno ident bytes) refl row keep_terms 5 refl (λ trees. (refl, refl)) keep_text keep_is keep_plain keep_whole
 
+pub keep_takes : (db sysno : ℤ) (ident bytes : List ℕ) → IsTakingWrite 1 records_tree keep_text (record_row db sysno ident bytes)
+keep_takes db sysno ident bytes =
+    let row = record_row db sysno ident bytes in replace_takes 2 records records_static row keep_terms 5 row ((1 ∷ 2 ∷ []) ∷ (1 ∷ 3 ∷ []) ∷ []) refl refl (λ id. refl) records_keys keep_text keep_is keep_plain
+
 -- ---- DELETE
 
 abbrev pub remove_text : List ℕ
@@ -123,6 +128,9 @@ remove_fit db sysno trees mistyped = absurd (let t : true ≡ false = mistyped i
 
 pub remove_refused : (db sysno : ℤ) → IsReasonedWrite remove_text (Int db ∷ Int sysno ∷ [])
 remove_refused db sysno = why_delete_refused remove_text (Int db ∷ Int sysno ∷ []) 2 records records_static number_wheres remove_is remove_plain remove_whole (remove_fit db sysno)
+
+pub remove_takes : (db sysno : ℤ) → IsTakingWrite 0 records_tree remove_text (Int db ∷ Int sysno ∷ [])
+remove_takes db sysno = delete_takes 2 records records_static remove_text (Int db ∷ Int sysno ∷ []) number_wheres remove_is remove_plain refl
 
 abbrev pub clear_text : List ℕ
 clear_text = codes "DELETE FROM records WHERE db = ?1"

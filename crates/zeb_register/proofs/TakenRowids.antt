@@ -1,6 +1,6 @@
 -- How many rowids a table has left, and how many of them the writes of a table take, one after the other.
 use Rattle.std.proofs.Common.{◌≡◌, ◌⊎◌, ◌∙◌, ℕ, ◌+◌, ◌≤◌, ◌<◌, ◌^◌, ℤ, pos, negsuc, ◌+ℤ◌, Bool, ◌&&◌, true, false, List, [], ◌∷◌, w64, FitsSigned, inl, inr, refl, sym, ap, subst, arith}
-use Rattle.std.proofs.lemmas.Bool.{and_from, and_parts, both_ways, cases_Bool, lt-ltb, ltb-true}
+use Rattle.std.proofs.lemmas.Bool.{and_from, and_parts, both_ways, cases_Bool, cases_lt, lt-ltb, ltb-true}
 use Rattle.std.proofs.lemmas.Int.{ints}
 use Rattle.sqlite.specs.declared.types.Value.TheVariants.{Int}
 use Rattle.sqlite.specs.Edit.{id_in, next_rowid}
@@ -95,6 +95,16 @@ takes_then a b tree old mid new first second = λ left below has.
 
 pub takes_more : (a b tree : ℕ) (old new : Trees) → a ≤ b → TakesRowids a tree old new → TakesRowids b tree old new
 takes_more a b tree old new less takes = λ left below has. takes left (omega (arith, less, below)) (has_less (left + a) (left + b) tree old (omega (arith, less)) has)
+
+-- a table that lacks rowids for some rows behind others lacked them for all of these
+pub lacked : (before more most tree : ℕ) (old mid : Trees) → TakesRowids before tree old mid → before + more ≤ most → LacksRowids more tree mid → (2 ^ 63 ≤ most) ⊎ LacksRowids most tree old
+lacked before more most tree old mid takes within lacks = elim (has_or_lacks (more + before) tree old) [
+  | inr none ↦ inr (lacks_more (more + before) most tree old (omega (arith, within)) none)
+  | inl has ↦ elim (cases_lt most (2 ^ 63)) [
+    | inl few ↦ absurd (not_both more tree mid (takes more (omega (arith, within, few)) has) lacks)
+    | inr many ↦ inl many
+  ]
+]
 
 -- each row has the rowid of one that was there
 pub takes_kept : (tree : ℕ) (old new : Trees) → ((id : ℤ) (columns : Row) → Has (new tree) (Int id ∷ columns) → (was : Row) × Has (old tree) (Int id ∷ was)) → TakesRowids 0 tree old new

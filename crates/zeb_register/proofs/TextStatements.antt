@@ -30,6 +30,7 @@ use Rattle.zeb_register.specs.Hindrances.{Hinders}
 use Rattle.zeb_register.proofs.NewRows.{IsRowFor}
 use Rattle.zeb_register.proofs.ReplaceRefusals.{why_replace_hindered}
 use Rattle.zeb_register.proofs.WriteRefusals.{IsHinderedWrite}
+use Rattle.zeb_register.proofs.WriteRowids.{IsTakingWrite, replace_takes}
 use Rattle.sqlite.specs.Order.{Row, column}
 use Rattle.sqlite.specs.Tree.{Trees}
 use Rattle.sqlite_rules.specs.Lists.{Has}
@@ -78,6 +79,9 @@ pub set_refused : (name value : List ℕ) → IsHinderedWrite set_text (entry na
 set_refused name value =
     let row = entry name value in
     why_replace_hindered 0 meta_table meta_static _ meta_keys row (entry_fits name value) refl row set_terms 3 refl (λ trees. (refl, refl)) set_text set_is set_plain set_whole
+
+pub set_takes : (name value : List ℕ) → IsTakingWrite 1 meta_tree set_text (entry name value)
+set_takes name value = let row = entry name value in replace_takes 0 meta_table meta_static row set_terms 3 row ((1 ∷ []) ∷ []) refl refl (λ id. refl) meta_keys set_text set_is set_plain
 
 abbrev pub value_text : List ℕ
 value_text = codes "SELECT value FROM meta WHERE name = ?1"

@@ -1,8 +1,8 @@
 -- How many rowids each kind of statement takes inside a transaction.
-use Rattle.std.proofs.Common.{◌≡◌, ◌∙◌, ℕ, ◌/◌, ◌&&◌, true, eqb, List, [], ◌∷◌, length, Ok, Err, Result, OnOk, inl, inr, ap, subst}
+use Rattle.std.proofs.Common.{◌≡◌, ◌∙◌, ℕ, ℤ, ◌/◌, ◌&&◌, true, eqb, List, [], ◌∷◌, length, map, Ok, Err, Result, OnOk, inl, inr, ap, subst}
 use Rattle.sqlite.specs.declared.types.Value.TheVariants.{Null, Int}
 use Rattle.sqlite.specs.declared.error.Error.{Error}
-use Rattle.sqlite.specs.Command.TheVariants.{Delete, Insert, Update}
+use Rattle.sqlite.specs.Command.TheVariants.{Delete, Insert, InsertOr, Update}
 use Rattle.sqlite.specs.Effect.{value_rows}
 use Rattle.sqlite.specs.Listing.{understood}
 use Rattle.sqlite.specs.Order.{Row}
@@ -14,14 +14,15 @@ use Rattle.sqlite.specs.Tree.{rowid}
 use Rattle.sqlite.proofs.Callers.{IsPlain, command_of}
 use Rattle.sqlite_rules.specs.Lists.{Has}
 use Rattle.sqlite_rules.proofs.ListLemmas.{all_has}
+use Rattle.sqlite_schema.specs.declared.command.Conflict.TheVariants.{Replace}
 use Rattle.zeb_register.specs.Hindrances.{TakesRowids}
 use Rattle.zeb_register.specs.Store.{IsStore}
 use Rattle.zeb_register.specs.Tables.{store_schema}
 use Rattle.zeb_register.proofs.NewRows.{parts_of}
 use Rattle.zeb_register.proofs.StatementForms.{Condition, alone, no_limit, reading, shows}
 use Rattle.zeb_register.proofs.TakenRowids.{takes_kept, takes_next}
-use Rattle.zeb_register.proofs.ValueKinds.{IsPlainTable, are_fit, codes_of, is_plain_term, keeps_all, store_all, term_code}
-use Rattle.zeb_register.proofs.Writes.{deletes, inserts, keyed_there, updates}
+use Rattle.zeb_register.proofs.ValueKinds.{HasKeys, IsPlainTable, are_fit, code, codes_of, is_plain_term, is_stored, keeps_all, store_all, term_code}
+use Rattle.zeb_register.proofs.Writes.{deletes, inserts, keyed_there, replaces, updates}
 
 -- on the tables of a store this statement takes at most so many rowids of the table, where it is accepted
 abbrev pub IsTakingWrite : ℕ → ℕ → List ℕ → Row → Type 1
@@ -60,3 +61,12 @@ module _ (at : ℕ) (table : Table) (static : IsPlainTable store_schema at table
   insert_takes params terms width columns source kept sql is plain old new (Ok count) store ran =
       let done = (inserts store_schema at table static sql params terms width columns is plain source kept old new count store ran.0).0 in
       takes_next table.tree old.now.trees new.now.trees columns (keyed_there store_schema at table static old store) (λ r. (done.rows r).0)
+
+  -- INSERT OR REPLACE of one row: it gets the rowid above the last of all that were there, also where that row leaves for it
+  pub replace_takes : (params : Row) (terms : List Term) (width : ℕ) (columns : Row) (keys : List (List ℕ)) → value_rows params width (length terms / width) terms ≡ (Null ∷ columns) ∷ [] → is_stored table columns ≡ true
+      → ((id : ℤ) → map code (Int id ∷ columns) ≡ codes_of table) → HasKeys store_schema table keys → (sql : List ℕ) → command_of (understood store_schema sql) ≡ InsertOr at Replace (Values terms width) []
+      → IsPlain (understood store_schema sql) → IsTakingWrite 1 table.tree sql params
+  replace_takes params terms width columns keys source stored typed unique sql is plain old new (Err e) store ran = tt
+  replace_takes params terms width columns keys source stored typed unique sql is plain old new (Ok count) store ran =
+      let done = (replaces store_schema at table static sql params terms width columns keys is plain source stored typed unique old new count store ran.0).0 in
+      takes_next table.tree old.now.trees new.now.trees columns (keyed_there store_schema at table static old store) (λ r here. elim ((done.rows r).0 here) [ inl was ↦ inl was.0 | inr same ↦ inr same ])

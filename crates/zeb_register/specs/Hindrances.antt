@@ -72,9 +72,9 @@ placed change = (change.sysno, change.new.now)
 abbrev pub IsStorablePlaced : Placed → Type 0
 IsStorablePlaced it = ((1 ≤ it.0) × (it.0 < 2 ^ 63)) × AreStorablePlaces it.1
 
--- how many rows these take at most, in any table of the registers: one for each place, and one for each record, also where that gets none
+-- How many rows these take at most, in any table of the registers: one for each place. A record that gets none takes none.
 abbrev pub rows_of : List Placed → ℕ
-rows_of = sum_by (λ it. 1 + length it.1)
+rows_of = sum_by (λ it. length it.1)
 
 -- one of these places, as a posting
 abbrev pub IsPlacedAt : List Placed → Posting → Type 0

@@ -1,5 +1,5 @@
 -- Steps of private functions, which no public clause speaks of: why rows of a key can't be put into packed tables, and what they spell then.
-use Rattle.std.specs.Prelude.{◌≡◌, ◌⊎◌, ◌+◌, ◌<◌, ◌≤◌, ◌^◌, ℕ, ℤ, Bool, false, List, length, map, Result, OnOk}
+use Rattle.std.specs.Prelude.{◌≡◌, ◌⊎◌, ◌+◌, ◌<◌, ◌≤◌, ◌^◌, ℕ, zero, suc, ℤ, Bool, true, false, List, length, map, Result, OnOk}
 use Rattle.sqlite.specs.Order.{Row}
 use Rattle.sqlite.specs.State.{State}
 use Rattle.sqlite.specs.Tree.{Trees}
@@ -9,7 +9,7 @@ use Rattle.zeb_extract.specs.declared.keys.Key.{Key}
 use Rattle.zeb_register.specs.declared.registers.RecordChange.{RecordChange}
 use Rattle.zeb_register.specs.declared.faults.RegFault.{RegFault}
 use Rattle.zeb_register.specs.Clauses.{InStore, IsHinderedInside}
-use Rattle.zeb_register.specs.Hindrances.{HasLargeRow, IsPlacedAt, IsSpelledAt, LacksRowids, placed}
+use Rattle.zeb_register.specs.Hindrances.{HasLargeRow, IsPlacedAt, IsSpelledAt, LacksRowids, placed, rows_of}
 use Rattle.zeb_register.specs.PackedChanges.{IsDictIn}
 use Rattle.zeb_register.specs.Sql.{HasRow}
 use Rattle.zeb_register.specs.Store.{blocks_tree, dict_tree}
@@ -20,15 +20,24 @@ use Rattle.zeb_register.specs.Store.{blocks_tree, dict_tree}
 abbrev pub IsMistold : Bool → (Row → Type 0) → ℕ → Trees → Type 0
 IsMistold is_there P tree trees = (is_there ≡ false) × ((row : Row) × HasRow trees tree row × P row)
 
--- no rowid is left for a row of `blocks`, or bytes that spell the list are too many for a row of the key
-abbrev pub HindersBlock : Key → ℕ → List Posting → Trees → Type 0
-HindersBlock key block list trees =
-    LacksRowids 1 blocks_tree trees ⊎ ((bytes : List ℕ) × BlockSpells block list bytes × (10 ^ 9 < 300 + length key.term + length bytes))
+-- how many rows are new where a row tells of so many postings or records, and it is told whether one is there: without any, there is none
+abbrev pub new_rows : Bool → ℕ → ℕ
+new_rows true count = 0
+new_rows false zero = 0
+new_rows false (suc more) = 1
 
--- no column stores the number, the key has a row of `dict` of which it is told that it hasn't, no rowid is left, or its text is too long
+-- no rowid is left for a new row of `blocks`, or bytes that spell the list are too many for a row of the key
+abbrev pub HindersBlock : Bool → Key → ℕ → List Posting → Trees → Type 0
+HindersBlock is_there key block list trees =
+    LacksRowids (new_rows is_there (length list)) blocks_tree trees ⊎ ((bytes : List ℕ) × BlockSpells block list bytes × (10 ^ 9 < 300 + length key.term + length bytes))
+
+-- no column stores the number, the key has a row of `dict` of which it is told that it hasn't, no rowid is left for a new one, or its text is
+-- too long
 abbrev pub HindersCount : Bool → ℤ → Key → ℕ → Trees → Type 0
 HindersCount is_there db key records trees =
-    (2 ^ 63 ≤ records) ⊎ (IsMistold is_there (IsDictIn db key) dict_tree trees ⊎ (LacksRowids 1 dict_tree trees ⊎ (10 ^ 9 < 300 + length key.term)))
+    (2 ^ 63 ≤ records)
+    ⊎ (IsMistold is_there (IsDictIn db key) dict_tree trees
+    ⊎ (LacksRowids (new_rows is_there records) dict_tree trees ⊎ (10 ^ 9 < 300 + length key.term)))
 
 -- each posting that the rows of the key spell then was spelled before, or is P
 abbrev pub SpellsMore : ℤ → Key → (Posting → Type 0) → Trees → Trees → Type 0
@@ -40,15 +49,16 @@ SpellsMore db key P old new = (p : Posting) → IsSpelledAt db key new p → IsS
 abbrev pub IsPut : List RecordChange → Posting → Type 0
 IsPut changes = IsPlacedAt (map placed changes)
 
--- more records would have the key than a column stores, so many rows of `blocks` can't be new, or a row is too large
-abbrev pub HindersChanges : ℕ → ℤ → Key → ℕ → List RecordChange → Trees → Type 0
-HindersChanges count db key records changes trees =
-    (2 ^ 63 ≤ records + length changes)
-    ⊎ (((2 ^ 63 ≤ count) ⊎ LacksRowids count blocks_tree trees) ⊎ HasLargeRow db key (map placed changes) trees)
+-- More records would have the key than a column stores, if each place that is put were the first of one; `blocks` lacks rowids for as many
+-- rows as places are put; or a row is too large.
+abbrev pub HindersChanges : ℤ → Key → ℕ → List RecordChange → Trees → Type 0
+HindersChanges db key records changes trees =
+    (2 ^ 63 ≤ records + rows_of (map placed changes))
+    ⊎ (LacksRowids (rows_of (map placed changes)) blocks_tree trees ⊎ HasLargeRow db key (map placed changes) trees)
 
 -- changes of one block are refused as `Store` only for such a cause, where so many records have the key
 abbrev pub IsHinderedRun : ℤ → Key → List RecordChange → ℕ → State → State → Result ℕ RegFault → Type 0
-IsHinderedRun db key run records old new result = IsHinderedInside old new result (HindersChanges 1 db key records run)
+IsHinderedRun db key run records old new result = IsHinderedInside old new result (HindersChanges db key records run)
 
 -- where they are accepted, the key's rows spell what they did, and the places that are put
 abbrev pub SpellsRun : ℤ → Key → List RecordChange → State → State → Result ℕ RegFault → Type 0

@@ -1,10 +1,10 @@
 //! The databases of the store.
 
-ghost use Rattle.std.specs.Prelude.{◌≡◌, ◌≢◌, pos, map, IfOk, FitsSigned, ◌<◌, ◌^◌};
+ghost use Rattle.std.specs.Prelude.{◌≡◌, ◌≢◌, ℤ, pos, map, IfOk, OnOk, FitsSigned, ◌<◌, ◌^◌};
 ghost use Rattle.std.specs.Int.{w64};
 ghost use Rattle.sqlite.specs.Held.{state};
 ghost use Rattle.sqlite.specs.State.{IsUnchanged};
-ghost use Rattle.zeb_register.specs.Store.{database_columns, databases_tree, TakesDatabase};
+ghost use Rattle.zeb_register.specs.Store.{database_columns, databases_tree, HasDatabase, TakesDatabase};
 ghost use Rattle.zeb_register.specs.Catalog.{IsDatabaseOf, AreCountedDatabases, PutsDatabase};
 ghost use Rattle.zeb_register.specs.Catalog.{AreDatabases, AreReadableDatabases, listed_row};
 ghost use Rattle.zeb_register.specs.RowPlaces.{first_three};
@@ -13,8 +13,8 @@ ghost use Rattle.sqlite_rules.specs.Lists.{Has};
 ghost use Rattle.zeb_register.specs.Calls.{GoesOn, OnlyReads, Inside, Reading};
 ghost use Rattle.zeb_register.specs.Clauses.{Writes};
 ghost use Rattle.zeb_register.specs.Clauses.{ChangesTable, InStore, IsHonest, IsHonestInside, IsOpenDamage, IsOpenDamageInside};
-ghost use Rattle.zeb_register.specs.Clauses.{IsHinderedInside, IsReasoned, IsReasonedInside, Tells, TellsInside};
-ghost use Rattle.zeb_register.specs.Hindrances.{Hinders};
+ghost use Rattle.zeb_register.specs.Clauses.{IsHinderedInside, IsReasoned, IsReasonedInside, TakesInside, Tells, TellsInside};
+ghost use Rattle.zeb_register.specs.Hindrances.{Hinders, TakesRowids};
 
 use crate::RegFault;
 use crate::statements::databases::{
@@ -153,6 +153,10 @@ pub fn database_put<S: Alter>(
     ensures opened { IsOpenDamageInside (state S.Store tx.old.conn.now) (state S.Store tx.new.conn.now) result }
     ensures refused { last < 2 ^ 63 → IsHinderedInside (state S.Store tx.old.conn.now) (state S.Store tx.new.conn.now) result
         (Hinders 1 databases_tree (database_columns name.now (pos last))) }
+    ensures rowids { TakesInside (state S.Store tx.old.conn.now) (state S.Store tx.new.conn.now) result 1 databases_tree }
+    ensures last_rowids { InStore (state S.Store tx.old.conn.now) (state S.Store tx.new.conn.now) (λ trees. (id before : ℤ)
+        → HasDatabase trees id name.now before
+        → OnOk result (TakesRowids 0 databases_tree trees (state S.Store tx.new.conn.now).now.trees)) }
 {
     let last = stored(last)?;
     let rows = database_rows_inside(tx, name)?;

@@ -14,7 +14,7 @@ ghost use Rattle.zeb_register.specs.RowStatements.{IsRecordShown};
 ghost use Rattle.zeb_register.specs.Calls.{OnlyReads, Inside, Reading};
 ghost use Rattle.zeb_register.specs.Clauses.{Writes};
 ghost use Rattle.zeb_register.specs.Clauses.{InStore, IsHonest, IsHonestInside, IsOpenDamage, IsOpenDamageInside, IsReasoned, IsReasonedInside};
-ghost use Rattle.zeb_register.specs.Clauses.{IsHinderedInside, OnStore, Tells, TellsInside};
+ghost use Rattle.zeb_register.specs.Clauses.{IsHinderedInside, OnStore, TakesInside, Tells, TellsInside};
 ghost use Rattle.zeb_register.specs.Hindrances.{Hinders};
 
 use crate::statements::inside::{nothing_inside, rows_from_inside};
@@ -59,6 +59,7 @@ pub fn record_put<S: Alter>(
     ensures honest { result ≢ Err RegFault.Damaged }
     ensures refused { sysno < 2 ^ 63 → IsHinderedInside (state S.Store tx.old.conn.now) (state S.Store tx.new.conn.now) result
         (Hinders 1 records_tree (record_row db.0 (pos sysno) ident.now bytes.now)) }
+    ensures rowids { TakesInside (state S.Store tx.old.conn.now) (state S.Store tx.new.conn.now) result 1 records_tree }
 {
     let sysno = stored(sysno)?;
     record_keep(tx, db.column(), sysno, ident, bytes)?;
@@ -78,6 +79,7 @@ pub fn record_take<S: Alter>(
         (state S.Store tx.old.conn.now) (state S.Store tx.new.conn.now) result }
     ensures honest { result ≢ Err RegFault.Damaged }
     ensures refused { sysno < 2 ^ 63 → IsReasonedInside (state S.Store tx.old.conn.now) (state S.Store tx.new.conn.now) result }
+    ensures rowids { TakesInside (state S.Store tx.old.conn.now) (state S.Store tx.new.conn.now) result 0 records_tree }
 {
     let sysno = stored(sysno)?;
     record_remove(tx, db.column(), sysno)?;

@@ -7,7 +7,7 @@ ghost use Rattle.zeb_register.specs.Sql.{Replaces};
 ghost use Rattle.zeb_register.specs.Store.{meta_tree, entry, IsEntryOf, IsValueOf, AreReadableTexts};
 ghost use Rattle.zeb_register.specs.Calls.{Reading};
 ghost use Rattle.zeb_register.specs.Clauses.{Writes};
-ghost use Rattle.zeb_register.specs.Clauses.{IsHinderedInside, IsHonest, IsOpenDamage, IsReasoned, Tells};
+ghost use Rattle.zeb_register.specs.Clauses.{IsHinderedInside, IsHonest, IsOpenDamage, IsReasoned, TakesInside, Tells};
 ghost use Rattle.zeb_register.specs.Hindrances.{Hinders};
 
 use crate::RegFault;
@@ -44,6 +44,7 @@ pub fn meta_put<S: Alter>(
     ensures honest { result ≢ Err RegFault.Damaged }
     ensures refused { IsHinderedInside (state S.Store tx.old.conn.now) (state S.Store tx.new.conn.now) result
         (Hinders 1 meta_tree (entry name.now value.now)) }
+    ensures rowids { TakesInside (state S.Store tx.old.conn.now) (state S.Store tx.new.conn.now) result 1 meta_tree }
 {
     text_set(tx, name, value)?;
     Ok(())

@@ -19,7 +19,7 @@ ghost use Rattle.zeb_register.specs.KeyColumns.{IsOfNumbered};
 ghost use Rattle.zeb_register.specs.PackedBlocks.{HoldsBlocks, IsRecordNumber, part_in};
 ghost use Rattle.zeb_register.specs.PackedChanges.{HoldsBlockRows, IfTold, IsBlockIn, IsDictIn, IsKnown, IsTold};
 ghost use Rattle.zeb_register.specs.PackedChanges.{PutsBlock, PutsCount, SpellsIn};
-ghost use Rattle.zeb_register.specs.PackedHindrances.{HindersBlock, HindersCount, IsMistold, SpellsMore};
+ghost use Rattle.zeb_register.specs.PackedHindrances.{HindersBlock, HindersCount, IsMistold, SpellsMore, new_rows};
 ghost use Rattle.zeb_register.specs.Store.{blocks_tree, dict_tree};
 
 use crate::packed::{add_spelled, records_at};
@@ -166,8 +166,10 @@ pub(crate) fn block_write<S: Alter>(
         (state S.Store tx.old.conn.now) (state S.Store tx.new.conn.now) result }
     ensures honest { result ≢ Err RegFault.Damaged }
     ensures refused { IsHinderedInside (state S.Store tx.old.conn.now) (state S.Store tx.new.conn.now) result
-        (λ trees. IsMistold is_there (IsBlockIn db.0 key.now block) blocks_tree trees ⊎ HindersBlock key.now block list.now trees) }
-    ensures rowids { TakesInside (state S.Store tx.old.conn.now) (state S.Store tx.new.conn.now) result 1 blocks_tree }
+        (λ trees. IsMistold is_there (IsBlockIn db.0 key.now block) blocks_tree trees
+        ⊎ HindersBlock is_there key.now block list.now trees) }
+    ensures rowids { TakesInside (state S.Store tx.old.conn.now) (state S.Store tx.new.conn.now) result
+        (new_rows is_there (length list.now)) blocks_tree }
 {
     let number = stored(block)?;
     let at = KeyOf { db, key };
@@ -203,8 +205,9 @@ pub(crate) fn block_begin<S: Alter>(
     ensures spelled { InStore (state S.Store tx.old.conn.now) (state S.Store tx.new.conn.now) (λ trees. OnOk result
         (SpellsMore db.0 key.now (Has list.now) trees (state S.Store tx.new.conn.now).now.trees)) }
     ensures refused { IsHinderedInside (state S.Store tx.old.conn.now) (state S.Store tx.new.conn.now) result
-        (HindersBlock key.now block list.now) }
-    ensures rowids { TakesInside (state S.Store tx.old.conn.now) (state S.Store tx.new.conn.now) result 1 blocks_tree }
+        (HindersBlock false key.now block list.now) }
+    ensures rowids { TakesInside (state S.Store tx.old.conn.now) (state S.Store tx.new.conn.now) result
+        (new_rows false (length list.now)) blocks_tree }
 {
     let number = stored(block)?;
     let at = KeyOf { db, key };
@@ -270,7 +273,8 @@ pub(crate) fn dict_write<S: Alter>(
     ensures honest { result ≢ Err RegFault.Damaged }
     ensures refused { IsHinderedInside (state S.Store tx.old.conn.now) (state S.Store tx.new.conn.now) result
         (HindersCount is_there db.0 key.now records) }
-    ensures rowids { TakesInside (state S.Store tx.old.conn.now) (state S.Store tx.new.conn.now) result 1 dict_tree }
+    ensures rowids { TakesInside (state S.Store tx.old.conn.now) (state S.Store tx.new.conn.now) result
+        (new_rows is_there records) dict_tree }
 {
     let number = stored(records)?;
     let at = KeyOf { db, key };

@@ -1,7 +1,7 @@
 //! What the packed tables hold of a key in one block, and what they hold of it after records' places are changed.
 
 ghost use Rattle.std.specs.Prelude.{◌≡◌, ◌≢◌, ◌⊎◌, ◌<◌, ◌≤◌, ◌+◌, ◌++◌, ◌^◌, ◌==◌, ◌∷◌, [], ℕ, List};
-ghost use Rattle.std.specs.Prelude.{filter, length, map, true, false, IfOk, MatchOption, OnOk};
+ghost use Rattle.std.specs.Prelude.{filter, map, true, false, IfOk, MatchOption, OnOk};
 ghost use Rattle.std.specs.declared.cmp.Ordering.TheVariants.{Less};
 ghost use Rattle.std.specs.List.{AllByRecursion};
 ghost use Rattle.std.specs.List.Sorted.{IsStrictlySortedBy};
@@ -10,7 +10,7 @@ ghost use Rattle.zeb_blocks.specs.Blocks.{LiesIn};
 ghost use Rattle.zeb_blocks.specs.declared.postings.Posting.{Posting};
 ghost use Rattle.zeb_register.specs.Content.{AreListChanges, ArePlacesOf, AreStorablePlaces, IsListChanged, IsStorablePlace};
 ghost use Rattle.zeb_register.specs.Content.{OldsRise, place_cmp, posting_at, posting_cmp};
-ghost use Rattle.zeb_register.specs.Hindrances.{IsStorablePlaced, placed};
+ghost use Rattle.zeb_register.specs.Hindrances.{IsStorablePlaced, placed, rows_of};
 ghost use Rattle.zeb_register.specs.PackedChanges.{CountsOn, IsHeld, IsInBlock, IsParted, IsStorableChange};
 ghost use Rattle.zeb_register.specs.PackedHindrances.{IsPut};
 
@@ -43,8 +43,8 @@ impl Held {
         ensures damaged { result ≡ Err RegFault.Damaged → OldsRise changes.now
             → (old new : List Posting) → IsStrictlySortedBy posting_cmp old → IsHeld old self → ¬ AreListChanges changes.now old new }
         ensures made { IfOk result (λ held. (p : Posting) → Has held.list.items p → Has self.list.items p ⊎ IsPut changes.now p) }
-        ensures grows { IfOk result (λ held. held.records ≤ self.records + length changes.now) }
-        ensures refused { result ≡ Err RegFault.Store → 2 ^ 63 ≤ self.records + length changes.now }
+        ensures grows { IfOk result (λ held. held.records ≤ self.records + rows_of (map placed changes.now)) }
+        ensures refused { result ≡ Err RegFault.Store → 2 ^ 63 ≤ self.records + rows_of (map placed changes.now) }
     {
         let mut held = self;
         for change in changes {

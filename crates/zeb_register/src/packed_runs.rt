@@ -1,7 +1,7 @@
 //! A key's places changed in many records, in packed registers: the row of a block is read and written once for the records of it that
 //! stand next to each other, and the row of `dict` once for all. A block that the key can have no row for is only written.
 
-ghost use Rattle.std.specs.Prelude.{IsUtf8, ◌≡◌, ◌≢◌, ◌<◌, ◌≤◌, ◌+◌, ◌^◌, ◌∷◌, [], List, length, map, take, IfOk, IsTrue, OnOk};
+ghost use Rattle.std.specs.Prelude.{IsUtf8, ◌≡◌, ◌<◌, ◌≤◌, ◌+◌, ◌^◌, ◌∷◌, List, length, map, take, IfOk, IsTrue, OnOk};
 ghost use Rattle.std.specs.List.{AllByRecursion};
 ghost use Rattle.sqlite.specs.Held.{state};
 ghost use Rattle.zeb_blocks.specs.declared.postings.Posting.{Posting};
@@ -46,7 +46,6 @@ pub(crate) fn changes_put<S: Alter>(
     changes: &[RecordChange<'_>],
 ) -> Result<(), RegFault>
     requires stored { AllByRecursion IsStorableChange changes.now }
-    requires some { changes.now ≢ [] }
     ensures same { tx.new.conn.ghost_name ≡ tx.old.conn.ghost_name }
     ensures call { Inside (state S.Store tx.old.conn.now) (state S.Store tx.new.conn.now) result (λ _. GoesOn) }
     ensures change { InStore (state S.Store tx.old.conn.now) (state S.Store tx.new.conn.now) (λ trees. OnOk result
@@ -81,10 +80,11 @@ fn runs_put<S: Alter>(
         (λ after. PutsChanges db.0 key.now changes.now (IsKnown known) (IsCounted after)) }
     ensures damaged { IsHonestRun db.0 key.now changes.now (IsKnown known)
         (state S.Store tx.old.conn.now) (state S.Store tx.new.conn.now) result }
-    ensures grows { IfOk result (λ after. after ≤ known.records + length changes.now) }
+    ensures grows { IfOk result (λ after. after ≤ known.records + rows_of (map placed changes.now)) }
     ensures refused { IsHinderedInside (state S.Store tx.old.conn.now) (state S.Store tx.new.conn.now) result
-        (HindersChanges (length changes.now) db.0 key.now known.records changes.now) }
-    ensures rowids { TakesInside (state S.Store tx.old.conn.now) (state S.Store tx.new.conn.now) result (length changes.now) blocks_tree }
+        (HindersChanges db.0 key.now known.records changes.now) }
+    ensures rowids { TakesInside (state S.Store tx.old.conn.now) (state S.Store tx.new.conn.now) result
+        (rows_of (map placed changes.now)) blocks_tree }
 {
     let mut known = known;
     let mut done = 0;
@@ -130,10 +130,11 @@ fn run_put<S: Alter>(
         (state S.Store tx.old.conn.now) (state S.Store tx.new.conn.now) result }
     ensures damaged { IsHonestRun db.0 key.now run.now (IsKnown known)
         (state S.Store tx.old.conn.now) (state S.Store tx.new.conn.now) result }
-    ensures grows { IfOk result (λ after. after ≤ known.records + length run.now) }
+    ensures grows { IfOk result (λ after. after ≤ known.records + rows_of (map placed run.now)) }
     ensures refused { IsHinderedRun db.0 key.now run.now known.records
         (state S.Store tx.old.conn.now) (state S.Store tx.new.conn.now) result }
-    ensures rowids { TakesInside (state S.Store tx.old.conn.now) (state S.Store tx.new.conn.now) result 1 blocks_tree }
+    ensures rowids { TakesInside (state S.Store tx.old.conn.now) (state S.Store tx.new.conn.now) result
+        (rows_of (map placed run.now)) blocks_tree }
     ensures spelled { SpellsRun db.0 key.now run.now (state S.Store tx.old.conn.now) (state S.Store tx.new.conn.now) result }
 {
     if block < known.clear_from {
@@ -159,10 +160,11 @@ fn row_renew<S: Alter>(
         (state S.Store tx.old.conn.now) (state S.Store tx.new.conn.now) result }
     ensures damaged { IsHonestRun db.0 key.now run.now (IsCounted records)
         (state S.Store tx.old.conn.now) (state S.Store tx.new.conn.now) result }
-    ensures grows { IfOk result (λ after. after ≤ records + length run.now) }
+    ensures grows { IfOk result (λ after. after ≤ records + rows_of (map placed run.now)) }
     ensures refused { IsHinderedRun db.0 key.now run.now records
         (state S.Store tx.old.conn.now) (state S.Store tx.new.conn.now) result }
-    ensures rowids { TakesInside (state S.Store tx.old.conn.now) (state S.Store tx.new.conn.now) result 1 blocks_tree }
+    ensures rowids { TakesInside (state S.Store tx.old.conn.now) (state S.Store tx.new.conn.now) result
+        (rows_of (map placed run.now)) blocks_tree }
     ensures spelled { SpellsRun db.0 key.now run.now (state S.Store tx.old.conn.now) (state S.Store tx.new.conn.now) result }
 {
     let list = block_list(tx, db, key, block)?;
@@ -196,10 +198,11 @@ fn row_begin<S: Alter>(
         (state S.Store tx.old.conn.now) (state S.Store tx.new.conn.now) result }
     ensures damaged { IsHonestRun db.0 key.now run.now (IsClear block records)
         (state S.Store tx.old.conn.now) (state S.Store tx.new.conn.now) result }
-    ensures grows { IfOk result (λ after. after ≤ records + length run.now) }
+    ensures grows { IfOk result (λ after. after ≤ records + rows_of (map placed run.now)) }
     ensures refused { IsHinderedRun db.0 key.now run.now records
         (state S.Store tx.old.conn.now) (state S.Store tx.new.conn.now) result }
-    ensures rowids { TakesInside (state S.Store tx.old.conn.now) (state S.Store tx.new.conn.now) result 1 blocks_tree }
+    ensures rowids { TakesInside (state S.Store tx.old.conn.now) (state S.Store tx.new.conn.now) result
+        (rows_of (map placed run.now)) blocks_tree }
     ensures spelled { SpellsRun db.0 key.now run.now (state S.Store tx.old.conn.now) (state S.Store tx.new.conn.now) result }
 {
     let held = Held {

@@ -8,7 +8,7 @@ ghost use Rattle.zeb_register.specs.Store.{database_columns, databases_tree, Tak
 ghost use Rattle.zeb_register.specs.RowStatements.{AddsDatabase, SetsLast, IsDatabaseRow, IsListedRow, Lists, ListsInside};
 ghost use Rattle.zeb_register.specs.Calls.{Alters, Inside, Reading};
 ghost use Rattle.zeb_register.specs.Clauses.{Writes};
-ghost use Rattle.zeb_register.specs.Clauses.{IsHinderedErrorInside, IsReasonedError, IsReasonedErrorInside};
+ghost use Rattle.zeb_register.specs.Clauses.{IsHinderedErrorInside, IsReasonedError, IsReasonedErrorInside, TakesInside};
 ghost use Rattle.zeb_register.specs.Hindrances.{HindersLast, HindersNew};
 
 use crate::RegFault;
@@ -74,6 +74,7 @@ pub(crate) fn database_add<S: Alter>(
         (λ _ a b. Alters databases_tree (AddsDatabase b.last_rowid name.now last) a b) }
     ensures refused { IsHinderedErrorInside (state S.Store tx.old.conn.now) (state S.Store tx.new.conn.now) result
         (HindersNew (λ was. column was 1 ≡ Text name.now) databases_tree (database_columns name.now last)) }
+    ensures rowids { TakesInside (state S.Store tx.old.conn.now) (state S.Store tx.new.conn.now) result 1 databases_tree }
 {
     tx.execute(
         "INSERT INTO databases (name, last) VALUES (?1, ?2)",
@@ -89,6 +90,7 @@ pub(crate) fn last_set<S: Alter>(
     ensures same { tx.new.conn.ghost_name ≡ tx.old.conn.ghost_name }
     ensures call { Writes databases_tree (SetsLast id last) (state S.Store tx.old.conn.now) (state S.Store tx.new.conn.now) result }
     ensures refused { IsHinderedErrorInside (state S.Store tx.old.conn.now) (state S.Store tx.new.conn.now) result (HindersLast id last) }
+    ensures rowids { TakesInside (state S.Store tx.old.conn.now) (state S.Store tx.new.conn.now) result 0 databases_tree }
 {
     tx.execute(
         "UPDATE databases SET last = ?2 WHERE id = ?1",

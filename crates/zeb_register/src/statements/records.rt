@@ -9,7 +9,7 @@ ghost use Rattle.zeb_register.specs.RowStatements.{IsElderRow, IsIdentRow, IsRes
 ghost use Rattle.zeb_register.specs.RowTerms.{Reads};
 ghost use Rattle.zeb_register.specs.Calls.{Inside, Reading};
 ghost use Rattle.zeb_register.specs.Clauses.{Writes};
-ghost use Rattle.zeb_register.specs.Clauses.{IsHinderedErrorInside, IsReasonedError, IsReasonedErrorInside};
+ghost use Rattle.zeb_register.specs.Clauses.{IsHinderedErrorInside, IsReasonedError, IsReasonedErrorInside, TakesInside};
 ghost use Rattle.zeb_register.specs.Hindrances.{Hinders};
 
 use crate::RegFault;
@@ -27,6 +27,7 @@ pub(crate) fn record_keep<S: Alter>(
         (state S.Store tx.old.conn.now) (state S.Store tx.new.conn.now) result }
     ensures refused { IsHinderedErrorInside (state S.Store tx.old.conn.now) (state S.Store tx.new.conn.now) result
         (Hinders 1 records_tree (record_row db sysno ident.now bytes.now)) }
+    ensures rowids { TakesInside (state S.Store tx.old.conn.now) (state S.Store tx.new.conn.now) result 1 records_tree }
 {
     tx.execute(
         "INSERT OR REPLACE INTO records VALUES (?1, ?2, ?3, ?4)",
@@ -42,6 +43,7 @@ pub(crate) fn record_remove<S: Alter>(
     ensures same { tx.new.conn.ghost_name ≡ tx.old.conn.ghost_name }
     ensures call { Writes records_tree (Loses (HasNumber db sysno)) (state S.Store tx.old.conn.now) (state S.Store tx.new.conn.now) result }
     ensures refused { IsReasonedErrorInside (state S.Store tx.old.conn.now) (state S.Store tx.new.conn.now) result }
+    ensures rowids { TakesInside (state S.Store tx.old.conn.now) (state S.Store tx.new.conn.now) result 0 records_tree }
 {
     tx.execute(
         "DELETE FROM records WHERE db = ?1 AND sysno = ?2",

@@ -7,7 +7,7 @@ ghost use Rattle.zeb_register.specs.Store.{meta_tree, entry, IsEntryOf};
 ghost use Rattle.zeb_register.specs.RowStatements.{IsValueRow, Lists};
 ghost use Rattle.zeb_register.specs.Calls.{Reading};
 ghost use Rattle.zeb_register.specs.Clauses.{Writes};
-ghost use Rattle.zeb_register.specs.Clauses.{IsHinderedErrorInside, IsReasonedError};
+ghost use Rattle.zeb_register.specs.Clauses.{IsHinderedErrorInside, IsReasonedError, TakesInside};
 ghost use Rattle.zeb_register.specs.Hindrances.{Hinders};
 
 use crate::RegFault;
@@ -23,6 +23,7 @@ pub(crate) fn text_set<S: Alter>(
         (state S.Store tx.old.conn.now) (state S.Store tx.new.conn.now) result }
     ensures refused { IsHinderedErrorInside (state S.Store tx.old.conn.now) (state S.Store tx.new.conn.now) result
         (Hinders 1 meta_tree (entry name.now value.now)) }
+    ensures rowids { TakesInside (state S.Store tx.old.conn.now) (state S.Store tx.new.conn.now) result 1 meta_tree }
 {
     tx.execute(
         "INSERT OR REPLACE INTO meta VALUES (?1, ?2)",

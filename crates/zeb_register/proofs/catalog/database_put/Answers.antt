@@ -2,17 +2,19 @@ use Rattle.std.proofs.Common.{rules, arith, ◌≡◌, ◌∙◌, inl, inr, sym,
 use Rattle.std.proofs.Math.Facts.{to_z-of_z}
 use Rattle.std.specs.Option.{option_copied}
 use Rattle.sqlite.specs.declared.types.Value.TheVariants.{Text}
+use Rattle.sqlite.specs.Effect.{Database}
 use Rattle.sqlite.specs.Held.{state}
 use Rattle.sqlite.specs.Order.{column}
 use Rattle.zeb_register.specs.Store.{Changes, database_columns, databases_tree}
 use Rattle.zeb_register.specs.RowStatements.{SetsLast, AddsDatabase}
 use Rattle.zeb_register.specs.Catalog.{PutsDatabase}
 use Rattle.zeb_register.proofs.DatabaseStatements.{puts_set, puts_added}
-use Rattle.zeb_register.specs.Hindrances.{HindersLast, HindersNew}
+use Rattle.zeb_register.specs.Hindrances.{HindersLast, HindersNew, TakesRowids}
 use Rattle.zeb_register.proofs.Calls.{changes_after, changes_so, goes_keeps, on_err, reads_goes, store_same}
 use Rattle.zeb_register.proofs.Causes.{hindered_after}
 use Rattle.zeb_register.proofs.DatabaseRefusals.{add_hinders, set_hinders}
 use Rattle.zeb_register.proofs.LookUps.{id_there, id_readable, no_database}
+use Rattle.zeb_register.proofs.TakenRowids.{takes_more}
 use Rattle.zeb_register.proofs.catalog.database_put.Goals as goal
 
 pub returns-in-Some-clause-put : goal.returns-in-Some-clause-put
@@ -100,3 +102,30 @@ returns-in_err-database_add-in-None-clause-refused g c small clean inside store 
       | inl cause ↦ inl cause
       | inr hinders ↦ inr (add_hinders old name (pos c.args.last) store none (subst (λ l. added l old.now.trees) last hinders))
     ]
+
+pub returns-in-Some-clause-last_rowids : goal.returns-in-Some-clause-last_rowids
+returns-in-Some-clause-last_rowids g c clean inside store id before there =
+    let new = state g.S.Store c.last_set.new.tx.conn.now in
+    let rows = c.in_ok-rows.ensures.call.ok (omega (arith, c.last_set.ensures.call.crash.clean)) inside in
+    subst (λ (d : Database). TakesRowids 0 databases_tree d.trees new.now.trees) rows.0.now_is (c.in_ok-last_set-in-Some.ensures.rowids clean rows.0.mode (store_same _ _ rows.0.now_is store))
+
+pub returns-in-Some-clause-rowids : goal.returns-in-Some-clause-rowids
+returns-in-Some-clause-rowids g c clean inside store =
+    let old = state g.S.Store c.args.tx.now.conn.now in
+    let new = state g.S.Store c.last_set.new.tx.conn.now in
+    let rows = c.in_ok-rows.ensures.call.ok (omega (arith, c.last_set.ensures.call.crash.clean)) inside in
+    takes_more 0 1 databases_tree old.now.trees new.now.trees (omega arith)
+    (subst (λ (d : Database). TakesRowids 0 databases_tree d.trees new.now.trees) rows.0.now_is (c.in_ok-last_set-in-Some.ensures.rowids clean rows.0.mode (store_same _ _ rows.0.now_is store)))
+
+pub returns-clause-rowids : goal.returns-clause-rowids
+returns-clause-rowids g c clean inside store =
+    let new = state g.S.Store c.database_add.new.tx.conn.now in
+    let rows = c.in_ok-rows.ensures.call.ok (omega (arith, c.database_add.ensures.call.crash.clean)) inside in
+    subst (λ (d : Database). TakesRowids 1 databases_tree d.trees new.now.trees) rows.0.now_is (c.in_ok-database_add-in-None.ensures.rowids clean rows.0.mode (store_same _ _ rows.0.now_is store))
+
+pub returns-clause-last_rowids : goal.returns-clause-last_rowids
+returns-clause-last_rowids g c clean inside store id before there =
+    let old = state g.S.Store c.args.tx.now.conn.now in
+    let rows = c.in_ok-rows.ensures.call.ok (omega (arith, c.database_add.ensures.call.crash.clean)) inside in
+    let got : slice_get c.in_ok-rows.rows.items 0 ≡ None = sym (c.first.ensures.value ∙ ap (λ l. slice_get l 0) c.deref.ensures.value) ∙ ap option_copied c.in-None.is in
+    absurd (no_database old.now.trees c.args.name.now c.in_ok-rows.rows.items (rows.1 store) got id before there)

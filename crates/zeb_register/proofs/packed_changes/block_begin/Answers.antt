@@ -1,4 +1,4 @@
-use Rattle.std.proofs.Common.{◌≡◌, ◌∙◌, ◌++◌, [], ◌∷◌, ap, arith, inl, inr, pos, refl, rules, sym, subst}
+use Rattle.std.proofs.Common.{◌≡◌, ◌∙◌, ◌++◌, [], ◌∷◌, ap, arith, false, inl, inr, length, pos, refl, rules, sym, subst}
 use Rattle.std.proofs.lemmas.Result.{IfOk-weaker}
 use Rattle.sqlite.specs.declared.types.Value.TheVariants.{Blob, Int}
 use Rattle.sqlite.specs.Effect.{Database}
@@ -10,15 +10,16 @@ use Rattle.zeb_profile.specs.Indexes.{register_code}
 use Rattle.zeb_register.specs.declared.faults.RegFault.TheVariants.{Store}
 use Rattle.zeb_register.specs.Calls.{Alters}
 use Rattle.zeb_register.specs.Faults.{fault_of}
-use Rattle.zeb_register.specs.Hindrances.{Hinders, HindersNew}
+use Rattle.zeb_register.specs.Hindrances.{Hinders, HindersNew, TakesRowids}
 use Rattle.zeb_register.specs.PackedChanges.{IsBlockOf}
+use Rattle.zeb_register.specs.PackedHindrances.{new_rows}
 use Rattle.zeb_register.specs.PlainRows.{key_row}
 use Rattle.zeb_register.specs.RowStatements.{Gains}
 use Rattle.zeb_register.specs.Store.{blocks_tree}
 use Rattle.zeb_register.proofs.Calls.{goes_keeps, on_err, reads_goes, store_same}
 use Rattle.zeb_register.proofs.Causes.{may_after}
 use Rattle.zeb_register.proofs.Columns.{column_is}
-use Rattle.zeb_register.proofs.PackedHindrances.{absent_told, add_hinders, gained_spells, may_before, no_clash, spells_none}
+use Rattle.zeb_register.proofs.PackedHindrances.{absent_told, add_hinders, gained_spells, list_one, may_before, no_clash, spells_none}
 use Rattle.zeb_register.proofs.PackedWrites.{none_of, puts_inserted, puts_nothing, told_later}
 use Rattle.zeb_register.proofs.TakenRowids.{takes_more, takes_none}
 use Rattle.zeb_register.proofs.packed_changes.block_begin.Goals as goal
@@ -84,7 +85,7 @@ returns-then-is_empty-clause-rowids g c clean inside store =
     let first = state g.S.Store c.args.tx.now.conn.now in
     let second = state g.S.Store c.block_absent.new.tx.conn.now in
     IfOk-weaker c.block_absent.result _ _ (λ _ reads.
-    takes_more 0 1 blocks_tree first.now.trees second.now.trees (omega arith) (takes_none blocks_tree first.now.trees second.now.trees (ap (λ (d : Database). d.trees blocks_tree) reads.now_is))) (c.block_absent.ensures.call.ok clean inside)
+    takes_more 0 (new_rows false (length c.args.list.now)) blocks_tree first.now.trees second.now.trees (omega arith) (takes_none blocks_tree first.now.trees second.now.trees (ap (λ (d : Database). d.trees blocks_tree) reads.now_is))) (c.block_absent.ensures.call.ok clean inside)
 
 pub returns-then-is_empty-clause-refused : goal.returns-then-is_empty-clause-refused
 returns-then-is_empty-clause-refused g c clean inside store told = inl (c.block_absent.ensures.refused clean inside store told)
@@ -146,3 +147,10 @@ returns-then-not-breaks_rule-clause-refused g c clean inside store told =
       | inr hinders ↦ inr (add_hinders db key c.args.block c.args.list.now bytes spells first.now.trees
           (subst (λ n. Hinders 1 blocks_tree (key_row db key ++ Int n ∷ Blob bytes ∷ []) first.now.trees) (column_is c.in_ok-number.ensures.ok.1 c.in_ok-number.ensures.ok.0) hinders))
     ]
+
+pub returns-in-Ok-clause-rowids : goal.returns-in-Ok-clause-rowids
+returns-in-Ok-clause-rowids g c clean inside store =
+    let first = state g.S.Store c.args.tx.now.conn.now in
+    let second = state g.S.Store c.block_add.new.tx.conn.now in
+    let one = list_one false c.args.list.now refl c.in_ok-bytes.ensures.some in
+    subst (λ n. TakesRowids n blocks_tree first.now.trees second.now.trees) (sym one) (c.in-Ok.ensures.rowids clean inside store)

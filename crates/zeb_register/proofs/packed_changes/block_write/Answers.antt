@@ -1,17 +1,18 @@
-use Rattle.std.proofs.Common.{◌∙◌, ◌++◌, [], ◌∷◌, arith, inl, inr, pos, rules, sym, subst}
+use Rattle.std.proofs.Common.{◌∙◌, ◌++◌, [], ◌∷◌, arith, inl, inr, length, pos, rules, sym, subst}
 use Rattle.sqlite.specs.declared.types.Value.TheVariants.{Blob, Int}
 use Rattle.sqlite.specs.Held.{state}
 use Rattle.zeb_blocks.specs.Blocks.{BlockSpells}
 use Rattle.zeb_profile.specs.Indexes.{register_code}
 use Rattle.zeb_register.specs.Calls.{Alters}
-use Rattle.zeb_register.specs.Hindrances.{Hinders, HindersNew}
+use Rattle.zeb_register.specs.Hindrances.{Hinders, HindersNew, TakesRowids}
 use Rattle.zeb_register.specs.PackedChanges.{IsBlockOf}
+use Rattle.zeb_register.specs.PackedHindrances.{new_rows}
 use Rattle.zeb_register.specs.PlainRows.{key_row}
 use Rattle.zeb_register.specs.RowStatements.{Gains, Renews}
 use Rattle.zeb_register.specs.Sql.{Loses}
 use Rattle.zeb_register.specs.Store.{blocks_tree}
 use Rattle.zeb_register.proofs.Columns.{column_is}
-use Rattle.zeb_register.proofs.PackedHindrances.{new_hinders, set_hinders}
+use Rattle.zeb_register.proofs.PackedHindrances.{list_one, new_hinders, set_hinders}
 use Rattle.zeb_register.proofs.PackedWrites.{none_of, puts_inserted, puts_no_list, puts_renewed}
 use Rattle.zeb_register.proofs.TakenRowids.{takes_more}
 use Rattle.zeb_register.proofs.packed_changes.block_write.Goals as goal
@@ -62,7 +63,7 @@ returns-in_err-block_set-clause-refused g c clean inside store told =
     let spells = subst (BlockSpells c.args.block c.args.list.now) (sym c.deref.ensures.value) c.in_ok-bytes.ensures in
     elim (c.in_err-block_set.ensures.refused clean inside store (search rules)) [
       | inl cause ↦ inl cause
-      | inr hinders ↦ inr (inr (set_hinders c.args.db.0 key c.args.block c.args.list.now bytes spells trees
+      | inr hinders ↦ inr (inr (set_hinders c.args.db.0 key c.args.block c.args.list.now bytes spells trees c.args.is_there
           (subst (λ n. Hinders 0 blocks_tree (key_row c.args.db.0 key ++ Int n ∷ Blob bytes ∷ []) trees) (column_is c.in_ok-number.ensures.ok.1 c.in_ok-number.ensures.ok.0) hinders)))
     ]
 
@@ -79,7 +80,14 @@ returns-in_err-block_add-clause-refused g c clean inside store told =
     ]
 
 pub returns-then-is_empty-clause-rowids : goal.returns-then-is_empty-clause-rowids
-returns-then-is_empty-clause-rowids g c clean inside store = takes_more 0 1 blocks_tree (state g.S.Store c.args.tx.now.conn.now).now.trees (state g.S.Store c.block_remove.new.tx.conn.now).now.trees (omega arith) (c.in_ok-block_remove.ensures.rowids clean inside store)
+returns-then-is_empty-clause-rowids g c clean inside store = takes_more 0 (new_rows c.args.is_there (length c.args.list.now)) blocks_tree (state g.S.Store c.args.tx.now.conn.now).now.trees (state g.S.Store c.block_remove.new.tx.conn.now).now.trees (omega arith) (c.in_ok-block_remove.ensures.rowids clean inside store)
 
 pub returns-then-is_there-clause-rowids : goal.returns-then-is_there-clause-rowids
-returns-then-is_there-clause-rowids g c clean inside store = takes_more 0 1 blocks_tree (state g.S.Store c.args.tx.now.conn.now).now.trees (state g.S.Store c.block_set.new.tx.conn.now).now.trees (omega arith) (c.in_ok-block_set.ensures.rowids clean inside store)
+returns-then-is_there-clause-rowids g c clean inside store = takes_more 0 (new_rows c.args.is_there (length c.args.list.now)) blocks_tree (state g.S.Store c.args.tx.now.conn.now).now.trees (state g.S.Store c.block_set.new.tx.conn.now).now.trees (omega arith) (c.in_ok-block_set.ensures.rowids clean inside store)
+
+pub returns-clause-rowids : goal.returns-clause-rowids
+returns-clause-rowids g c clean inside store =
+    let first = state g.S.Store c.args.tx.now.conn.now in
+    let second = state g.S.Store c.block_add.new.tx.conn.now in
+    let one = list_one c.args.is_there c.args.list.now c.if-is_there.false c.in_ok-bytes.ensures.some in
+    subst (λ n. TakesRowids n blocks_tree first.now.trees second.now.trees) (sym one) (c.in_ok-block_add.ensures.rowids clean inside store)

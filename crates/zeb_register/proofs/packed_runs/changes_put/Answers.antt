@@ -1,4 +1,4 @@
-use Rattle.std.proofs.Common.{◌≡◌, ◌+◌, ◌==◌, ◌∙◌, IsTrue, ap, arith, inl, inr, length, map, not, refl, rules, subst, sym}
+use Rattle.std.proofs.Common.{◌≡◌, ◌≤◌, ◌+◌, ◌==◌, ◌∙◌, IsTrue, arith, inl, inr, map, not, refl, rules, subst, sym}
 use Rattle.std.proofs.lemmas.Result.{IfOk-weaker}
 use Rattle.sqlite.specs.Effect.{Database}
 use Rattle.sqlite.specs.Held.{state}
@@ -7,12 +7,12 @@ use Rattle.zeb_register.specs.Calls.{GoesOn}
 use Rattle.zeb_register.specs.PackedBlocks.{HoldsBlocks}
 use Rattle.zeb_register.specs.PackedChanges.{IsCounted, IsKnown, PutsChanges}
 use Rattle.zeb_register.specs.Hindrances.{TakesRowids, placed, rows_of}
-use Rattle.zeb_register.specs.PackedHindrances.{HindersChanges}
+use Rattle.zeb_register.specs.PackedHindrances.{HindersChanges, new_rows}
 use Rattle.zeb_register.specs.Store.{blocks_tree, dict_tree, postings_tree}
 use Rattle.zeb_register.proofs.Calls.{changes_after, goes_keeps, goes_then, on_err, on_err_so, on_ok_both, reads_goes, store_same}
 use Rattle.zeb_register.proofs.Causes.{hindered_after, may_after}
 use Rattle.zeb_register.proofs.CallsInTurn.{quiet_then}
-use Rattle.zeb_register.proofs.PackedCauses.{blocks_hinder, count_hinders, rows_many, rows_some}
+use Rattle.zeb_register.proofs.PackedCauses.{blocks_hinder, count_hinders, new_counts}
 use Rattle.zeb_register.proofs.PackedLemmas.{block_rows}
 use Rattle.zeb_register.proofs.PackedWrites.{all_lists, all_put, dict_told}
 use Rattle.zeb_register.proofs.TakenRowids.{takes_more, takes_none, takes_then}
@@ -85,7 +85,7 @@ returns-in_err-after-clause-refused g c clean inside store told =
     let reads = c.in_ok-known.ensures.call.ok clean1 inside in
     let xs = c.args.changes.now in
     let records = c.in_ok-known.known.records in
-    let why = hindered_after first second third (HindersChanges (length xs) c.args.db.0 c.args.key.now records xs) reads c.key_known.ensures.call.crash
+    let why = hindered_after first second third (HindersChanges c.args.db.0 c.args.key.now records xs) reads c.key_known.ensures.call.crash
     (c.in_err-after.ensures.refused clean reads.mode (store_same first second reads.now_is store) (search rules)) in
     elim why [ inl cause ↦ inl cause | inr hinders ↦ inr (blocks_hinder c.args.db.0 c.args.key.now xs records c.in_ok-known.ensures.few first.now.trees hinders) ]
 
@@ -108,7 +108,8 @@ returns-clause-refused g c clean inside store told =
     let same : third.now.trees dict_tree ≡ first.now.trees dict_tree = runs.others.1.1.1.1.1.0 (λ e. absurd (omega (arith, e))) in
     elim (c.dict_write.ensures.refused clean goes.mode runs.layout told) [
       | inl cause ↦ inl (may_after first third fourth (quiet_then first second third c.key_known.ensures.call.crash c.runs_put.ensures.call.crash) (λ _. goes.is_open) (λ _. cause))
-      | inr hinders ↦ inr (count_hinders db key xs known.records c.in_ok-known.ensures.few (not (known.records == 0)) after first.now.trees third.now.trees c.requires.some c.in_ok-after.ensures.grows same
+      | inr hinders ↦ inr (count_hinders db key xs known.records c.in_ok-known.ensures.few (not (known.records == 0)) after first.now.trees third.now.trees c.in_ok-after.ensures.grows
+          (new_counts known.records after (rows_of (map placed xs)) c.in_ok-after.ensures.grows) same
           (c.in_ok-known.ensures.told clean1 inside store) hinders)
     ]
 
@@ -123,20 +124,21 @@ returns-clause-rowids g c clean inside store =
     let reads = c.in_ok-known.ensures.call.ok clean1 inside in
     let goes = goes_then first second third (reads_goes first second reads) (c.in_ok-after.ensures.call.ok clean2 reads.mode reads.is_open) in
     let xs = c.args.changes.now in
-    let many = rows_many xs in
     let known = c.in_ok-known.known in
     let after = c.in_ok-after.after in
     let runs = changes_after blocks_tree (PutsChanges c.args.db.0 c.args.key.now xs (IsKnown known) (IsCounted after)) first second third reads inside (c.in_ok-after.ensures.put clean2 reads.mode (store_same first second reads.now_is store)) in
-    let taken = subst (λ (d : Database). TakesRowids (length xs) blocks_tree d.trees third.now.trees) reads.now_is (c.in_ok-after.ensures.rowids clean2 reads.mode (store_same first second reads.now_is store)) in
+    let taken = subst (λ (d : Database). TakesRowids (rows_of (map placed xs)) blocks_tree d.trees third.now.trees) reads.now_is (c.in_ok-after.ensures.rowids clean2 reads.mode (store_same first second reads.now_is store)) in
     let a = first.now.trees in
     let b = third.now.trees in
     let d = fourth.now.trees in
     let rows = rows_of (map placed xs) in
+    let new = new_rows (not (known.records == 0)) after in
+    let few : new ≤ rows = new_counts known.records after rows c.in_ok-after.ensures.grows in
     on_ok_both c.dict_write.result _ _ _ (λ done counted.
     let dict = done.rows runs.layout in (
       takes_more 0 rows postings_tree a d (omega arith) (takes_none postings_tree a d (dict.others.1.1.1.0 (λ e. absurd (omega (arith, e))) ∙ runs.others.1.1.1.0 (λ e. absurd (omega (arith, e))))),
-      takes_more (length xs + 0) rows blocks_tree a d (omega (arith, many)) (takes_then (length xs) 0 blocks_tree a b d taken (takes_none blocks_tree b d (dict.others.1.1.1.1.0 (λ e. absurd (omega (arith, e)))))),
-      takes_more (0 + 1) rows dict_tree a d (rows_some xs c.requires.some) (takes_then 0 1 dict_tree a b d (takes_none dict_tree a b (runs.others.1.1.1.1.1.0 (λ e. absurd (omega (arith, e))))) counted),
+      takes_more (rows + 0) rows blocks_tree a d (omega arith) (takes_then rows 0 blocks_tree a b d taken (takes_none blocks_tree b d (dict.others.1.1.1.1.0 (λ e. absurd (omega (arith, e)))))),
+      takes_more (0 + new) rows dict_tree a d (omega (arith, few)) (takes_then 0 new dict_tree a b d (takes_none dict_tree a b (runs.others.1.1.1.1.1.0 (λ e. absurd (omega (arith, e))))) counted),
     )) (c.dict_write.ensures.call.ok clean goes.mode) (c.dict_write.ensures.rowids clean goes.mode runs.layout)
 
 pub returns-in_err-after-clause-call : goal.returns-in_err-after-clause-call

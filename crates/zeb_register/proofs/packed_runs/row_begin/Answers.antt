@@ -1,16 +1,19 @@
-use Rattle.std.proofs.Common.{◌∙◌, ap, false, inl, inr, rules, subst, sym}
+use Rattle.std.proofs.Common.{◌∙◌, ◌==◌, List, ap, false, inl, inr, length, map, rules, subst, sym, true}
 use Rattle.sqlite.specs.Held.{state}
 use Rattle.sqlite_rules.specs.Lists.{Has}
 use Rattle.zeb_blocks.specs.Blocks.{LiesIn}
+use Rattle.zeb_blocks.specs.declared.postings.Posting.{Posting}
+use Rattle.zeb_register.specs.Hindrances.{TakesRowids, placed, rows_of}
 use Rattle.zeb_register.specs.PackedBlocks.{part_in}
 use Rattle.zeb_register.specs.PackedChanges.{IfTold, IsBlockIn, IsClear, IsCounted, PutsBlock, PutsChanges}
-use Rattle.zeb_register.specs.PackedHindrances.{HindersBlock, IsPut, SpellsMore}
+use Rattle.zeb_register.specs.PackedHindrances.{HindersBlock, IsPut, SpellsMore, new_rows}
 use Rattle.zeb_register.specs.Store.{Changes, blocks_tree}
 use Rattle.zeb_register.proofs.Calls.{changes_so}
-use Rattle.zeb_register.proofs.PackedCauses.{row_hinders}
+use Rattle.zeb_register.proofs.PackedCauses.{new_within, row_hinders}
 use Rattle.zeb_register.proofs.PackedHindrances.{spells_so}
 use Rattle.zeb_register.proofs.PackedReads.{empty_lies}
 use Rattle.zeb_register.proofs.PackedWrites.{clear_told, puts_run}
+use Rattle.zeb_register.proofs.TakenRowids.{takes_more}
 use Rattle.zeb_register.proofs.packed_runs.row_begin.Goals as goal
 
 pub changed_by-requires-clause-lies : goal.changed_by-requires-clause-lies
@@ -57,9 +60,10 @@ returns-in_err-block_begin-clause-refused g c clean inside store told =
     elim (c.in_err-block_begin.ensures.refused clean inside store (search rules)) [
       | inl cause ↦ inl cause
       | inr hinders ↦
-          inr (row_hinders c.args.db.0 c.args.key.now c.args.block list c.args.records c.args.run.now first
+          inr (row_hinders c.args.db.0 c.args.key.now c.args.block list c.args.records c.args.run.now false first
           (λ p here. elim (c.in_ok-after.ensures.made p here) [ inl was ↦ absurd (subst (λ l. Has l p) c.new.ensures.items was) | inr put ↦ inr put ])
-          (subst (λ l. HindersBlock c.args.key.now c.args.block l first) c.deref.ensures.value hinders))
+          (new_within true c.new.result.items list c.args.run.now (ap (λ (l : List Posting). length l == 0) c.new.ensures.items) c.in_ok-after.ensures.made)
+          (subst (λ l. HindersBlock false c.args.key.now c.args.block l first) c.deref.ensures.value hinders))
     ]
 
 pub returns-clause-spelled : goal.returns-clause-spelled
@@ -70,3 +74,12 @@ returns-clause-spelled g c clean inside store =
     spells_so c.args.db.0 c.args.key.now (Has list) (IsPut c.args.run.now) first second
     (λ p here. elim (c.in_ok-after.ensures.made p here) [ inl was ↦ absurd (subst (λ l. Has l p) c.new.ensures.items was) | inr put ↦ inr put ])
     (subst (λ l. SpellsMore c.args.db.0 c.args.key.now (Has l) first second) c.deref.ensures.value (c.in_ok-block_begin.ensures.spelled clean inside store))
+
+pub returns-clause-rowids : goal.returns-clause-rowids
+returns-clause-rowids g c clean inside store =
+    let first = (state g.S.Store c.args.tx.now.conn.now).now.trees in
+    let second = (state g.S.Store c.block_begin.new.tx.conn.now).now.trees in
+    let list = c.in_ok-after.after.list.items in
+    takes_more (new_rows false (length list)) (rows_of (map placed c.args.run.now)) blocks_tree first second
+    (new_within true c.new.result.items list c.args.run.now (ap (λ (l : List Posting). length l == 0) c.new.ensures.items) c.in_ok-after.ensures.made)
+    (subst (λ (l : List Posting). TakesRowids (new_rows false (length l)) blocks_tree first second) c.deref.ensures.value (c.in_ok-block_begin.ensures.rowids clean inside store))

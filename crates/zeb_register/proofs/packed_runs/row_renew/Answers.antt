@@ -1,20 +1,20 @@
-use Rattle.std.proofs.Common.{◌≡◌, ◌⊎◌, ◌∙◌, ◌==◌, ap, arith, inl, inr, length, not, rules, subst, sym}
+use Rattle.std.proofs.Common.{◌≡◌, ◌⊎◌, ◌∙◌, ◌==◌, List, ap, arith, inl, inr, length, map, not, rules, subst, sym}
 use Rattle.sqlite.specs.Effect.{Database}
 use Rattle.sqlite.specs.Held.{state}
 use Rattle.sqlite.specs.State.{HasCleanDisk}
-use Rattle.sqlite.specs.Tree.{Trees}
 use Rattle.sqlite_rules.specs.Lists.{Has}
 use Rattle.zeb_blocks.specs.declared.postings.Posting.{Posting}
-use Rattle.zeb_register.specs.Hindrances.{IsSpelledAt, TakesRowids}
+use Rattle.zeb_register.specs.Hindrances.{IsSpelledAt, TakesRowids, placed, rows_of}
 use Rattle.zeb_register.specs.PackedBlocks.{part_in}
 use Rattle.zeb_register.specs.PackedChanges.{IfTold, IsBlockIn, IsCounted, IsTold, PutsBlock, PutsChanges}
-use Rattle.zeb_register.specs.PackedHindrances.{HindersBlock, IsMistold, IsPut, SpellsMore}
+use Rattle.zeb_register.specs.PackedHindrances.{HindersBlock, IsMistold, IsPut, new_rows}
 use Rattle.zeb_register.specs.Store.{Changes, blocks_tree}
 use Rattle.zeb_register.proofs.Calls.{changes_after, changes_so, goes_then, reads_goes, store_same}
 use Rattle.zeb_register.proofs.Causes.{hindered_after}
-use Rattle.zeb_register.proofs.PackedCauses.{row_hinders}
+use Rattle.zeb_register.proofs.PackedCauses.{new_within, row_hinders}
 use Rattle.zeb_register.proofs.PackedHindrances.{not_mistold, put_spells, spells_so}
 use Rattle.zeb_register.proofs.PackedWrites.{block_told, puts_run}
+use Rattle.zeb_register.proofs.TakenRowids.{takes_more}
 use Rattle.zeb_register.proofs.packed_runs.row_renew.Goals as goal
 
 pub returns-in_err-list-clause-damaged : goal.returns-in_err-list-clause-damaged
@@ -70,13 +70,14 @@ returns-in_err-block_write-clause-refused g c clean inside store told =
     let is_told = subst (λ b. IsTold (not b) P blocks_tree first.now.trees) empty (c.in_ok-list.ensures.told clean1 inside store) in
     let made : (p : Posting) → Has list p → IsSpelledAt db key first.now.trees p ⊎ IsPut c.args.run.now p = λ p here.
     elim (c.in_ok-after.ensures.made p here) [ inl was ↦ inl (c.in_ok-list.ensures.spelled clean1 inside store p was) | inr put ↦ inr put ] in
-    let why = hindered_after first second third (λ trees. IsMistold there P blocks_tree trees ⊎ HindersBlock key block c.deref.result.now trees) reads c.block_list.ensures.call.crash
+    let why = hindered_after first second third (λ trees. IsMistold there P blocks_tree trees ⊎ HindersBlock there key block c.deref.result.now trees) reads c.block_list.ensures.call.crash
     (c.in_err-block_write.ensures.refused clean reads.mode (store_same first second reads.now_is store) (search rules)) in
     elim why [
       | inl cause ↦ inl cause
       | inr (inl mistold) ↦ absurd (not_mistold there P blocks_tree first.now.trees is_told mistold)
       | inr (inr hinders) ↦
-          inr (row_hinders db key block list c.args.records c.args.run.now first.now.trees made (subst (λ l. HindersBlock key block l first.now.trees) c.deref.ensures.value hinders))
+          inr (row_hinders db key block list c.args.records c.args.run.now there first.now.trees made (new_within c.is_empty-is_there.result held list c.args.run.now empty c.in_ok-after.ensures.made)
+          (subst (λ l. HindersBlock there key block l first.now.trees) c.deref.ensures.value hinders))
     ]
 
 pub returns-clause-rowids : goal.returns-clause-rowids
@@ -86,7 +87,13 @@ returns-clause-rowids g c clean inside store =
     let third = state g.S.Store c.block_write.new.tx.conn.now in
     let clean1 : HasCleanDisk second = omega (arith, c.block_write.ensures.call.crash.clean) in
     let reads = c.in_ok-list.ensures.call.ok clean1 inside in
-    subst (λ (d : Database). TakesRowids 1 blocks_tree d.trees third.now.trees) reads.now_is (c.in_ok-block_write.ensures.rowids clean reads.mode (store_same first second reads.now_is store))
+    let held = c.in_ok-list.list.items in
+    let list = c.in_ok-after.after.list.items in
+    let there = not c.is_empty-is_there.result in
+    let empty : (length held == 0) ≡ c.is_empty-is_there.result = ap (λ n. n == 0) (sym c.in_ok-list.list.ok.0) ∙ sym c.is_empty-is_there.ensures in
+    let taken = subst (λ (d : Database). TakesRowids (new_rows there (length c.deref.result.now)) blocks_tree d.trees third.now.trees) reads.now_is (c.in_ok-block_write.ensures.rowids clean reads.mode (store_same first second reads.now_is store)) in
+    takes_more (new_rows there (length list)) (rows_of (map placed c.args.run.now)) blocks_tree first.now.trees third.now.trees (new_within c.is_empty-is_there.result held list c.args.run.now empty c.in_ok-after.ensures.made)
+    (subst (λ (l : List Posting). TakesRowids (new_rows there (length l)) blocks_tree first.now.trees third.now.trees) c.deref.ensures.value taken)
 
 pub returns-clause-spelled : goal.returns-clause-spelled
 returns-clause-spelled g c clean inside store =

@@ -1,15 +1,16 @@
-use Rattle.std.proofs.Common.{◌≡◌, ◌+◌, ◌<◌, ◌≤◌, ◌/◌, ap, arith, drop, get_or, inl, inr, length, refl, rules, subst, suc, sym, take}
+use Rattle.std.proofs.Common.{◌≡◌, ◌+◌, ◌<◌, ◌/◌, arith, drop, get_or, inl, inr, length, map, refl, rules, subst, suc, sym, take}
 use Rattle.std.proofs.lemmas.List.{take_all}
 use Rattle.sqlite.specs.Held.{state}
 use Rattle.sqlite.specs.State.{HasCleanDisk}
-use Rattle.zeb_register.specs.Hindrances.{TakesRowids}
+use Rattle.zeb_register.specs.Hindrances.{TakesRowids, placed, rows_of}
 use Rattle.zeb_register.specs.PackedChanges.{IsCounted, IsKnown, PutsChanges}
 use Rattle.zeb_register.specs.Store.{Changes, blocks_tree}
 use Rattle.zeb_register.proofs.Calls.{changes_so, changes_then, stays_then}
 use Rattle.zeb_register.proofs.CallsInTurn.{quiet_then}
 use Rattle.zeb_register.proofs.ListChanges.{no_change, run, run_all, run_first, run_long, run_made, run_more, run_within}
 use Rattle.zeb_register.proofs.Causes.{may_after}
-use Rattle.zeb_register.proofs.PackedCauses.{run_hinders, spells_run}
+use Rattle.zeb_register.proofs.PackedCauses.{rows_run, run_hinders, spells_run}
+use Rattle.zeb_register.proofs.RowCounts.{rows_taken}
 use Rattle.zeb_register.proofs.TakenRowids.{takes_more, takes_then}
 use Rattle.zeb_register.proofs.PackedWrites.{puts_behind, puts_so, puts_then}
 use Rattle.zeb_register.proofs.packed_runs.runs_put.Goals as goal
@@ -36,9 +37,6 @@ loop-done-preserved g c =
     let n = c.run_length.result in
     let so_far = c.loop-done.invariant in
     let it = c.in_ok-records.ensures in
-    let below : done < length xs = c.loop-done-test.true in
-    let some = c.run_length.ensures.some (get_or xs done no_change) (drop (suc done) xs) (run_first xs done n below) refl in
-    let long = run_long xs done n c.run_length.ensures.within in
     record {
       same = search rules;
       within = run_within xs done n so_far.within;
@@ -63,13 +61,13 @@ loop-done-preserved g c =
       takes = λ clean inside store.
           let was : HasCleanDisk mid = omega (arith, c.run_put.ensures.call.crash.clean) in
           let next = it.rowids clean (so_far.stays was inside).inside (so_far.put was inside store).layout in
-          takes_more (done + 1) (done + length (run xs done n)) blocks_tree first.now.trees last.now.trees (omega (arith, some, long))
-          (takes_then done 1 blocks_tree first.now.trees mid.now.trees last.now.trees (so_far.takes was inside store) next);
+          subst (λ rows. TakesRowids rows blocks_tree first.now.trees last.now.trees) (sym (rows_run xs done n))
+          (takes_then (rows_of (map placed (take done xs))) (rows_of (map placed (run xs done n))) blocks_tree first.now.trees mid.now.trees last.now.trees (so_far.takes was inside store) next);
       spells = λ clean inside store.
           let was : HasCleanDisk mid = omega (arith, c.run_put.ensures.call.crash.clean) in
           let next = it.spelled clean (so_far.stays was inside).inside (so_far.put was inside store).layout in
-          spells_run db key xs done n below first.now.trees mid.now.trees last.now.trees (done + length (run xs done n)) (run_more xs done n) (so_far.spells was inside store) next;
-      grows = omega (arith, c.behind-known.ensures.records, it.grows, so_far.grows);
+          spells_run db key xs done n first.now.trees mid.now.trees last.now.trees (done + length (run xs done n)) (run_more xs done n) (so_far.spells was inside store) next;
+      grows = let rows = rows_run xs done n in omega (arith, c.behind-known.ensures.records, it.grows, so_far.grows, rows);
     }
 
 pub returns-in_err-records-clause-damaged : goal.returns-in_err-records-clause-damaged
@@ -113,11 +111,18 @@ returns-in_err-records-clause-refused g c clean inside store told =
     let stays = so_far.stays was inside in
     elim (c.in_err-records.ensures.refused clean stays.inside (so_far.put was inside store).layout (search rules)) [
       | inl cause ↦ inl (may_after first mid last so_far.crash stays.open_still (λ _. cause))
-      | inr hinders ↦ inr (run_hinders c.args.db.0 c.args.key.now xs done c.run_length.result c.loop-done-test.true c.args.known.records c.loop-done.known.records first.now.trees mid.now.trees so_far.grows
+      | inr hinders ↦ inr (run_hinders c.args.db.0 c.args.key.now xs done c.run_length.result c.args.known.records c.loop-done.known.records first.now.trees mid.now.trees so_far.grows
           (so_far.takes was inside store) (so_far.spells was inside store) hinders)
     ]
 
 pub returns-clause-rowids : goal.returns-clause-rowids
 returns-clause-rowids g c clean inside store =
-    let done : c.loop-done.done ≤ length c.args.changes.now = c.loop-done.invariant.within in
-    takes_more c.loop-done.done (length c.args.changes.now) blocks_tree (state g.S.Store c.args.tx.now.conn.now).now.trees (state g.S.Store c.loop-done.tx.conn.now).now.trees done (c.loop-done.invariant.takes clean inside store)
+    let done = c.loop-done.done in
+    let xs = c.args.changes.now in
+    takes_more (rows_of (map placed (take done xs))) (rows_of (map placed xs)) blocks_tree (state g.S.Store c.args.tx.now.conn.now).now.trees (state g.S.Store c.loop-done.tx.conn.now).now.trees (rows_taken done xs)
+    (c.loop-done.invariant.takes clean inside store)
+
+pub returns-clause-grows : goal.returns-clause-grows
+returns-clause-grows g c =
+    let so_far = rows_taken c.loop-done.done c.args.changes.now in
+    omega (arith, so_far, c.loop-done.invariant.grows)

@@ -1,7 +1,7 @@
-use Rattle.std.proofs.Common.{◌≡◌, ◌≤◌, ◌+◌, ◌-◌, IsTrue, length, take}
+use Rattle.std.proofs.Common.{◌≡◌, ◌≤◌, ◌+◌, ◌-◌, IsTrue, length, map, take}
 use Rattle.sqlite.specs.Held.{state}
 use Rattle.sqlite.specs.State.{HasCleanDisk, Survives}
-use Rattle.zeb_register.specs.Hindrances.{TakesRowids}
+use Rattle.zeb_register.specs.Hindrances.{TakesRowids, placed, rows_of}
 use Rattle.zeb_register.specs.PackedChanges.{IsKnown, PutsChanges}
 use Rattle.zeb_register.specs.PackedHindrances.{IsPut, SpellsMore}
 use Rattle.zeb_register.specs.Store.{Changes, IsStore, blocks_tree}
@@ -18,9 +18,9 @@ invariant-loop-done g l =
       crash : Survives old now (λ _. ⊥);
       stays : HasCleanDisk now → IsTrue old.in_transaction → Stays old now;
       put : HasCleanDisk now → IsTrue old.in_transaction → IsStore old → Changes blocks_tree (PutsChanges l.db.0 l.key (take l.done l.changes) (IsKnown l.fn.known) (IsKnown l.known)) old now;
-      takes : HasCleanDisk now → IsTrue old.in_transaction → IsStore old → TakesRowids l.done blocks_tree old.now.trees now.now.trees;
+      takes : HasCleanDisk now → IsTrue old.in_transaction → IsStore old → TakesRowids (rows_of (map placed (take l.done l.changes))) blocks_tree old.now.trees now.now.trees;
       spells : HasCleanDisk now → IsTrue old.in_transaction → IsStore old → SpellsMore l.db.0 l.key (IsPut (take l.done l.changes)) old.now.trees now.now.trees;
-      grows : l.known.records ≤ l.fn.known.records + l.done;
+      grows : l.known.records ≤ l.fn.known.records + rows_of (map placed (take l.done l.changes));
     }
 
 abbrev pub decreases-loop-done : goal.decreases-loop-done

@@ -1,7 +1,6 @@
-use Rattle.std.proofs.Common.{◌≡◌, ◌∙◌, ◌==◌, List, [], true, false, ap, arith, inl, inr, length, map, rules, subst, sym}
+use Rattle.std.proofs.Common.{◌≡◌, ◌∙◌, [], ap, arith, inl, inr, map, rules, subst, sym}
 use Rattle.sqlite.specs.Effect.{Database}
 use Rattle.sqlite.specs.Held.{state}
-use Rattle.zeb_register.specs.declared.registers.RecordChange.{RecordChange}
 use Rattle.zeb_register.specs.Content.{AreChangedAt}
 use Rattle.zeb_register.specs.Hindrances.{placed, rows_of}
 use Rattle.zeb_register.specs.PackedBlocks.{HoldsBlocks}
@@ -63,9 +62,6 @@ returns-then-is_empty-clause-rowids g c clean inside store =
       takes_more 0 rows blocks_tree a b (omega arith) (takes_none blocks_tree a b (ap (λ (d : Database). d.trees blocks_tree) same)),
       takes_more 0 rows dict_tree a b (omega arith) (takes_none dict_tree a b (ap (λ (d : Database). d.trees dict_tree) same)),
     )
-
-pub changes_put-requires-clause-some : goal.changes_put-requires-clause-some
-changes_put-requires-clause-some g c none = absurd (let e : true ≡ false = sym (ap (λ (l : List RecordChange). length l == 0) none) ∙ sym c.is_empty.ensures ∙ c.if-is_empty.false in cc)
 
 pub returns-in_err-changes_put-clause-refused : goal.returns-in_err-changes_put-clause-refused
 returns-in_err-changes_put-clause-refused g c clean inside store told = c.in_err-changes_put.ensures.refused clean inside store (search rules)

@@ -1,14 +1,14 @@
-use Rattle.std.proofs.Common.{◌≡◌, ◌∙◌, ap, arith, get_or, inl, rules, subst, take}
-use Rattle.std.proofs.lemmas.List.{take_all}
+use Rattle.std.proofs.Common.{◌∙◌, [], arith, get_or, rules, subst, take}
 use Rattle.sqlite_trees.proofs.ListLemmas.{all-get_or}
 use Rattle.sqlite_rules.specs.Lists.{Has}
 use Rattle.zeb_blocks.specs.Blocks.{LiesIn}
+use Rattle.zeb_register.specs.Hindrances.{placed}
 use Rattle.zeb_register.specs.PackedChanges.{IsInBlock}
-use Rattle.zeb_register.specs.PackedHindrances.{IsPut}
 use Rattle.zeb_register.proofs.ContentChanges.{at_sysno}
 use Rattle.zeb_register.proofs.ListChanges.{changes_more, changes_rise, list_changed, next_places, no_change}
 use Rattle.zeb_register.proofs.PackedCauses.{counts_grow, made_more}
 use Rattle.zeb_register.proofs.PackedChanges.{held_places, next_held}
+use Rattle.zeb_register.proofs.RowCounts.{rows_front, rows_more, rows_taken}
 use Rattle.zeb_register.proofs.packed_parts.Held.changed_by.Goals as goal
 
 pub loop-change-preserved : goal.loop-change-preserved
@@ -31,7 +31,11 @@ loop-change-preserved c =
           let next = at_sysno x.sysno x.new.now mid.0 in
           (next, changes_more xs i below old mid.0 next mid.1 found change, next_held x.sysno x.new.now mid.0 next change x.old.now held c.in_ok-held.held inside it.block found mid.2 it.list it.lies it.count);
       made = made_more xs i below (Has c.args.self.list.items) held.list.items c.in_ok-held.held.list.items before.made it.list;
-      grows = let more = counts_grow x.old.now x.new.now held.records c.in_ok-held.held.records it.count in omega (arith, before.grows, more);
+      grows =
+          let more = counts_grow x.old.now x.new.now held.records c.in_ok-held.held.records it.count in
+          let rows = rows_more xs i no_change below in
+          let own = rows_front (placed x) [] in
+          omega (arith, before.grows, more, rows, own);
     }
 
 pub returns-in_err-held-clause-damaged : goal.returns-in_err-held-clause-damaged
@@ -41,3 +45,9 @@ returns-in_err-held-clause-damaged c is rises old new up was all =
     let below = c.loop-change-test.true in
     let mid = c.loop-change.invariant.held old up was in
     c.in_err-held.ensures.damaged (search rules) (all-get_or _ xs i no_change rises below) mid.0 (changes_rise (take i xs) old mid.0 up mid.1) mid.2 (next_places xs i below old mid.0 new mid.1 all)
+
+pub returns-in_err-held-clause-refused : goal.returns-in_err-held-clause-refused
+returns-in_err-held-clause-refused c told =
+    let wide = c.in_err-held.ensures.refused (search rules) in
+    let so_far = rows_taken c.loop-change.change-index c.args.changes.now in
+    omega (arith, wide, so_far, c.loop-change.invariant.grows)

@@ -12,7 +12,8 @@ use Rattle.zeb_register.proofs.Calls.{goes_then, reads_goes, store_same}
 use Rattle.zeb_register.proofs.Causes.{may_after}
 use Rattle.zeb_register.proofs.ContentChanges.{change_is, changed_at}
 use Rattle.zeb_register.proofs.ListChanges.{changed_alone, content_more, content_none, next_places, no_change, one_content_changed}
-use Rattle.zeb_register.proofs.PlaceRefusals.{change_hinders, registers_same, registers_then, rows_hinder, rows_more}
+use Rattle.zeb_register.proofs.PlaceRefusals.{change_hinders, registers_same, registers_then, rows_hinder}
+use Rattle.zeb_register.proofs.RowCounts.{rows_more}
 use Rattle.zeb_register.proofs.plain.RowsLayout.key_changes.Goals as goal
 
 pub loop-change-init : goal.loop-change-init

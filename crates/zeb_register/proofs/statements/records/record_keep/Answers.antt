@@ -1,7 +1,7 @@
 use Rattle.std.proofs.Common.{rules}
 use Rattle.std.proofs.Math.Facts.{to_z-of_z}
 use Rattle.zeb_register.proofs.Calls.{alters, refused_keeps}
-use Rattle.zeb_register.proofs.RecordStatements.{keep_refused, keeps_record}
+use Rattle.zeb_register.proofs.RecordStatements.{keep_refused, keep_takes, keeps_record}
 use Rattle.zeb_register.proofs.statements.records.record_keep.Goals as goal
 
 pub returns-clause-call : goal.returns-clause-call
@@ -13,3 +13,6 @@ returns-clause-call g c = record {
 
 pub returns-clause-refused : goal.returns-clause-refused
 returns-clause-refused g c clean inside store = keep_refused c.args.db c.args.sysno c.args.ident.now c.args.bytes.now _ _ c.execute.result store (simp (c.params-to_sql.ensures, c.params-to_sql-2.ensures, c.params-to_sql-3.ensures, c.params-to_sql-4.ensures, to_z-of_z, c.ranges.db, c.ranges.sysno) at (c.execute.ensures.runs clean inside))
+
+pub returns-clause-rowids : goal.returns-clause-rowids
+returns-clause-rowids g c clean inside store = keep_takes c.args.db c.args.sysno c.args.ident.now c.args.bytes.now _ _ c.execute.result store (simp (c.params-to_sql.ensures, c.params-to_sql-2.ensures, c.params-to_sql-3.ensures, c.params-to_sql-4.ensures, to_z-of_z, c.ranges.db, c.ranges.sysno) at (c.execute.ensures.runs clean inside))
