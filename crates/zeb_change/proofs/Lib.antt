@@ -29,4 +29,5 @@ pub mod NoDamage
 pub mod FoldCosts
 pub mod ReadFaults
 pub mod CostLemmas
+pub mod PutKeys
 pub mod TermTexts

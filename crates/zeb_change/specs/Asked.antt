@@ -53,6 +53,10 @@ TakesRoom format most failed asked old new before after result =
 
 -- ---- places of the records of files
 
+-- numbers of an occurrence that each layout stores
+abbrev pub IsStorableOccurrence : Occurrence → Type 0
+IsStorableOccurrence o = ((1 ≤ o.seq) × (o.seq < 2 ^ 63)) × ((1 ≤ o.pos) × (o.pos < 2 ^ 63))
+
 -- the record with these bytes asks for so many places: as many as it has, whatever its elder has; a record that is taken out asks for none
 pub record AsksRecord (profile : List Directive) (kind : Kind) (most : ℕ) (bytes : List ℕ) (n : ℕ) : Type 0 where
   pub occurrences : List Occurrence

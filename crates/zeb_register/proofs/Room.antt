@@ -37,7 +37,7 @@ split_has (y ∷ ys) x (inr later) = let it = split_has ys x later in (y ∷ it.
 
 module _ {K : Type 0} {R : K → K → Ordering} (o : IsTotalOrder R) where
   -- it is no longer than that
-  rising_few : (xs ys : List K) → IsStrictlySortedBy R xs → ((z : K) → Has xs z → Has ys z) → length xs ≤ length ys
+  pub rising_few : (xs ys : List K) → IsStrictlySortedBy R xs → ((z : K) → Has xs z → Has ys z) → length xs ≤ length ys
   unfolding IsStrictlySortedBy
   rising_few [] ys up there = omega arith
   rising_few (x ∷ xs) ys up there =
