@@ -1,6 +1,6 @@
 -- How many places the changed keys of a record put: no more than the newer record has occurrences.
-use Rattle.std.proofs.Common.{◌≡◌, ◌≢◌, ◌⊎◌, ◌∙◌, ℕ, ◌+◌, ◌<◌, ◌≤◌, ◌^◌, List, [], ◌∷◌, ◌++◌, length, map, inl, inr, refl, sym, ap, subst, subst₂, Equal, Less, arith}
-use Rattle.std.specs.List.{AllByRecursion, Contains, sum_by}
+use Rattle.std.proofs.Common.{◌≡◌, ◌⊎◌, ◌∙◌, ℕ, ◌<◌, ◌≤◌, ◌^◌, List, [], ◌∷◌, ◌++◌, length, map, inl, inr, refl, sym, ap, subst, subst₂, Less, arith}
+use Rattle.std.specs.List.{Contains, sum_by}
 use Rattle.std.specs.List.Sorted.{IsStrictlySortedBy}
 use Rattle.std.specs.Ordering.{ordering_then}
 use Rattle.std.proofs.lemmas.Cmp.{tied_itself}
@@ -21,7 +21,7 @@ use Rattle.zeb_register.proofs.RisingLists.{joined_rises}
 use Rattle.zeb_register.proofs.Room.{rising_few}
 use Rattle.zeb_change.specs.declared.changed_keys.ChangedKey.{ChangedKey}
 use Rattle.zeb_change.specs.Asked.{IsStorableOccurrence}
-use Rattle.zeb_change.specs.PrivateChangedKeys.{AreChangedKeys, ArePlacesIn, key_in}
+use Rattle.zeb_change.specs.PrivateChangedKeys.{AreChangedKeys, key_in}
 use Rattle.zeb_change.specs.Reposted.{occurrence_at}
 
 abbrev pub places_put : List ChangedKey → ℕ

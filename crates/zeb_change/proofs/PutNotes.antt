@@ -14,7 +14,6 @@ use Rattle.zeb_register.specs.Room.{FitInRow}
 use Rattle.zeb_change.specs.declared.key_notes.KeyNotes.{KeyNotes}
 use Rattle.zeb_change.specs.Asked.{PutAmong, PutsPlaces, placed_by}
 use Rattle.zeb_change.specs.NoteWords.{KeyChange, change_words}
-use Rattle.zeb_change.specs.Noted.{IsNotedIn}
 use Rattle.zeb_change.proofs.NoteWords.{noted_more, one_noted}
 
 -- a row that holds more places holds fewer

@@ -62,7 +62,7 @@ pub record AsksRecord (profile : List Directive) (kind : Kind) (most : ℕ) (byt
   pub occurrences : List Occurrence
   pub rising : IsRising occurrences
   pub each : (o : Occurrence) → Contains occurrences o ↔ occurs_by profile (newer_of kind bytes) o
-  pub stored : (o : Occurrence) → Contains occurrences o → (o.seq < 2 ^ 63) × (o.pos < 2 ^ 63) × FitInRow most o.key
+  pub stored : (o : Occurrence) → Contains occurrences o → IsStorableOccurrence o × FitInRow most o.key
   pub many : n ≡ length occurrences
 
 abbrev pub AskSlices : List Directive → Kind → ℕ → List (List ℕ) → ℕ → Type 0
