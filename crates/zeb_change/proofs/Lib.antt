@@ -6,8 +6,10 @@ pub mod StoredLemmas
 pub mod PostedLemmas
 pub mod Reposted
 pub mod NoteWords
+pub mod PutNotes
 pub mod NotedChanges
 pub mod Leading
+pub mod Asked
 pub mod Reordering
 pub mod Commuting
 pub mod UnderWay
@@ -27,4 +29,5 @@ pub mod NoDamage
 pub mod FoldCosts
 pub mod ReadFaults
 pub mod CostLemmas
+pub mod PutKeys
 pub mod TermTexts

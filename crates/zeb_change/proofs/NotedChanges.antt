@@ -10,10 +10,13 @@ use Rattle.zeb_extract.specs.Order.{key_order}
 use Rattle.zeb_extract.proofs.Rising.{keys_apart}
 use Rattle.zeb_change.specs.declared.key_notes.KeyNotes.{KeyNotes}
 use Rattle.zeb_change.specs.declared.pending.Pending.{Pending}
+use Rattle.zeb_register.specs.Hindrances.{rows_of}
+use Rattle.zeb_change.specs.Asked.{PutAmong, placed_by}
 use Rattle.zeb_change.specs.NoteWords.{KeyChange, change_words}
 use Rattle.zeb_change.specs.Noted.{AreNoted, IsNotedIn, IsNothingNoted, changes_among, notes_at, noted_count}
 use Rattle.zeb_change.specs.PrivatePending.{IsNotNoted, IsNotedAlso, IsTakenOut}
 use Rattle.zeb_change.proofs.NoteWords.{noted_more, one_noted}
+use Rattle.zeb_change.proofs.PutNotes.{insert_puts, set_puts}
 
 -- ---- how many
 
@@ -67,6 +70,8 @@ noted_behind key change v w old new found more words writes =
           (noted_more v w changes change more words (subst (λ (o : Option KeyNotes). AreNoted o changes) found noted));
       others = λ k differs. updates.2 k (apart_at key k differs);
       count = ap changes_among writes.0 ∙ set_more (is_at (key_order key)) old.notes.entries v w found more;
+      puts = λ bound n storable fit among. subst (λ es. PutAmong bound es (n + rows_of (placed_by change ∷ []))) (sym writes.0)
+          (set_puts change storable bound (is_at (key_order key)) old.notes.entries v w n found more words among);
     }
 
 -- what is noted is told by the map
@@ -75,6 +80,7 @@ noted_by key change old old' new same is = record {
   here = λ changes noted. is.here changes (subst (λ (m : BTreeMap Key KeyNotes). AreNoted (get key_order m key) changes) same noted);
   others = λ k differs. is.others k differs ∙ ap (λ (m : BTreeMap Key KeyNotes). get key_order m k) (sym same);
   count = is.count ∙ ap (λ (m : BTreeMap Key KeyNotes). changes_among m.entries + 1) (sym same);
+  puts = λ bound n storable fit among. is.puts bound n storable fit (subst (λ (m : BTreeMap Key KeyNotes). PutAmong bound m.entries n) same among);
 }
 
 -- it has none
@@ -85,6 +91,8 @@ noted_first key change v old new none one words entries updates = record {
       (alone changes (subst (λ (o : Option KeyNotes). AreNoted o changes) none noted));
   others = λ k differs. updates.2 k (apart_at key k differs);
   count = ap changes_among entries ∙ insert_more old.notes.entries key v none one;
+  puts = λ bound n storable fit among. subst (λ es. PutAmong bound es (n + rows_of (placed_by change ∷ []))) (sym entries)
+      (insert_puts change storable bound old.notes.entries key v n none one words fit among);
 }
   where
     alone : (changes : List KeyChange) → changes ≡ [] → IsNotedIn v (changes ++ change ∷ [])
@@ -96,6 +104,7 @@ first_out : (key : Key) (v : KeyNotes) (old new : Pending) → old.notes.entries
 first_out key v old new entries found updates = record {
   here = found;
   gone = updates.1;
+  first = entries;
   others = λ k differs. updates.2 k (apart_at key k differs);
   count = ap changes_among entries;
   fewer = ap length entries ∙ omega arith;

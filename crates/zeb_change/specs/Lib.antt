@@ -14,6 +14,7 @@ pub mod Holding
 pub mod Reposted
 pub mod NoteWords
 pub mod Noted
+pub mod Asked
 pub mod PrivateKeyRuns
 pub mod PrivateChangedKeys
 pub mod PrivateTallies

@@ -1,9 +1,12 @@
 //! What becomes of the keys of one record, noted to be written later.
 
-ghost use Rattle.std.specs.Prelude.{◌≡◌, ◌+◌, ℕ, ℤ, OnOk};
+ghost use Rattle.std.specs.Prelude.{◌≡◌, ◌⊎◌, ◌+◌, ◌<◌, ◌≤◌, ◌^◌, ℕ, ℤ, length, OnOk};
 ghost use Rattle.std.specs.List.{Contains};
 ghost use Rattle.zeb_extract.specs.Order.{IsRising as AreRising};
 ghost use Rattle.zeb_register.specs.Content.{Content, IsRising};
+ghost use Rattle.zeb_extract.specs.declared.keys.Occurrence.{Occurrence};
+ghost use Rattle.zeb_register.specs.Room.{FitInRow};
+ghost use Rattle.zeb_change.specs.Asked.{IsStorableOccurrence, PutAmong};
 ghost use Rattle.zeb_change.specs.Costs.{IsRecordCost};
 ghost use Rattle.zeb_change.specs.Noted.{LeadsTo, noted_count};
 ghost use Rattle.zeb_change.specs.Reposted.{ArePostingsOf, AreTheSame, IsReposted};
@@ -35,6 +38,11 @@ pub fn note_keys(
     ensures cost { AreRising elder.now → AreRising newer.now
         → OnOk result ((n : ℕ) × IsRecordCost (Contains elder.now) (Contains newer.now) n
         × (noted_count pending.new ≡ noted_count pending.old + n)) }
+    ensures room { (bound n : ℕ) → AreRising elder.now → AreRising newer.now → 1 ≤ sysno → sysno < 2 ^ 63
+        → ((o : Occurrence) → Contains newer.now o → IsStorableOccurrence o)
+        → ((o : Occurrence) → Contains elder.now o ⊎ Contains newer.now o → FitInRow bound o.key)
+        → PutAmong bound pending.old.notes.entries n
+        → OnOk result ((more : ℕ) × (more ≤ length newer.now) × PutAmong bound pending.new.notes.entries (n + more)) }
 {
     let changed_keys = changed_keys(alloc, elder, newer)?;
     for changed in changed_keys {

@@ -1,15 +1,18 @@
 //! Noted changes of keys, written into the registers key by key.
 
-ghost use Rattle.std.specs.Prelude.{◌≡◌, List, Err, IsTrue, OnOk, IfOk, length, map};
+ghost use Rattle.std.specs.Prelude.{◌≡◌, ◌+◌, ℕ, List, Err, IsTrue, OnOk, IfOk, length, map};
 ghost use Rattle.sqlite.specs.Held.{state};
 ghost use Rattle.sqlite.specs.State.{HasCleanDisk};
-ghost use Rattle.zeb_register.specs.Calls.{GoesOn, Inside};
+ghost use Rattle.zeb_register.specs.Calls.{GoesOn, Inside, MayRefuse};
+ghost use Rattle.zeb_register.specs.Clauses.{InStore};
 ghost use Rattle.zeb_register.specs.Content.{Content, IsStorable};
 ghost use Rattle.zeb_register.specs.Formats.{holds_in};
+ghost use Rattle.zeb_register.specs.Room.{FitInRow, HasRoom};
 ghost use Rattle.zeb_register.specs.Store.{IsStore, KeepsLists};
+ghost use Rattle.zeb_change.specs.Asked.{HasRoomFor, PutsPlaces};
 ghost use Rattle.zeb_change.specs.Costs.{IsWorkFor};
 ghost use Rattle.zeb_change.specs.NoteWords.{KeyChange};
-ghost use Rattle.zeb_change.specs.Noted.{IsNothingNoted, Settles};
+ghost use Rattle.zeb_change.specs.Noted.{IsNothingNoted, Settles, WillHold};
 ghost use Rattle.zeb_change.specs.PrivateNotes.{IsCutOff, counts_in, places_in};
 ghost use Rattle.zeb_change.specs.PrivatePending.{AreGivenInOrder, ArePutAt};
 
@@ -81,6 +84,11 @@ fn write_key<S: Alter, L: Layout>(
         → IsStore (state S.Store tx.old.conn.now)
         → OnOk result ((content : Content) → holds_in L.format (state S.Store tx.old.conn.now).now.trees content
         → IsWorkFor L.row_work notes.now.count work.old work.new) }
+    ensures room { (content : Content) (n left : ℕ) → PutsPlaces notes.now n → FitInRow (n + left) key.now
+        → InStore (state S.Store tx.old.conn.now) (state S.Store tx.new.conn.now) (λ trees. holds_in L.format trees content
+        → HasRoom L.format (n + left) trees
+        → (result ≡ Err RegFault.Store → MayRefuse (state S.Store tx.old.conn.now) (state S.Store tx.new.conn.now))
+        × OnOk result (HasRoom L.format left (state S.Store tx.new.conn.now).now.trees)) }
 {
     let (counts, places) = notes.read(alloc)?;
     let given = given(alloc, &counts, &places)?;
@@ -104,6 +112,11 @@ pub fn write_pending<S: Alter, L: Layout>(
     ensures call { Settles L.format L.row_work db.0 (state S.Store tx.old.conn.now) (state S.Store tx.new.conn.now) pending.old pending.new
         work.old work.new result }
     ensures all { OnOk result (IsNothingNoted pending.new) }
+    ensures room { (ahead : Content) (most spare : ℕ) → IsStorable ahead
+        → InStore (state S.Store tx.old.conn.now) (state S.Store tx.new.conn.now) (λ trees. WillHold L.format trees db.0 pending.old ahead
+        → HasRoomFor L.format most trees pending.old spare
+        → (result ≡ Err RegFault.Store → MayRefuse (state S.Store tx.old.conn.now) (state S.Store tx.new.conn.now))
+        × OnOk result (HasRoomFor L.format most (state S.Store tx.new.conn.now).now.trees pending.new spare)) }
 {
     while let Some((key, notes)) = pending.take_first() {
         write_key::<S, L>(tx, alloc, work, db, &key, &notes)?;
@@ -123,6 +136,11 @@ pub fn write_where_full<S: Alter, L: Layout>(
     ensures same { tx.new.conn.ghost_name ≡ tx.old.conn.ghost_name }
     ensures call { Settles L.format L.row_work db.0 (state S.Store tx.old.conn.now) (state S.Store tx.new.conn.now) pending.old pending.new
         work.old work.new result }
+    ensures room { (ahead : Content) (most spare : ℕ) → IsStorable ahead
+        → InStore (state S.Store tx.old.conn.now) (state S.Store tx.new.conn.now) (λ trees. WillHold L.format trees db.0 pending.old ahead
+        → HasRoomFor L.format most trees pending.old spare
+        → (result ≡ Err RegFault.Store → MayRefuse (state S.Store tx.old.conn.now) (state S.Store tx.new.conn.now))
+        × OnOk result (HasRoomFor L.format most (state S.Store tx.new.conn.now).now.trees pending.new spare)) }
 {
     if pending.is_full() {
         return write_pending::<S, L>(tx, alloc, work, db, pending);

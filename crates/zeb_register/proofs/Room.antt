@@ -1,12 +1,11 @@
 -- Room in the tables of the registers: where there is enough, nothing hinders places, and places that are put use up as much as they are.
-use Rattle.std.proofs.Common.{◌≡◌, ◌⊎◌, ◌+◌, ◌*◌, ◌/◌, ◌<◌, ◌≤◌, ◌==◌, ◌^◌, ℕ, ℤ, List, [], ◌∷◌, ◌++◌, length, map, refl, sym, ap, subst, inl, inr, Ordering, Less, arith}
+use Rattle.std.proofs.Common.{◌≡◌, ◌⊎◌, ◌+◌, ◌/◌, ◌<◌, ◌≤◌, ◌==◌, ◌^◌, ℕ, ℤ, List, [], ◌∷◌, ◌++◌, length, map, refl, sym, ap, subst, inl, inr, Ordering, Less, arith}
 use Rattle.std.specs.Cmp.{IsTotalOrder, nat_cmp_total}
 use Rattle.std.specs.List.{AllByRecursion}
 use Rattle.std.specs.List.Sorted.{IsStrictlySortedBy}
 use Rattle.std.proofs.lemmas.List.{length-append, length-map}
 use Rattle.std.proofs.lemmas.List.Sums.{sum_by-append}
 use Rattle.sqlite.specs.declared.types.Value.TheVariants.{Int}
-use Rattle.sqlite.specs.Order.{Row}
 use Rattle.sqlite.specs.Tree.{Trees}
 use Rattle.sqlite_rules.specs.Lists.{Has}
 use Rattle.sqlite_rules.proofs.ListLemmas.{all_has, has_either, has_left, has_right}
@@ -37,7 +36,7 @@ split_has (y ∷ ys) x (inr later) = let it = split_has ys x later in (y ∷ it.
 
 module _ {K : Type 0} {R : K → K → Ordering} (o : IsTotalOrder R) where
   -- it is no longer than that
-  rising_few : (xs ys : List K) → IsStrictlySortedBy R xs → ((z : K) → Has xs z → Has ys z) → length xs ≤ length ys
+  pub rising_few : (xs ys : List K) → IsStrictlySortedBy R xs → ((z : K) → Has xs z → Has ys z) → length xs ≤ length ys
   unfolding IsStrictlySortedBy
   rising_few [] ys up there = omega arith
   rising_few (x ∷ xs) ys up there =

@@ -1,4 +1,9 @@
-use Rattle.std.proofs.Common.{◌≡◌, ◌+◌, ℤ, [], length}
+use Rattle.std.proofs.Common.{◌≡◌, ◌⊎◌, ◌+◌, ◌<◌, ◌≤◌, ◌^◌, ℕ, ℤ, [], length}
+use Rattle.std.specs.List.{Contains}
+use Rattle.zeb_extract.specs.declared.keys.Occurrence.{Occurrence}
+use Rattle.zeb_register.specs.Room.{FitInRow}
+use Rattle.zeb_change.specs.Asked.{IsStorableOccurrence, PutAmong}
+use Rattle.zeb_change.proofs.PutKeys.{places_put}
 use Rattle.zeb_extract.specs.Order.{IsRising as AreRising}
 use Rattle.zeb_register.specs.Content.{Content, IsRising}
 use Rattle.zeb_change.specs.Reposted.{ArePostingsOf}
@@ -12,4 +17,7 @@ invariant-loop-changed l = record {
       → LeadsTo db l.pending behind (moved db l.sysno l.yielded before);
   idle : l.yielded ≡ [] → l.pending ≡ l.fn.pending;
   count : noted_count l.pending ≡ noted_count l.fn.pending + length l.yielded;
+  room : (bound n : ℕ) → AreRising l.elder → AreRising l.newer → 1 ≤ l.sysno → l.sysno < 2 ^ 63 → ((o : Occurrence) → Contains l.newer o → IsStorableOccurrence o)
+      → ((o : Occurrence) → Contains l.elder o ⊎ Contains l.newer o → FitInRow bound o.key) → PutAmong bound l.fn.pending.notes.entries n
+      → PutAmong bound l.pending.notes.entries (n + places_put l.yielded);
 }

@@ -1,8 +1,10 @@
-use Rattle.std.proofs.Common.{◌≡◌, ◌∙◌, Ok, Result, rules, arith, Err, refl, sym}
+use Rattle.std.proofs.Common.{◌≡◌, ◌∙◌, ◌+◌, Ok, Result, rules, arith, Err, refl, sym}
 use Rattle.sqlite.specs.Held.{state}
 use Rattle.sqlite.specs.State.{HasCleanDisk}
 use Rattle.zeb_register.specs.declared.faults.RegFault.{RegFault}
-use Rattle.zeb_register.specs.declared.faults.RegFault.TheVariants.{Damaged}
+use Rattle.zeb_register.specs.declared.faults.RegFault.TheVariants.{Damaged, Store}
+use Rattle.zeb_register.proofs.Causes.{may_after}
+use Rattle.zeb_change.proofs.Asked.{first_known, none_known}
 use Rattle.zeb_change.proofs.ChangeKeysContent.{keeps_then}
 use Rattle.zeb_change.proofs.CostLemmas.{due_nothing, due_written}
 use Rattle.zeb_change.proofs.Leading.{held_then, nothing_more, put_one}
@@ -20,6 +22,7 @@ loop-key-init g c = record {
   crash = search rules;
   stays = search rules;
   written = λ clean mode store. still_settled g.L.Layout.format g.L.Layout.row_work c.args.db.0 (state g.S.Store c.args.tx.now.conn.now) c.args.pending.now c.args.work.now store;
+  room = λ clean mode store ahead most spare storable holds has. has;
 }
 
 pub loop-key-preserved : goal.loop-key-preserved
@@ -50,6 +53,15 @@ loop-key-preserved g c =
                       c.args.pending.now c.loop-key.pending c.take_first.new.self c.counts_are_numbers.ensures held.1 worked out.count,
                 ),
           );
+      room = λ clean mode store ahead most spare storable holds has.
+          let was : HasCleanDisk now = omega (arith, c.write_key.ensures.call.crash.clean) in
+          let stays = c.loop-key.invariant.stays was mode in
+          let so_far = c.loop-key.invariant.written was mode store in
+          let held = (so_far.2 ahead storable holds).0 in
+          let first = first_known g.L.Layout.format most notes key now.now.trees c.loop-key.pending c.take_first.new.self spare out.first
+          (c.loop-key.invariant.room was mode store ahead most spare storable holds has) in
+          let left = c.in_ok-write_key.ensures.room held.behind first.own (first.rest + spare) first.puts first.fits clean stays.mode so_far.0 held.held first.room in
+          first.leaves next.now.trees left.1;
     }
 
 pub returns-in_err-write_key-clause-call : goal.returns-in_err-write_key-clause-call
@@ -78,6 +90,36 @@ returns-in_err-write_key-clause-call g c =
           c.write_key.ensures.honest clean stays.mode so_far.0 fault held.behind one.0 held.storable held.held one.1;
       crash = search rules;
     }
+
+pub returns-in_err-write_key-clause-room : goal.returns-in_err-write_key-clause-room
+returns-in_err-write_key-clause-room g c ahead most spare storable clean mode store holds has =
+    let old = state g.S.Store c.args.tx.now.conn.now in
+    let now = state g.S.Store c.loop-key.tx.conn.now in
+    let new = state g.S.Store c.write_key.new.tx.conn.now in
+    let key = c.in-Some.key in
+    let notes = c.in-Some.notes in
+    let out = c.in-Some.ensures.taken in
+    let given : c.from_residual.result ≡ Err c.in_err-write_key.field-0.0 = search rules in
+    let was : HasCleanDisk now = omega (arith, c.write_key.ensures.call.crash.clean) in
+    let stays = c.loop-key.invariant.stays was mode in
+    let so_far = c.loop-key.invariant.written was mode store in
+    let held = (so_far.2 ahead storable holds).0 in
+    let first = first_known g.L.Layout.format most notes key now.now.trees c.loop-key.pending c.take_first.new.self spare out.first
+    (c.loop-key.invariant.room was mode store ahead most spare storable holds has) in
+    let one = c.write_key.ensures.room held.behind first.own (first.rest + spare) first.puts first.fits clean stays.mode so_far.0 held.held first.room in (
+      (λ told.
+          let fault : c.write_key.result ≡ Err Store = c.in_err-write_key.was ∙ sym given ∙ told in
+          may_after old now new c.loop-key.invariant.crash stays.stays_open (λ _. one.0 fault)),
+      rw given tt,
+    )
+
+pub returns-clause-room : goal.returns-clause-room
+returns-clause-room g c ahead most spare storable clean mode store holds has =
+    let now = state g.S.Store c.loop-key.tx.conn.now in
+    let none = c.in_default.ensures.none in (
+      (λ told. absurd (cc)),
+      none_known g.L.Layout.format most now.now.trees c.loop-key.pending c.take_first.new.self spare none.0 none.1 (c.loop-key.invariant.room clean mode store ahead most spare storable holds has),
+    )
 
 pub returns-clause-call : goal.returns-clause-call
 returns-clause-call g c = record {

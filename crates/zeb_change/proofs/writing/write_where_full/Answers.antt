@@ -3,6 +3,9 @@ use Rattle.sqlite.specs.Held.{state}
 use Rattle.zeb_change.proofs.Settling.{still_settled}
 use Rattle.zeb_change.proofs.writing.write_where_full.Goals as goal
 
+pub returns-clause-room : goal.returns-clause-room
+returns-clause-room g c ahead most spare storable clean mode store holds has = ((λ told. absurd (cc)), has)
+
 pub returns-clause-call : goal.returns-clause-call
 returns-clause-call g c = record {
   stays = search rules;
