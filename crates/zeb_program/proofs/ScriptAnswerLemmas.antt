@@ -24,7 +24,7 @@ use Rattle.zeb_program.specs.PathChanges.{AreFilesTold}
 use Rattle.zeb_program.specs.Scripts.{DividesAt, HasNoDivider}
 use Rattle.zeb_program.specs.Answers.{Writes, AnswersBatch, AnswersPart}
 use Rattle.zeb_program.specs.Serving.{Leads, Stops}
-use Rattle.zeb_program.specs.ScriptAnswers.{AnswersScript, unreadable, faulty, alone, ran, stopped, silent, AreScriptConditions, AnswersOpened, AnswersStopped, IsUnopened, IsProfileOf, unreadable_line, refusal_line, fault_line, fault_status}
+use Rattle.zeb_program.specs.ScriptAnswers.{AnswersScript, EndsEarly, EndsScript, unreadable, faulty, alone, ran, stopped, silent, AreScriptConditions, AnswersOpened, AnswersStopped, IsUnopened, IsProfileOf, unreadable_line, refusal_line, fault_line, fault_status}
 use Rattle.zeb_program.proofs.AnswerLemmas.{Appends-nil}
 
 unopened : (refusal : Refusal) (bytes : List ℕ) (status : ℕ) → (refusal ≡ Store) ⊎ ((refusal ≡ Commit) ⊎ (refusal ≡ Memory)) → (bytes ≡ refusal_line refusal) × (status ≡ status_of refusal) → IsUnopened bytes status
@@ -108,13 +108,13 @@ ran_script tells (Some text) old new read profile batch directives n unread fail
 pub stopped_script : (tells : List ℕ → Option (List ℕ)) (told old new : Option (List ℕ)) (read profile batch : List ℕ) (directives : List Directive) (n : ℕ) (unread failed : Bool) (r : Result ℕ AllocError)
     → IfSome told (λ text. read ≡ text) → IsInput read → DividesAt n read profile batch → profile_of profile ≡ Ok directives
     → OnErr r (failed ≡ false → AreFilesTold tells batch → AnswersStopped tells directives n batch old new)
-    → OnErr r (unread ≡ false → failed ≡ false → IfSome told (λ text. AnswersScript tells text old new 3))
+    → OnErr r (unread ≡ false → failed ≡ false → IfSome told (λ text. EndsEarly tells text old new))
 stopped_script tells told old new read profile batch directives n unread failed (Ok status) h input divides given answer = answer
 stopped_script tells None old new read profile batch directives n unread failed (Err e) h input divides given answer = λ _ _. tt
 stopped_script tells (Some text) old new read profile batch directives n unread failed (Err e) h input divides given answer = λ _ sound. stopped (subst IsInput h input) (subst (λ t. DividesAt n t profile batch) h divides) given (answer sound)
 
 -- memory ran out before anything was written
-pub silent_script : (tells : List ℕ → Option (List ℕ)) (told old : Option (List ℕ)) → IfSome told (λ text. AnswersScript tells text old old 3)
+pub silent_script : (tells : List ℕ → Option (List ℕ)) (told old : Option (List ℕ)) → IfSome told (λ text. EndsEarly tells text old old)
 silent_script tells None old = tt
 silent_script tells (Some text) old = silent ([], refl, Appends-nil old)
 
@@ -140,10 +140,31 @@ AnswersScript-kept tells text old mid new _ kept (unreadable long w) = unreadabl
 AnswersScript-kept tells text old mid new _ kept (faulty fault input is fails w) = faulty fault input is fails (Writes-kept old mid new (λ bytes. bytes ≡ fault_line fault) kept w)
 AnswersScript-kept tells text old mid new _ kept (alone input none sound w) = alone input none sound (Writes-kept old mid new (λ bytes. bytes ≡ []) kept w)
 AnswersScript-kept tells text old mid new status kept (ran {batch = batch} {directives = directives} {n = n} input divides given w) = ran input divides given (λ known. AnswersOpened-kept tells directives n batch old mid new status kept (w known))
-AnswersScript-kept tells text old mid new _ kept (stopped {batch = batch} {directives = directives} {n = n} input divides given w) = stopped input divides given (λ known. AnswersStopped-kept tells directives n batch old mid new kept (w known))
-AnswersScript-kept tells text old mid new _ kept (silent w) = silent (Writes-kept old mid new (λ bytes. bytes ≡ []) kept w)
+
+EndsEarly-kept : (tells : List ℕ → Option (List ℕ)) (text : List ℕ) (old mid new : Option (List ℕ)) → Keeps mid new → EndsEarly tells text old mid → EndsEarly tells text old new
+EndsEarly-kept tells text old mid new kept (stopped {batch = batch} {directives = directives} {n = n} input divides given w) = stopped input divides given (λ known. AnswersStopped-kept tells directives n batch old mid new kept (w known))
+EndsEarly-kept tells text old mid new kept (silent w) = silent (Writes-kept old mid new (λ bytes. bytes ≡ []) kept w)
+
+EndsScript-kept : (tells : List ℕ → Option (List ℕ)) (text : List ℕ) (old mid new : Option (List ℕ)) (status : ℕ) → Keeps mid new → EndsScript tells text old mid status → EndsScript tells text old new status
+EndsScript-kept tells text old mid new status kept (inl answers) = inl (AnswersScript-kept tells text old mid new status kept answers)
+EndsScript-kept tells text old mid new status kept (inr ends) = inr (EndsEarly-kept tells text old mid new kept ends.0, ends.1)
+
+-- a script is answered where the program has an answer, and ends early where it has none
+pub ended_script : (tells : List ℕ → Option (List ℕ)) (told old new : Option (List ℕ)) (unread failed : Bool) (r : Result ℕ AllocError)
+    → IfOk r (λ status. unread ≡ false → failed ≡ false → IfSome told (λ text. AnswersScript tells text old new status))
+    → IfOk r (λ status. unread ≡ false → failed ≡ false → IfSome told (λ text. EndsScript tells text old new status))
+ended_script tells told old new unread failed (Err e) h = h
+ended_script tells None old new unread failed (Ok status) h = λ _ _. tt
+ended_script tells (Some text) old new unread failed (Ok status) h = λ read sound. inl (h read sound)
+
+pub early_script : (tells : List ℕ → Option (List ℕ)) (told old new : Option (List ℕ)) (unread failed : Bool) (r : Result ℕ AllocError)
+    → OnErr r (unread ≡ false → failed ≡ false → IfSome told (λ text. EndsEarly tells text old new))
+    → OnErr r (unread ≡ false → failed ≡ false → IfSome told (λ text. EndsScript tells text old new 3))
+early_script tells told old new unread failed (Ok status) h = h
+early_script tells None old new unread failed (Err e) h = λ _ _. tt
+early_script tells (Some text) old new unread failed (Err e) h = λ read sound. inr (h read sound, refl)
 
 -- what is passed on stays what it was
-pub kept_script : (tells : List ℕ → Option (List ℕ)) (told old mid new : Option (List ℕ)) (status : ℕ) → Keeps mid new → IfSome told (λ text. AnswersScript tells text old mid status) → IfSome told (λ text. AnswersScript tells text old new status)
+pub kept_script : (tells : List ℕ → Option (List ℕ)) (told old mid new : Option (List ℕ)) (status : ℕ) → Keeps mid new → IfSome told (λ text. EndsScript tells text old mid status) → IfSome told (λ text. EndsScript tells text old new status)
 kept_script tells None old mid new status kept h = tt
-kept_script tells (Some text) old mid new status kept h = AnswersScript-kept tells text old mid new status kept h
+kept_script tells (Some text) old mid new status kept h = EndsScript-kept tells text old mid new status kept h

@@ -73,8 +73,15 @@ pub data AnswersScript : (List ℕ → Option (List ℕ)) → List ℕ → Optio
   -- a profile, and the lines of a batch; what is said of them is said where the bytes of each file that a line names by a path are told
   ran : {told : List ℕ → Option (List ℕ)} {text profile batch : List ℕ} {directives : List Directive} {n status : ℕ} {old new : Option (List ℕ)} → IsInput text → DividesAt n text profile batch → profile_of profile ≡ Ok directives
       → (AreFilesTold told batch → AnswersOpened told directives n batch old new status) → AnswersScript told text old new status
-  -- the same, where memory ran out for the program itself before the last line was answered
+
+-- what it adds where memory runs out for the program itself
+pub data EndsEarly : (List ℕ → Option (List ℕ)) → List ℕ → Option (List ℕ) → Option (List ℕ) → Type 0 where
+  -- before the last line of the batch is answered
   stopped : {told : List ℕ → Option (List ℕ)} {text profile batch : List ℕ} {directives : List Directive} {n : ℕ} {old new : Option (List ℕ)} → IsInput text → DividesAt n text profile batch → profile_of profile ≡ Ok directives
-      → (AreFilesTold told batch → AnswersStopped told directives n batch old new) → AnswersScript told text old new 3
-  -- memory ran out while the input was read
-  silent : {told : List ℕ → Option (List ℕ)} {text : List ℕ} {old new : Option (List ℕ)} → Writes old new (λ bytes. bytes ≡ []) → AnswersScript told text old new 3
+      → (AreFilesTold told batch → AnswersStopped told directives n batch old new) → EndsEarly told text old new
+  -- while the input is read
+  silent : {told : List ℕ → Option (List ℕ)} {text : List ℕ} {old new : Option (List ℕ)} → Writes old new (λ bytes. bytes ≡ []) → EndsEarly told text old new
+
+-- a script is answered, or it ends early, with status 3
+abbrev pub EndsScript : (List ℕ → Option (List ℕ)) → List ℕ → Option (List ℕ) → Option (List ℕ) → ℕ → Type 0
+EndsScript told text old new status = AnswersScript told text old new status ⊎ (EndsEarly told text old new × (status ≡ 3))

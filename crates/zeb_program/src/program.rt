@@ -3,7 +3,7 @@
 ghost use Rattle.std.specs.Prelude.{◌≡◌, ◌≢◌, ◌⊎◌, ◌≤◌, ◌+◌, [], true, false, map, string_bytes, IfOk, IfSome, OnErr};
 ghost use Rattle.std.specs.Io.KnownBytes.{Appends, Keeps};
 ghost use Rattle.zeb_program.specs.Inputs.{TakesAtMost};
-ghost use Rattle.zeb_program.specs.ScriptAnswers.{AnswersScript, fault_line, fault_status};
+ghost use Rattle.zeb_program.specs.ScriptAnswers.{AnswersScript, EndsEarly, EndsScript, fault_line, fault_status};
 ghost use Rattle.zeb_program.specs.WordAnswers.{AnswersWords, IsFaultStatus, NamesLines, NamesShell};
 
 use crate::batch::run_batch;
@@ -76,7 +76,7 @@ pub fn run<R: Source, W: Output, V: Output, P: Paths>(
     // told where the paths tell the bytes of each file that a line names by its path.
     ensures script { words.now ≡ [] → R.has_failed input.new ≡ false → output.new.failed ≡ false → fault_output.new.failed ≡ false →
         IfSome (R.remaining input.old) (λ text.
-        AnswersScript (P.tells paths.old) text (W.contents output.old.writer) (W.contents output.new.writer) result) }
+        EndsScript (P.tells paths.old) text (W.contents output.old.writer) (W.contents output.new.writer) result) }
     ensures quiet { words.now ≡ [] → fault_output.new.failed ≡ false →
         Keeps (V.contents fault_output.old.writer) (V.contents fault_output.new.writer) }
 
@@ -132,7 +132,7 @@ fn run_script<R: Source, W: Write, P: Paths>(
         AnswersScript (P.tells paths.now) text (W.contents output.old.writer) (W.contents output.new.writer) status)) }
     ensures stopped { OnErr result (R.has_failed input.new ≡ false → output.new.failed ≡ false →
         IfSome (R.remaining input.old) (λ text.
-        AnswersScript (P.tells paths.now) text (W.contents output.old.writer) (W.contents output.new.writer) FAILED)) }
+        EndsEarly (P.tells paths.now) text (W.contents output.old.writer) (W.contents output.new.writer))) }
 {
     let text = match read_text(alloc, input, GREATEST_INPUT) {
         Ok(text) => text,

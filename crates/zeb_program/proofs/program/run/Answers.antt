@@ -1,9 +1,9 @@
 use Rattle.std.proofs.Common.{◌≡◌, false, map, string_bytes}
 use Rattle.std.specs.Prelude.{IfSome}
-use Rattle.zeb_program.specs.ScriptAnswers.{AnswersScript}
+use Rattle.zeb_program.specs.ScriptAnswers.{EndsScript}
 use Rattle.zeb_program.specs.WordAnswers.{AnswersWords}
 use Rattle.zeb_program.proofs.Unwrapped.{unwrapped}
-use Rattle.zeb_program.proofs.ScriptAnswerLemmas.{kept_script}
+use Rattle.zeb_program.proofs.ScriptAnswerLemmas.{early_script, ended_script, kept_script}
 use Rattle.zeb_program.proofs.WordAnswerLemmas.{kept_words}
 use Rattle.zeb_program.proofs.program.run.Goals as goal
 
@@ -14,8 +14,8 @@ returns-then-is_empty-clause-script g c = λ none read sound quiet.
     let old = g.W.Write.contents c.args.output.now.writer in
     let mid = g.W.Write.contents c.run_script.new.output.writer in
     let told = unwrapped c.run_script.result
-    (λ status. g.R.Source.has_failed c.run_script.new.input ≡ false → c.run_script.new.output.failed ≡ false → IfSome left (λ text. AnswersScript tells text old mid status)) 3
-    c.run_script.ensures.answer c.run_script.ensures.stopped read (c.finish.ensures.sound sound) in
+    (λ status. g.R.Source.has_failed c.run_script.new.input ≡ false → c.run_script.new.output.failed ≡ false → IfSome left (λ text. EndsScript tells text old mid status)) 3
+    (ended_script tells left old mid _ _ c.run_script.result c.run_script.ensures.answer) (early_script tells left old mid _ _ c.run_script.result c.run_script.ensures.stopped) read (c.finish.ensures.sound sound) in
     rw (c.finish.ensures.status sound quiet, c.unwrap_or-status.ensures)
     (kept_script tells left old mid (g.W.Write.contents c.finish.new.output.writer) _ (c.finish.ensures.bytes sound) told)
 
