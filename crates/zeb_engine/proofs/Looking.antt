@@ -7,7 +7,7 @@ use Rattle.std.proofs.lemmas.Str.{IsUtf8-string_bytes}
 use Rattle.std.specs.Option.{option_map}
 use Rattle.sqlite.specs.Effect.{Database}
 use Rattle.sqlite.specs.Tree.{Trees}
-use Rattle.sqlite.specs.State.{State}
+use Rattle.sqlite.specs.State.{HasCleanDisk, State}
 use Rattle.zeb_profile.specs.declared.directives.Directive.{Directive}
 use Rattle.zeb_profile.specs.Canonical.{canonical_text, pattern_text}
 use Rattle.zeb_profile.specs.Indexes.{identifier_pattern}
@@ -95,7 +95,7 @@ module _ {T : Type 0} (F : Trees → T → Type 0) (R : Trees → Refusal → Ty
   store_then store = store_same old mid same_then store
 
   module _ {X Y : Type 0} (G : Trees → X → Type 0) (H : Trees → Y → Type 0) (Q P : Trees → Refusal → Type 0) (new : State) where
-    pub then_ends : (why : Refusal) → (IsStore old → F old.now.trees x → Q old.now.trees why → P old.now.trees why) → IsLook G Q mid new (Err why) → IsLook H P old new (Err why)
+    then_ends : (why : Refusal) → (IsStore old → F old.now.trees x → Q old.now.trees why → P old.now.trees why) → IsLook G Q mid new (Err why) → IsLook H P old new (Err why)
     then_ends why so it = record {
       same = nothing_then old mid new first.same it.same;
       found = tt;
@@ -103,7 +103,7 @@ module _ {T : Type 0} (F : Trees → T → Type 0) (R : Trees → Refusal → Ty
       told = λ store. so store (first.told store) (subst (λ (d : Database). Q d.trees why) same_then (it.told (store_then store)));
     }
 
-    pub then_settles : (y : X) → IsLook G Q mid new (Ok y) → (result : Result Y Refusal) → (IsStore old → F old.now.trees x → G old.now.trees y → MatchResult result (H old.now.trees) (P old.now.trees))
+    then_settles : (y : X) → IsLook G Q mid new (Ok y) → (result : Result Y Refusal) → (IsStore old → F old.now.trees x → G old.now.trees y → MatchResult result (H old.now.trees) (P old.now.trees))
         → IsLook H P old new result
     then_settles y it result so = record {
       same = nothing_then old mid new first.same it.same;
@@ -111,6 +111,21 @@ module _ {T : Type 0} (F : Trees → T → Type 0) (R : Trees → Refusal → Ty
       seen = any_err result _ first.found.0;
       told = λ store. so store (first.told store) (subst (λ (d : Database). G d.trees y) same_then (it.told (store_then store)));
     }
+
+-- ---- a text behind the version
+
+abbrev pub KeepsVersion : Trees → String Global → Type 0
+KeepsVersion trees version = KeepsText trees (codes "version") (string_bytes version)
+
+module _ (old mid new : State) (version : String Global) (clean : HasCleanDisk mid) (look : HasCleanDisk mid → IsLook KeepsVersion RefusesVersion old mid (Ok version)) (name text : List ℕ)
+    {Y : Type 0} (H : Trees → Y → Type 0) (P : Trees → Refusal → Type 0) where
+  pub text_ends : (why : Refusal) → (KeepsVersion old.now.trees version → RefusesText name old.now.trees why → P old.now.trees why) → IsLook (TellsText name text) (RefusesText name) mid new (Err why)
+      → IsLook H P old new (Err why)
+  text_ends why so it = then_ends KeepsVersion RefusesVersion old mid version (look clean) (TellsText name text) H (RefusesText name) P new why (λ store kept hard. so kept hard) it
+
+  pub text_settles : (it : Bool) → IsLook (TellsText name text) (RefusesText name) mid new (Ok it) → (result : Result Y Refusal)
+      → (KeepsVersion old.now.trees version → TellsText name text old.now.trees it → MatchResult result (H old.now.trees) (P old.now.trees)) → IsLook H P old new result
+  text_settles it told result so = then_settles KeepsVersion RefusesVersion old mid version (look clean) (TellsText name text) H (RefusesText name) P new it told result (λ store kept tells. so kept tells)
 
 -- ---- the looks before a reindex and an upgrade
 

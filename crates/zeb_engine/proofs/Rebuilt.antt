@@ -4,57 +4,32 @@ use base.Stored.{Coded-set}
 use mathlib.Core.Bool.{Bool-set}
 use Rattle.std.proofs.Common.{◌≡◌, ◌≢◌, ◌↔◌, ◌∙◌, ℕ, true, List, [], ◌∷◌, codes, get_or, Some, Ok, refl, sym, ap, ap₂, subst, inl, inr, arith, IsUtf8}
 use Rattle.std.proofs.Math.Logic.{∥∥₁_elim}
-use Rattle.std.specs.Option.{option_and_then, option_map}
+use Rattle.std.specs.Option.{option_map}
 use Rattle.sqlite.specs.declared.types.Value.TheVariants.{Int, Null, Text}
 use Rattle.sqlite.specs.Tree.{Trees}
 use Rattle.sqlite_rules.specs.Lists.{Has}
-use Rattle.zeb_marc.specs.Contents.{units_of}
-use Rattle.zeb_marc.specs.Records.{fields_of}
 use Rattle.zeb_profile.specs.contracts.patterns.UnitPattern as pattern_row
 use Rattle.zeb_profile.specs.declared.directives.Directive.{Directive}
 use Rattle.zeb_profile.specs.declared.patterns.UnitPattern.{UnitPattern}
 use Rattle.zeb_profile.specs.Canonical.{canonical_text, pattern_text}
 use Rattle.zeb_profile.specs.Indexes.{identifier_pattern}
 use Rattle.zeb_profile.specs.Laws.{IsProfile}
-use Rattle.zeb_extract.specs.Identifier.{first_fitting, held_in}
 use Rattle.zeb_register.specs.Formats.{Format}
 use Rattle.zeb_register.specs.Sql.{Replaces}
 use Rattle.zeb_register.specs.Store.{KeepsRegisters, IsEntryOf, entry, meta_tree, record_row}
 use Rattle.zeb_register.proofs.FormatLemmas.{registers_stay}
-use Rattle.zeb_change.specs.Base.{Base, Kept}
+use Rattle.zeb_change.specs.Base.{Base}
 use Rattle.zeb_change.specs.Conditions.{Conditions, AreSessions}
-use Rattle.zeb_change.specs.Folding.{ident_in}
-use Rattle.zeb_change.specs.Stored.{IsBase, IsKept}
 use Rattle.zeb_image.specs.Holdings.{Holdings}
 use Rattle.zeb_image.specs.Image.{AreBases, AreListsOf, HasTexts, IsImage, IsImageOf, IsImageUnder}
-use Rattle.zeb_image.proofs.OneText.{under_other}
+use Rattle.zeb_image.proofs.OneText.{bases_so, under_other}
 use Rattle.zeb_engine.specs.Rules.{same_rule}
 use Rattle.zeb_engine.specs.Steps.{holding, ruled, upgradable}
 use Rattle.zeb_engine.proofs.ReadyImages.{ready_image}
 use Rattle.zeb_engine.proofs.RenewalSteps.{ruled_is, upgradable_is}
 use Rattle.zeb_engine.proofs.RuleLines.{same_rule_says}
 
--- ---- databases under a profile with the same rule for identifiers
-
-module _ (one other : List Directive) (same : identifier_pattern one ≡ identifier_pattern other) where
-  ident_so : (bytes : List ℕ) → ident_in one bytes ≡ ident_in other bytes
-  ident_so bytes = ap (λ rule. held_in (option_and_then (λ pattern. first_fitting pattern (units_of (fields_of bytes))) rule)) same
-
-  kept_so : (kept : Kept) → IsKept one kept → IsKept other kept
-  kept_so kept is = record { whole = is.whole; named = sym (ident_so kept.bytes) ∙ is.named; text = is.text }
-
-  base_so : (base : Base) → IsBase one base → IsBase other base
-  base_so base is = record {
-    rising = is.rising;
-    from_one = is.from_one;
-    to_last = is.to_last;
-    few = is.few;
-    single = is.single;
-    sound = λ kept there. kept_so kept (is.sound kept there);
-  }
-
-  bases_so : (bases : List Base) → AreBases one bases → AreBases other bases
-  bases_so bases are = record { rising = are.rising; each = λ base there. base_so base (are.each base there); named = are.named }
+-- ---- profiles with the same rule for identifiers
 
 pattern_set : IsSet UnitPattern
 pattern_set = Coded-set pattern_row.the_row.coded

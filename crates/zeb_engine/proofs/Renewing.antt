@@ -4,7 +4,7 @@ use Rattle.std.specs.Option.{option_map}
 use Rattle.sqlite.specs.declared.types.Value.TheVariants.{Int}
 use Rattle.sqlite.specs.Order.{Row}
 use Rattle.sqlite.specs.Tree.{Trees}
-use Rattle.sqlite.specs.State.{HasCleanDisk, State, KeepsCommit}
+use Rattle.sqlite.specs.State.{HasCleanDisk, State, KeepsCommit, Survives}
 use Rattle.sqlite_rules.specs.Lists.{Has}
 use Rattle.zeb_profile.specs.declared.directives.Directive.{Directive}
 use Rattle.zeb_profile.specs.Canonical.{canonical_text, pattern_text}
@@ -69,9 +69,12 @@ module _ (profile : List Directive) (c : Conditions) (Fits : Holdings → Type 0
         honest is at.0 it.0 it.1.it.image.lists (subst (λ p. AreBases p it.0) it.2 (was_bases c old.now.trees it.0 it.1)))),
   )
 
-pub put_fails : (Fits : Holdings → Type 0) (outcome : Holdings → Outcome) (old mid new : State) (fault : RegFault) → (fault ≡ register.Damaged → ⊥) → GoesOn old mid → KeepsCommit mid new
-    → Works (λ _ before. Fits before) outcome old new (Err (register_refusal fault))
-put_fails Fits outcome old mid new fault whole first keeps = (goes_keeps old mid new first keeps, λ before fits sees. inl (fault_fails fault whole))
+-- behind the registers, which were made anew, the text isn't put
+pub put_fails : (Fits : Holdings → Type 0) (outcome : Holdings → Outcome) (old mid new : State) → Survives mid new (λ _. ⊥) → HasCleanDisk new → (HasCleanDisk mid → GoesOn old mid)
+    → (fault : RegFault) → (fault ≡ register.Damaged → ⊥) → (IsTrue mid.in_transaction → KeepsCommit mid new) → Works (λ _ before. Fits before) outcome old new (Err (register_refusal fault))
+put_fails Fits outcome old mid new crash clean made fault whole keeps =
+    let first = made (omega (arith, crash.clean)) in
+    (goes_keeps old mid new first (keeps first.mode), λ before fits sees. inl (fault_fails fault whole))
 
 -- ---- done
 

@@ -8,6 +8,7 @@ use Rattle.zeb_marc.specs.Contents.{units_of}
 use Rattle.zeb_marc.specs.Records.{fields_of}
 use Rattle.zeb_profile.specs.declared.directives.Directive.{Directive}
 use Rattle.zeb_profile.specs.Canonical.{canonical_text, pattern_text}
+use Rattle.zeb_profile.specs.Indexes.{identifier_pattern}
 use Rattle.zeb_profile.specs.Laws.{IsProfile, SaysTheSame}
 use Rattle.zeb_profile.proofs.ProfilesBack.{one_text_says_the_same}
 use Rattle.zeb_profile.proofs.SaysProps.{SaysTheSame-prop}
@@ -39,12 +40,13 @@ occurs_so one other same kept o is = record {
   in_unit = is.in_unit;
 }
 
-module _ (one other : List Directive) (same : SaysTheSame one other) where
-  same_ident : (bytes : List ℕ) → ident_in one bytes ≡ ident_in other bytes
-  same_ident bytes = ap (λ rule. held_in (option_and_then (λ pattern. first_fitting pattern (units_of (fields_of bytes))) rule)) same.identifier
+-- databases under a profile with the same rule for identifiers
+module _ (one other : List Directive) (same : identifier_pattern one ≡ identifier_pattern other) where
+  ident_so : (bytes : List ℕ) → ident_in one bytes ≡ ident_in other bytes
+  ident_so bytes = ap (λ rule. held_in (option_and_then (λ pattern. first_fitting pattern (units_of (fields_of bytes))) rule)) same
 
   kept_so : (kept : Kept) → IsKept one kept → IsKept other kept
-  kept_so kept is = record { whole = is.whole; named = sym (same_ident kept.bytes) ∙ is.named; text = is.text }
+  kept_so kept is = record { whole = is.whole; named = sym (ident_so kept.bytes) ∙ is.named; text = is.text }
 
   base_so : (base : Base) → IsBase one base → IsBase other base
   base_so base is = record {
@@ -56,9 +58,10 @@ module _ (one other : List Directive) (same : SaysTheSame one other) where
     sound = λ kept there. kept_so kept (is.sound kept there);
   }
 
-  bases_so : (bases : List Base) → AreBases one bases → AreBases other bases
+  pub bases_so : (bases : List Base) → AreBases one bases → AreBases other bases
   bases_so bases are = record { rising = are.rising; each = λ base there. base_so base (are.each base there); named = are.named }
 
+module _ (one other : List Directive) (same : SaysTheSame one other) where
   posted_so : (records_of : ℤ → List Kept) (content : Content) → ArePosted one records_of content → ArePosted other records_of content
   posted_so records_of content are = record {
     rising = are.rising;
@@ -84,7 +87,7 @@ under_other one other is_other trees version text bases text_is at =
       pattern = at.pattern;
       pattern_is = ap (option_map pattern_text) (sym same.identifier) ∙ at.pattern_is;
       texts = at.texts;
-      are = bases_so one other same bases at.are;
+      are = bases_so one other same.identifier bases at.are;
       format = at.format;
       version_is = at.version_is;
       image = image_of_so one other same at.format trees bases at.image;

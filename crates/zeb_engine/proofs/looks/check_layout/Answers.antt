@@ -1,13 +1,12 @@
 use Rattle.std.proofs.Common.{◌≡◌, codes, string_bytes, Bool, false, Err, None, List, ℕ, rules, arith, subst, subst₂}
 use Rattle.sqlite.specs.Held.{state}
-use Rattle.sqlite.specs.State.{HasCleanDisk}
 use Rattle.zeb_register.specs.Formats.{version_of}
 use Rattle.zeb_change.specs.declared.refusals.Refusal.TheVariants.{OldFormat, ProfileChanged}
-use Rattle.zeb_engine.specs.PrivateLooking.{FindsStanding, RefusesText, RefusesVersion, TellsStanding, TellsText}
+use Rattle.zeb_engine.specs.PrivateLooking.{FindsStanding, RefusesVersion, TellsStanding, TellsText}
 use Rattle.zeb_engine.specs.declared.looks.Standing.{Standing}
 use Rattle.std.specs.Prelude.{Some}
 use Rattle.zeb_engine.specs.Readiness.{KeepsText, RefusesUpgrade}
-use Rattle.zeb_engine.proofs.Looking.{look_settles, one_readable, profile_as_layout, standing_changed, standing_none, then_ends, then_settles, upgradable_so}
+use Rattle.zeb_engine.proofs.Looking.{look_settles, one_readable, profile_as_layout, standing_changed, standing_none, text_ends, text_settles, upgradable_so}
 use Rattle.std.proofs.Common.{refl}
 use Rattle.zeb_engine.proofs.looks.check_layout.Goals as goal
 
@@ -24,35 +23,27 @@ returns-in_default-clause-look g c clean =
 
 pub returns-in_err-keeps_text-clause-look : goal.returns-in_err-keeps_text-clause-look
 returns-in_err-keeps_text-clause-look g c clean =
-    let old = state g.S.Store c.args.connection.now in
-    let mid = state g.S.Store c.kept_version.new.connection in
     let own = version_of g.L.Layout.format in
     let profile = c.args.profile.now in
     let found = c.in_ok-version.version in
-    let why = c.in_err-keeps_text.field-0.0 in
     let spelled : c.as_str.result.now ≡ string_bytes found = search rules in
-    let standing = c.in-Some.standing in
-    let is = subst (λ v. TellsStanding own v (Some standing)) spelled c.in-Some.ensures in
-    let first : HasCleanDisk mid = omega (arith, c.keeps_text.ensures.crash.clean) in
+    let is = subst (λ v. TellsStanding own v (Some c.in-Some.standing)) spelled c.in-Some.ensures in
+    let why = c.in_err-keeps_text.field-0.0 in
     let told : c.from_residual-in_err-keeps_text.result ≡ Err why = search rules in
-    rw told (then_ends (λ trees version. KeepsText trees (codes "version") (string_bytes version)) RefusesVersion old mid found (c.in_ok-version.ensures.look first)
-    {Y = Standing} (TellsText (codes "profile") c.text.result.now) (FindsStanding own profile) (RefusesText (codes "profile")) (RefusesUpgrade own profile) (state g.S.Store c.keeps_text.new.connection)
-    why (λ store kept hard. profile_as_layout own profile old.now.trees (upgradable_so own profile old.now.trees (string_bytes found) kept standing is) why hard) (c.in_err-keeps_text.ensures.look clean))
+    rw told (text_ends (state g.S.Store c.args.connection.now) (state g.S.Store c.kept_version.new.connection) (state g.S.Store c.keeps_text.new.connection) found (omega (arith, c.keeps_text.ensures.crash.clean)) c.in_ok-version.ensures.look
+    (codes "profile") c.text.result.now (FindsStanding own profile) (RefusesUpgrade own profile)
+    why (λ kept hard. profile_as_layout own profile (state g.S.Store c.args.connection.now).now.trees (upgradable_so own profile (state g.S.Store c.args.connection.now).now.trees (string_bytes found) kept c.in-Some.standing is) why hard) (c.in_err-keeps_text.ensures.look clean))
 
 pub returns-clause-look : goal.returns-clause-look
 returns-clause-look g c clean =
-    let old = state g.S.Store c.args.connection.now in
-    let mid = state g.S.Store c.kept_version.new.connection in
     let own = version_of g.L.Layout.format in
     let profile = c.args.profile.now in
     let found = c.in_ok-version.version in
-    let first : HasCleanDisk mid = omega (arith, c.keeps_text.ensures.crash.clean) in
     let spelled : c.as_str.result.now ≡ string_bytes found = search rules in
-    let standing = c.in-Some.standing in
-    let is = subst (λ v. TellsStanding own v (Some standing)) spelled c.in-Some.ensures in
+    let is = subst (λ v. TellsStanding own v (Some c.in-Some.standing)) spelled c.in-Some.ensures in
     let no : c.in_ok-keeps_text.field-0 ≡ false = search rules in
-    then_settles (λ trees version. KeepsText trees (codes "version") (string_bytes version)) RefusesVersion old mid found (c.in_ok-version.ensures.look first)
-    {Y = Standing} (TellsText (codes "profile") c.text.result.now) (FindsStanding own profile) (RefusesText (codes "profile")) (RefusesUpgrade own profile) (state g.S.Store c.keeps_text.new.connection)
+    text_settles (state g.S.Store c.args.connection.now) (state g.S.Store c.kept_version.new.connection) (state g.S.Store c.keeps_text.new.connection) found (omega (arith, c.keeps_text.ensures.crash.clean)) c.in_ok-version.ensures.look
+    (codes "profile") c.text.result.now (FindsStanding own profile) (RefusesUpgrade own profile)
     c.in_ok-keeps_text.field-0 (c.in_ok-keeps_text.ensures.look clean) (Err ProfileChanged)
-    (λ store kept tells. standing_changed own profile old.now.trees (string_bytes found) kept standing is
-    (subst₂ (λ (t : List ℕ) (b : Bool). TellsText (codes "profile") t old.now.trees b) c.text.ensures no tells))
+    (λ kept tells. standing_changed own profile (state g.S.Store c.args.connection.now).now.trees (string_bytes found) kept c.in-Some.standing is
+    (subst₂ (λ (t : List ℕ) (b : Bool). TellsText (codes "profile") t (state g.S.Store c.args.connection.now).now.trees b) c.text.ensures no tells))

@@ -2,14 +2,13 @@ use Rattle.std.proofs.Common.{◌≡◌, ◌∙◌, codes, string_bytes, not, fa
 use Rattle.std.specs.Option.{option_map}
 use Rattle.std.specs.Str.{bytes_eq}
 use Rattle.sqlite.specs.Held.{state}
-use Rattle.sqlite.specs.State.{HasCleanDisk}
 use Rattle.zeb_profile.specs.Canonical.{pattern_text}
 use Rattle.zeb_profile.specs.Indexes.{identifier_pattern}
 use Rattle.zeb_register.specs.Formats.{version_of}
 use Rattle.zeb_change.specs.declared.refusals.Refusal.TheVariants.{IdentifierRuleChanged, OldFormat}
-use Rattle.zeb_engine.specs.PrivateLooking.{RefusesText, RefusesVersion, TellsText}
+use Rattle.zeb_engine.specs.PrivateLooking.{RefusesVersion, TellsText}
 use Rattle.zeb_engine.specs.Readiness.{IsReadyToReindex, KeepsText, RefusesReindex}
-use Rattle.zeb_engine.proofs.Looking.{look_settles, one_readable, pattern_as_rule, rule_differs, then_ends, then_settles}
+use Rattle.zeb_engine.proofs.Looking.{look_settles, one_readable, pattern_as_rule, rule_differs, text_ends, text_settles}
 use Rattle.zeb_engine.proofs.Ready.{texts_agree, texts_differ}
 use Rattle.zeb_engine.proofs.ReadyTexts.{other_text}
 use Rattle.zeb_engine.proofs.looks.check_rule.Goals as goal
@@ -27,36 +26,32 @@ returns-then-ne-clause-look g c clean =
 
 pub returns-in_err-keeps_text-clause-look : goal.returns-in_err-keeps_text-clause-look
 returns-in_err-keeps_text-clause-look g c clean =
-    let old = state g.S.Store c.args.connection.now in
-    let mid = state g.S.Store c.kept_version.new.connection in
     let own = version_of g.L.Layout.format in
     let profile = c.args.profile.now in
     let found = c.in_ok-version.version in
-    let why = c.in_err-keeps_text.field-0.0 in
     let tested : c.ne.result ≡ not (bytes_eq c.as_str.result.now c.version.result.now) = search rules in
     let same = texts_agree c.ne.result c.as_str.result.now c.version.result.now (string_bytes found) own tested c.if-ne.false (search rules) c.version.ensures in
-    let first : HasCleanDisk mid = omega (arith, c.keeps_text.ensures.crash.clean) in
+    let trees = (state g.S.Store c.args.connection.now).now.trees in
+    let why = c.in_err-keeps_text.field-0.0 in
     let told : c.from_residual-in_err-keeps_text.result ≡ Err why = search rules in
-    rw told (then_ends (λ trees version. KeepsText trees (codes "version") (string_bytes version)) RefusesVersion old mid found (c.in_ok-version.ensures.look first)
-    {Y = Unit {0}} (TellsText (codes "identifier") c.as_str-2.result.now) (λ trees x. IsReadyToReindex own profile trees) (RefusesText (codes "identifier")) (RefusesReindex own profile) (state g.S.Store c.keeps_text.new.connection)
-    why (λ store kept is. pattern_as_rule own profile old.now.trees (subst (KeepsText old.now.trees (codes "version")) same kept) why is) (c.in_err-keeps_text.ensures.look clean))
+    rw told (text_ends (state g.S.Store c.args.connection.now) (state g.S.Store c.kept_version.new.connection) (state g.S.Store c.keeps_text.new.connection) found (omega (arith, c.keeps_text.ensures.crash.clean)) c.in_ok-version.ensures.look
+    (codes "identifier") c.as_str-2.result.now (λ trees x. IsReadyToReindex own profile trees) (RefusesReindex own profile)
+    why (λ kept is. pattern_as_rule own profile trees (subst (KeepsText trees (codes "version")) same kept) why is) (c.in_err-keeps_text.ensures.look clean))
 
 pub returns-clause-look : goal.returns-clause-look
 returns-clause-look g c clean =
-    let old = state g.S.Store c.args.connection.now in
-    let mid = state g.S.Store c.kept_version.new.connection in
     let own = version_of g.L.Layout.format in
     let profile = c.args.profile.now in
     let found = c.in_ok-version.version in
     let text = c.as_str-2.result.now in
-    let first : HasCleanDisk mid = omega (arith, c.keeps_text.ensures.crash.clean) in
     let tested : c.ne.result ≡ not (bytes_eq c.as_str.result.now c.version.result.now) = search rules in
     let same = texts_agree c.ne.result c.as_str.result.now c.version.result.now (string_bytes found) own tested c.if-ne.false (search rules) c.version.ensures in
+    let trees = (state g.S.Store c.args.connection.now).now.trees in
     let no : c.in_ok-keeps_text.field-0 ≡ false = search rules in
     let spelled : string_bytes c.in_ok-pattern.pattern ≡ pattern_text c.identifier_rule.result.now = search rules in
     let lent : text ≡ string_bytes c.in_ok-pattern.pattern = search rules in
     let pattern : option_map pattern_text (identifier_pattern profile) ≡ Some text = ap (option_map pattern_text) c.identifier_rule.ensures ∙ ap Some (sym (lent ∙ spelled)) in
-    then_settles (λ trees version. KeepsText trees (codes "version") (string_bytes version)) RefusesVersion old mid found (c.in_ok-version.ensures.look first)
-    {Y = Unit {0}} (TellsText (codes "identifier") text) (λ trees x. IsReadyToReindex own profile trees) (RefusesText (codes "identifier")) (RefusesReindex own profile) (state g.S.Store c.keeps_text.new.connection)
+    text_settles (state g.S.Store c.args.connection.now) (state g.S.Store c.kept_version.new.connection) (state g.S.Store c.keeps_text.new.connection) found (omega (arith, c.keeps_text.ensures.crash.clean)) c.in_ok-version.ensures.look
+    (codes "identifier") text (λ trees x. IsReadyToReindex own profile trees) (RefusesReindex own profile)
     c.in_ok-keeps_text.field-0 (c.in_ok-keeps_text.ensures.look clean) (Err IdentifierRuleChanged)
-    (λ store kept tells. rule_differs own profile old.now.trees text pattern (subst (KeepsText old.now.trees (codes "version")) same kept) (subst (TellsText (codes "identifier") text old.now.trees) no tells))
+    (λ kept tells. rule_differs own profile trees text pattern (subst (KeepsText trees (codes "version")) same kept) (subst (TellsText (codes "identifier") text trees) no tells))

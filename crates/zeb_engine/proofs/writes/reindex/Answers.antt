@@ -9,22 +9,18 @@ use Rattle.zeb_engine.proofs.writes.reindex.Goals as goal
 
 pub returns-in_err-rebuild-clause-works : goal.returns-in_err-rebuild-clause-works
 returns-in_err-rebuild-clause-works g c clean inside opened k =
-    let old = state g.S.Store c.args.tx.now.conn.now in
     let profile = c.args.profile.now in
     let fault = c.in_err-rebuild.field-0.0 in
     let told : c.from_residual.result ≡ Err fault = search rules in
-    rw told (rebuild_fails profile k (IsRuled (version_of g.L.Layout.format) profile k) (reindexed k) old (state g.S.Store c.rebuild.new.tx.conn.now) opened (found_ruled g.L.Layout.format profile k old.now.trees) fault
-    (c.in_err-rebuild.ensures.call.err clean inside) (λ is store. c.in_err-rebuild.ensures.honest clean inside store (ap Err is)))
+    rw told (rebuild_fails profile k (IsRuled (version_of g.L.Layout.format) profile k) (reindexed k) (state g.S.Store c.args.tx.now.conn.now) (state g.S.Store c.rebuild.new.tx.conn.now) opened
+    (found_ruled g.L.Layout.format profile k _) fault (c.in_err-rebuild.ensures.call.err clean inside) (λ is store. c.in_err-rebuild.ensures.honest clean inside store (ap Err is)))
 
 pub returns-in_err-meta_put-clause-works : goal.returns-in_err-meta_put-clause-works
 returns-in_err-meta_put-clause-works g c clean inside opened k =
-    let mid = state g.S.Store c.rebuild.new.tx.conn.now in
     let fault = c.in_err-meta_put.field-0.0 in
-    let cleaner : HasCleanDisk mid = omega (arith, c.meta_put.ensures.call.crash.clean) in
-    let first = c.in_ok-rebuild.ensures.call.ok cleaner inside in
     let told : c.from_residual-in_err-meta_put.result ≡ Err fault = search rules in
-    rw told (put_fails (IsRuled (version_of g.L.Layout.format) c.args.profile.now k) (reindexed k) (state g.S.Store c.args.tx.now.conn.now) mid (state g.S.Store c.meta_put.new.tx.conn.now) fault
-    (λ is. c.in_err-meta_put.ensures.honest (ap Err is)) first (c.in_err-meta_put.ensures.call.err clean first.mode))
+    rw told (put_fails (IsRuled (version_of g.L.Layout.format) c.args.profile.now k) (reindexed k) (state g.S.Store c.args.tx.now.conn.now) (state g.S.Store c.rebuild.new.tx.conn.now) (state g.S.Store c.meta_put.new.tx.conn.now)
+    c.meta_put.ensures.call.crash clean (λ cleaner. c.in_ok-rebuild.ensures.call.ok cleaner inside) fault (λ is. c.in_err-meta_put.ensures.honest (ap Err is)) (c.in_err-meta_put.ensures.call.err clean))
 
 pub returns-clause-works : goal.returns-clause-works
 returns-clause-works g c clean inside opened k =

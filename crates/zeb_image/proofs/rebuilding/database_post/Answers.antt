@@ -1,7 +1,7 @@
-use Rattle.std.proofs.Common.{◌≡◌, pos, Some, None, Result, Ok, Err, OnOk, refl, sym, subst, arith, rules, string_bytes}
+use Rattle.std.proofs.Common.{◌≡◌, IsTrue, pos, Some, None, Result, Ok, Err, OnOk, refl, sym, subst, arith, rules, string_bytes}
 use Rattle.sqlite.specs.Effect.{Database}
 use Rattle.sqlite.specs.Held.{state}
-use Rattle.sqlite.specs.State.{HasCleanDisk, State}
+use Rattle.sqlite.specs.State.{HasCleanDisk, State, Survives}
 use Rattle.sqlite.specs.Tree.{Trees}
 use Rattle.zeb_register.specs.Calls.{OnlyReads}
 use Rattle.zeb_register.specs.Kept.{IsFirstFrom}
@@ -24,6 +24,20 @@ read_on old new on = record {
   mode = on.mode;
   stays_open = λ _. on.is_open;
 }
+
+-- the next record is asked for in a state on the way
+record Asked (old now mid : State) : Type 0 where
+  clean : HasCleanDisk now
+  was : Continues old now
+  on : OnlyReads now mid
+  goes : Continues old mid
+
+asked : (old now mid : State) → HasCleanDisk mid → Survives now mid (λ _. ⊥) → (HasCleanDisk now → Continues old now) → (HasCleanDisk mid → IsTrue now.in_transaction → OnlyReads now mid) → Asked old now mid
+asked old now mid clean_mid crash stays reads =
+    let clean : HasCleanDisk now = omega (arith, crash.clean) in
+    let was = stays clean in
+    let on = reads clean_mid was.mode in
+    record { clean = clean; was = was; on = on; goes = continues_then old now mid was (read_on now mid on) }
 
 -- what follows where a call is accepted of which two things are said
 ok_both : {T E : Type 0} (result : Result T E) (One Two Three : Type 0) → (One → Two → Three) → OnOk result One → OnOk result Two → OnOk result Three
@@ -60,38 +74,35 @@ loop-turn-preserved g c =
     let profile = c.args.profile.now in
     let found = c.in-Some.record in
     let clean_mid = λ (clean : HasCleanDisk new). (let e : HasCleanDisk mid = omega (arith, c.write_where_full.ensures.call.crash.clean) in e) in
-    let clean_now = λ (clean : HasCleanDisk new). (let e : HasCleanDisk now = omega (arith, c.write_where_full.ensures.call.crash.clean, c.record_from_inside.ensures.call.crash.clean) in e) in
+    let here = λ (clean : HasCleanDisk new) (mode : IsTrue old.in_transaction). asked old now mid (clean_mid clean) c.record_from_inside.ensures.call.crash (λ clean_now. c.loop-turn.invariant.stays clean_now mode) c.in_ok-record.ensures.call.ok in
     record {
       same = search rules;
       crash = search rules;
       stays = λ clean mode.
-          let was = c.loop-turn.invariant.stays (clean_now clean) mode in
-          let read = read_on now mid (c.in_ok-record.ensures.call.ok (clean_mid clean) was.mode) in
-          continues_then old mid new (continues_then old now mid was read) (c.in_ok-write_where_full.ensures.call.stays clean read.mode);
+          let at = here clean mode in
+          continues_then old mid new at.goes (c.in_ok-write_where_full.ensures.call.stays clean at.goes.mode);
       small = omega (arith, c.in_ok-record_note.ensures.number);
       kept = λ clean mode store.
-          let was = c.loop-turn.invariant.stays (clean_now clean) mode in
-          let kept = c.loop-turn.invariant.kept (clean_now clean) mode store in
-          let on = c.in_ok-record.ensures.call.ok (clean_mid clean) was.mode in
-          let settled = c.in_ok-write_where_full.ensures.call.written clean on.mode (store_same now mid on.now_is kept.0) in
-          (settled.0, keeps_then old.now.trees mid.now.trees new.now.trees (same_lists old.now.trees now mid on.now_is kept.1) settled.1);
+          let at = here clean mode in
+          let kept = c.loop-turn.invariant.kept at.clean mode store in
+          let settled = c.in_ok-write_where_full.ensures.call.written clean at.on.mode (store_same now mid at.on.now_is kept.0) in
+          (settled.0, keeps_then old.now.trees mid.now.trees new.now.trees (same_lists old.now.trees now mid at.on.now_is kept.1) settled.1);
       checked = λ clean mode store.
-          let was = c.loop-turn.invariant.stays (clean_now clean) mode in
-          let kept = c.loop-turn.invariant.kept (clean_now clean) mode store in
-          let value = subst (IsFirstFrom now.now.trees id c.loop-turn.next) c.in-Some.is (c.in_ok-record.ensures.value (clean_mid clean) was.mode kept.0 (omega (arith, c.loop-turn.invariant.small))) in
+          let at = here clean mode in
+          let kept = c.loop-turn.invariant.kept at.clean mode store in
+          let value = subst (IsFirstFrom now.now.trees id c.loop-turn.next) c.in-Some.is (c.in_ok-record.ensures.value (clean_mid clean) at.was.mode kept.0 (omega (arith, c.loop-turn.invariant.small))) in
           let first = first_still old.now.trees now.now.trees kept.1 id c.loop-turn.next (Some found) value in
-          next_sound profile old.now.trees id c.loop-turn.next (c.loop-turn.invariant.checked (clean_now clean) mode store) found first (one_number old store id (pos found.sysno)) c.in_ok-record_note.ensures.sound;
+          next_sound profile old.now.trees id c.loop-turn.next (c.loop-turn.invariant.checked at.clean mode store) found first (one_number old store id (pos found.sysno)) c.in_ok-record_note.ensures.sound;
       posted = λ clean mode store before had storable lacks.
-          let was = c.loop-turn.invariant.stays (clean_now clean) mode in
-          let kept = c.loop-turn.invariant.kept (clean_now clean) mode store in
-          let on = c.in_ok-record.ensures.call.ok (clean_mid clean) was.mode in
-          let value = subst (IsFirstFrom now.now.trees id c.loop-turn.next) c.in-Some.is (c.in_ok-record.ensures.value (clean_mid clean) was.mode kept.0 (omega (arith, c.loop-turn.invariant.small))) in
+          let at = here clean mode in
+          let kept = c.loop-turn.invariant.kept at.clean mode store in
+          let value = subst (IsFirstFrom now.now.trees id c.loop-turn.next) c.in-Some.is (c.in_ok-record.ensures.value (clean_mid clean) at.was.mode kept.0 (omega (arith, c.loop-turn.invariant.small))) in
           let first = first_still old.now.trees now.now.trees kept.1 id c.loop-turn.next (Some found) value in
-          let such = c.loop-turn.invariant.posted (clean_now clean) mode store before had storable lacks in
-          let held = subst (λ (db : Database). WillHold format db.trees id c.loop-turn.pending such.content) (sym on.now_is) such.held in
+          let such = c.loop-turn.invariant.posted at.clean mode store before had storable lacks in
+          let held = subst (λ (db : Database). WillHold format db.trees id c.loop-turn.pending such.content) (sym at.on.now_is) such.held in
           let noted = c.in_ok-record_note.ensures.posted format mid.now.trees id such.content held such.storable
           (first_lacks profile old.now.trees id c.loop-turn.next before such.content such.is found first) in
-          let settled = c.in_ok-write_where_full.ensures.call.written clean on.mode (store_same now mid on.now_is kept.0) in
+          let settled = c.in_ok-write_where_full.ensures.call.written clean at.on.mode (store_same now mid at.on.now_is kept.0) in
           record {
             content = noted.content;
             held = (settled.2 noted.content noted.storable noted.held).0;
@@ -108,11 +119,8 @@ returns-in_default-clause-stays g c clean mode =
     let now = state g.S.Store c.loop-turn.tx.conn.now in
     let mid = state g.S.Store c.record_from_inside.new.tx.conn.now in
     let new = state g.S.Store c.write_pending.new.tx.conn.now in
-    let clean_mid : HasCleanDisk mid = omega (arith, c.write_pending.ensures.call.crash.clean) in
-    let clean_now : HasCleanDisk now = omega (arith, c.write_pending.ensures.call.crash.clean, c.record_from_inside.ensures.call.crash.clean) in
-    let was = c.loop-turn.invariant.stays clean_now mode in
-    let read = read_on now mid (c.in_ok-record.ensures.call.ok clean_mid was.mode) in
-    stays_then old mid new c.write_pending.result (continues_then old now mid was read) (c.write_pending.ensures.call.stays clean read.mode)
+    let at = asked old now mid (omega (arith, c.write_pending.ensures.call.crash.clean)) c.record_from_inside.ensures.call.crash (λ clean_now. c.loop-turn.invariant.stays clean_now mode) c.in_ok-record.ensures.call.ok in
+    stays_then old mid new c.write_pending.result at.goes (c.write_pending.ensures.call.stays clean at.goes.mode)
 
 pub returns-in_default-clause-kept : goal.returns-in_default-clause-kept
 returns-in_default-clause-kept g c clean mode store =
@@ -120,13 +128,10 @@ returns-in_default-clause-kept g c clean mode store =
     let now = state g.S.Store c.loop-turn.tx.conn.now in
     let mid = state g.S.Store c.record_from_inside.new.tx.conn.now in
     let new = state g.S.Store c.write_pending.new.tx.conn.now in
-    let clean_mid : HasCleanDisk mid = omega (arith, c.write_pending.ensures.call.crash.clean) in
-    let clean_now : HasCleanDisk now = omega (arith, c.write_pending.ensures.call.crash.clean, c.record_from_inside.ensures.call.crash.clean) in
-    let was = c.loop-turn.invariant.stays clean_now mode in
-    let kept = c.loop-turn.invariant.kept clean_now mode store in
-    let on = c.in_ok-record.ensures.call.ok clean_mid was.mode in
-    ok_so c.write_pending.result _ _ (λ settled. (settled.0, keeps_then old.now.trees mid.now.trees new.now.trees (same_lists old.now.trees now mid on.now_is kept.1) settled.1))
-    (c.write_pending.ensures.call.written clean on.mode (store_same now mid on.now_is kept.0))
+    let at = asked old now mid (omega (arith, c.write_pending.ensures.call.crash.clean)) c.record_from_inside.ensures.call.crash (λ clean_now. c.loop-turn.invariant.stays clean_now mode) c.in_ok-record.ensures.call.ok in
+    let kept = c.loop-turn.invariant.kept at.clean mode store in
+    ok_so c.write_pending.result _ _ (λ settled. (settled.0, keeps_then old.now.trees mid.now.trees new.now.trees (same_lists old.now.trees now mid at.on.now_is kept.1) settled.1))
+    (c.write_pending.ensures.call.written clean at.on.mode (store_same now mid at.on.now_is kept.0))
 
 pub returns-in_default-clause-checked : goal.returns-in_default-clause-checked
 returns-in_default-clause-checked g c clean mode store =
@@ -135,13 +140,11 @@ returns-in_default-clause-checked g c clean mode store =
     let mid = state g.S.Store c.record_from_inside.new.tx.conn.now in
     let id = c.args.db.0 in
     let clean_mid : HasCleanDisk mid = omega (arith, c.write_pending.ensures.call.crash.clean) in
-    let clean_now : HasCleanDisk now = omega (arith, c.write_pending.ensures.call.crash.clean, c.record_from_inside.ensures.call.crash.clean) in
-    let was = c.loop-turn.invariant.stays clean_now mode in
-    let kept = c.loop-turn.invariant.kept clean_now mode store in
-    let on = c.in_ok-record.ensures.call.ok clean_mid was.mode in
-    let value = subst (IsFirstFrom now.now.trees id c.loop-turn.next) c.in_default.is (c.in_ok-record.ensures.value clean_mid was.mode kept.0 (omega (arith, c.loop-turn.invariant.small))) in
-    let sound = all_sound c.args.profile.now old.now.trees id c.loop-turn.next (c.loop-turn.invariant.checked clean_now mode store) (first_still old.now.trees now.now.trees kept.1 id c.loop-turn.next None value) in
-    ok_so c.write_pending.result _ _ (λ settled. sound) (c.write_pending.ensures.call.written clean on.mode (store_same now mid on.now_is kept.0))
+    let at = asked old now mid clean_mid c.record_from_inside.ensures.call.crash (λ clean_now. c.loop-turn.invariant.stays clean_now mode) c.in_ok-record.ensures.call.ok in
+    let kept = c.loop-turn.invariant.kept at.clean mode store in
+    let value = subst (IsFirstFrom now.now.trees id c.loop-turn.next) c.in_default.is (c.in_ok-record.ensures.value clean_mid at.was.mode kept.0 (omega (arith, c.loop-turn.invariant.small))) in
+    let sound = all_sound c.args.profile.now old.now.trees id c.loop-turn.next (c.loop-turn.invariant.checked at.clean mode store) (first_still old.now.trees now.now.trees kept.1 id c.loop-turn.next None value) in
+    ok_so c.write_pending.result _ _ (λ settled. sound) (c.write_pending.ensures.call.written clean at.on.mode (store_same now mid at.on.now_is kept.0))
 
 -- what is noted is the content that the registers hold then
 pub returns-in_default-clause-posted : goal.returns-in_default-clause-posted
@@ -154,36 +157,32 @@ returns-in_default-clause-posted g c clean mode store =
     let id = c.args.db.0 in
     let profile = c.args.profile.now in
     let clean_mid : HasCleanDisk mid = omega (arith, c.write_pending.ensures.call.crash.clean) in
-    let clean_now : HasCleanDisk now = omega (arith, c.write_pending.ensures.call.crash.clean, c.record_from_inside.ensures.call.crash.clean) in
-    let was = c.loop-turn.invariant.stays clean_now mode in
-    let kept = c.loop-turn.invariant.kept clean_now mode store in
-    let on = c.in_ok-record.ensures.call.ok clean_mid was.mode in
-    let value = subst (IsFirstFrom now.now.trees id c.loop-turn.next) c.in_default.is (c.in_ok-record.ensures.value clean_mid was.mode kept.0 (omega (arith, c.loop-turn.invariant.small))) in
+    let at = asked old now mid clean_mid c.record_from_inside.ensures.call.crash (λ clean_now. c.loop-turn.invariant.stays clean_now mode) c.in_ok-record.ensures.call.ok in
+    let kept = c.loop-turn.invariant.kept at.clean mode store in
+    let value = subst (IsFirstFrom now.now.trees id c.loop-turn.next) c.in_default.is (c.in_ok-record.ensures.value clean_mid at.was.mode kept.0 (omega (arith, c.loop-turn.invariant.small))) in
     let none = first_still old.now.trees now.now.trees kept.1 id c.loop-turn.next None value in
     ok_both c.write_pending.result _ _ _ (λ settled all before had storable lacks.
-    let such = c.loop-turn.invariant.posted clean_now mode store before had storable lacks in
-    let held = subst (λ (db : Database). WillHold format db.trees id c.loop-turn.pending such.content) (sym on.now_is) such.held in
+    let such = c.loop-turn.invariant.posted at.clean mode store before had storable lacks in
+    let held = subst (λ (db : Database). WillHold format db.trees id c.loop-turn.pending such.content) (sym at.on.now_is) such.held in
     record {
       content = such.content;
       held = held_whole format new.now.trees id c.write_pending.new.pending such.content all (settled.2 such.content such.storable held).0;
       storable = such.storable;
       is = all_posted profile old.now.trees id c.loop-turn.next before such.content such.is none;
     })
-    (c.write_pending.ensures.call.written clean on.mode (store_same now mid on.now_is kept.0)) c.write_pending.ensures.all
+    (c.write_pending.ensures.call.written clean at.on.mode (store_same now mid at.on.now_is kept.0)) c.write_pending.ensures.all
 
 -- the registers hold what the noted changes say
 pub returns-in_default-clause-damaged : goal.returns-in_default-clause-damaged
 returns-in_default-clause-damaged g c clean mode store told before had storable lacks readable sound =
+    let old = state g.S.Store c.args.tx.now.conn.now in
     let now = state g.S.Store c.loop-turn.tx.conn.now in
     let mid = state g.S.Store c.record_from_inside.new.tx.conn.now in
-    let clean_mid : HasCleanDisk mid = omega (arith, c.write_pending.ensures.call.crash.clean) in
-    let clean_now : HasCleanDisk now = omega (arith, c.write_pending.ensures.call.crash.clean, c.record_from_inside.ensures.call.crash.clean) in
-    let was = c.loop-turn.invariant.stays clean_now mode in
-    let kept = c.loop-turn.invariant.kept clean_now mode store in
-    let on = c.in_ok-record.ensures.call.ok clean_mid was.mode in
-    let such = c.loop-turn.invariant.posted clean_now mode store before had storable lacks in
-    let held = subst (λ (db : Database). WillHold g.L.Layout.format db.trees c.args.db.0 c.loop-turn.pending such.content) (sym on.now_is) such.held in
-    c.write_pending.ensures.call.honest clean on.mode (store_same now mid on.now_is kept.0) told such.content such.storable held
+    let at = asked old now mid (omega (arith, c.write_pending.ensures.call.crash.clean)) c.record_from_inside.ensures.call.crash (λ clean_now. c.loop-turn.invariant.stays clean_now mode) c.in_ok-record.ensures.call.ok in
+    let kept = c.loop-turn.invariant.kept at.clean mode store in
+    let such = c.loop-turn.invariant.posted at.clean mode store before had storable lacks in
+    let held = subst (λ (db : Database). WillHold g.L.Layout.format db.trees c.args.db.0 c.loop-turn.pending such.content) (sym at.on.now_is) such.held in
+    c.write_pending.ensures.call.honest clean at.on.mode (store_same now mid at.on.now_is kept.0) told such.content such.storable held
 
 -- ---- before it
 
@@ -224,15 +223,13 @@ returns-in_err-write_where_full-clause-damaged g c = λ clean mode store told be
     let profile = c.args.profile.now in
     let found = c.in-Some.record in
     let clean_mid : HasCleanDisk mid = omega (arith, c.write_where_full.ensures.call.crash.clean) in
-    let clean_now : HasCleanDisk now = omega (arith, c.write_where_full.ensures.call.crash.clean, c.record_from_inside.ensures.call.crash.clean) in
-    let was = c.loop-turn.invariant.stays clean_now mode in
-    let kept = c.loop-turn.invariant.kept clean_now mode store in
-    let on = c.in_ok-record.ensures.call.ok clean_mid was.mode in
-    let value = subst (IsFirstFrom now.now.trees id c.loop-turn.next) c.in-Some.is (c.in_ok-record.ensures.value clean_mid was.mode kept.0 (omega (arith, c.loop-turn.invariant.small))) in
+    let at = asked old now mid clean_mid c.record_from_inside.ensures.call.crash (λ clean_now. c.loop-turn.invariant.stays clean_now mode) c.in_ok-record.ensures.call.ok in
+    let kept = c.loop-turn.invariant.kept at.clean mode store in
+    let value = subst (IsFirstFrom now.now.trees id c.loop-turn.next) c.in-Some.is (c.in_ok-record.ensures.value clean_mid at.was.mode kept.0 (omega (arith, c.loop-turn.invariant.small))) in
     let first = first_still old.now.trees now.now.trees kept.1 id c.loop-turn.next (Some found) value in
-    let such = c.loop-turn.invariant.posted clean_now mode store before had storable lacks in
-    let held = subst (λ (db : Database). WillHold format db.trees id c.loop-turn.pending such.content) (sym on.now_is) such.held in
+    let such = c.loop-turn.invariant.posted at.clean mode store before had storable lacks in
+    let held = subst (λ (db : Database). WillHold format db.trees id c.loop-turn.pending such.content) (sym at.on.now_is) such.held in
     let noted = c.in_ok-record_note.ensures.posted format mid.now.trees id such.content held such.storable
     (first_lacks profile old.now.trees id c.loop-turn.next before such.content such.is found first) in
     let fault : c.write_where_full.result ≡ Err Damaged = search rules in
-    c.write_where_full.ensures.call.honest clean on.mode (store_same now mid on.now_is kept.0) fault noted.content noted.storable noted.held
+    c.write_where_full.ensures.call.honest clean at.on.mode (store_same now mid at.on.now_is kept.0) fault noted.content noted.storable noted.held
