@@ -5,6 +5,7 @@ use sqlite::{Alter, Connection, MemStore};
 use std::alloc::{AllocError, AllocGlobal, Global};
 use std::process::Abort;
 use std::test::Fail;
+use worked_samples::BOOKS;
 use zeb_engine::{
     Command, DbName, Kind, Limits, Refusal, Reply, Session, refusal_line, render, status,
 };
@@ -39,10 +40,6 @@ mod works;
 
 /// Titles by their words, records named by their control number.
 pub const TITLES: &str = "store books.db\nidentifier 001\natt 4 Title\nmelm 245 Title\n";
-
-/// Titles by their words and whole, dates by their numbers, and any words.
-pub const BOOKS: &str =
-    "store books.db\nidentifier 001\natt 4 Title\natt 31 Date\natt 1016 Any\nmelm 245$a Title:w,Title:p\nmelm 245 Title:w\nmelm 260$c Date:n\nall Any\n";
 
 /// A file: what stands in it, one after the other.
 pub type File<'a> = &'a [&'a [u8]];

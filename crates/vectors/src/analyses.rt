@@ -1,38 +1,11 @@
 //! Files whose analysis is known from outside.
-use crate::samples::PROFILE;
 use std::alloc::{AllocError, Global};
 use std::test::Fail;
+use worked_samples::{BARE, BOOKS, CUT, MOBY, MOBY_LINES};
 use zeb_analysis::{AnalysisFault, analyse, analysis_lines};
 use zeb_extract::IdentFault;
 use zeb_marc::MarcFault;
 use zeb_profile::Profile;
-
-/// `a1`, titled `Moby Dick : or, the whale /`, of 1851.
-const MOBY: &str = "\
-00109nam a2200061 a 4500001000300000245003300003260001100036\x1ea1\x1e10\x1faMoby Dick :\x1fbor, the whale /\x1e  \x1fcc1851.\x1e\x1d";
-
-/// A record without a field.
-const BARE: &str = "00026nam a2200025 a 4500\x1e\x1d";
-
-/// The first 60 bytes of `MOBY`.
-const CUT: &str = "00109nam a2200061 a 4500001000300000245003300003260001100036";
-
-/// `MOBY` as it is printed.
-const MOBY_LINES: &str = "record 1 1 a1
-Title:w 2 2 dick
-Title:w 2 1 moby
-Title:w 3 1 or
-Title:w 3 2 the
-Title:w 3 3 whale
-Title:p 2 1 moby dick
-Date:n 4 1 1851
-Any:w 4 1 c1851
-Any:w 2 2 dick
-Any:w 2 1 moby
-Any:w 3 1 or
-Any:w 3 2 the
-Any:w 3 3 whale
-";
 
 /// The names of a profile's indexes, each at its number.
 fn names_of(alloc: Global, profile: &Profile) -> Result<Vec<String>, AllocError> {
@@ -45,12 +18,12 @@ fn names_of(alloc: Global, profile: &Profile) -> Result<Vec<String>, AllocError>
 }
 
 /// Files of these records, each given by its parts.
-fn files_of(alloc: Global, files: &[&[&str]]) -> Result<Vec<Vec<u8>>, AllocError> {
+fn files_of(alloc: Global, files: &[&[&[u8]]]) -> Result<Vec<Vec<u8>>, AllocError> {
     let mut found = Vec::new(alloc);
     for parts in files {
         let mut bytes = Vec::new(alloc);
         for part in *parts {
-            bytes.extend_from_slice(part.as_bytes())?;
+            bytes.extend_from_slice(part)?;
         }
         found.push(bytes)?;
     }
@@ -60,14 +33,14 @@ fn files_of(alloc: Global, files: &[&[&str]]) -> Result<Vec<Vec<u8>>, AllocError
 /// Files and a limit, and why their analysis ends.
 #[derive(Clone, Copy)]
 struct Refused<'a> {
-    files: &'a [&'a [&'a str]],
+    files: &'a [&'a [&'a [u8]]],
     limit: u64,
     fault: AnalysisFault,
 }
 
 #[test]
 fn the_sample_record_is_printed(rt: HostRuntime) -> Result<(), Fail> {
-    let profile = Profile::read(rt.alloc(), PROFILE)?;
+    let profile = Profile::read(rt.alloc(), BOOKS)?;
     let names = names_of(rt.alloc(), &profile)?;
     let files = files_of(rt.alloc(), &[&[MOBY]])?;
     let analyses = analyse(rt.alloc(), &profile, 1, &files)?;
@@ -81,8 +54,8 @@ fn the_sample_record_is_printed(rt: HostRuntime) -> Result<(), Fail> {
 /// Records are counted in their file, with separators passed over.
 #[test]
 fn records_have_their_places(rt: HostRuntime) -> Result<(), Fail> {
-    let profile = Profile::read(rt.alloc(), PROFILE)?;
-    let files = files_of(rt.alloc(), &[&[MOBY, "\r\n", MOBY, "\n"], &[], &[MOBY]])?;
+    let profile = Profile::read(rt.alloc(), BOOKS)?;
+    let files = files_of(rt.alloc(), &[&[MOBY, b"\r\n", MOBY, b"\n"], &[], &[MOBY]])?;
     let mut places = String::new(rt.alloc());
     for analysis in &analyse(rt.alloc(), &profile, 3, &files)? {
         let (file, nth) = (analysis.file, analysis.nth);
@@ -129,7 +102,7 @@ fn the_first_that_refuses_ends_it(rt: HostRuntime) -> Result<(), Fail> {
             fault: AnalysisFault::TooManyRecords,
         },
     ];
-    let profile = Profile::read(rt.alloc(), PROFILE)?;
+    let profile = Profile::read(rt.alloc(), BOOKS)?;
     for row in &rows {
         let files = files_of(rt.alloc(), row.files)?;
         match analyse(rt.alloc(), &profile, row.limit, &files) {
@@ -156,7 +129,7 @@ fn faults_have_their_texts(rt: HostRuntime) -> Result<(), Fail> {
 /// ordinary one or want of memory.
 #[test]
 fn memory_or_the_ordinary_answer(rt: HostRuntime) -> Result<(), Fail> {
-    let Ok(profile) = Profile::read(rt.alloc(), PROFILE) else {
+    let Ok(profile) = Profile::read(rt.alloc(), BOOKS) else {
         return Ok(());
     };
     let Ok(names) = names_of(rt.alloc(), &profile) else {

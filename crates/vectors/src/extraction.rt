@@ -1,20 +1,13 @@
 //! Records and profiles whose analysis and identifiers are known from outside.
-use crate::samples::PROFILE;
 use std::alloc::{AllocError, Global};
 use std::test::Fail;
+use worked_samples::{BOOKS, CAFE, MOBY};
 use zeb_extract::{IdentFault, Key, Occurrence, Term, identifier, occurrences};
 use zeb_marc::Marc;
 use zeb_profile::{Profile, Register};
 
-const MOBY_DICK: &[u8] = b"00109nam a2200061 a 4500001000300000245003300003260001100036\x1ea1\x1e\
-10\x1faMoby Dick :\x1fbor, the whale /\x1e  \x1fcc1851.\x1e\x1d";
-
-/// Its title is written with `e` and U+0301.
-const CAFE: &[u8] =
-    b"00064nam a2200049 a 4500001000300000245001100003\x1eb2\x1e00\x1faCafe\xcc\x81\x1e\x1d";
-
-/// The analysis of "Moby Dick" under that profile, in the order of occurrences.
-const MOBY_DICK_LINES: &str = "Title:w 2 2 dick
+/// The analysis of `MOBY` under `BOOKS`, in the order of occurrences; of a number with all the digits that are kept.
+const MOBY_LINES: &str = "Title:w 2 2 dick
 Title:w 2 1 moby
 Title:w 3 1 or
 Title:w 3 2 the
@@ -111,11 +104,11 @@ Any:w 3 2 the
 Any:w 3 3 whale
 ";
     let rows: [(&[u8], &str, &str); 5] = [
-        (MOBY_DICK, PROFILE, MOBY_DICK_LINES),
-        (CAFE, PROFILE, CAFE_LINES),
-        (two_entries, PROFILE, two_entries_lines),
-        (MOBY_DICK, dates, "Date:n 4 1 000000000000001851\n"),
-        (MOBY_DICK, any, any_lines),
+        (MOBY, BOOKS, MOBY_LINES),
+        (CAFE, BOOKS, CAFE_LINES),
+        (two_entries, BOOKS, two_entries_lines),
+        (MOBY, dates, "Date:n 4 1 000000000000001851\n"),
+        (MOBY, any, any_lines),
     ];
     for (bytes, profile, wanted) in rows {
         let lines = analysis(rt.alloc(), bytes, profile)?;
@@ -142,7 +135,7 @@ fn fields_have_their_analysis(rt: HostRuntime) -> Result<(), Fail> {
     let again: &[Field<'_>] = &[("001", b"d"), ("245", b"00\x1fbThe sea, the SEA")];
     let long_number: &[Field<'_>] = &[("001", b"e"), ("245", b"00\x1fa007-1234567890123456789/0")];
     let rows: [(&[Field<'_>], &str, &str); 7] = [
-        (composed, PROFILE, CAFE_LINES),
+        (composed, BOOKS, CAFE_LINES),
         (
             empty,
             all,
@@ -156,7 +149,7 @@ fn fields_have_their_analysis(rt: HostRuntime) -> Result<(), Fail> {
         (no_word, all, "T:w 3 1 x\nT:p 3 1 x\n"),
         (
             broken,
-            PROFILE,
+            BOOKS,
             "Title:w 2 2 hat\nTitle:w 2 1 top\nAny:w 2 2 hat\nAny:w 2 1 top\n",
         ),
         (
@@ -326,16 +319,16 @@ fn clones_are_equal(rt: HostRuntime) -> Result<(), Fail> {
 /// ordinary one or want of memory.
 #[test]
 fn memory_or_the_ordinary_answer(rt: HostRuntime) -> Result<(), Fail> {
-    let Ok(profile) = Profile::read(rt.alloc(), PROFILE) else {
+    let Ok(profile) = Profile::read(rt.alloc(), BOOKS) else {
         return Ok(());
     };
-    match identifier(rt.alloc(), &Marc::read(MOBY_DICK)?, &profile) {
+    match identifier(rt.alloc(), &Marc::read(MOBY)?, &profile) {
         Ok(name) => assert_eq!(rt; name.as_str(), "a1"),
         Err(fault) => assert_eq!(rt; fault, IdentFault::Memory),
     }
-    if let Ok(found) = occurrences(rt.alloc(), &Marc::read(MOBY_DICK)?, &profile) {
+    if let Ok(found) = occurrences(rt.alloc(), &Marc::read(MOBY)?, &profile) {
         if let Ok(lines) = lines_of(rt.alloc(), &found, &profile) {
-            assert_eq!(rt; lines.as_str(), MOBY_DICK_LINES);
+            assert_eq!(rt; lines.as_str(), MOBY_LINES);
         }
     }
     Ok(())

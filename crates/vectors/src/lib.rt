@@ -13,8 +13,6 @@ mod queries;
 #[cfg(test)]
 mod records;
 #[cfg(test)]
-mod samples;
-#[cfg(test)]
 mod streams;
 #[cfg(test)]
 mod texts;

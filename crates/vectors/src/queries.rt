@@ -1,8 +1,8 @@
 //! Queries, scans and their faults, from the table of attributes that are kept and worked by hand.
 
-use crate::samples::PROFILE;
 use std::alloc::{AllocError, Global};
 use std::test::Fail;
+use worked_samples::BOOKS;
 use zeb_profile::Profile;
 use zeb_query::{Plan, QueryFault, ScanPlan, plan, plan_scan, read_pqf};
 

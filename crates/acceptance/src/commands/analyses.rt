@@ -1,24 +1,7 @@
 //! Files are analysed, with nothing kept.
 
 use super::{BOOKS, Script, Step, TITLES};
-use tables::samples::{BARE, CUT, MOBY};
-
-/// `MOBY` under `BOOKS`: the register's name, the place of the field, the place in it and the term.
-const MOBY_LINES: &str = "record 1 1 a1
-Title:w 2 2 dick
-Title:w 2 1 moby
-Title:w 3 1 or
-Title:w 3 2 the
-Title:w 3 3 whale
-Title:p 2 1 moby dick
-Date:n 4 1 1851
-Any:w 4 1 c1851
-Any:w 2 2 dick
-Any:w 2 1 moby
-Any:w 3 1 or
-Any:w 3 2 the
-Any:w 3 3 whale
-";
+use worked_samples::{BARE, CUT, MOBY, MOBY_LINES};
 
 /// Before `init` and after it, and what is kept stays.
 const ASIDE: Script = &[(

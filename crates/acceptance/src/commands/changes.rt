@@ -1,7 +1,7 @@
 //! Updates, deletes and finds.
 
 use super::{Script, Step, TITLES};
-use tables::samples::{BARE, CAFE, CUT, DOCK, MOBY};
+use worked_samples::{BARE, CAFE, CUT, DOCK, MOBY};
 
 /// A record is found by a word.
 const FOUND: Script = &[(

@@ -12,7 +12,7 @@ use std::alloc::{AllocGlobal, Global};
 use std::process::Abort;
 use std::test::Fail;
 use tables::disks::connected;
-use tables::samples::{CAFE, CAFE_DOCK, CAFE_MOBY, DOCK, DOCK_ALONE, MOBY, MOBY_TEXT};
+use worked_samples::{CAFE, CAFE_DOCK, CAFE_MOBY, DOCK, DOCK_ALONE, MOBY, MOBY_TEXT};
 use zeb_engine::{Limits, Session};
 use zeb_packed::Blocks;
 use zeb_register::{Layout, Rows};

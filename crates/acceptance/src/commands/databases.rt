@@ -1,7 +1,7 @@
 //! Databases, and the profile that they stand under.
 
 use super::{Script, Step, TITLES};
-use tables::samples::{CAFE, MOBY};
+use worked_samples::{CAFE, MOBY};
 
 /// A database is made where it is absent.
 const MADE: Script = &[(

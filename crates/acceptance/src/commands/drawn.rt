@@ -10,7 +10,7 @@ use std::alloc::AllocGlobal;
 use std::process::Abort;
 use std::test::Fail;
 use tables::queries::{TABLES, all_rows};
-use tables::samples::{BARE, CAFE, CUT, DOCK, MOBY};
+use worked_samples::{BARE, CAFE, CUT, DOCK, MOBY};
 use zeb_engine::Limits;
 use zeb_packed::Blocks;
 use zeb_register::{Layout, Rows};

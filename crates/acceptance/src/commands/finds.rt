@@ -1,7 +1,7 @@
 //! Finds: each attribute, operator and diagnostic.
 
 use super::{BOOKS, Script, Step};
-use tables::samples::{CAFE, DOCK, MOBY};
+use worked_samples::{CAFE, DOCK, MOBY};
 
 /// Use, relation, position, structure, truncation and completeness, each alone.
 const ATTRIBUTES: Script = &[(

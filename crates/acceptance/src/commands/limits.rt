@@ -2,7 +2,7 @@
 
 use super::{Script, Step, TITLES, name, run_in_memory};
 use std::test::Fail;
-use tables::samples::{CAFE, MOBY};
+use worked_samples::{CAFE, MOBY};
 use zeb_engine::{DbName, Limits};
 use zeb_packed::Blocks;
 

@@ -6,7 +6,7 @@ use sqlite::{Connection, MemStore};
 use std::alloc::AllocGlobal;
 use std::process::Abort;
 use std::test::Fail;
-use tables::samples::{DOCK, MOBY, MOBY_TEXT};
+use worked_samples::{DOCK, MOBY, MOBY_TEXT};
 use zeb_engine::Limits;
 use zeb_packed::Blocks;
 

@@ -1,7 +1,7 @@
 //! Commands that read whole databases.
 
 use super::{Script, Step, TITLES};
-use tables::samples::{CAFE, CAFE_DOCK, CAFE_MOBY, DOCK, DOCK_ALONE, MOBY};
+use worked_samples::{CAFE, CAFE_DOCK, CAFE_MOBY, DOCK, DOCK_ALONE, MOBY};
 
 /// A dump is the kept bytes in the order of numbers.
 const DUMPED: Script = &[(

@@ -10,7 +10,7 @@ use std::alloc::{AllocError, AllocGlobal, Global};
 use std::process::Abort;
 use std::test::Fail;
 use tables::queries::state;
-use tables::samples::{CAFE, DOCK, MOBY, MOBY_CAFE};
+use worked_samples::{CAFE, DOCK, MOBY, MOBY_CAFE};
 use zeb_engine::{Command, Limits, Refusal, Reply};
 use zeb_packed::Blocks;
 use zeb_register::{Layout, Rows};

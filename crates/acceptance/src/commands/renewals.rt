@@ -4,7 +4,7 @@ use super::statements::Statement;
 use super::stories::{Part, Story, told};
 use super::{BOOKS, Row, Script, Step};
 use std::test::Fail;
-use tables::samples::{CAFE, MOBY, MOBY_CAFE, MOBY_TEXT};
+use worked_samples::{CAFE, MOBY, MOBY_CAFE, MOBY_TEXT};
 
 /// `BOOKS` with a use attribute of subjects, and no whole titles.
 pub const SUBJECTS: &str =

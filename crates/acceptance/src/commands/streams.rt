@@ -5,7 +5,7 @@ use sqlite::{Connection, MemStore};
 use std::alloc::{AllocGlobal, Global};
 use std::process::Abort;
 use std::test::Fail;
-use tables::samples::{BARE, CAFE, MOBY};
+use worked_samples::{BARE, CAFE, MOBY};
 use zeb_engine::{Kind, Limits, Refusal, Reply, Session};
 use zeb_marc::{ReadFailed, Source};
 use zeb_packed::Blocks;

@@ -6,7 +6,7 @@ use sqlite::MemStore;
 use std::alloc::{AllocGlobal, Global};
 use std::process::Abort;
 use std::test::Fail;
-use tables::samples::MOBY;
+use worked_samples::MOBY;
 use zeb_engine::{Command, Refusal, Reply, Session};
 use zeb_packed::Blocks;
 

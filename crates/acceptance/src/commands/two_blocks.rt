@@ -3,7 +3,7 @@
 use super::statements::Statement;
 use super::stories::{Part, Story};
 use super::{BOOKS, Row, Step};
-use tables::samples::{AGAIN, CAFE, MOBY};
+use worked_samples::{AGAIN, CAFE, MOBY};
 
 const BEGUN: &[Row<'static>] = &[(Step::Init, "ok\n"), (Step::Create("Default"), "ok\n")];
 

@@ -4,7 +4,7 @@ use super::statements::{Statement, TableRow, tables_answer};
 use super::{Row, Step, TITLES, run};
 use sqlite::{Alter, Connection, MemStore};
 use std::test::Fail;
-use tables::samples::{DOCK, MOBY};
+use worked_samples::{DOCK, MOBY};
 use zeb_engine::Limits;
 use zeb_packed::Blocks;
 use zeb_register::{Layout, RegFault, Rows, meta_put};

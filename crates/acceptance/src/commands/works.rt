@@ -6,7 +6,7 @@ use sqlite::MemStore;
 use std::alloc::AllocGlobal;
 use std::process::Abort;
 use std::test::Fail;
-use tables::samples::{AGAIN, DOCK, MOBY};
+use worked_samples::{AGAIN, DOCK, MOBY};
 use zeb_engine::Limits;
 use zeb_packed::Blocks;
 use zeb_register::{Layout, Rows, Work};

@@ -3,10 +3,11 @@
 
 use super::Outcome;
 use super::records::{Unmade, with_records};
-use super::words::{ANALYSIS, expect, loaded, run_words};
+use super::words::{expect, loaded, run_words};
 use std::alloc::Global;
 use std::str;
 use std::test::Fail;
+use worked_samples::MOBY_LINES;
 use zeb_program::FAILED;
 
 /// Words, the lines of the input, and what goes to the output.
@@ -27,7 +28,7 @@ const GIVEN: [Given; 9] = [
         "inserted 1 updated 2 deleted 0\n",
     ),
     (&["delete", "a.mrc"], "", "inserted 0 updated 0 deleted 1\n"),
-    (&["-s", "update", "a.mrc"], "", ANALYSIS),
+    (&["-s", "update", "a.mrc"], "", MOBY_LINES),
     (
         &["batch"],
         "update Default in\nfind Default dock\n",

@@ -2,23 +2,10 @@
 
 use super::expect_script;
 use std::test::Fail;
+use worked_samples::BOOKS;
 
-/// Titles by their words and whole, dates by their numbers, and any words, with a record in the database `Default`.
-const BOOKS: &str = "\
-store books.db
-# A comment says nothing.
-identifier 001
-att 4 Title
-att 31 Date
-att 1016 Any
-melm 245$a Title:w,Title:p
-melm 245 Title:w
-melm 260$c Date:n
-all Any
-.
-init
-update Default hex:<A>
-";
+/// What stands between the profile and the queries: a comment, which says nothing, and a record in the database `Default`.
+const BEGUN: &str = "# A comment says nothing.\n.\ninit\nupdate Default hex:<A>\n";
 
 /// A query, and what is written for it.
 const QUERIES: [(&str, &str); 47] = [
@@ -94,7 +81,7 @@ const QUERIES: [(&str, &str); 47] = [
 
 #[test]
 fn finds_by_each_query(rt: HostRuntime) -> Result<(), Fail> {
-    let mut script = String::from_str(rt.alloc(), BOOKS)?;
+    let mut script = format!(in rt.alloc(); "{BOOKS}{BEGUN}")?;
     let mut output = String::from_str(rt.alloc(), "ok\ninserted 1 updated 0 deleted 0\n")?;
     for (query, answer) in &QUERIES {
         script.push_str("find Default ")?;

@@ -7,23 +7,11 @@ use std::alloc::{AllocGlobal, Global};
 use std::process::Abort;
 use std::str;
 use std::test::Fail;
+use worked_samples::{BOOKS, MOBY_LINES};
 use zeb_engine::{Command, DbName, Kind, Limits, Session};
 use zeb_packed::Blocks;
 use zeb_paths::{Shelf, Shelved};
 use zeb_profile::Profile;
-
-/// Titles by their words and whole, dates by their numbers, and any words.
-const BOOKS: &str = "\
-store books.db
-identifier 001
-att 4 Title
-att 31 Date
-att 1016 Any
-melm 245$a Title:w,Title:p
-melm 245 Title:w
-melm 260$c Date:n
-all Any
-";
 
 /// Files of text: the profile, another with one line more, and faulty ones.
 const TEXTS: [(&str, &str); 4] = [
@@ -58,24 +46,6 @@ const LOST: Shelved<'static> = Shelved {
     path: "lost.mrc",
     bytes: None,
 };
-
-/// The occurrences of Moby Dick under the profile.
-pub const ANALYSIS: &str = "\
-record 1 1 a1
-Title:w 2 2 dick
-Title:w 2 1 moby
-Title:w 3 1 or
-Title:w 3 2 the
-Title:w 3 3 whale
-Title:p 2 1 moby dick
-Date:n 4 1 1851
-Any:w 4 1 c1851
-Any:w 2 2 dick
-Any:w 2 1 moby
-Any:w 3 1 or
-Any:w 3 2 the
-Any:w 3 3 whale
-";
 
 /// The bytes of each of [`FILES`].
 pub fn contents(alloc: Global) -> Result<Vec<Vec<u8>>, Unmade> {
@@ -203,7 +173,7 @@ fn answers_words(rt: HostRuntime) -> Result<(), Fail> {
             &["adelete", "b.mrc", "a.mrc"],
             "inserted 0 updated 0 deleted 1\n",
         ),
-        (&["-s", "update", "a.mrc"], ANALYSIS),
+        (&["-s", "update", "a.mrc"], MOBY_LINES),
         (&["-s", "update", "none.mrc"], ""),
         (
             &["-c", "other.cfg", "-s", "update", "b.mrc"],

@@ -4,7 +4,7 @@ use super::calls::Call;
 use super::readings::Read;
 use super::{Part, Row, Script, Step};
 use crate::queries::POSTINGS;
-use crate::samples::{CAFE, MOBY};
+use worked_samples::{CAFE, MOBY};
 use zeb_profile::Register;
 
 /// The canonical text of a profile with the indexes Title (0), Date (1) and Any (2).

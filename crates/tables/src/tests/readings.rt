@@ -173,27 +173,25 @@ fn terms_of<S: Alter>(
     counts(Rows::terms_of(alloc, conn, work, at)?, text)
 }
 
-fn terms_from<S: Alter>(
-    alloc: Global,
-    conn: &mut Connection<S>,
-    at: RegisterOf,
-    (start, n): (&str, u64),
-    text: &mut String,
-) -> Result<(), RegFault> {
-    let work = &mut Work::default();
-    let all = Rows::terms_from(alloc, conn, work, at, start, n)?;
-    counts(all, text)
+/// Which terms are read, seen from a text.
+#[derive(Clone, Copy)]
+enum Side {
+    From,
+    Before,
 }
 
-fn terms_before<S: Alter>(
+fn terms_beside<S: Alter>(
     alloc: Global,
     conn: &mut Connection<S>,
     at: RegisterOf,
-    (start, n): (&str, u64),
+    (side, start, n): (Side, &str, u64),
     text: &mut String,
 ) -> Result<(), RegFault> {
     let work = &mut Work::default();
-    let all = Rows::terms_before(alloc, conn, work, at, start, n)?;
+    let all = match side {
+        Side::From => Rows::terms_from(alloc, conn, work, at, start, n)?,
+        Side::Before => Rows::terms_before(alloc, conn, work, at, start, n)?,
+    };
     counts(all, text)
 }
 
@@ -227,10 +225,12 @@ pub fn tell<S: Alter>(
         Read::List(under) => list(alloc, conn, db, under, text),
         Read::Terms(register) => terms_of(alloc, conn, within(db, *register), text),
         Read::From(register, start, n) => {
-            terms_from(alloc, conn, within(db, *register), (start, *n), text)
+            let asked = (Side::From, *start, *n);
+            terms_beside(alloc, conn, within(db, *register), asked, text)
         }
         Read::Before(register, start, n) => {
-            terms_before(alloc, conn, within(db, *register), (start, *n), text)
+            let asked = (Side::Before, *start, *n);
+            terms_beside(alloc, conn, within(db, *register), asked, text)
         }
         Read::Totals(register) => totals(alloc, conn, within(db, *register), text),
     }

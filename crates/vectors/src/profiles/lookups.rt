@@ -1,15 +1,15 @@
 //! What profiles say of indexes and units, and the texts that they print.
 
 use super::read;
-use crate::samples::PROFILE;
 use std::process::Abort;
 use std::test::Fail;
+use worked_samples::BOOKS;
 use zeb_profile::Register::{Number, Phrase, Word};
 use zeb_profile::{Profile, ProfileFault, ProfileFaultKind, Register, UnitPattern};
 
 #[test]
 fn indexes(rt: HostRuntime) -> Result<(), Fail> {
-    let profile = read(&rt, PROFILE)?;
+    let profile = read(&rt, BOOKS)?;
     assert_eq!(rt; profile.store_path(), "books.db");
     let rule = profile.identifier_rule();
     assert!(rt; rule.tag == *b"001" && rule.code.is_none());
@@ -62,11 +62,11 @@ fn targets_of(
 #[test]
 fn targets(rt: HostRuntime) -> Result<(), Fail> {
     let title = [(0, Word), (0, Phrase), (2, Word)];
-    targets_of(&rt, PROFILE, b"245", Some(b'a'), &title)?;
-    targets_of(&rt, PROFILE, b"245", Some(b'b'), &[(0, Word), (2, Word)])?;
-    targets_of(&rt, PROFILE, b"260", Some(b'c'), &[(1, Number), (2, Word)])?;
-    targets_of(&rt, PROFILE, b"500", Some(b'a'), &[(2, Word)])?;
-    targets_of(&rt, PROFILE, b"001", None, &[])?;
+    targets_of(&rt, BOOKS, b"245", Some(b'a'), &title)?;
+    targets_of(&rt, BOOKS, b"245", Some(b'b'), &[(0, Word), (2, Word)])?;
+    targets_of(&rt, BOOKS, b"260", Some(b'c'), &[(1, Number), (2, Word)])?;
+    targets_of(&rt, BOOKS, b"500", Some(b'a'), &[(2, Word)])?;
+    targets_of(&rt, BOOKS, b"001", None, &[])?;
     Ok(())
 }
 
@@ -88,7 +88,7 @@ fn first_line_and_each_pair_once(rt: HostRuntime) -> Result<(), Fail> {
 fn canonical_texts(rt: HostRuntime) -> Result<(), Fail> {
     let text =
         "identifier 001\natt 4 Title\natt 31 Date\natt 1016 Any\nmelm 245$a Title:w,Title:p\nmelm 245 Title:w\nmelm 260$c Date:n\nall Any:w\n";
-    assert_eq!(rt; read(&rt, PROFILE)?.text(), text);
+    assert_eq!(rt; read(&rt, BOOKS)?.text(), text);
     let moved = read(
         &rt,
         "# moved\n\tstore  other books.db \r\nidentifier\t001\natt 004 Title\natt 31 Date\natt 1016 Any\nmelm 245$a Title,Title:p\nmelm 245 Title\nmelm 260$c  Date:n\nall Any:w",

@@ -1,12 +1,12 @@
 //! The plan of a query, or its first diagnostic.
 
-use super::{Asked, PROFILE, Table, WITHOUT_ANY, tables_hold};
+use super::{Asked, BOOKS, Table, WITHOUT_ANY, tables_hold};
 use std::test::Fail;
 
 /// Faults of one term, named set or operator.
 pub(super) const FAULTS: &Table = &Table {
     asked: Asked::Finding,
-    profile: PROFILE,
+    profile: BOOKS,
     separator: '\n',
     rows: r#"@set r -> 18 at 0: r
 @set "a \" b" -> 18 at 0: a " b
@@ -60,7 +60,7 @@ pub(super) const FAULTS: &Table = &Table {
 /// Queries that have a plan.
 pub(super) const PLANS: &Table = &Table {
     asked: Asked::Finding,
-    profile: PROFILE,
+    profile: BOOKS,
     separator: '\n',
     rows: r#"whale -> plan
 "" -> plan
@@ -92,7 +92,7 @@ pub(super) const PLANS: &Table = &Table {
 /// Proximity: its parameters, whether its operands are terms, each operand, and last their indexes.
 pub(super) const PROXIMITY: &Table = &Table {
     asked: Asked::Finding,
-    profile: PROFILE,
+    profile: BOOKS,
     separator: '\n',
     rows: r#"@prox 0 1 0 2 k 2 moby dick -> plan
 @prox 0 1 1 2 k 2 dick moby -> plan
@@ -151,7 +151,7 @@ pub(super) const PROXIMITY: &Table = &Table {
 /// Which attributes and term types hold, and which node is told.
 pub(super) const OVER: &Table = &Table {
     asked: Asked::Finding,
-    profile: PROFILE,
+    profile: BOOKS,
     separator: '\n',
     rows: r"@attr 1=4 @attr 1=9999 moby -> 114 at 23: 9999
 @attr 1=9999 @attr 1=4 moby -> plan
@@ -186,7 +186,7 @@ pub(super) const OVER: &Table = &Table {
 /// Places count bytes, and blanks too.
 pub(super) const PLACES: &Table = &Table {
     asked: Asked::Finding,
-    profile: PROFILE,
+    profile: BOOKS,
     separator: '|',
     rows: "\t@and\r\n\"\u{e9}\u{20ac}\" @set \u{1f40b} -> 18 at 15: \u{1f40b}|\
     @and \u{20ac}\r\n\t@attr 1=\u{e9} x -> 114 at 22: \u{e9}|",

@@ -1,6 +1,6 @@
 //! The limits: 65,535 bytes, 100 operators, 64 words in a term.
 
-use super::{Asked, PROFILE, compare, nothing_wrong};
+use super::{Asked, BOOKS, compare, nothing_wrong};
 use std::alloc::{AllocError, Global};
 use std::test::Fail;
 use zeb_profile::Profile;
@@ -203,6 +203,6 @@ fn wrong_long_rows(alloc: Global, profile: &Profile) -> Result<String, AllocErro
 
 #[test]
 fn limits_of_texts_and_terms(rt: HostRuntime) -> Result<(), Fail> {
-    let profile = Profile::read(rt.alloc(), PROFILE)?;
+    let profile = Profile::read(rt.alloc(), BOOKS)?;
     nothing_wrong(wrong_long_rows(rt.alloc(), &profile)?)
 }

@@ -1,12 +1,12 @@
 //! The order of diagnostics: at one node, and of an operator's two sides.
 
-use super::{Asked, PROFILE, Table, WITHOUT_ANY, tables_hold};
+use super::{Asked, BOOKS, Table, WITHOUT_ANY, tables_hold};
 use std::test::Fail;
 
 /// Two faults of one node, neighbours in the order: the first is told, whichever attribute stands first.
 pub(super) const NEIGHBOURS: &Table = &Table {
     asked: Asked::Finding,
-    profile: PROFILE,
+    profile: BOOKS,
     separator: '\n',
     rows: r"@set r -> 18 at 0: r
 @prox 0 1 0 2 k 2 @set r x -> 110 at 0: @prox
@@ -57,7 +57,7 @@ pub(super) const UNTIED_NEIGHBOURS: &Table = &Table {
 /// right, where nothing on the left has a diagnostic.
 const ALONE: &Table = &Table {
     asked: Asked::Finding,
-    profile: PROFILE,
+    profile: BOOKS,
     separator: '\n',
     rows: r"@set r -> 18 at 0: r
 @not y @set r -> 18 at 7: r
@@ -91,7 +91,7 @@ const ALONE: &Table = &Table {
 /// Each two of these, where the left one is told.
 const SIDES: &Table = &Table {
     asked: Asked::Finding,
-    profile: PROFILE,
+    profile: BOOKS,
     separator: '\n',
     rows: r"@or @set r @set r -> 18 at 4: r
 @or @set r @prox 0 1 0 2 k 2 a @set r -> 18 at 4: r

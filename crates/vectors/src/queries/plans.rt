@@ -1,6 +1,6 @@
 //! What the plans of queries are, from worked examples.
 
-use super::{Asked, PROFILE, Table, line_of, tables_hold};
+use super::{Asked, BOOKS, Table, line_of, tables_hold};
 use std::alloc::{AllocError, Global};
 use std::test::Fail;
 use zeb_profile::Register;
@@ -115,7 +115,7 @@ fn plan_text(alloc: Global, plan: &Plan) -> Result<String, AllocError> {
 /// Queries and their plans; the indexes are Title 0, Date 1, Any 2.
 const PLANS: &Table = &Table {
     asked: Asked::Planning,
-    profile: PROFILE,
+    profile: BOOKS,
     separator: '\n',
     rows: r#"whale -> phrase 2 whale
 @attr 1=4 "Moby Dick" -> phrase 0 moby dick
@@ -178,7 +178,7 @@ pub(super) fn plan_line(
 /// A query of one pattern, then an entry, and whether the pattern matches it.
 const STARS: &Table = &Table {
     asked: Asked::Matching,
-    profile: PROFILE,
+    profile: BOOKS,
     separator: '\n',
     rows: r#"@attr 5=1 Moby = mobydick -> true
 @attr 5=1 Moby = amoby -> false

@@ -1,13 +1,13 @@
 //! Where a scan begins, or its first diagnostic.
 
-use super::{Asked, PROFILE, Table, WITHOUT_ANY, tables_hold};
+use super::{Asked, BOOKS, Table, WITHOUT_ANY, tables_hold};
 use std::test::Fail;
 
 /// Scans over the profile, with the number of the index, the register and the start; the indexes are Title 0, Date 1,
 /// Any 2.
 pub(super) const SCANS: &Table = &Table {
     asked: Asked::Scanning,
-    profile: PROFILE,
+    profile: BOOKS,
     separator: '\n',
     rows: r#"d -> 2 w d
 @attr 1=4 d -> 0 w d
@@ -43,7 +43,7 @@ pub(super) const SCANS: &Table = &Table {
 /// A scan whose term has no word, which begins at the first entry.
 pub(super) const FROM_NO_WORD: &Table = &Table {
     asked: Asked::Scanning,
-    profile: PROFILE,
+    profile: BOOKS,
     separator: '|',
     rows: "@attr 1=4 \"\" -> 0 w |",
 };

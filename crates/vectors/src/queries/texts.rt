@@ -1,12 +1,12 @@
 //! Which texts are queries, and where the others have their fault.
 
-use super::{Asked, PROFILE, Table, tables_hold};
+use super::{Asked, BOOKS, Table, tables_hold};
 use std::test::Fail;
 
 /// Words, blanks and quotes.
 pub(super) const WORDS: &Table = &Table {
     asked: Asked::Reading,
-    profile: PROFILE,
+    profile: BOOKS,
     separator: '\n',
     rows: r#"moby -> query
 moby dick -> 108 at 5
@@ -43,7 +43,7 @@ a{b -> query
 /// Blanks, and characters that are none.
 pub(super) const BLANKS: &Table = &Table {
     asked: Asked::Reading,
-    profile: PROFILE,
+    profile: BOOKS,
     separator: '|',
     rows: " -> 108 at 0|\
     \u{20}\t\r\n -> 108 at 4|\
@@ -63,7 +63,7 @@ pub(super) const BLANKS: &Table = &Table {
 /// What the grammar says of keywords and of the words after them.
 pub(super) const KEYWORDS_USED: &Table = &Table {
     asked: Asked::Reading,
-    profile: PROFILE,
+    profile: BOOKS,
     separator: '\n',
     rows: r#"@foo -> query
 @ -> query
@@ -139,7 +139,7 @@ x @attrset -> 108 at 2
 /// Each keyword alone, which has its fault at its end, and quoted and in upper case, where it is a term.
 const KEYWORDS: &Table = &Table {
     asked: Asked::Reading,
-    profile: PROFILE,
+    profile: BOOKS,
     separator: '\n',
     rows: r#"@attrset -> 108 at 8
 "@attrset" -> query

@@ -1,4 +1,4 @@
-use Rattle.std.proofs.Common.{◌≡◌, ◌∙◌, [], ap, map, refl, rules, string_bytes, subst}
+use Rattle.std.proofs.Common.{◌≡◌, ◌∙◌, [], ap, map, refl, rules, string_bytes, subst, subst₂}
 use Rattle.sqlite.specs.Held.{state}
 use Rattle.sqlite.specs.State.{Survives}
 use Rattle.zeb_register.specs.Store.{IsStore}
@@ -22,6 +22,10 @@ use Rattle.zeb_engine.proofs.Unasked.{reads_command}
 use Rattle.zeb_engine.specs.Costs.{CostsAlone, no_work}
 use Rattle.zeb_engine.proofs.session.Session.carry_out.Goals as goal
 use Rattle.zeb_register.specs.Formats.{version_of}
+
+-- what is said of three things is said of those that they are
+each_so : {A B C : Type 0} (a a' : A) (b b' : B) (d d' : C) → a ≡ a' → b ≡ b' → d ≡ d' → (Says : A → B → C → Type 0) → Says a b d → Says a' b' d'
+each_so a a' b b' d d' one two three Says said = subst (λ x. Says a' b' x) three (subst₂ (λ x y. Says x y d) one two said)
 
 pub returns-in-Init-clause-serves : goal.returns-in-Init-clause-serves
 returns-in-Init-clause-serves g c clean =
@@ -52,15 +56,9 @@ returns-in-Change-clause-serves g c clean =
     let k = conditions (version_of g.L.Layout.format) c.args.self.now.profile c.args.self.now.limits in
     let old = state g.S.Store c.args.self.now.connection in
     let new = state g.S.Store c.change.new.self.connection in
-    let kind = c.in-Change.kind-1-own.given.0.0 in
-    let named = c.in-Change.database-1-own.given.0.1.0 in
-    let same_kind : kind ≡ c.in-Change.kind = search rules in
-    let same_name : named ≡ c.in-Change.database = search rules in
-    let same_files : c.deref.result.now ≡ c.in-Change.files.items = search rules in
-    let of_kind = subst (λ x. ServesBy (TakesFiles k x (name_bytes named) (map (λ file. file.items) c.deref.result.now)) old new c.change.result) same_kind (c.change.ensures.serves clean) in
-    let of_name = subst (λ n. ServesBy (TakesFiles k c.in-Change.kind (name_bytes n) (map (λ file. file.items) c.deref.result.now)) old new c.change.result) same_name of_kind in
-    let serves = subst (λ files. ServesBy (TakesFiles k c.in-Change.kind (name_bytes c.in-Change.database) (map (λ file. file.items) files)) old new c.change.result) same_files of_name in
-    rw c.in-Change.is serves
+    rw c.in-Change.is (each_so
+    c.in-Change.kind-1-own.given.0.0 c.in-Change.kind c.in-Change.database-1-own.given.0.1.0 c.in-Change.database c.deref.result.now c.in-Change.files.items (search rules) (search rules) (search rules)
+    (λ kind named files. ServesBy (TakesFiles k kind (name_bytes named) (map (λ file. file.items) files)) old new c.change.result) (c.change.ensures.serves clean))
 
 pub returns-in-Find-clause-serves : goal.returns-in-Find-clause-serves
 returns-in-Find-clause-serves g c clean =
@@ -218,15 +216,9 @@ returns-in-Change-clause-survives g c =
     let k = conditions (version_of g.L.Layout.format) c.args.self.now.profile c.args.self.now.limits in
     let old = state g.S.Store c.args.self.now.connection in
     let new = state g.S.Store c.change.new.self.connection in
-    let kind = c.in-Change.kind-1-own.given.0.0 in
-    let named = c.in-Change.database-1-own.given.0.1.0 in
-    let same_kind : kind ≡ c.in-Change.kind = search rules in
-    let same_name : named ≡ c.in-Change.database = search rules in
-    let same_files : c.deref.result.now ≡ c.in-Change.files.items = search rules in
-    let of_kind = subst (λ x. Survives old new (CommitsBy (TakesFiles k x (name_bytes named) (map (λ file. file.items) c.deref.result.now)) old)) same_kind c.change.ensures.survives in
-    let of_name = subst (λ n. Survives old new (CommitsBy (TakesFiles k c.in-Change.kind (name_bytes n) (map (λ file. file.items) c.deref.result.now)) old)) same_name of_kind in
-    let survives = subst (λ files. Survives old new (CommitsBy (TakesFiles k c.in-Change.kind (name_bytes c.in-Change.database) (map (λ file. file.items) files)) old)) same_files of_name in
-    rw c.in-Change.is survives
+    rw c.in-Change.is (each_so
+    c.in-Change.kind-1-own.given.0.0 c.in-Change.kind c.in-Change.database-1-own.given.0.1.0 c.in-Change.database c.deref.result.now c.in-Change.files.items (search rules) (search rules) (search rules)
+    (λ kind named files. Survives old new (CommitsBy (TakesFiles k kind (name_bytes named) (map (λ file. file.items) files)) old)) c.change.ensures.survives)
 
 pub returns-in-Init-clause-reads : goal.returns-in-Init-clause-reads
 returns-in-Init-clause-reads g c clean asks = absurd (subst OnlyAsks c.in-Init.is asks)
@@ -391,16 +383,9 @@ returns-in-Change-clause-work g c clean =
     let k = conditions (version_of g.L.Layout.format) c.args.self.now.profile c.args.self.now.limits in
     let row_work = g.L.Layout.row_work in
     let old = state g.S.Store c.args.self.now.connection in
-    let work = c.change.new.self.work in
-    let kind = c.in-Change.kind-1-own.given.0.0 in
-    let named = c.in-Change.database-1-own.given.0.1.0 in
-    let same_kind : kind ≡ c.in-Change.kind = search rules in
-    let same_name : named ≡ c.in-Change.database = search rules in
-    let same_files : c.deref.result.now ≡ c.in-Change.files.items = search rules in
-    let of_kind = subst (λ x. CostsAlone row_work k x (name_bytes named) (map (λ file. file.items) c.deref.result.now) old c.change.result work) same_kind (c.change.ensures.work clean) in
-    let of_name = subst (λ n. CostsAlone row_work k c.in-Change.kind (name_bytes n) (map (λ file. file.items) c.deref.result.now) old c.change.result work) same_name of_kind in
-    let costs = subst (λ files. CostsAlone row_work k c.in-Change.kind (name_bytes c.in-Change.database) (map (λ file. file.items) files) old c.change.result work) same_files of_name in
-    rw c.in-Change.is costs
+    rw c.in-Change.is (each_so
+    c.in-Change.kind-1-own.given.0.0 c.in-Change.kind c.in-Change.database-1-own.given.0.1.0 c.in-Change.database c.deref.result.now c.in-Change.files.items (search rules) (search rules) (search rules)
+    (λ kind named files. CostsAlone row_work k kind (name_bytes named) (map (λ file. file.items) files) old c.change.result c.change.new.self.work) (c.change.ensures.work clean))
 
 pub returns-in-Scan-clause-read_work : goal.returns-in-Scan-clause-read_work
 returns-in-Scan-clause-read_work g c clean =
