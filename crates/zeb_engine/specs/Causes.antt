@@ -29,7 +29,7 @@ MayHinder profile Reindex trees = Unit {0}
 MayHinder profile Upgrade trees = Unit {0}
 MayHinder profile command trees = ⊥
 
--- The store failed for such a cause, or the tables hinder the call. A failed commit isn't spoken of: it may come of want of memory, which has
+-- The store failed for such a cause, or this of the tables or the profile hinders the call. A failed commit isn't spoken of: it may come of want of memory, which has
 -- no cause.
 abbrev pub HasCauseOver : {T : Type 0} → (Trees → Type 0) → State → State → Result T Refusal → Type 0
 HasCauseOver Hinders old new result =

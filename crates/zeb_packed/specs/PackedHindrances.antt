@@ -20,7 +20,8 @@ use Rattle.zeb_register.specs.Store.{blocks_tree, dict_tree}
 abbrev pub IsMistold : Bool → (Row → Type 0) → ℕ → Trees → Type 0
 IsMistold is_there P tree trees = (is_there ≡ false) × ((row : Row) × HasRow trees tree row × P row)
 
--- how many rows are new where a row tells of so many postings or records, and it is told whether one is there: without any, there is none
+-- How many rows are new where a row is to tell of so many postings or records: one, but none where it is told that the row is there, or where
+-- there is nothing to tell.
 abbrev pub new_rows : Bool → ℕ → ℕ
 new_rows true count = 0
 new_rows false zero = 0

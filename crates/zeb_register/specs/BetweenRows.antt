@@ -1,4 +1,4 @@
--- Steps of private functions, which no public clause speaks of: rows of the terms from one text to another, as one statement shows them.
+-- Steps of private functions, here or in zeb_packed, which no public clause speaks of: rows of the terms from one text to another, as one statement shows them.
 use Rattle.std.specs.Prelude.{◌≡◌, ℕ, List, [], ◌∷◌, true, false}
 use Rattle.std.specs.Ordering.{is_lt}
 use Rattle.sqlite.specs.declared.types.Value.TheVariants.{Text}

@@ -1,4 +1,4 @@
--- Steps of private functions, which no public clause speaks of: the columns with which rows of a register, of a key and of a numbered key begin.
+-- Steps of private functions, here or in zeb_packed, which no public clause speaks of: the columns with which rows of a register, of a key and of a numbered key begin.
 use Rattle.std.specs.Prelude.{ℕ, ℤ, pos, List, [], ◌∷◌, ◌++◌, ◌≡◌}
 use Rattle.sqlite.specs.declared.types.Value.TheVariants.{Int, Text}
 use Rattle.sqlite.specs.Order.{Row, column}

@@ -1,4 +1,4 @@
--- Steps of private functions, which no public clause speaks of: postings and terms as rows of the packed tables show them.
+-- Steps of private functions, here or in zeb_packed, which no public clause speaks of: postings and terms as rows of the packed tables show them.
 use Rattle.std.specs.Prelude.{◌≡◌, List, [], ◌∷◌, ◌++◌, ◌↔◌, ◌/◌, ℕ, ℤ}
 use Rattle.sqlite.specs.Order.{Row}
 use Rattle.zeb_blocks.specs.declared.postings.Posting.{Posting}

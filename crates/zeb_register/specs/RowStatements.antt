@@ -1,4 +1,4 @@
--- Steps of private functions, which no public clause speaks of: the rows that single statements show, and what they write.
+-- Steps of private functions, here or in zeb_packed, which no public clause speaks of: the rows that single statements show, and what they write.
 use Rattle.std.specs.Prelude.{◌≡◌, ◌≢◌, ◌↔◌, ◌⊎◌, ℕ, ℤ, pos, false, List, [], ◌∷◌, IsTrue, IsUtf8, Result, IfErr}
 use Rattle.std.specs.List.{AllByRecursion}
 use Rattle.std.specs.Ordering.{is_lt}

@@ -1,4 +1,4 @@
--- Steps of private functions, which no public clause speaks of: terms as rows of `postings` show them.
+-- Steps of private functions, here or in zeb_packed, which no public clause speaks of: terms as rows of `postings` show them.
 use Rattle.std.specs.Prelude.{◌≡◌, ◌≢◌, ◌⊎◌, ◌+◌, ◌<◌, ℕ, ℤ, pos, true, false, List, [], ◌∷◌, ◌++◌, length, IsUtf8, Option, Some, None, String, string_bytes}
 use Rattle.std.specs.declared.alloc.Global.{Global}
 use Rattle.std.specs.Ordering.{nat_cmp, is_lt}

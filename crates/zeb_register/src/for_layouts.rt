@@ -1,5 +1,5 @@
 //! What those who write a `Layout` over the tables need, beside the public calls: values on their way into a row and out of it, and what
-//! every layout has to do in the same way.
+//! more than one crate needs of the tables.
 
 pub use crate::dropping::database_drop_whole;
 pub use crate::packed_agreeing::blocks_agree;
