@@ -17,7 +17,6 @@ OF_CALLS = {"AllocError": "memory", "AllocFailed<T>": "memory", "Error": "store"
 NO_FAILURE = "Directive::Store"
 # Where one is made by hand, by file: in which functions and constants, each once for each time, and why.
 MADE_BY_HAND = {
-    "crates/zeb_profile/src/indexes.rt": (["number_name"], "2^32 - 1 indexes are as many as a number of an index can tell apart"),
     "crates/zeb_profile/src/faults.rt": (["MEMORY"], "the one value that all conversions give"),
     "crates/zeb_query/src/faults.rt": (["about"], "an addinfo that there is no memory for"),
     "crates/zeb_register/src/values.rt": (["stored"], "a number that no column stores"),

@@ -5,8 +5,9 @@ use Rattle.zeb_profile.specs.declared.directives.Directive.{Directive}
 use Rattle.zeb_profile.specs.declared.directives.Placed.{Placed}
 use Rattle.zeb_profile.specs.Laws.{CommentsSayNothing}
 use Rattle.zeb_profile.specs.Outcomes.{◌>>=◌}
-use Rattle.zeb_profile.specs.Profiles.{at_line, directive_after, directives_in, is_identifier, is_store, lack_of, placed_after, placed_lines, telling_lines, ties_unknown, unless}
-use Rattle.zeb_profile.proofs.ProfilesBack.{any_placed, directives_push, find_none, lack_none, lacks_nothing, line_ok, none_found, unless_none}
+use Rattle.zeb_profile.specs.Profiles.{at_line, directive_after, directives_in, has_room, is_identifier, is_store, lack_of, placed_after, placed_lines, telling_lines, ties_unknown, unless}
+use Rattle.zeb_profile.proofs.Lacks.{lack_none}
+use Rattle.zeb_profile.proofs.ProfilesBack.{any_placed, directives_push, find_none, lacks_nothing, line_ok, none_found, unless_none}
 use Rattle.zeb_profile.proofs.TargetsBack.{step_ok}
 
 -- what was read, with the numbers of other lines
@@ -42,13 +43,15 @@ read_as one other (x ∷ xs) (y ∷ ys) placed same alike h =
 -- what lines lack is a matter of their directives
 same_lack : (one other : List Placed) → directives_in one ≡ directives_in other → lack_of one ≡ None → lack_of other ≡ None
 same_lack one other same h =
-    let lacks = lack_none (find (λ line. ties_unknown (directives_in one) line.directive) one) (list_any (λ line. is_identifier line.directive) one) (list_any (λ line. is_store line.directive) one) h in
+    let lacks = lack_none (find (λ line. ties_unknown (directives_in one) line.directive) one) (list_any (λ line. is_identifier line.directive) one) (list_any (λ line. is_store line.directive) one) (has_room (directives_in one)) h in
     let tied : list_any (ties_unknown (directives_in other)) (directives_in other) ≡ false =
     subst (λ (all : List Directive). list_any (ties_unknown all) all ≡ false) same (find_none (ties_unknown (directives_in one)) one lacks.0) in
     lacks_nothing (find (λ line. ties_unknown (directives_in other) line.directive) other) (list_any (λ line. is_identifier line.directive) other) (list_any (λ line. is_store line.directive) other)
+    (has_room (directives_in other))
     (none_found (ties_unknown (directives_in other)) other tied)
     (any_placed is_identifier other ∙ ap (list_any is_identifier) (sym same) ∙ sym (any_placed is_identifier one) ∙ lacks.1)
     (any_placed is_store other ∙ ap (list_any is_store) (sym same) ∙ sym (any_placed is_store one) ∙ lacks.2)
+    (ap has_room (sym same) ∙ lacks.3)
 
 pub comments_say_nothing : CommentsSayNothing
 comments_say_nothing text other directives alike h =

@@ -8,9 +8,9 @@ use Rattle.std.proofs.lemmas.List.Folds.{list_any-append}
 use Rattle.std.proofs.lemmas.List.{map-append, append-nil, drop_all}
 use Rattle.zeb_profile.specs.declared.directives.Placed.{Placed}
 use Rattle.zeb_profile.specs.declared.directives.Directive.{Directive}
-use Rattle.zeb_profile.specs.Indexes.{distinct_names, first_spelling, index_names, names_in, numbered}
+use Rattle.zeb_profile.specs.Indexes.{first_spelling, index_names, names_in, numbered}
 use Rattle.zeb_profile.specs.Profiles.{all_targets, directives_in, targets_in}
-use Rattle.zeb_profile.specs.Words.{same_name}
+use Rattle.zeb_profile.specs.Words.{distinct_names, same_name}
 
 -- ---- names are the same by their lower case
 pub same_lower : (a b : List ℕ) → same_name a b ≡ true → str_to_ascii_lowercase a ≡ str_to_ascii_lowercase b

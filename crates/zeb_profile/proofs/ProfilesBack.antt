@@ -16,10 +16,11 @@ use Rattle.zeb_profile.specs.Indexes.{all_pairs, identifier_pattern, index_by_us
 use Rattle.zeb_profile.specs.Laws.{CanonicalTextReadsBack, IsProfile, OneTextSaysTheSame, SaysTheSame, text_with_store, without_store}
 use Rattle.zeb_profile.specs.Lines.{says_something, trimmed}
 use Rattle.zeb_profile.specs.Outcomes.{◌>>=◌}
-use Rattle.zeb_profile.specs.Profiles.{at_line, directive_after, directives_in, first_clash, first_lack, is_identifier, is_store, lack_of, placed_after, placed_lines, profile_of, telling_lines, ties_unknown, unless}
+use Rattle.zeb_profile.specs.Profiles.{at_line, directive_after, directives_in, first_clash, first_lack, has_room, is_identifier, is_store, lack_of, placed_after, placed_lines, profile_of, telling_lines, ties_unknown, unless}
 use Rattle.zeb_profile.proofs.DirectivesBack.{IsRead, line_read}
+use Rattle.zeb_profile.proofs.Lacks.{lack_none}
 use Rattle.zeb_profile.proofs.LinesBack.{IsOneLine, lines_one_line, trimmed_one_line}
-use Rattle.zeb_profile.proofs.SoundLists.{Behind, identified_moved, path_read, store_moved_behind, store_moved_read, stored_moved, tied_moved}
+use Rattle.zeb_profile.proofs.SoundLists.{Behind, identified_moved, path_read, room_moved, store_moved_behind, store_moved_read, stored_moved, tied_moved}
 use Rattle.zeb_profile.proofs.StoreLaws.{store_says_nothing_else}
 use Rattle.zeb_profile.proofs.TargetsBack.{step_ok}
 use Rattle.zeb_profile.proofs.WrittenLines.{AllRead, canonical_lines, written, written_one_line, written_says}
@@ -83,12 +84,7 @@ pub record IsSound (directives : List Directive) : Type 0 where
   pub tied : list_any (ties_unknown directives) directives ≡ false
   pub identified : list_any is_identifier directives ≡ true
   pub stored : list_any is_store directives ≡ true
-
-pub lack_none : (o : Option Placed) (a b : Bool) → first_lack o a b ≡ None → (o ≡ None) × (a ≡ true) × (b ≡ true)
-lack_none (Some line) a b h = absurd (cc)
-lack_none None false b h = absurd (cc)
-lack_none None true false h = absurd (cc)
-lack_none None true true h = (refl, refl, refl)
+  pub roomy : has_room directives ≡ true
 
 pub find_none : (p : Directive → Bool) (placed : List Placed) → find (λ line. p line.directive) placed ≡ None → list_any p (directives_in placed) ≡ false
 find_none p [] h = refl
@@ -115,7 +111,7 @@ profile_sound directives h =
     let step = step_ok (placed_lines h.text) (λ placed. unless (lack_of placed) (directives_in placed)) directives h.reads in
     let placed : List Placed = step.0 in
     let whole = unless_none (lack_of placed) (directives_in placed) directives step.2 in
-    let lacks = lack_none (find (λ line. ties_unknown (directives_in placed) line.directive) placed) (list_any (λ line. is_identifier line.directive) placed) (list_any (λ line. is_store line.directive) placed) whole.0 in
+    let lacks = lack_none (find (λ line. ties_unknown (directives_in placed) line.directive) placed) (list_any (λ line. is_identifier line.directive) placed) (list_any (λ line. is_store line.directive) placed) (has_room (directives_in placed)) whole.0 in
     let reads : Reads [] placed = placed_reads [] (telling_lines h.text) placed (telling_lines_one_line h.text) step.1 in
     let same : reads.new ≡ directives = sym reads.joined ∙ whole.1 in
     let sound : IsSound (directives_in placed) = record {
@@ -124,6 +120,7 @@ profile_sound directives h =
       tied = find_none (ties_unknown (directives_in placed)) placed lacks.0;
       identified = sym (any_placed is_identifier placed) ∙ lacks.1;
       stored = sym (any_placed is_store placed) ∙ lacks.2;
+      roomy = lacks.3;
     } in
     subst (λ (ds : List Directive). IsSound ds) whole.1 sound
 
@@ -155,8 +152,8 @@ placed_written n earlier (d ∷ ds) h apart =
     let rest : placed_after (earlier ++ line ∷ []) (enumerate_from (n + 1) (map written ds)) ≡ Ok ((earlier ++ line ∷ []) ++ placed_from (n + 1) ds) = placed_written (n + 1) (earlier ++ line ∷ []) ds h.1 behind in
     rw ((written_says d (h.0)).read, apart.0) (rest ∙ ap Ok (append_assoc earlier (line ∷ []) (placed_from (n + 1) ds)))
 
-pub lacks_nothing : (o : Option Placed) (a b : Bool) → o ≡ None → a ≡ true → b ≡ true → first_lack o a b ≡ None
-lacks_nothing o a b e f g = rw (e, f, g) refl
+pub lacks_nothing : (o : Option Placed) (a b c : Bool) → o ≡ None → a ≡ true → b ≡ true → c ≡ true → first_lack o a b c ≡ None
+lacks_nothing o a b c e f g h = rw (e, f, g, h) refl
 
 -- the lines of sound directives, read as a profile
 pub written_profile : (text : List ℕ) (ds : List Directive) → IsSound ds → lines text ≡ map written ds → profile_of text ≡ Ok ds
@@ -169,9 +166,11 @@ written_profile text ds h e =
     ∙ telling_written 1 ds h.read in
     let read : placed_lines text ≡ Ok placed = ap (placed_after []) telling ∙ placed_written 1 [] ds h.read h.apart in
     let none : lack_of placed ≡ None = lacks_nothing (find (λ line. ties_unknown (directives_in placed) line.directive) placed) (list_any (λ line. is_identifier line.directive) placed) (list_any (λ line. is_store line.directive) placed)
+    (has_room (directives_in placed))
     (none_found (ties_unknown (directives_in placed)) placed (subst (λ (all : List Directive). list_any (ties_unknown all) all ≡ false) (sym same) h.tied))
     (any_placed is_identifier placed ∙ ap (list_any is_identifier) same ∙ h.identified)
-    (any_placed is_store placed ∙ ap (list_any is_store) same ∙ h.stored) in
+    (any_placed is_store placed ∙ ap (list_any is_store) same ∙ h.stored)
+    (ap has_room same ∙ h.roomy) in
     ap (λ placed. placed >>= λ lines. unless (lack_of lines) (directives_in lines)) read
     ∙ ap (λ lack. unless lack (directives_in placed)) none
     ∙ ap Ok same
@@ -183,6 +182,7 @@ store_moved ds path h one = record {
   tied = tied_moved ds path ∙ h.tied;
   identified = identified_moved ds path ∙ h.identified;
   stored = stored_moved (without_store ds) path;
+  roomy = room_moved ds path ∙ h.roomy;
 }
 
 -- ---- the laws

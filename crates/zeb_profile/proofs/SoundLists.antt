@@ -1,5 +1,5 @@
 -- What the directives of a profile meet together, and that it stays where the store is moved to their end.
-use Rattle.std.proofs.Common.{◌≡◌, ℕ, List, [], ◌∷◌, ◌++◌, Bool, true, false, ◌||◌, not, Option, Some, None, refl, ap, subst, sym, ◌∙◌, append_assoc, inl, inr}
+use Rattle.std.proofs.Common.{◌≡◌, ℕ, List, [], ◌∷◌, ◌++◌, Bool, true, false, ◌||◌, not, length, nat_le, Option, Some, None, refl, ap, subst, sym, ◌∙◌, append_assoc, inl, inr}
 use Rattle.std.specs.List.{filter, list_any}
 use Rattle.std.proofs.lemmas.Bool.{cases_Bool}
 use Rattle.std.proofs.lemmas.List.{append-nil}
@@ -12,8 +12,8 @@ use Rattle.zeb_profile.specs.declared.directives.Target.{Target}
 use Rattle.zeb_profile.specs.declared.faults.ProfileFaultKind.{ProfileFaultKind}
 use Rattle.zeb_profile.specs.Indexes.{store_path}
 use Rattle.zeb_profile.specs.Laws.{without_store}
-use Rattle.zeb_profile.specs.Profiles.{all_targets, clash, first_clash, first_of, is_identifier, is_store, targets_in, ties_unknown}
-use Rattle.zeb_profile.specs.Words.{same_name}
+use Rattle.zeb_profile.specs.Profiles.{all_targets, clash, first_clash, first_of, has_room, is_identifier, is_store, most_indexes, targets_in, ties_unknown}
+use Rattle.zeb_profile.specs.Words.{same_name, target_names}
 use Rattle.zeb_profile.proofs.DirectivesBack.{IsRead}
 use Rattle.zeb_profile.proofs.StoreLaws.{all_targets-without_store, stays}
 use Rattle.zeb_profile.proofs.WrittenLines.{AllRead}
@@ -144,6 +144,9 @@ tied_moved ds path =
     let moved : List Directive = without_store ds ++ Store path ∷ [] in
     any_agrees (ties_unknown moved) (ties_unknown ds) (λ d. ties_by_targets moved d ∙ ap (λ targets. ties_none targets d) (targets_moved ds path) ∙ sym (ties_by_targets ds d)) moved
     ∙ any_moved (ties_unknown ds) (λ p. refl) ds path
+
+pub room_moved : (ds : List Directive) (path : List ℕ) → has_room (without_store ds ++ Store path ∷ []) ≡ has_room ds
+room_moved ds path = ap (λ targets. nat_le (length (target_names targets)) most_indexes) (targets_moved ds path)
 
 pub stored_moved : (ds : List Directive) (path : List ℕ) → list_any is_store (ds ++ Store path ∷ []) ≡ true
 stored_moved [] path = refl

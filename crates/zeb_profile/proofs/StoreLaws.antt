@@ -1,13 +1,13 @@
 -- What a `store` line doesn't touch.
-use Rattle.std.proofs.Common.{◌≡◌, ℕ, List, [], ◌∷◌, ◌++◌, map, Option, Some, refl, ap, sym, ◌∙◌, cond, ◌==◌, unwrap_or, if◌then◌else◌}
+use Rattle.std.proofs.Common.{◌≡◌, ℕ, List, [], ◌∷◌, ◌++◌, map, Option, Some, refl, ap, sym, ◌∙◌, cond, ◌==◌, if◌then◌else◌}
 use Rattle.zeb_profile.specs.declared.directives.Directive.{Directive}
 use Rattle.zeb_profile.specs.declared.directives.Directive.TheVariants.{Store, Identifier, Att, Melm, All}
 use Rattle.zeb_profile.specs.declared.directives.Target.{Target}
 use Rattle.zeb_profile.specs.declared.patterns.UnitPattern.{UnitPattern}
-use Rattle.std.specs.List.{find, flat_map, position}
+use Rattle.std.specs.List.{flat_map, position}
 use Rattle.std.specs.Option.{option_and_then}
 use Rattle.zeb_profile.specs.Canonical.{canonical_line, canonical_text}
-use Rattle.zeb_profile.specs.Indexes.{all_line_targets, distinct_names, fits, further_pairs, identifier_pattern, index_by_name, index_names, is_control_tag, melm_targets, names_in, pair_of, use_name}
+use Rattle.zeb_profile.specs.Indexes.{all_line_targets, first_spelling, fits, further_pairs, identifier_pattern, index_by_name, index_names, is_control_tag, melm_targets, names_in, pair_of, use_name}
 use Rattle.zeb_profile.specs.Laws.{SaysTheSame, StoreSaysNothingElse, without_store}
 use Rattle.zeb_profile.specs.declared.registers.Register.{Register}
 use Rattle.zeb_profile.specs.Words.{same_name}
@@ -79,14 +79,8 @@ identifier_steps (Att n m) ds = refl
 identifier_steps (Melm p ts) ds = refl
 identifier_steps (All ts) ds = refl
 
--- the names of indexes, by all spellings and all targets
-abbrev names_by : List (List ℕ) → List Target → List (List ℕ)
-names_by spellings targets = map (λ name. unwrap_or (find (same_name name) spellings) name) (distinct_names (map (λ target. target.name) targets))
-
 index_names-without_store : (ds : List Directive) → index_names (without_store ds) ≡ index_names ds
-index_names-without_store ds =
-    ap (λ spellings. names_by spellings (all_targets (without_store ds))) (spellings-without_store ds)
-    ∙ ap (names_by (flat_map names_in ds)) (all_targets-without_store ds)
+index_names-without_store ds = rw (spellings-without_store ds, all_targets-without_store ds, first_spelling) refl
 
 -- the targets of a unit, by the names of the indexes and the two lists of targets
 abbrev targets_by : List ℕ → List (List ℕ) → List Target → List Target → List (ℕ × Register)

@@ -11,10 +11,10 @@ use Rattle.zeb_profile.specs.declared.faults.ProfileFaultKind.TheVariants.{Dupli
 use Rattle.zeb_profile.specs.declared.registers.Register.{Register}
 use Rattle.zeb_profile.specs.declared.registers.Register.TheVariants.{Word, Phrase, Number}
 use Rattle.zeb_profile.specs.Canonical.{targets_text}
-use Rattle.zeb_profile.specs.Indexes.{all_line_targets, distinct_names, first_spelling, fits, further_pairs, index_names, is_control_tag, melm_targets, pair_of, same_pair}
+use Rattle.zeb_profile.specs.Indexes.{all_line_targets, first_spelling, fits, further_pairs, index_names, is_control_tag, melm_targets, pair_of, same_pair}
 use Rattle.zeb_profile.specs.Laws.{EachTargetOnce}
 use Rattle.zeb_profile.specs.Profiles.{all_targets}
-use Rattle.zeb_profile.specs.Words.{is_comma, same_name, same_register, same_target, target_of, targets_after, targets_of}
+use Rattle.zeb_profile.specs.Words.{distinct_names, is_comma, same_name, same_register, same_target, target_of, targets_after, targets_of}
 use Rattle.zeb_profile.proofs.Numbering.{first_spelling-same, same_name-along, same_name-refl, same_name-sym}
 use Rattle.zeb_profile.proofs.ProfilesBack.{profile_sound}
 use Rattle.zeb_profile.proofs.TargetsBack.{step_ok, unless_ok}

@@ -3,7 +3,7 @@ use Rattle.std.specs.Prelude.{ℕ, List, ◌++◌, codes}
 use Rattle.std.specs.Fmt.{decimal}
 use Rattle.zeb_profile.specs.declared.faults.ProfileFault.{ProfileFault}
 use Rattle.zeb_profile.specs.declared.faults.ProfileFaultKind.{ProfileFaultKind}
-use Rattle.zeb_profile.specs.declared.faults.ProfileFaultKind.TheVariants.{Directive, Name, Register, Pattern, DuplicateTarget, DuplicateUse, UnknownIndex, NoIdentifier, TwoIdentifiers, TwoAlls, TwoStores, NoStore, Memory}
+use Rattle.zeb_profile.specs.declared.faults.ProfileFaultKind.TheVariants.{Directive, Name, Register, Pattern, DuplicateTarget, DuplicateUse, UnknownIndex, NoIdentifier, TwoIdentifiers, TwoAlls, TwoStores, NoStore, TooManyIndexes, Memory}
 
 abbrev pub fault_name : ProfileFaultKind → List ℕ
 fault_name Directive = codes "Directive"
@@ -18,6 +18,7 @@ fault_name TwoIdentifiers = codes "TwoIdentifiers"
 fault_name TwoAlls = codes "TwoAlls"
 fault_name TwoStores = codes "TwoStores"
 fault_name NoStore = codes "NoStore"
+fault_name TooManyIndexes = codes "TooManyIndexes"
 fault_name Memory = codes "Memory"
 
 -- a fault with its line, behind the name of the file or the input

@@ -13,12 +13,7 @@ use Rattle.zeb_profile.specs.declared.patterns.UnitPattern.{UnitPattern}
 use Rattle.zeb_profile.specs.declared.registers.Register.{Register}
 use Rattle.zeb_profile.specs.declared.registers.Register.TheVariants.{Word, Phrase, Number}
 use Rattle.zeb_profile.specs.Profiles.{targets_in, all_targets}
-use Rattle.zeb_profile.specs.Words.{same_name, same_register}
-
--- each name once, where it first comes
-abbrev pub distinct_names : List (List ℕ) → List (List ℕ)
-distinct_names [] = []
-distinct_names (name ∷ names) = name ∷ filter (λ other. not (same_name name other)) (distinct_names names)
+use Rattle.zeb_profile.specs.Words.{same_name, same_register, target_names}
 
 abbrev pub names_in : Directive → List (List ℕ)
 names_in (Att number name) = name ∷ []
@@ -34,7 +29,7 @@ numbered spell names name = if list_any (same_name name) names then names else (
 
 -- the indexes are the names of targets, numbered from 0 in the order in which they first come
 abbrev pub index_names : List Directive → List (List ℕ)
-index_names directives = map (first_spelling directives) (distinct_names (map (λ target. target.name) (all_targets directives)))
+index_names directives = map (first_spelling directives) (target_names (all_targets directives))
 
 abbrev pub index_by_name : List Directive → List ℕ → Option ℕ
 index_by_name directives name = position (same_name name) (index_names directives)

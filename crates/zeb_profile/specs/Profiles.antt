@@ -1,8 +1,8 @@
 -- Zebra manual, "Abstract syntaxes": a whole profile. Its directives, or the fault of its first faulty line.
 -- Own rules of this project: all that is refused here, its faults and their order. A line's own fault comes before what it repeats, and
 -- both before what all lines together lack; a use attribute is tied once, to an index that some line fills; `identifier` and `store`
--- stand just once, and `all` at most once.
-use Rattle.std.specs.Prelude.{ℕ, Bool, true, false, not, List, [], ◌∷◌, ◌++◌, ◌==◌, map, filter, Option, Some, None, Result, Ok, Err, if◌then◌else◌}
+-- stand just once, and `all` at most once; indexes are at most as many as 32 bits count.
+use Rattle.std.specs.Prelude.{ℕ, Bool, true, false, not, List, [], ◌∷◌, ◌++◌, ◌==◌, ◌-◌, ◌^◌, nat_le, length, map, filter, Option, Some, None, Result, Ok, Err, if◌then◌else◌}
 use Rattle.std.specs.List.{find, list_any, flat_map, enumerate_from}
 use Rattle.std.specs.Str.Lines.{lines}
 use Rattle.zeb_profile.specs.declared.directives.Directive.{Directive}
@@ -11,11 +11,11 @@ use Rattle.zeb_profile.specs.declared.directives.Placed.{Placed}
 use Rattle.zeb_profile.specs.declared.directives.Target.{Target}
 use Rattle.zeb_profile.specs.declared.faults.ProfileFault.{ProfileFault}
 use Rattle.zeb_profile.specs.declared.faults.ProfileFaultKind.{ProfileFaultKind}
-use Rattle.zeb_profile.specs.declared.faults.ProfileFaultKind.TheVariants.{DuplicateUse, UnknownIndex, NoIdentifier, TwoIdentifiers, TwoAlls, TwoStores, NoStore}
+use Rattle.zeb_profile.specs.declared.faults.ProfileFaultKind.TheVariants.{DuplicateUse, UnknownIndex, NoIdentifier, TwoIdentifiers, TwoAlls, TwoStores, NoStore, TooManyIndexes}
 use Rattle.zeb_profile.specs.Directives.{directive_of}
 use Rattle.zeb_profile.specs.Lines.{trimmed, says_something}
 use Rattle.zeb_profile.specs.Outcomes.{◌>>=◌}
-use Rattle.zeb_profile.specs.Words.{same_name}
+use Rattle.zeb_profile.specs.Words.{same_name, target_names}
 
 -- the lines that say something, each with its number, counted from 1 over all lines
 abbrev pub telling_lines : List ℕ → List (ℕ × List ℕ)
@@ -85,16 +85,25 @@ abbrev pub is_store : Directive → Bool
 is_store (Store _) = true
 is_store _ = false
 
--- what all lines together lack
-abbrev pub first_lack : Option Placed → Bool → Bool → Option ProfileFault
-first_lack (Some line) identified stored = Some (record { line = line.line; kind = UnknownIndex })
-first_lack None false stored = Some (record { line = 0; kind = NoIdentifier })
-first_lack None true false = Some (record { line = 0; kind = NoStore })
-first_lack None true true = None
+-- the most indexes that a profile has, since they are counted with 32 bits
+abbrev pub most_indexes : ℕ
+most_indexes = 2 ^ 32 - 1
+
+abbrev pub has_room : List Directive → Bool
+has_room directives = nat_le (length (target_names (all_targets directives))) most_indexes
+
+-- what all lines together lack, and last room for all of their indexes
+abbrev pub first_lack : Option Placed → Bool → Bool → Bool → Option ProfileFault
+first_lack (Some line) identified stored roomy = Some (record { line = line.line; kind = UnknownIndex })
+first_lack None false stored roomy = Some (record { line = 0; kind = NoIdentifier })
+first_lack None true false roomy = Some (record { line = 0; kind = NoStore })
+first_lack None true true false = Some (record { line = 0; kind = TooManyIndexes })
+first_lack None true true true = None
 
 abbrev pub lack_of : List Placed → Option ProfileFault
 lack_of placed = let directives = directives_in placed in
     first_lack (find (λ line. ties_unknown directives line.directive) placed) (list_any (λ line. is_identifier line.directive) placed) (list_any (λ line. is_store line.directive) placed)
+    (has_room directives)
 
 -- the directives of a text, or its first fault
 abbrev pub profile_of : List ℕ → Result (List Directive) ProfileFault

@@ -2,7 +2,7 @@
 -- Own rules of this project, which the manual leaves open or has otherwise: which bytes a tag, a code and a name have; that a name has at
 -- most 64 bytes, and a use number at most nine digits and isn't 0; that names are compared without regard to the case of ASCII letters;
 -- that the registers are these three; that a line has each target once; and which fault a word has.
-use Rattle.std.specs.Prelude.{ℕ, Bool, true, false, ◌&&◌, ◌||◌, List, [], ◌∷◌, ◌++◌, length, ◌==◌, nat_lt, nat_le, codes, Some, None, Result, Ok, Err, if◌then◌else◌}
+use Rattle.std.specs.Prelude.{ℕ, Bool, true, false, ◌&&◌, ◌||◌, not, List, [], ◌∷◌, ◌++◌, length, map, filter, ◌==◌, nat_lt, nat_le, codes, Some, None, Result, Ok, Err, if◌then◌else◌}
 use Rattle.std.specs.List.{list_all, list_any, slice_split, before_first, after_first, position_or_len}
 use Rattle.std.specs.Char.{is_ascii_alphabetic, is_ascii_alphanumeric, is_ascii_digit, is_ascii_graphic}
 use Rattle.std.specs.Str.{bytes_eq, str_eq_ignore_ascii_case}
@@ -49,6 +49,14 @@ name_of word = if is_name word then Ok word else Err Name
 -- names are compared without regard to the case of ASCII letters
 abbrev pub same_name : List ℕ → List ℕ → Bool
 same_name = str_eq_ignore_ascii_case
+
+-- each name once, where it first comes
+abbrev pub distinct_names : List (List ℕ) → List (List ℕ)
+distinct_names [] = []
+distinct_names (name ∷ names) = name ∷ filter (λ other. not (same_name name other)) (distinct_names names)
+
+abbrev pub target_names : List Target → List (List ℕ)
+target_names targets = distinct_names (map (λ target. target.name) targets)
 
 -- REGISTER
 abbrev pub register_of : List ℕ → Result Register ProfileFaultKind

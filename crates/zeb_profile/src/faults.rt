@@ -34,6 +34,8 @@ pub enum ProfileFaultKind {
     TwoStores,
     /// No line names the store.
     NoStore,
+    /// The targets name more than 4,294,967,295 indexes.
+    TooManyIndexes,
     /// Memory ran out.
     Memory,
 }
@@ -58,6 +60,7 @@ impl fmt::Display for ProfileFaultKind {
             ProfileFaultKind::TwoAlls => "TwoAlls",
             ProfileFaultKind::TwoStores => "TwoStores",
             ProfileFaultKind::NoStore => "NoStore",
+            ProfileFaultKind::TooManyIndexes => "TooManyIndexes",
             ProfileFaultKind::Memory => "Memory",
         })
     }
@@ -66,7 +69,7 @@ impl fmt::Display for ProfileFaultKind {
 /// The fault for which a profile's text is refused, with its line.
 #[derive(Clone, Copy, Debug, PartialEq, Eq)]
 pub struct ProfileFault {
-    /// The line, counted from 1; 0 for `NoIdentifier`, `NoStore` and `Memory`, which stand on no line.
+    /// The line, counted from 1; 0 for `NoIdentifier`, `NoStore`, `TooManyIndexes` and `Memory`, which stand on no line.
     pub line: u64,
     pub kind: ProfileFaultKind,
 }

@@ -12,11 +12,10 @@ use crate::names::Name;
 use std::alloc::{AllocError, Global};
 use std::collections::{BTreeMap, BTreeSet};
 
-/// The names of the indexes by number. A table has room for 2 ^ 32 - 1 names. Names are looked up by their keys, so that
-/// the time grows little faster than the profile.
+/// The names of the indexes by number. Names are looked up by their keys, so that the time grows little faster than the
+/// profile.
 pub(crate) fn index_names(alloc: Global, placed: &[Placed]) -> Result<Vec<Name>, AllocError>
-    ensures names { IfOk result (λ names. names.items ≡ index_names_of (directives_in placed.now)) }
-    ensures bound { IfOk result (λ names. length names.items < 2 ^ 32) }
+    ensures { IfOk result (λ names. names.items ≡ index_names_of (directives_in placed.now)) }
 {
     let spellings = first_spellings(alloc, placed)?;
     let mut keys: BTreeSet<String> = BTreeSet::new(alloc);
@@ -37,20 +36,15 @@ fn number_name<'a>(
     spellings: &BTreeMap<String, &'a Name>,
     name: &'a Name,
 ) -> Result<(), AllocError>
-    requires bound { length names.old.items < 2 ^ 32 }
     requires keys { HoldsKeys keys.old (map name_key names.old.items) }
     requires spelling { same_name (spelled spellings.now name.now) name.now ≡ true }
     ensures names { OnOk result (names.new.items ≡ numbered (spelled spellings.now) names.old.items name.now) }
     ensures keys { OnOk result (HoldsKeys keys.new (map name_key names.new.items)) }
-    ensures bound { length names.new.items < 2 ^ 32 }
 {
     let key = name.key(alloc)?;
     let spelling = spelling_of(spellings, key.as_str(), name);
     if !keys.insert(key)? {
         return Ok(());
-    }
-    if names.len() >= u32::MAX as usize {
-        return Err(AllocError);
     }
     names.push(spelling.copy(alloc)?)?;
     Ok(())

@@ -43,7 +43,7 @@ pub fn targets_are_read()
     ensures { (word : List ℕ) → TargetsAreRead word }
 {}
 
-/// Profiles that the definitions alone read: one with a line of each kind, and one with each fault.
+/// Profiles that the definitions alone read: one with a line of each kind, and one with each fault but too many indexes.
 pub fn examples()
     ensures read { EachLineIsRead }
     ensures directive { IsRefused (codes "store x\nmell 245 T") 2 Directive }

@@ -55,16 +55,16 @@ impl Model for Profile {
 
 impl Profile {
     /// Reads a profile's text. A fault is that of the first faulty line, lines counted from 1; of what all lines
-    /// together lack, an unknown index has the line of its `att`, and a missing identifier or store line 0. `Memory`,
-    /// with line 0, comes where memory ran out.
+    /// together lack, an unknown index has the line of its `att`, and a missing identifier or store, and then too many
+    /// indexes, line 0. `Memory`, with line 0, comes where memory ran out.
     pub fn read(alloc: Global, text: &str) -> Result<Profile, ProfileFault>
         ensures { GivesPlaced (λ profile. profile) result (profile_of text.now) }
     {
         let placed = read_lines(alloc, text)?;
-        if let Some(fault) = lack_of(alloc, &placed)? {
+        let names = index_names(alloc, &placed)?;
+        if let Some(fault) = lack_of(alloc, &placed, names.len())? {
             return Err(fault);
         }
-        let names = index_names(alloc, &placed)?;
         let text = canonical(alloc, &placed)?;
         let directives = directives_of(alloc, placed)?;
         Ok(Profile {

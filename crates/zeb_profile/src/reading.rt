@@ -1,9 +1,10 @@
 //! Reading a profile line by line, and what its lines lack together.
 
-ghost use Rattle.std.specs.Prelude.{◌≡◌, ◌∷◌, [], map, IfOk, OnOk, option_map};
+ghost use Rattle.std.specs.Prelude.{◌≡◌, ◌∷◌, [], length, map, IfOk, OnOk, option_map};
 ghost use Rattle.std.specs.List.{list_any, find};
 ghost use Rattle.std.specs.Str.Lines.{lines as lines_of};
 ghost use Rattle.zeb_profile.specs.declared.directives.Directive.{Directive as Told};
+ghost use Rattle.zeb_profile.specs.Indexes.{index_names};
 ghost use Rattle.zeb_profile.specs.PrivateKeys.{AddsKeys, ties_beside};
 ghost use Rattle.zeb_profile.specs.Lines.{says_something as tells};
 ghost use Rattle.zeb_profile.specs.Outcomes.{Gives, GivesPlaced};
@@ -73,8 +74,14 @@ fn read_line(
     }
 }
 
-/// What the lines of a profile lack together: the index of a use attribute, the identifier, the store.
-pub(crate) fn lack_of(alloc: Global, placed: &[Placed]) -> Result<Option<ProfileFault>, AllocError>
+/// What the lines of a profile lack together: the index of a use attribute, the identifier, the store, and room for their
+/// indexes, of which the caller has the number.
+pub(crate) fn lack_of(
+    alloc: Global,
+    placed: &[Placed],
+    index_count: usize,
+) -> Result<Option<ProfileFault>, AllocError>
+    requires { index_count ≡ length (index_names (directives_in placed.now)) }
     ensures { IfOk result (λ found. found ≡ lack placed.now) }
 {
     if let Some(line) = unknown_use(alloc, placed)? {
@@ -93,6 +100,12 @@ pub(crate) fn lack_of(alloc: Global, placed: &[Placed]) -> Result<Option<Profile
         return Ok(Some(ProfileFault {
             line: 0,
             kind: ProfileFaultKind::NoStore,
+        }));
+    }
+    if index_count > u32::MAX as usize {
+        return Ok(Some(ProfileFault {
+            line: 0,
+            kind: ProfileFaultKind::TooManyIndexes,
         }));
     }
     Ok(None)

@@ -111,7 +111,7 @@ fn first_spelling(rt: HostRuntime) -> Result<(), Fail> {
 }
 
 /// The text of a fault for each kind.
-static PRINTED: [(ProfileFaultKind, &str); 13] = [
+static PRINTED: [(ProfileFaultKind, &str); 14] = [
     (ProfileFaultKind::Directive, "line 7: Directive"),
     (ProfileFaultKind::Name, "line 7: Name"),
     (ProfileFaultKind::Register, "line 7: Register"),
@@ -124,6 +124,7 @@ static PRINTED: [(ProfileFaultKind, &str); 13] = [
     (ProfileFaultKind::TwoAlls, "line 7: TwoAlls"),
     (ProfileFaultKind::TwoStores, "line 7: TwoStores"),
     (ProfileFaultKind::NoStore, "line 7: NoStore"),
+    (ProfileFaultKind::TooManyIndexes, "line 7: TooManyIndexes"),
     (ProfileFaultKind::Memory, "line 7: Memory"),
 ];
 

@@ -10,8 +10,8 @@ use Rattle.zeb_profile.proofs.indexes.index_names.Goals as goal
 pub number_name-requires-clause-spelling : goal.number_name-requires-clause-spelling
 number_name-requires-clause-spelling c = spelling-same (spelled c.in_ok-spellings.spellings) (directives_in c.args.placed.now) c.in_ok-spellings.ensures _
 
-pub returns-clause-names : goal.returns-clause-names
-returns-clause-names c =
+pub returns : goal.returns
+returns c =
     let spell = spelled c.in_ok-spellings.spellings in
     let all : c.loop-line.names.items ≡ fold (numbered spell) c.loop-line.names.items (names_after c.loop-line.line-index c.args.placed.now) = ap (fold (numbered spell) c.loop-line.names.items) (sym (names_after-end c.loop-line.line-index c.args.placed.now (omega arith))) in
     let first : spelled c.in_ok-spellings.spellings ≡ first_spelling (directives_in c.args.placed.now) = fun_ext c.in_ok-spellings.ensures in
