@@ -7,11 +7,22 @@ use std::process::Abort;
 use std::test::Fail;
 use zeb_marc::{FromRead, Marc, MarcFault, ReadFailed, RecordBuf, Slice, Source, next_record};
 
-/// Gives one byte at a time, and fails once so many bytes are gone.
+/// Gives one byte at a time, fails once so many bytes are gone, and counts how often it is asked.
 #[derive(Drop)]
 struct Failing<'a> {
     bytes: &'a [u8],
     failed: bool,
+    reads: usize,
+}
+
+impl<'a> Failing<'a> {
+    fn new(bytes: &'a [u8]) -> Failing<'a> {
+        Failing {
+            bytes,
+            failed: false,
+            reads: 0,
+        }
+    }
 }
 
 impl Source for Failing<'_> {
@@ -21,7 +32,10 @@ impl Source for Failing<'_> {
 
     ghost has_failed = { λ s. s.failed };
 
+    ghost reads = { λ s. s.reads };
+
     fn read(&mut self, buffer: &mut [u8]) -> Result<usize, ReadFailed> {
+        self.reads = self.reads.saturating_add(1);
         if buffer.is_empty() {
             return Ok(0);
         }
@@ -47,19 +61,15 @@ impl Source for Failing<'_> {
 fn a_failed_read_is_a_read_fault(rt: HostRuntime) -> Result<(), Fail> {
     let mut buffer = RecordBuf::new(rt.alloc())?;
     for count in 0..RECORD_A.len() {
-        let mut source = Failing {
-            bytes: &RECORD_A[..count],
-            failed: false,
-        };
+        let mut source = Failing::new(&RECORD_A[..count]);
         assert!(rt; next_record(&mut source, &mut buffer) == Err(MarcFault::ReadFault));
+        assert_eq!(rt; source.reads, count + 1);
         assert!(rt; source.has_failed());
         assert!(rt; buffer.bytes().is_empty());
     }
-    let mut whole = Failing {
-        bytes: RECORD_A,
-        failed: false,
-    };
+    let mut whole = Failing::new(RECORD_A);
     assert!(rt; next_record(&mut whole, &mut buffer) == Ok(Some(109)));
+    assert_eq!(rt; whole.reads, 109);
     assert!(rt; buffer.bytes() == RECORD_A.as_slice());
     assert!(rt; !whole.has_failed());
     assert!(rt; next_record(&mut whole, &mut buffer) == Err(MarcFault::ReadFault));
@@ -397,6 +407,30 @@ fn a_fault_before_the_failure_is_answered(rt: HostRuntime) -> Result<(), Fail> {
             "{fault}"
         );
         assert_eq!(rt; source.has_failed(), fault == MarcFault::ReadFault);
+    }
+    Ok(())
+}
+
+/// A source that gives one byte at a time is asked no more often than the answer needs bytes.
+#[test]
+fn few_reads_are_asked(rt: HostRuntime) -> Result<(), Fail> {
+    let alloc = rt.alloc();
+    let mut buffer = RecordBuf::new(alloc)?;
+    let separators = vec![in alloc; b' '; 65_535]?;
+    let longest = record_of_length(alloc, b"99999", 99_973)?;
+    let tails: [(&[u8], Result<Option<usize>, MarcFault>, usize); 5] = [
+        (b" ", Err(MarcFault::TooManySeparators), 65_536),
+        (b"", Err(MarcFault::ReadFault), 65_536),
+        (b"xxxxx", Err(MarcFault::LengthDigits), 65_540),
+        (b"00025", Err(MarcFault::LengthRange), 65_540),
+        (&longest, Ok(Some(99_999)), 165_534),
+    ];
+    for (tail, answer, reads) in tails {
+        let mut stream = separators.clone()?;
+        stream.extend_from_slice(tail)?;
+        let mut source = Failing::new(&stream);
+        assert!(rt; next_record(&mut source, &mut buffer) == answer);
+        assert_eq!(rt; source.reads, reads);
     }
     Ok(())
 }

@@ -1,10 +1,11 @@
--- Reading the next record takes no more than separators and one record's bytes off a stream.
+-- Reading the next record takes no more than separators and one record's bytes off a stream, and asks no more reads.
 use Rattle.std.proofs.Common.{◌≡◌, ℕ, ◌+◌, ◌<◌, ◌≤◌, ◌^◌, Bool, true, false, cond, leb, Option, Some, None, Result, Ok, Err, List, length, take, ap, subst, length-append, length-take, refl, arith, inl, inr, ◌⊎◌}
 use Rattle.std.proofs.lemmas.Bool.{leb-true, leb-false}
 use Rattle.zeb_marc.specs.declared.faults.MarcFault.{MarcFault}
 use Rattle.zeb_marc.specs.declared.faults.MarcFault.TheVariants.{LengthDigits, LengthRange, Truncated, TooManySeparators, ReadFault}
 use Rattle.zeb_marc.specs.Leader.{first_failing, are_digits, record_length, slice_checks}
 use Rattle.zeb_marc.specs.Splits.{IsSlice, EndsAs}
+use Rattle.zeb_marc.specs.Reading.{Keeps, most_reads}
 use Rattle.zeb_marc.specs.Unread.{Takes}
 use Rattle.zeb_marc.proofs.PartLaws.{number_of-below}
 use Rattle.zeb_marc.proofs.SplitLaws.{SoundSlice-from_checks}
@@ -54,3 +55,11 @@ few_taken (Err Truncated) taken rest is = cut_off taken is.0
 few_taken (Err ReadFault) taken rest (inl is) = omega (arith, is.bounded)
 few_taken (Err ReadFault) taken rest (inr is) = cut_off taken is
 few_taken (Err _) taken rest is = omega (arith, ap length is.whole, length-append is.run is.digits, is.skipped.bounded, is.five)
+
+pub few_asked : (answer : Result (Option ℕ) MarcFault) (kept : List ℕ) → Keeps answer kept → most_reads answer ≤ 65535 + 99999
+few_asked (Ok None) kept keeps = omega arith
+few_asked (Ok (Some n)) kept keeps = omega (arith, keeps.1, slice_is_short kept keeps.0)
+few_asked (Err LengthDigits) kept keeps = omega arith
+few_asked (Err LengthRange) kept keeps = omega arith
+few_asked (Err TooManySeparators) kept keeps = omega arith
+few_asked (Err _) kept keeps = omega arith

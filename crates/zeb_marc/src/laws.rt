@@ -7,6 +7,7 @@ ghost use Rattle.zeb_marc.specs.Contents.{UnitText, units_of};
 ghost use Rattle.zeb_marc.specs.Records.{first_fault, fields_of, IsRecord, IsRecordFault};
 ghost use Rattle.zeb_marc.specs.Layout.{IsLaidOut};
 ghost use Rattle.zeb_marc.specs.Splits.{at_end, a_fault, a_slice, next_of, split_next, split_of, EndsAs, IsRun, IsSlice, IsSplit};
+ghost use Rattle.zeb_marc.specs.Reading.{Keeps, most_reads};
 ghost use Rattle.zeb_marc.specs.Unread.{Takes};
 ghost use Rattle.zeb_marc.specs.Parts.{IsPart};
 ghost use Rattle.zeb_marc.specs.Worked.{record_with, small_text, with_entry, with_leader, worked_fields, worked_record, worked_stream, worked_units};
@@ -44,10 +45,11 @@ pub fn split_laws()
 {}
 
 /// Whatever reading the next record answers, it takes no more bytes off a stream than 65,535 separators and a record of
-/// 99,999 bytes have together.
+/// 99,999 bytes have together, and asks no more reads.
 pub fn reading_laws()
     ensures few { (answer : Result (Option ℕ) MarcFault) (taken rest : List ℕ) → Takes answer taken rest
         → length taken ≤ 65535 + 99999 }
+    ensures few_reads { (answer : Result (Option ℕ) MarcFault) (kept : List ℕ) → Keeps answer kept → most_reads answer ≤ 65535 + 99999 }
 {}
 
 /// The definitions, tried on a worked record, on three texts that aren't one, and on a stream of two records and one byte.

@@ -1,5 +1,5 @@
 //! Where records are read from.
-ghost use Rattle.std.specs.Prelude.{◌≡◌, List, ℕ, Option, Bool, true, false, Some, is_ok, if◌then◌else◌};
+ghost use Rattle.std.specs.Prelude.{◌≡◌, ◌≤◌, ◌+◌, List, ℕ, Option, Bool, true, false, Some, is_ok, if◌then◌else◌};
 ghost use Rattle.std.specs.Io.{ReadsAtMost};
 ghost use Rattle.std.specs.Io.KnownBytes.{ReadConsumes};
 
@@ -18,13 +18,17 @@ pub trait Source {
     /// Whether a read has failed.
     ghost has_failed: { Self → Bool };
 
+    /// How many reads have been asked, as far as the source counts them: always 0 where it doesn't.
+    ghost reads: { Self → ℕ };
+
     /// Reads some bytes into the front of the buffer and says how many; 0 into a buffer with room is the end.
     ///
     /// An error, an interruption too, is for good: the source has failed then. It takes no byte of those that are left.
     fn read(&mut self, buffer: &mut [u8]) -> Result<usize, ReadFailed>
         ensures bound { ReadsAtMost result buffer.new }
         ensures bytes { ReadConsumes (remaining self.old) (remaining self.new) result buffer.new }
-        ensures failed { has_failed self.new ≡ (if is_ok result then has_failed self.old else true) };
+        ensures failed { has_failed self.new ≡ (if is_ok result then has_failed self.old else true) }
+        ensures counted { reads self.new ≤ reads self.old + 1 };
 
     /// Whether a read has failed.
     fn has_failed(&self) -> bool
@@ -58,6 +62,8 @@ impl<'a> Source for Slice<'a> {
     ghost remaining = { λ s. Some s };
 
     ghost has_failed = { λ _. false };
+
+    ghost reads = { λ _. 0 };
 
     fn read(&mut self, buffer: &mut [u8]) -> Result<usize, ReadFailed> {
         let count = buffer.len().min(self.bytes.len());
@@ -96,6 +102,8 @@ impl<R: Read> Source for FromRead<R> {
     ghost remaining = { λ s. R.remaining s.reader };
 
     ghost has_failed = { λ s. s.failed };
+
+    ghost reads = { λ _. 0 };
 
     fn read(&mut self, buffer: &mut [u8]) -> Result<usize, ReadFailed> {
         match self.reader.read(buffer) {

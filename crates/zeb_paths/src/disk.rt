@@ -117,6 +117,8 @@ impl Source for FileReader<'_> {
 
     ghost has_failed = { λ s. s.failed };
 
+    ghost reads = { λ _. 0 };
+
     fn read(&mut self, buffer: &mut [u8]) -> Result<usize, ReadFailed> {
         match self.read_on(buffer) {
             Ok(count) => {

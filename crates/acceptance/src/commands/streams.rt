@@ -27,6 +27,8 @@ impl Source for Stream<'_> {
 
     ghost has_failed = { λ s. s.failed };
 
+    ghost reads = { λ _. 0 };
+
     fn read(&mut self, buffer: &mut [u8]) -> Result<usize, ReadFailed> {
         if buffer.is_empty() {
             return Ok(0);
@@ -109,6 +111,8 @@ impl Source for Maker {
     ghost remaining = { λ _. None };
 
     ghost has_failed = { λ _. false };
+
+    ghost reads = { λ _. 0 };
 
     fn read(&mut self, buffer: &mut [u8]) -> Result<usize, ReadFailed> {
         if buffer.is_empty() || self.made >= self.end {

@@ -1,5 +1,5 @@
 -- As many separators as were counted begin what the source told.
-use Rattle.std.proofs.Common.{◌≡◌, ◌≤◌, List, ℕ, Some, drop}
+use Rattle.std.proofs.Common.{◌≡◌, ◌≤◌, ◌+◌, List, ℕ, Some, drop}
 use Rattle.std.specs.List.{prefix_len}
 use Rattle.zeb_marc.specs.Splits.{is_separator}
 use Rattle.zeb_marc.proofs.stream.skip_separators.Given as goal
@@ -7,5 +7,6 @@ use Rattle.zeb_marc.proofs.stream.skip_separators.Given as goal
 abbrev pub invariant-loop : goal.invariant-loop
 invariant-loop g l = record {
   fails : g.R.Source.has_failed l.source ≡ g.R.Source.has_failed l.fn.source;
+  few : g.R.Source.reads l.source ≤ g.R.Source.reads l.fn.source + l.counter;
   told : (text : List ℕ) → g.R.Source.remaining l.fn.source ≡ Some text → (g.R.Source.remaining l.source ≡ Some (drop l.counter text)) × (l.counter ≤ prefix_len is_separator text);
 }
