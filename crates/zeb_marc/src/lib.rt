@@ -15,6 +15,6 @@ pub use directory::{Field, Fields};
 pub use faults::MarcFault;
 pub use laws::{fault_examples, reading_laws, record_laws, split_laws, worked_examples};
 pub use records::Marc;
-pub use sources::{FromRead, ReadFailed, Slice, Source};
+pub use sources::{FromRead, ReadFailed, Slice, Source, passed_on};
 pub use stream::{RecordBuf, next_record};
 pub use units::{Unit, Units};

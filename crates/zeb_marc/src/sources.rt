@@ -1,9 +1,9 @@
 //! Where records are read from.
-ghost use Rattle.std.specs.Prelude.{◌≡◌, ◌≤◌, ◌+◌, List, ℕ, Option, Bool, true, false, Some, is_ok, if◌then◌else◌};
+ghost use Rattle.std.specs.Prelude.{◌≡◌, ◌≤◌, ◌+◌, List, ℕ, Option, Bool, true, false, Some, Ok, IsErr, is_ok, if◌then◌else◌, MatchResult};
 ghost use Rattle.std.specs.Io.{ReadsAtMost};
 ghost use Rattle.std.specs.Io.KnownBytes.{ReadConsumes};
 
-use std::io::Read;
+use std::io::{self, Read};
 use std::marker::Model;
 
 /// A read failed.
@@ -78,6 +78,17 @@ impl<'a> Source for Slice<'a> {
     }
 }
 
+/// What a reader has answered, as a source passes it on: each failure is a failed read, an interruption too. It has no reader to
+/// ask again.
+pub fn passed_on(answer: io::Result<usize>) -> Result<usize, ReadFailed>
+    ensures { MatchResult answer (λ count. result ≡ Ok count) (λ _. IsErr result) }
+{
+    match answer {
+        Ok(count) => Ok(count),
+        Err(_) => Err(ReadFailed),
+    }
+}
+
 /// A reader, as a source: its bytes are the reader's. The source has failed once a read has.
 #[derive(Drop)]
 pub struct FromRead<R: Read> {
@@ -106,13 +117,11 @@ impl<R: Read> Source for FromRead<R> {
     ghost reads = { λ _. 0 };
 
     fn read(&mut self, buffer: &mut [u8]) -> Result<usize, ReadFailed> {
-        match self.reader.read(buffer) {
-            Ok(count) => Ok(count),
-            Err(_) => {
-                self.failed = true;
-                Err(ReadFailed)
-            }
+        let answer = passed_on(self.reader.read(buffer));
+        if answer.is_err() {
+            self.failed = true;
         }
+        answer
     }
 
     fn has_failed(&self) -> bool {

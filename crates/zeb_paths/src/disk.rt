@@ -9,7 +9,7 @@ use sqlite::{Connection, File, FileStore, Unknown};
 use std::alloc::Global;
 use std::fs;
 use std::io::{self, BufReader, Read};
-use zeb_marc::{ReadFailed, Source};
+use zeb_marc::{ReadFailed, Source, passed_on};
 
 /// The file system, with paths relative to the working folder.
 #[derive(Clone, Copy)]
@@ -120,7 +120,7 @@ impl Source for FileReader<'_> {
     ghost reads = { λ _. 0 };
 
     fn read(&mut self, buffer: &mut [u8]) -> Result<usize, ReadFailed> {
-        match self.read_on(buffer) {
+        match passed_on(self.read_on(buffer)) {
             Ok(count) => {
                 if count == 0 && !buffer.is_empty() {
                     self.progress = Progress::Ended;
@@ -130,10 +130,10 @@ impl Source for FileReader<'_> {
                 }
                 Ok(count)
             }
-            Err(_) => {
+            Err(failure) => {
                 self.progress = Progress::Ended;
                 self.failed = true;
-                Err(ReadFailed)
+                Err(failure)
             }
         }
     }
