@@ -72,11 +72,10 @@ ALL = {
         "analyses::memory_or_the_ordinary_answer",
     ],
     "tables": ["tests::memory::one_request_for_memory_may_be_refused"],
-    "acceptance": [
-        "commands::refused_memory::memory_or_the_ordinary_answer",
-        "commands::refused_memory::a_refused_list_has_run_nothing",
-        "words::each_line_is_read",
-        "words::names_of_databases_are_read",
+    "acceptance": ["words::each_line_is_read", "words::names_of_databases_are_read"],
+    "endurance": [
+        "refused_memory::memory_or_the_ordinary_answer",
+        "refused_memory::a_refused_list_has_run_nothing",
     ],
     "scripts": ["tests::memory::memory_or_the_ordinary_answer"],
 }

@@ -1,16 +1,36 @@
-//! Tests over the public names of several crates, and no product code: commands over a register, and words, as rows and the answers
-//! that they have to get.
+//! Tests over the public names of several crates, and no product code: what is asked of a register and changed in it, and words, as
+//! rows and the answers that they have to get.
 #![tactic(auto)]
 
 #[cfg(test)]
+mod analyses;
+#[cfg(test)]
+mod beside_slow;
+#[cfg(test)]
 mod catalogue;
 #[cfg(test)]
-mod commands;
+mod changes;
+#[cfg(test)]
+mod databases;
+#[cfg(test)]
+mod finds;
+#[cfg(test)]
+mod limits;
 #[cfg(test)]
 mod query_lists;
 #[cfg(test)]
+mod reads;
+#[cfg(test)]
+mod rows;
+#[cfg(test)]
+mod scans;
+#[cfg(test)]
 mod slow_find;
 #[cfg(test)]
-mod texts;
+mod steps;
+#[cfg(test)]
+mod streams;
+#[cfg(test)]
+mod together;
 #[cfg(test)]
 mod words;

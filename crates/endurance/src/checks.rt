@@ -1,15 +1,17 @@
 //! Rows that are changed by hand: what a check says of them, what a reindex makes of them, and that an upgrade is refused just where
 //! the check is.
 
-use super::damages::{self, DAMAGED, Damage, SOUND, Verdicts};
-use super::stories::{Kept, Part, done, told};
-use super::{BOOKS, Row, Step, two_blocks};
-use crate::texts::is_text;
+use crate::damages::{self, DAMAGED, Damage, SOUND, Verdicts};
+use crate::two_blocks;
+use command_rows::commands::{Row, Step};
+use command_rows::stories::{Kept, Part, done, told};
+use command_rows::texts::is_text;
 use sqlite::{Connection, MemStore};
 use std::alloc::AllocGlobal;
 use std::process::Abort;
 use std::test::Fail;
 use tables::queries::{LISTS, TABLES, all_rows, execute};
+use worked_samples::BOOKS;
 
 fn part<'a>(kept: Kept, rows: &'a [Row<'a>]) -> Part<'a> {
     match kept {

@@ -1,14 +1,16 @@
 //! The engine's finds beside slow ones, over a catalogue that is made.
 
-use super::{BOOKS, Step, adopted, answer, answers, change, find, told};
-use crate::catalogue::{Catalogue, Draw, record};
+use crate::catalogue::{Catalogue, record};
 use crate::query_lists::queries;
 use crate::slow_find::found;
-use crate::texts::is_text;
+use command_rows::commands::{Step, adopted, answer, answers, change, find, told};
+use command_rows::lots::Draw;
+use command_rows::texts::is_text;
 use sqlite::{Connection, MemStore};
 use std::alloc::{AllocError, AllocGlobal, Global};
 use std::process::Abort;
 use std::test::Fail;
+use worked_samples::BOOKS;
 use zeb_engine::{Kind, Limits, Session};
 use zeb_packed::Blocks;
 use zeb_profile::Profile;

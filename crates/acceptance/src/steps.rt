@@ -1,13 +1,14 @@
 //! Commands under a limit on the steps of each of the store's statements: what is about one record or a few terms passes where a look at
 //! whole tables doesn't.
 
-use super::streams::{Maker, TOMES, opened_under};
-use super::{BOOKS, Row, Step, name, run};
+use crate::streams::{Maker, TOMES, opened_under};
+use command_rows::commands::{Row, Step, name, run};
 use sqlite::{Connection, MemStore};
 use std::alloc::{AllocGlobal, Global};
 use std::process::Abort;
 use std::test::Fail;
 use tables::queries::{execute, rows};
+use worked_samples::BOOKS;
 use zeb_engine::{Command, Kind, Limits};
 use zeb_packed::Blocks;
 

@@ -1,6 +1,6 @@
 //! Commands that read whole databases.
 
-use super::{Script, Step, TITLES};
+use command_rows::commands::{Script, Step, TITLES};
 use worked_samples::{CAFE, CAFE_DOCK, CAFE_MOBY, DOCK, DOCK_ALONE, MOBY};
 
 /// A dump is the kept bytes in the order of numbers.

@@ -5,38 +5,12 @@ use sqlite::{Alter, Connection, MemStore};
 use std::alloc::{AllocError, AllocGlobal, Global};
 use std::process::Abort;
 use std::test::Fail;
-use worked_samples::BOOKS;
 use zeb_engine::{
     Command, DbName, Kind, Limits, Refusal, Reply, Session, refusal_line, render, status,
 };
 use zeb_packed::Blocks;
 use zeb_profile::Profile;
 use zeb_register::{Layout, Rows};
-
-mod analyses;
-mod beside_slow;
-mod changes;
-mod checks;
-mod crashes;
-mod damages;
-mod databases;
-mod drawn;
-mod finds;
-mod limits;
-mod other_stores;
-mod packed;
-mod reads;
-mod refused_memory;
-mod renewals;
-mod scans;
-mod statements;
-mod steps;
-mod stories;
-mod streams;
-mod together;
-mod two_blocks;
-mod versions;
-mod works;
 
 /// Titles by their words, records named by their control number.
 pub const TITLES: &str = "store books.db\nidentifier 001\natt 4 Title\nmelm 245 Title\n";
@@ -72,7 +46,8 @@ pub type Row<'a> = (Step<'a>, &'a str);
 /// Profiles, and what is printed under each in turn.
 pub type Script = &'static [(&'static str, &'static [Row<'static>])];
 
-fn name(text: &str) -> Result<DbName, Refusal> {
+/// A database's name; `Memory` where the text is none, which no test has.
+pub fn name(text: &str) -> Result<DbName, Refusal> {
     DbName::read(text).ok_or(Refusal::Memory)
 }
 
@@ -92,7 +67,8 @@ fn files(alloc: Global, all: &[File<'_>]) -> Result<Vec<Vec<u8>>, AllocError> {
     Ok(files)
 }
 
-fn change(alloc: Global, kind: Kind, all: &[File<'_>]) -> Result<Command, Refusal> {
+/// A change of the database `Default` by these files.
+pub fn change(alloc: Global, kind: Kind, all: &[File<'_>]) -> Result<Command, Refusal> {
     Ok(Command::Change {
         kind,
         database: name("Default")?,
@@ -100,7 +76,8 @@ fn change(alloc: Global, kind: Kind, all: &[File<'_>]) -> Result<Command, Refusa
     })
 }
 
-fn find(alloc: Global, first: u32, count: u32, query: &str) -> Result<Command, Refusal> {
+/// A find in the database `Default`: the first of the hits to show, how many, and the query.
+pub fn find(alloc: Global, first: u32, count: u32, query: &str) -> Result<Command, Refusal> {
     Ok(Command::Find {
         database: name("Default")?,
         query: String::from_str(alloc, query)?,
@@ -109,7 +86,8 @@ fn find(alloc: Global, first: u32, count: u32, query: &str) -> Result<Command, R
     })
 }
 
-fn scan(
+/// A scan of a database: so many terms, the place of the start among them, and the query that names it.
+pub fn scan(
     alloc: Global,
     database: &str,
     number: u32,
@@ -124,7 +102,8 @@ fn scan(
     })
 }
 
-fn command_of(alloc: Global, step: &Step<'_>) -> Result<Command, Refusal> {
+/// The command of a step.
+pub fn command_of(alloc: Global, step: &Step<'_>) -> Result<Command, Refusal> {
     match step {
         Step::Init => Ok(Command::Init),
         Step::Check => Ok(Command::Check),
@@ -149,7 +128,7 @@ fn command_of(alloc: Global, step: &Step<'_>) -> Result<Command, Refusal> {
 }
 
 /// What is printed for an answer.
-fn told(alloc: Global, answer: &Result<Reply, Refusal>) -> Result<String, AllocError> {
+pub fn told(alloc: Global, answer: &Result<Reply, Refusal>) -> Result<String, AllocError> {
     match answer {
         Ok(reply) => match String::from_utf8(render(alloc, reply)?) {
             Ok(text) => Ok(text),
@@ -160,7 +139,7 @@ fn told(alloc: Global, answer: &Result<Reply, Refusal>) -> Result<String, AllocE
 }
 
 /// A command's answer. No clause is stated here, so that a test holds no more than what is printed.
-fn answer<S: Alter, L: Layout>(
+pub fn answer<S: Alter, L: Layout>(
     session: &mut Session<S, L>,
     command: &Command,
 ) -> Result<Reply, Refusal> {
@@ -168,7 +147,7 @@ fn answer<S: Alter, L: Layout>(
 }
 
 /// For an answer this text is printed.
-fn prints(
+pub fn prints(
     rt: &(impl Abort + AllocGlobal),
     answer: &Result<Reply, Refusal>,
     wanted: &str,
@@ -179,7 +158,8 @@ fn prints(
     Ok(())
 }
 
-fn is_refused_with(answer: &Result<Reply, Refusal>, wanted: u8) -> bool {
+/// Whether the answer is a refusal of this status.
+pub fn is_refused_with(answer: &Result<Reply, Refusal>, wanted: u8) -> bool {
     match answer {
         Ok(_) => false,
         Err(refusal) => status(refusal) == wanted,
@@ -187,7 +167,7 @@ fn is_refused_with(answer: &Result<Reply, Refusal>, wanted: u8) -> bool {
 }
 
 /// For each step its text is printed.
-fn answers<S: Alter, L: Layout>(
+pub fn answers<S: Alter, L: Layout>(
     rt: &(impl Abort + AllocGlobal),
     session: &mut Session<S, L>,
     rows: &[Row<'_>],
@@ -200,7 +180,7 @@ fn answers<S: Alter, L: Layout>(
 }
 
 /// A session over the connection, which is given back where it is refused.
-fn adopted<S: Alter + Drop, L: Layout>(
+pub fn adopted<S: Alter + Drop, L: Layout>(
     alloc: Global,
     connection: Connection<S>,
     profile: &str,
@@ -219,7 +199,7 @@ fn adopted<S: Alter + Drop, L: Layout>(
 }
 
 /// Runs a script over a connection, which is given back.
-fn run<S: Alter + Drop, L: Layout>(
+pub fn run<S: Alter + Drop, L: Layout>(
     rt: &(impl Abort + AllocGlobal),
     connection: Connection<S>,
     limits: Limits,
@@ -234,7 +214,7 @@ fn run<S: Alter + Drop, L: Layout>(
 }
 
 /// Runs a script over a new register in memory, of this layout.
-fn run_in_memory<L: Layout>(
+pub fn run_in_memory<L: Layout>(
     rt: &(impl Abort + AllocGlobal),
     limits: Limits,
     script: Script,
@@ -247,45 +227,10 @@ fn run_in_memory<L: Layout>(
 }
 
 /// Runs each script over either layout.
-fn run_each(rt: &(impl Abort + AllocGlobal), scripts: &[Script]) -> Result<(), Fail> {
+pub fn run_each(rt: &(impl Abort + AllocGlobal), scripts: &[Script]) -> Result<(), Fail> {
     for script in scripts {
         run_in_memory::<Rows>(rt, Limits::GREATEST, script)?;
         run_in_memory::<Blocks>(rt, Limits::GREATEST, script)?;
     }
     Ok(())
-}
-
-#[test]
-fn records_are_kept_and_found(rt: HostRuntime) -> Result<(), Fail> {
-    run_each(&rt, &changes::SCRIPTS)
-}
-
-#[test]
-fn databases_are_made_and_dropped(rt: HostRuntime) -> Result<(), Fail> {
-    run_each(&rt, &databases::SCRIPTS)
-}
-
-#[test]
-fn whole_databases_are_read(rt: HostRuntime) -> Result<(), Fail> {
-    run_each(&rt, &reads::SCRIPTS)
-}
-
-#[test]
-fn each_attribute_is_answered(rt: HostRuntime) -> Result<(), Fail> {
-    run_each(&rt, &finds::SCRIPTS)
-}
-
-#[test]
-fn registers_are_checked_and_made_anew(rt: HostRuntime) -> Result<(), Fail> {
-    run_each(&rt, &renewals::SCRIPTS)
-}
-
-#[test]
-fn terms_stand_around_a_start(rt: HostRuntime) -> Result<(), Fail> {
-    run_each(&rt, &scans::SCRIPTS)
-}
-
-#[test]
-fn files_are_analysed(rt: HostRuntime) -> Result<(), Fail> {
-    run_each(&rt, &analyses::SCRIPTS)
 }

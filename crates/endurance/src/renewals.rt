@@ -1,10 +1,10 @@
 //! Registers that are checked, made anew under another profile, and turned into the packed layout.
 
-use super::statements::Statement;
-use super::stories::{Part, Story, told};
-use super::{BOOKS, Row, Script, Step};
+use command_rows::commands::{Row, Script, Step};
+use command_rows::statements::Statement;
+use command_rows::stories::{Part, Story, told};
 use std::test::Fail;
-use worked_samples::{CAFE, MOBY, MOBY_CAFE, MOBY_TEXT};
+use worked_samples::{BOOKS, CAFE, MOBY, MOBY_CAFE, MOBY_TEXT};
 
 /// `BOOKS` with a use attribute of subjects, and no whole titles.
 pub const SUBJECTS: &str =
@@ -242,4 +242,9 @@ fn registers_are_upgraded_and_made_anew(rt: HostRuntime) -> Result<(), Fail> {
         told(&rt, story)?;
     }
     Ok(())
+}
+
+#[test]
+fn registers_are_checked_and_made_anew(rt: HostRuntime) -> Result<(), Fail> {
+    run_each(&rt, &SCRIPTS)
 }

@@ -1,12 +1,13 @@
 //! How many rows of the packed tables a command reads and writes. Over single rows nothing is counted.
 
-use super::stories::{Story, told};
-use super::{BOOKS, Step, adopted, answer, command_of, prints, two_blocks};
+use crate::two_blocks;
+use command_rows::commands::{Step, adopted, answer, command_of, prints};
+use command_rows::stories::{Story, told};
 use sqlite::MemStore;
 use std::alloc::AllocGlobal;
 use std::process::Abort;
 use std::test::Fail;
-use worked_samples::{AGAIN, DOCK, MOBY};
+use worked_samples::{AGAIN, BOOKS, DOCK, MOBY};
 use zeb_engine::Limits;
 use zeb_packed::Blocks;
 use zeb_register::{Layout, Rows, Work};

@@ -1,9 +1,9 @@
 //! A register of two databases whose records stand around the end of a block, so that a word's list has two.
 
-use super::statements::Statement;
-use super::stories::{Part, Story};
-use super::{BOOKS, Row, Step};
-use worked_samples::{AGAIN, CAFE, MOBY};
+use command_rows::commands::{Row, Step};
+use command_rows::statements::Statement;
+use command_rows::stories::{Part, Story};
+use worked_samples::{AGAIN, BOOKS, CAFE, MOBY};
 
 const BEGUN: &[Row<'static>] = &[(Step::Init, "ok\n"), (Step::Create("Default"), "ok\n")];
 

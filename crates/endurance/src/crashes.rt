@@ -1,18 +1,18 @@
 //! Commands over files that stop at some call, each call in turn. What is opened again after it dumps and checks as before the command
 //! that was under way, or as after it, whichever layout and profile it is opened under.
 
-use super::refused_memory::lacks_memory;
-use super::renewals::SUBJECTS;
-use super::statements::Statement;
-use super::stories::{Part, done};
-use super::{BOOKS, Row, Step, adopted, answer, command_of, prints, told};
+use crate::refused_memory::lacks_memory;
+use crate::renewals::SUBJECTS;
+use command_rows::commands::{Row, Step, adopted, answer, command_of, prints, told};
+use command_rows::statements::Statement;
+use command_rows::stories::{Part, done};
 use sqlite::{Connection, FileStore, Files};
 use sqlite_disk::{Crash, Disk, Fuse, Memory};
 use std::alloc::{AllocGlobal, Global};
 use std::process::Abort;
 use std::test::Fail;
 use tables::disks::connected;
-use worked_samples::{CAFE, CAFE_DOCK, CAFE_MOBY, DOCK, DOCK_ALONE, MOBY, MOBY_TEXT};
+use worked_samples::{BOOKS, CAFE, CAFE_DOCK, CAFE_MOBY, DOCK, DOCK_ALONE, MOBY, MOBY_TEXT};
 use zeb_engine::{Limits, Session};
 use zeb_packed::Blocks;
 use zeb_register::{Layout, Rows};

@@ -1,12 +1,13 @@
 //! Stores before they are taken over: those without a table and this program's own are, and every other one is refused and stays.
 
-use super::{BOOKS, adopted};
-use crate::texts::is_text;
+use command_rows::commands::adopted;
+use command_rows::texts::is_text;
 use sqlite::{Connection, MemStore};
 use std::alloc::{AllocGlobal, Global};
 use std::process::Abort;
 use std::test::Fail;
 use tables::queries::{execute, rows};
+use worked_samples::BOOKS;
 use zeb_engine::Limits;
 use zeb_packed::Blocks;
 use zeb_register::RegFault;

@@ -1,6 +1,6 @@
 //! Databases, and the profile that they stand under.
 
-use super::{Script, Step, TITLES};
+use command_rows::commands::{Script, Step, TITLES};
 use worked_samples::{CAFE, MOBY};
 
 /// A database is made where it is absent.

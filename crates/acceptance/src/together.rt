@@ -1,7 +1,7 @@
 //! Commands that are given together.
 
-use super::streams::opened;
-use super::{Row, Step, command_of, is_refused_with, prints};
+use crate::streams::opened;
+use command_rows::commands::{Row, Step, command_of, is_refused_with, prints};
 use sqlite::MemStore;
 use std::alloc::{AllocGlobal, Global};
 use std::process::Abort;

@@ -2,15 +2,15 @@
 //! returns; one that is refused leaves all rows as they were; both layouts answer alike; and a check finds a register sound just where
 //! nothing was done that harms it.
 
-use super::{BOOKS, Step, adopted, answer, command_of, told};
-use crate::catalogue::Draw;
-use crate::texts::is_text;
+use command_rows::commands::{Step, adopted, answer, command_of, told};
+use command_rows::lots::Draw;
+use command_rows::texts::is_text;
 use sqlite::{Connection, MemStore, params};
 use std::alloc::AllocGlobal;
 use std::process::Abort;
 use std::test::Fail;
 use tables::queries::{TABLES, all_rows};
-use worked_samples::{BARE, CAFE, CUT, DOCK, MOBY};
+use worked_samples::{BARE, BOOKS, CAFE, CUT, DOCK, MOBY};
 use zeb_engine::Limits;
 use zeb_packed::Blocks;
 use zeb_register::{Layout, Rows};

@@ -1,12 +1,12 @@
 //! What packed tables hold after commands, and what commands answer where they are damaged.
 
-use super::statements::{Statement, TableRow, tables_answer};
-use super::{BOOKS, Row, Step, run};
+use command_rows::commands::{Row, Step, run};
+use command_rows::statements::{Statement, TableRow, tables_answer};
 use sqlite::{Connection, MemStore};
 use std::alloc::AllocGlobal;
 use std::process::Abort;
 use std::test::Fail;
-use worked_samples::{DOCK, MOBY, MOBY_TEXT};
+use worked_samples::{BOOKS, DOCK, MOBY, MOBY_TEXT};
 use zeb_engine::Limits;
 use zeb_packed::Blocks;
 

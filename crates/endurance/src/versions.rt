@@ -1,7 +1,7 @@
 //! A register of a version that a session does not write.
 
-use super::statements::{Statement, TableRow, tables_answer};
-use super::{Row, Step, TITLES, run};
+use command_rows::commands::{Row, Step, TITLES, run};
+use command_rows::statements::{Statement, TableRow, tables_answer};
 use sqlite::{Alter, Connection, MemStore};
 use std::test::Fail;
 use worked_samples::{DOCK, MOBY};

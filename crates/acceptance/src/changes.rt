@@ -1,6 +1,6 @@
 //! Updates, deletes and finds.
 
-use super::{Script, Step, TITLES};
+use command_rows::commands::{Script, Step, TITLES};
 use worked_samples::{BARE, CAFE, CUT, DOCK, MOBY};
 
 /// A record is found by a word.

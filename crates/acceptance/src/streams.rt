@@ -1,11 +1,11 @@
 //! Records from readers, one held at a time.
 
-use super::{BOOKS, Row, Step, TITLES, adopted, answers, is_refused_with, name, prints};
+use command_rows::commands::{Row, Step, TITLES, adopted, answers, is_refused_with, name, prints};
 use sqlite::{Connection, MemStore};
 use std::alloc::{AllocGlobal, Global};
 use std::process::Abort;
 use std::test::Fail;
-use worked_samples::{BARE, CAFE, MOBY};
+use worked_samples::{BARE, BOOKS, CAFE, MOBY};
 use zeb_engine::{Kind, Limits, Refusal, Reply, Session};
 use zeb_marc::{ReadFailed, Source};
 use zeb_packed::Blocks;

@@ -1,7 +1,7 @@
 //! Finds: each attribute, operator and diagnostic.
 
-use super::{BOOKS, Script, Step};
-use worked_samples::{CAFE, DOCK, MOBY};
+use command_rows::commands::{Script, Step};
+use worked_samples::{BOOKS, CAFE, DOCK, MOBY};
 
 /// Use, relation, position, structure, truncation and completeness, each alone.
 const ATTRIBUTES: Script = &[(

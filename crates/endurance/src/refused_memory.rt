@@ -1,16 +1,16 @@
 //! Commands while memory is refused. Whichever allocation is refused (tests/each_allocation.py of the repository refuses each
 //! in turn), a command gives its ordinary answer, or is refused for it and leaves all rows; asked again, it is answered.
 
-use super::renewals::SUBJECTS;
-use super::stories::Kept;
-use super::{BOOKS, Step, TITLES, adopted, answer, command_of, is_refused_with, told};
-use crate::texts::is_text;
+use crate::renewals::SUBJECTS;
+use command_rows::commands::{Step, TITLES, adopted, answer, command_of, is_refused_with, told};
+use command_rows::stories::Kept;
+use command_rows::texts::is_text;
 use sqlite::{Connection, MemStore};
 use std::alloc::{AllocError, AllocGlobal, Global};
 use std::process::Abort;
 use std::test::Fail;
 use tables::queries::state;
-use worked_samples::{CAFE, DOCK, MOBY, MOBY_CAFE};
+use worked_samples::{BOOKS, CAFE, DOCK, MOBY, MOBY_CAFE};
 use zeb_engine::{Command, Limits, Refusal, Reply};
 use zeb_packed::Blocks;
 use zeb_register::{Layout, Rows};

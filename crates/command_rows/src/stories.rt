@@ -1,7 +1,7 @@
 //! Registers over one layout and then the other, whose rows change between commands.
 
-use super::statements::{TableRow, tables_answer};
-use super::{Row, run};
+use crate::commands::{Row, run};
+use crate::statements::{TableRow, tables_answer};
 use sqlite::{Alter, Connection, MemStore};
 use std::alloc::AllocGlobal;
 use std::process::Abort;

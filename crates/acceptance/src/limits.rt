@@ -1,6 +1,6 @@
 //! What limits and names there are.
 
-use super::{Script, Step, TITLES, name, run_in_memory};
+use command_rows::commands::{Script, Step, TITLES, name, run_in_memory};
 use std::test::Fail;
 use worked_samples::{CAFE, MOBY};
 use zeb_engine::{DbName, Limits};

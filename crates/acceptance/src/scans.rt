@@ -1,7 +1,7 @@
 //! Terms around a start.
 
-use super::{BOOKS, Script, Step, TITLES};
-use worked_samples::{CAFE, DOCK, MOBY};
+use command_rows::commands::{Script, Step, TITLES};
+use worked_samples::{BOOKS, CAFE, DOCK, MOBY};
 
 /// The words of titles around a start.
 const TITLE: &str = "@attr 1=4 d";

@@ -1,7 +1,7 @@
 //! Files are analysed, with nothing kept.
 
-use super::{BOOKS, Script, Step, TITLES};
-use worked_samples::{BARE, CUT, MOBY, MOBY_LINES};
+use command_rows::commands::{Script, Step, TITLES};
+use worked_samples::{BARE, BOOKS, CUT, MOBY, MOBY_LINES};
 
 /// Before `init` and after it, and what is kept stays.
 const ASIDE: Script = &[(

@@ -1,0 +1,26 @@
+//! Tests over the public names of several crates, and no product code: what a register goes through, and is as before: damage, crashes,
+//! refused memory, checks, renewals, and stores of other programs.
+#![tactic(auto)]
+
+#[cfg(test)]
+mod checks;
+#[cfg(test)]
+mod crashes;
+#[cfg(test)]
+mod damages;
+#[cfg(test)]
+mod drawn;
+#[cfg(test)]
+mod other_stores;
+#[cfg(test)]
+mod packed;
+#[cfg(test)]
+mod refused_memory;
+#[cfg(test)]
+mod renewals;
+#[cfg(test)]
+mod two_blocks;
+#[cfg(test)]
+mod versions;
+#[cfg(test)]
+mod works;
