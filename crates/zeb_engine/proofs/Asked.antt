@@ -83,7 +83,7 @@ pub alone_after : (format : Format) (Says : Said) (name : List ℕ) (old mid new
     → Alone format Says name mid result → Alone format Says name old result
 alone_after format Says name old mid new (Ok reply) nothing opened alone store content has =
     let same = nothing opened.0 in
-    subst (λ (d : Database). IsSaid Says name d.trees content (answer_of (Ok reply))) same.1
+    subst (λ (d : Database). IsSaid (Says d.trees content) name d.trees (answer_of (Ok reply))) same.1
     (alone (store_same old mid same.1 store) content (subst (λ (d : Database). holds_in format d.trees content) (sym same.1) has))
 alone_after format Says name old mid new (Err refusal) nothing opened alone store content has = tt
 

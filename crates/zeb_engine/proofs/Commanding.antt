@@ -16,6 +16,7 @@ use Rattle.zeb_engine.specs.Answers.{Answer, answer_of, refused, IsFailure}
 use Rattle.zeb_change.specs.Refused.{Why, why_of, Meets}
 use Rattle.zeb_change.specs.Conditions.{Conditions}
 use Rattle.zeb_engine.specs.Alone.{Alone, AnswersAlone, FindAlone, FindSays, RefusedAlone, RefusesFind, ScanSays}
+use Rattle.zeb_engine.specs.AnyTables.{AnswersTables, FindOver, OverReady, ScanOver}
 use Rattle.zeb_engine.specs.Readiness.{IsReadyFor}
 use Rattle.zeb_image.specs.Holdings.{Holdings}
 use Rattle.zeb_change.specs.Base.{Base}
@@ -114,3 +115,19 @@ pub scan_alone : (format : Format) (profile : List Directive) (s : State) (resul
 scan_alone format profile s result database query number position name asked many at is_name is_asked is_many is_at alone =
     subst₂ (λ (n q : List ℕ). Alone format (ScanSays profile q number position) n s result) is_name is_asked
     (subst₂ (λ (m p : ℕ). Alone format (ScanSays profile asked m p) name s result) is_many is_at alone)
+
+-- ---- on any tables
+
+pub find_tables : (version : List ℕ) (profile : List Directive) (s : State) (result : Result Reply Refusal) (database : DbName) (query : String Global) (first count : ℕ)
+    → (name asked : List ℕ) (from many : ℕ) → name ≡ name_bytes database → asked ≡ string_bytes query → from ≡ first → many ≡ count
+    → OverReady version profile (FindOver profile name asked from many) s result → AnswersTables version profile (Find database query first count) s result
+find_tables version profile s result database query first count name asked from many is_name is_asked is_from is_many told =
+    subst₂ (λ (n q : List ℕ). OverReady version profile (FindOver profile n q first count) s result) is_name is_asked
+    (subst₂ (λ (f m : ℕ). OverReady version profile (FindOver profile name asked f m) s result) is_from is_many told)
+
+pub scan_tables : (version : List ℕ) (profile : List Directive) (s : State) (result : Result Reply Refusal) (database : DbName) (query : String Global) (number position : ℕ)
+    → (name asked : List ℕ) (many at : ℕ) → name ≡ name_bytes database → asked ≡ string_bytes query → many ≡ number → at ≡ position
+    → OverReady version profile (ScanOver profile name asked many at) s result → AnswersTables version profile (Scan database query number position) s result
+scan_tables version profile s result database query number position name asked many at is_name is_asked is_many is_at told =
+    subst₂ (λ (n q : List ℕ). OverReady version profile (ScanOver profile n q number position) s result) is_name is_asked
+    (subst₂ (λ (m p : ℕ). OverReady version profile (ScanOver profile name asked m p) s result) is_many is_at told)

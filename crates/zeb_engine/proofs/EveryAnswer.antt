@@ -184,7 +184,7 @@ module _ (profile : List Directive) (records : List Kept) (first count : ℕ) wh
     asked_called n h =
         number_called O records n ((hit_is n).0 (has_dropped (first - 1) hits n (has_taken count (drop (first - 1) hits) n h))).0
 
-    asked_there : (past : Bool) → IsThere (IsShown O (has_name records) hits (cond past (Err (diagnostic 13 0 (decimal first))) (Ok asked_hits)))
+    asked_there : (past : Bool) → IsThere (IsShown (has_name records) hits (cond past (Err (diagnostic 13 0 (decimal first))) (Ok asked_hits)))
     asked_there true = (refused (diagnostic 13 0 (decimal first)), refl)
     asked_there false = let shown = shown_there (has_name records) asked_hits asked_called in (found (length hits) shown.0, (shown.0, shown.1, refl))
 
@@ -220,7 +220,7 @@ module _ (profile : List Directive) (records : List Kept) where
       let totals = totals_there (occurs profile records) (all_of profile records) (are_all profile records) target.0 target.1 in
       let rest = extents_there targets in (
         record { name = name_of_index profile target.0; register = target.1; terms = totals.0.terms; occurrences = totals.0.occurrences } ∷ rest.0,
-        (record { name = refl; register = refl; totals = totals.1 }, rest.1),
+        (record { under = record { name = refl; register = refl }; totals = totals.1 }, rest.1),
       )
 
   stat_there : (kept last : ℕ) → IsThere (IsCounted (occurs profile records) profile kept last)

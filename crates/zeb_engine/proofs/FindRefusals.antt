@@ -77,7 +77,7 @@ module _ (profile : List Directive) (name text : List ℕ) (first count : ℕ) (
   Refuses why = IsFailure (refused (why_of why)) ⊎ RefusesFind profile name text first count trees content why
 
   abbrev Says : Refusal → Type 0
-  Says why = IsSaidOrMissed (FindSays profile text first count) name trees content (refused (why_of why))
+  Says why = IsSaidOrMissed (FindSays profile text first count trees content) name trees (refused (why_of why))
 
   damaged_so : (why : Refusal) → why ≡ refusal.Damaged → MeetsDamage profile name text first count trees content → Refuses why
   damaged_so why is damage = inr (inr (is, damage))
@@ -119,8 +119,8 @@ module _ (profile : List Directive) (name text : List ℕ) (first count : ℕ) (
           pub asked_refused : {X : Type 0} (Good : List ℕ → X → Type 0) (why : Refusal) → Meets {X = X} Good (asked_of numbers first count) (Err why) → Refuses why
           asked_refused Good why (inl failed) = inl failed
           asked_refused Good why (inr said) =
-              let shown : IsShown (posted content id) (has_ident_in trees id) numbers (asked_of numbers first count) (refused (why_of why)) =
-              subst (λ (r : Result (List ℕ) Why). IsShown (posted content id) (has_ident_in trees id) numbers r (refused (why_of why))) (sym said) refl in
+              let shown : IsShown (has_ident_in trees id) numbers (asked_of numbers first count) (refused (why_of why)) =
+              subst (λ (r : Result (List ℕ) Why). IsShown (has_ident_in trees id) numbers r (refused (why_of why))) (sym said) refl in
               planned_refused why (subst (λ r. IsPlanned (posted content id) (has_ident_in trees id) r first count (refused (why_of why))) (sym planned) (numbers, are, shown))
 
           pub show_refused : (asked : List ℕ) → asked_of numbers first count ≡ Ok asked → (why : Refusal) → IsFailure (refused (why_of why)) ⊎ ((why ≡ refusal.Damaged) × HidesOne trees id asked) → Refuses why

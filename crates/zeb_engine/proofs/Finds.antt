@@ -48,7 +48,7 @@ module _ (O P : ℕ → Occurrence → Type 0) (same : (n : ℕ) (o : Occurrence
   named_alike n = (λ h. (h.0, (so n h.0).0 h.1), λ h. (h.0, (so n h.0).1 h.1))
 
   module _ (first count : ℕ) (answer : Answer) where
-    told_as : (hits : List ℕ) (asked : Result (List ℕ) Why) → IsShown O N hits asked answer → IsShown P M hits asked answer
+    told_as : (hits : List ℕ) (asked : Result (List ℕ) Why) → IsShown N hits asked answer → IsShown M hits asked answer
     told_as hits (Ok asked) is = (is.0, shown_as N M (λ n ident. (so n ident).0) asked is.0 is.1, is.2)
     told_as hits (Err why) is = is
 
@@ -127,17 +127,17 @@ module _ (format : Format) (profile : List Directive) (trees : Trees) (id : ℤ)
         planned_ends answer (subst (λ r. IsPlanned (posted held.content id) (has_ident_in trees id) r first count answer) (sym said) refl)
 
     module _ (plan : PlanValue) (planned : plan_of profile value ≡ Ok plan) (numbers : List ℕ) (are : AreNumbers (HoldsIn trees held.content id plan) numbers) where
-      shown_ends : (answer : Answer) → IsShown (posted held.content id) (has_ident_in trees id) numbers (asked_of numbers first count) answer → FindEnds answer
+      shown_ends : (answer : Answer) → IsShown (has_ident_in trees id) numbers (asked_of numbers first count) answer → FindEnds answer
       shown_ends answer is = planned_ends answer (subst (λ r. IsPlanned (posted held.content id) (has_ident_in trees id) r first count answer) (sym planned) (numbers, are, is))
 
       pub found_ends : (asked : List ℕ) → asked_of numbers first count ≡ Ok asked → (shown : List (ℕ × List ℕ)) → AreShown (has_ident_in trees id) asked shown → FindEnds (found (length numbers) shown)
       found_ends asked said shown told = shown_ends (found (length numbers) shown)
-          (subst (λ (r : Result (List ℕ) Why). IsShown (posted held.content id) (has_ident_in trees id) numbers r (found (length numbers) shown)) (sym said) (shown, told, refl))
+          (subst (λ (r : Result (List ℕ) Why). IsShown (has_ident_in trees id) numbers r (found (length numbers) shown)) (sym said) (shown, told, refl))
 
       pub asked_ends : {X : Type 0} (Good : List ℕ → X → Type 0) (refusal : Refusal) → Meets {X = X} Good (asked_of numbers first count) (Err refusal) → FindEnds (refused (why_of refusal))
       asked_ends Good refusal met = elim met [
         | inl failed ↦ inr failed
-        | inr said ↦ shown_ends (refused (why_of refusal)) (subst (λ (r : Result (List ℕ) Why). IsShown (posted held.content id) (has_ident_in trees id) numbers r (refused (why_of refusal))) (sym said) refl)
+        | inr said ↦ shown_ends (refused (why_of refusal)) (subst (λ (r : Result (List ℕ) Why). IsShown (has_ident_in trees id) numbers r (refused (why_of refusal))) (sym said) refl)
       ]
 
 -- what a find answers of a query with these hits
@@ -146,5 +146,5 @@ pub hits_answered : (O : ℕ → Occurrence → Type 0) (N : ℕ → List ℕ �
     → (asked : List ℕ) → asked_of numbers first count ≡ Ok asked → (shown : List (ℕ × List ℕ)) → AreShown N asked shown → IsAnswered O N profile query first count (found (length numbers) shown)
 hits_answered O N profile query first count value spells plan planned numbers are asked said shown told =
     let answer = found (length numbers) shown in
-    let shows : IsShown O N numbers (asked_of numbers first count) answer = subst (λ (r : Result (List ℕ) Why). IsShown O N numbers r answer) (sym said) (shown, told, refl) in
+    let shows : IsShown N numbers (asked_of numbers first count) answer = subst (λ (r : Result (List ℕ) Why). IsShown N numbers r answer) (sym said) (shown, told, refl) in
     (value, spells, subst (λ r. IsPlanned O N r first count answer) (sym planned) (numbers, are, shows))

@@ -37,6 +37,7 @@ pub mod Held
 pub mod Showing
 pub mod Finds
 pub mod FindRefusals
+pub mod OverTables
 pub mod Lookups
 pub mod ReadyBases
 pub mod Scans
@@ -44,6 +45,7 @@ pub mod StoreCauses
 pub mod WriteCauses
 pub mod InitCauses
 pub mod Dumps
+pub mod ReadingOn
 pub mod Stats
 pub mod Readers
 pub mod ShownTerms

@@ -50,14 +50,14 @@ numbers_once : (P : ℕ → Type 0) (one other : List ℕ) → AreNumbers P one 
 numbers_once P one other x y = same_list nat_cmp_total one other x.rising y.rising (λ n h. (y.each n).1 ((x.each n).0 h)) (λ n h. (x.each n).1 ((y.each n).0 h))
 
 module _ (O : ℕ → Occurrence → Type 0) (N : ℕ → List ℕ → Type 0) (single : (n : ℕ) (a b : List ℕ) → N n a → N n b → a ≡ b) (first count : ℕ) (one other : Answer) where
-  shown_once : (hits : List ℕ) (asked : Result (List ℕ) Why) → IsShown O N hits asked one → IsShown O N hits asked other → one ≡ other
+  shown_once : (hits : List ℕ) (asked : Result (List ℕ) Why) → IsShown N hits asked one → IsShown N hits asked other → one ≡ other
   shown_once hits (Err why) x y = x ∙ sym y
   shown_once hits (Ok asked) x y = x.2 ∙ ap (found (length hits)) (same_pairs N single x.0 y.0 x.1.named y.1.named (x.1.in_order ∙ sym y.1.in_order)) ∙ sym y.2
 
   pub found_once : (plan : PlanValue) → IsFound O N plan first count one → IsFound O N plan first count other → one ≡ other
   found_once plan x y =
       let same = numbers_once (TreeHolds O (IsNamed O N) plan) x.0 y.0 x.1 y.1 in
-      shown_once y.0 (asked_of y.0 first count) (subst (λ (hits : List ℕ). IsShown O N hits (asked_of hits first count) one) same x.2) y.2
+      shown_once y.0 (asked_of y.0 first count) (subst (λ (hits : List ℕ). IsShown N hits (asked_of hits first count) one) same x.2) y.2
 
   planned_once : (plan : Result PlanValue Refusal) → IsPlanned O N plan first count one → IsPlanned O N plan first count other → one ≡ other
   planned_once (Ok plan) x y = found_once plan x y

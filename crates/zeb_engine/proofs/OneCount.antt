@@ -15,8 +15,8 @@ use Rattle.zeb_engine.specs.Steps.{CountedFrom, CountedIn}
 module _ (O : ℕ → Occurrence → Type 0) (profile : List Directive) where
   extent_once : (target : Target) (a b : Extent) → IsExtent O profile target a → IsExtent O profile target b → a ≡ b
   extent_once target a b x y =
-      let name : a.name ≡ b.name = x.name ∙ sym y.name in
-      let register : a.register ≡ b.register = x.register ∙ sym y.register in
+      let name : a.name ≡ b.name = x.under.name ∙ sym y.under.name in
+      let register : a.register ≡ b.register = x.under.register ∙ sym y.under.register in
       let totals = one_totals O target.0 target.1 (record { terms = a.terms; occurrences = a.occurrences }) (record { terms = b.terms; occurrences = b.occurrences }) x.totals y.totals in
       λ i. record { name = name i; register = register i; terms = (totals i).terms; occurrences = (totals i).occurrences }
 

@@ -242,7 +242,7 @@ asked_of_own hits first count = elim (nat_lt 1 first && nat_lt (length hits) fir
     ]
 
 module _ (O : ℕ → Occurrence → Type 0) (N : ℕ → List ℕ → Type 0) (first count : ℕ) (answer : Answer) where
-  shown_own : (hits : List ℕ) (asked : Result (List ℕ) Why) → AreOwn asked → IsShown O N hits asked answer → IsOwnAnswer answer
+  shown_own : (hits : List ℕ) (asked : Result (List ℕ) Why) → AreOwn asked → IsShown N hits asked answer → IsOwnAnswer answer
   shown_own hits (Ok asked) own is = subst IsOwnAnswer (sym is.2) tt
   shown_own hits (Err why) own is = subst IsOwnAnswer (sym is) own
 

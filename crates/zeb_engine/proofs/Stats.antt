@@ -14,7 +14,7 @@ use Rattle.zeb_engine.specs.declared.replies.Reply.{Reply}
 use Rattle.zeb_engine.specs.Answers.{Extent, answer_of, extent_of, refused, IsFailure}
 use Rattle.zeb_change.specs.Refused.{Why, why_of, Meets}
 use Rattle.zeb_change.specs.Conditions.{Conditions}
-use Rattle.zeb_engine.specs.Counting.{IsExtent, Paired, Target}
+use Rattle.zeb_engine.specs.Counting.{IsExtent, IsUnder, Paired, Target}
 use Rattle.zeb_image.specs.Holdings.{Holdings, base_named}
 use Rattle.zeb_change.specs.Base.{Base}
 use Rattle.zeb_image.specs.Image.{Keeps}
@@ -36,13 +36,16 @@ paired_to P Q f so [] (y ∷ ys) all = absurd all
 paired_to P Q f so (x ∷ xs) [] all = absurd all
 paired_to P Q f so (x ∷ xs) (y ∷ ys) all = (so x y all.0, paired_to P Q f so xs ys all.1)
 
+-- what stands under the names of indexes
+pub unders_as : (profile : List Directive) (targets : List Target) (holdings : List Holding) → Paired (λ target holding. IsUnder profile target (extent_of holding)) targets holdings → Paired (IsUnder profile) targets (map extent_of holdings)
+unders_as profile targets holdings all = paired_to (λ target holding. IsUnder profile target (extent_of holding)) (IsUnder profile) extent_of (λ target holding is. is) targets holdings all
+
 -- ---- sets of the same occurrences
 
 module _ (O P : ℕ → Occurrence → Type 0) (same : (n : ℕ) (o : Occurrence) → O n o ↔ P n o) (profile : List Directive) where
   extent_as : (target : Target) (extent : Extent) → IsExtent O profile target extent → IsExtent P profile target extent
   extent_as target extent is = record {
-    name = is.name;
-    register = is.register;
+    under = is.under;
     totals = totals_as O P same target.0 target.1 (record { terms = extent.terms; occurrences = extent.occurrences }) is.totals;
   }
 

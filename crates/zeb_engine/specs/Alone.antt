@@ -30,8 +30,12 @@ use Rattle.zeb_engine.specs.Scanning.{IsScanned}
 use Rattle.zeb_engine.specs.Steps.{no_database}
 
 -- what may be answered of a database, by its number and the last system number that it gave
+abbrev pub OfDatabase : Type 1
+OfDatabase = ℤ → ℤ → Answer → Type 0
+
+-- the same by the tables and the content that they hold
 abbrev pub Said : Type 1
-Said = Trees → Content → ℤ → ℤ → Answer → Type 0
+Said = Trees → Content → OfDatabase
 
 abbrev pub FindSays : List Directive → List ℕ → ℕ → ℕ → Said
 FindSays profile text first count trees content db last = IsAnswered (posted content db) (has_ident_in trees db) profile text first count
@@ -45,25 +49,25 @@ StatSays profile trees content db last answer =
     (kept : ℕ) × (given : ℕ) × IsRecordCount trees db kept × (last ≡ pos given) × IsCounted (posted content db) profile kept given answer
 
 -- there is a database of this name, and the answer is one of it
-abbrev pub IsSaid : Said → List ℕ → Trees → Content → Answer → Type 0
-IsSaid Says name trees content answer = (id : ℤ) × (last : ℤ) × HasDatabase trees id name last × Says trees content id last answer
+abbrev pub IsSaid : OfDatabase → List ℕ → Trees → Answer → Type 0
+IsSaid Says name trees answer = (id : ℤ) × (last : ℤ) × HasDatabase trees id name last × Says id last answer
 
 -- on the tables of a store that hold a content, an answer that is no refusal is so
 abbrev pub Alone : Format → Said → List ℕ → State → Result Reply Refusal → Type 0
 Alone format Says name s result =
-    IsStore s → (content : Content) → holds_in format s.now.trees content → OnOk result (IsSaid Says name s.now.trees content (answer_of result))
+    IsStore s → (content : Content) → holds_in format s.now.trees content → OnOk result (IsSaid (Says s.now.trees content) name s.now.trees (answer_of result))
 
 -- ---- why a find is refused
 
 -- no database has the name, and the answer tells so; or it is what is said of the database that has it
-abbrev pub IsSaidOrMissed : Said → List ℕ → Trees → Content → Answer → Type 0
-IsSaidOrMissed Says name trees content answer =
-    (IsDatabaseOf trees name None × (answer ≡ refused (no_database name))) ⊎ IsSaid Says name trees content answer
+abbrev pub IsSaidOrMissed : OfDatabase → List ℕ → Trees → Answer → Type 0
+IsSaidOrMissed Says name trees answer =
+    (IsDatabaseOf trees name None × (answer ≡ refused (no_database name))) ⊎ IsSaid Says name trees answer
 
 -- By the first refusal of the definition: the query's fault; that no database has the name; or what is said of the database that has it.
-abbrev pub IsAskedAlone : Said → (name text : List ℕ) → Trees → Content → Answer → Type 0
-IsAskedAlone Says name text trees content answer =
-    (IsReadable text × IsSaidOrMissed Says name trees content answer)
+abbrev pub IsAsked : OfDatabase → (name text : List ℕ) → Trees → Answer → Type 0
+IsAsked Says name text trees answer =
+    (IsReadable text × IsSaidOrMissed Says name trees answer)
     ⊎ ((number : ℕ) × (place : ℕ) × IsFaulty text number place × (answer ≡ refused (diagnostic number place [])))
 
 -- the record of this number can be shown: it is kept, and its identifier is UTF-8
@@ -91,7 +95,7 @@ MeetsDamage profile name text first count trees content =
 -- over which tables and which content a find is refused so
 abbrev pub RefusesFind : List Directive → (name text : List ℕ) → (first count : ℕ) → Trees → Content → Refusal → Type 0
 RefusesFind profile name text first count trees content refusal =
-    IsAskedAlone (FindSays profile text first count) name text trees content (refused (why_of refusal))
+    IsAsked (FindSays profile text first count trees content) name text trees (refused (why_of refusal))
     ⊎ ((refusal ≡ Damaged) × MeetsDamage profile name text first count trees content)
 
 -- on the tables of a store that hold a content which every layout can store, a refusal is so, or the store or the memory failed

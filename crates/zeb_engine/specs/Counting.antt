@@ -44,12 +44,21 @@ Paired P [] (y ∷ ys) = ⊥
 Paired P (x ∷ xs) [] = ⊥
 Paired P (x ∷ xs) (y ∷ ys) = P x y × Paired P xs ys
 
+module _ (profile : List Directive) where
+  -- the extent stands under the name of its index and has its register
+  pub record IsUnder (target : Target) (extent : Extent) : Type 0 where
+    pub name : extent.name ≡ name_of_index profile target.0
+    pub register : extent.register ≡ target.1
+
+  -- `IsSized` tells how much is there
+  abbrev pub IsCountedBy : (IsSized : Target → Extent → Type 0) → (records last : ℕ) → Answer → Type 0
+  IsCountedBy IsSized records last answer = (extents : List Extent) × Paired IsSized (target_list profile) extents × (answer ≡ counted records last extents)
+
 module _ (O : ℕ → Occurrence → Type 0) (profile : List Directive) where
   -- how much is there, under the name of the index; a number is the greatest of 64 bits where it would be above that
   pub record IsExtent (target : Target) (extent : Extent) : Type 0 where
-    pub name : extent.name ≡ name_of_index profile target.0
-    pub register : extent.register ≡ target.1
+    pub under : IsUnder profile target extent
     pub totals : AreTotals O target.0 target.1 (record { terms = extent.terms; occurrences = extent.occurrences })
 
   abbrev pub IsCounted : (records last : ℕ) → Answer → Type 0
-  IsCounted records last answer = (extents : List Extent) × Paired IsExtent (target_list profile) extents × (answer ≡ counted records last extents)
+  IsCounted = IsCountedBy profile IsExtent

@@ -36,25 +36,41 @@ pub record AreShown (Named : ℕ → List ℕ → Type 0) (numbers : List ℕ) (
 
 -- ---- the answer
 
--- `O` is a set of occurrences, and `Named` tells the identifier of each record
-module _ (O : ℕ → Occurrence → Type 0) (Named : ℕ → List ℕ → Type 0) where
+-- `Named` tells the identifier of each record
+module _ (Named : ℕ → List ℕ → Type 0) where
   abbrev pub IsShown : List ℕ → Result (List ℕ) Why → Answer → Type 0
   IsShown hits (Err why) answer = answer ≡ refused why
   IsShown hits (Ok asked) answer = (shown : List (ℕ × List ℕ)) × AreShown Named asked shown × (answer ≡ found (length hits) shown)
 
+  -- `AreHits` tells which numbers the hits of a plan are
+  module _ (AreHits : PlanValue → List ℕ → Type 0) where
+    -- all hits are counted, and those that are asked for are shown
+    abbrev pub IsFoundBy : PlanValue → ℕ → ℕ → Answer → Type 0
+    IsFoundBy plan first count answer = (hits : List ℕ) × AreHits plan hits × IsShown hits (asked_of hits first count) answer
+
+    -- a query that has no plan is refused by its first diagnostic
+    abbrev pub IsPlannedBy : Result PlanValue Refusal → ℕ → ℕ → Answer → Type 0
+    IsPlannedBy (Err e) first count answer = answer ≡ refused (diagnostic e.number e.place e.addinfo)
+    IsPlannedBy (Ok plan) first count answer = IsFoundBy plan first count answer
+
+    -- the answer to a query's text: the text spells one query
+    abbrev pub IsAnsweredBy : List Directive → List ℕ → ℕ → ℕ → Answer → Type 0
+    IsAnsweredBy profile text first count answer = (query : QueryValue) × SpellsQuery text query × IsPlannedBy (plan_of profile query) first count answer
+
+-- the same over a set of occurrences `O`: the hits are the numbers of the records on which the plan holds
+module _ (O : ℕ → Occurrence → Type 0) (Named : ℕ → List ℕ → Type 0) where
   -- a record with this number is named
   abbrev pub IsNamed : ℕ → Type 0
   IsNamed n = (ident : List ℕ) × Named n ident
 
-  -- all hits are counted, and those that are asked for are shown
+  abbrev pub AreHits : PlanValue → List ℕ → Type 0
+  AreHits plan = AreNumbers (TreeHolds O IsNamed plan)
+
   abbrev pub IsFound : PlanValue → ℕ → ℕ → Answer → Type 0
-  IsFound plan first count answer = (hits : List ℕ) × AreNumbers (TreeHolds O IsNamed plan) hits × IsShown hits (asked_of hits first count) answer
+  IsFound = IsFoundBy Named AreHits
 
-  -- a query that has no plan is refused by its first diagnostic
   abbrev pub IsPlanned : Result PlanValue Refusal → ℕ → ℕ → Answer → Type 0
-  IsPlanned (Err e) first count answer = answer ≡ refused (diagnostic e.number e.place e.addinfo)
-  IsPlanned (Ok plan) first count answer = IsFound plan first count answer
+  IsPlanned = IsPlannedBy Named AreHits
 
-  -- the answer to a query's text: the text spells one query
   abbrev pub IsAnswered : List Directive → List ℕ → ℕ → ℕ → Answer → Type 0
-  IsAnswered profile text first count answer = (query : QueryValue) × SpellsQuery text query × IsPlanned (plan_of profile query) first count answer
+  IsAnswered = IsAnsweredBy Named AreHits

@@ -10,6 +10,7 @@ pub mod Analysed
 pub mod Rules
 pub mod Steps
 pub mod Alone
+pub mod AnyTables
 pub mod Works
 pub mod Costs
 pub mod Readiness

@@ -17,22 +17,31 @@ use Rattle.zeb_change.specs.Refused.{diagnostic}
 abbrev pub around : ℕ → ℕ → List ℕ → List TermCount → List TermCount
 around number position start all = last (position - 1) (filter (is_before start) all) ++ take (number + 1 - position) (filter (is_from start) all)
 
-module _ (O : ℕ → Occurrence → Type 0) where
-  -- the terms around the start of a plan, among all of its register
-  pub record AreAround (plan : ScanValue) (number position : ℕ) (terms : List TermCount) : Type 0 where
-    pub all : List TermCount
-    pub are : AreTermsOf O plan.index plan.register all
-    pub is : terms ≡ around number position plan.start all
+-- the terms around the start of a plan, among all that a set of occurrences `O` has in its register
+pub record AreAround (O : ℕ → Occurrence → Type 0) (plan : ScanValue) (number position : ℕ) (terms : List TermCount) : Type 0 where
+  pub all : List TermCount
+  pub are : AreTermsOf O plan.index plan.register all
+  pub is : terms ≡ around number position plan.start all
 
+-- `AreTerms` tells which terms are answered of a plan
+module _ (AreTerms : ScanValue → ℕ → ℕ → List TermCount → Type 0) where
   abbrev pub IsScannedFrom : ScanValue → ℕ → ℕ → Answer → Type 0
   IsScannedFrom plan number position answer =
-      (terms : List TermCount) × AreAround plan number position terms × (answer ≡ scanned plan.register (map (λ t. (t.term, t.records)) terms))
+      (terms : List TermCount) × AreTerms plan number position terms × (answer ≡ scanned plan.register (map (λ t. (t.term, t.records)) terms))
 
   -- a query that has no plan for a scan is refused by its first diagnostic
-  abbrev pub IsScanPlanned : Result ScanValue Refusal → ℕ → ℕ → Answer → Type 0
-  IsScanPlanned (Err e) number position answer = answer ≡ refused (diagnostic e.number e.place e.addinfo)
-  IsScanPlanned (Ok plan) number position answer = IsScannedFrom plan number position answer
+  abbrev pub IsScanPlannedBy : Result ScanValue Refusal → ℕ → ℕ → Answer → Type 0
+  IsScanPlannedBy (Err e) number position answer = answer ≡ refused (diagnostic e.number e.place e.addinfo)
+  IsScanPlannedBy (Ok plan) number position answer = IsScannedFrom plan number position answer
 
   -- the answer to a query's text: the text spells one query
+  abbrev pub IsScannedBy : List Directive → List ℕ → ℕ → ℕ → Answer → Type 0
+  IsScannedBy profile text number position answer = (query : QueryValue) × SpellsQuery text query × IsScanPlannedBy (scan_of profile query) number position answer
+
+-- the same over a set of occurrences: the terms are those around the start
+module _ (O : ℕ → Occurrence → Type 0) where
+  abbrev pub IsScanPlanned : Result ScanValue Refusal → ℕ → ℕ → Answer → Type 0
+  IsScanPlanned = IsScanPlannedBy (AreAround O)
+
   abbrev pub IsScanned : List Directive → List ℕ → ℕ → ℕ → Answer → Type 0
-  IsScanned profile text number position answer = (query : QueryValue) × SpellsQuery text query × IsScanPlanned (scan_of profile query) number position answer
+  IsScanned = IsScannedBy (AreAround O)

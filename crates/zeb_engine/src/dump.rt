@@ -1,12 +1,13 @@
 //! What is kept of a database, as it came in.
 
-ghost use Rattle.std.specs.Prelude.{◌≡◌, List, false, IsTrue, IfErr, IfOk};
+ghost use Rattle.std.specs.Prelude.{◌≡◌, ◌⊎◌, List, false, IsTrue, IfErr, IfOk};
 ghost use Rattle.std.specs.List.{flat_map};
 ghost use Rattle.sqlite.specs.Held.{state};
 ghost use Rattle.sqlite.specs.State.{HasCleanDisk};
 ghost use Rattle.sqlite.specs.Tree.{Trees};
 ghost use Rattle.zeb_register.specs.Formats.{version_of};
 ghost use Rattle.zeb_engine.specs.Answers.{IsFailure, refused};
+ghost use Rattle.zeb_engine.specs.AnyTables.{DumpOver, JoinsRecords, OverReady};
 ghost use Rattle.zeb_change.specs.Refused.{why_of};
 ghost use Rattle.zeb_change.specs.Conditions.{conditions};
 ghost use Rattle.zeb_change.specs.declared.settings.Limits.{Limits};
@@ -38,6 +39,9 @@ fn bytes_of<S: Alter>(
     ensures joined { HasCleanDisk (state S.Store connection.new) → (trees : Trees) → ShowsStore (state S.Store connection.old) trees
         → IsTrue (state S.Store connection.old).is_open → (records : List Kept) → KeepsBase trees database.0 records
         → IfOk result (λ bytes. bytes.items ≡ flat_map (λ kept. kept.bytes) records) }
+    // Whatever the tables hold, they are the bytes of records of the database.
+    ensures read { HasCleanDisk (state S.Store connection.new) → (trees : Trees) → ShowsStore (state S.Store connection.old) trees
+        → IsTrue (state S.Store connection.old).is_open → IfOk result (λ bytes. JoinsRecords trees database.0 bytes.items) }
     ensures idle { connection.new.in_transaction ≡ false }
     ensures open { LeavesOpen S.Store connection.old connection.new result }
     ensures same { LeavesAsIs S.Store connection.old connection.new }
@@ -45,6 +49,7 @@ fn bytes_of<S: Alter>(
     ensures failed { HasCleanDisk (state S.Store connection.new) → (trees : Trees) → ShowsStore (state S.Store connection.old) trees
         → IsTrue (state S.Store connection.old).is_open → (records : List Kept) → KeepsBase trees database.0 records
         → IfErr result (λ refusal. IsFailure (refused (why_of refusal))) }
+    ensures few { IfErr result (λ refusal. (refusal ≡ Refusal.Damaged) ⊎ IsFailure (refused (why_of refusal))) }
     ensures unread { NoReadFault result }
     ensures ready { NeverUnready result }
     ensures caused { FailsForCause S.Store connection.old connection.new result }
@@ -72,6 +77,9 @@ pub(crate) fn dump<S: Alter, L: Layout>(
     ensures serves { HasCleanDisk (state S.Store connection.new) → (limits : Limits)
         → Serves Always (dumped_by (conditions (version_of L.format) profile.now limits) (name_bytes name.now))
         (state S.Store connection.old) (state S.Store connection.new) result }
+    // Whatever the tables hold, it is of records that the database keeps, or refused by the definition or as damage.
+    ensures tables { HasCleanDisk (state S.Store connection.new)
+        → OverReady (version_of L.format) profile.now (DumpOver (name_bytes name.now)) (state S.Store connection.old) result }
     ensures idle { connection.new.in_transaction ≡ false }
     ensures open { FindsOpen S.Store connection.old connection.new result }
     ensures same { LeavesAsIs S.Store connection.old connection.new }

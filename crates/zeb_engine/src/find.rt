@@ -6,12 +6,14 @@ ghost use Rattle.sqlite.specs.State.{HasCleanDisk};
 ghost use Rattle.sqlite.specs.Tree.{Trees};
 ghost use Rattle.sqlite_rules.specs.Lists.{Has};
 ghost use Rattle.zeb_register.specs.Formats.{version_of};
+ghost use Rattle.zeb_register.specs.Store.{IsStore};
 ghost use Rattle.zeb_search.specs.Registers.{has_ident_in};
 ghost use Rattle.zeb_change.specs.declared.settings.Limits.{Limits};
 ghost use Rattle.zeb_engine.specs.Answers.{answer_of, refused, IsFailure};
 ghost use Rattle.zeb_change.specs.Refused.{why_of, store_failed, NeverUnready, Meets};
 ghost use Rattle.zeb_change.specs.Conditions.{conditions};
 ghost use Rattle.zeb_engine.specs.Alone.{Alone, FindSays, HidesOne, RefusedAlone, RefusesFind};
+ghost use Rattle.zeb_engine.specs.AnyTables.{FindOver, TellsOver};
 ghost use Rattle.zeb_engine.specs.Finding.{AreShown, asked_of};
 ghost use Rattle.zeb_engine.specs.Reads.{FindReads};
 ghost use Rattle.zeb_image.specs.Holdings.{Holdings};
@@ -64,6 +66,8 @@ fn show<S: Alter>(
         → ((n : ℕ) → Has numbers.now n → n < 2 ^ 63)
         → IfErr result (λ refusal. IsFailure (refused (why_of refusal))
         ⊎ ((refusal ≡ Refusal.Damaged) × HidesOne trees database.0 numbers.now)) }
+    // Whatever the numbers are, it is refused by a failure or as damage.
+    ensures few { IfErr result (λ refusal. (refusal ≡ Refusal.Damaged) ⊎ IsFailure (refused (why_of refusal))) }
     ensures unread { NoReadFault result }
     ensures ready { NeverUnready result }
     ensures caused { FailsForCause S.Store connection.old connection.new result }
@@ -129,6 +133,10 @@ pub(crate) fn find<S: Alter, L: Layout>(
     ensures refused { HasCleanDisk (state S.Store connection.new)
         → RefusedAlone L.format (RefusesFind profile.now (name_bytes name.now) question.entry.query.now question.entry.first
         question.entry.count) (state S.Store connection.old) result }
+    // A hit is shown only as a record that is kept, whatever the tables hold.
+    ensures tables { HasCleanDisk (state S.Store connection.new) → IsStore (state S.Store connection.old)
+        → TellsOver (FindOver profile.now (name_bytes name.now) question.entry.query.now question.entry.first question.entry.count)
+        (state S.Store connection.old).now.trees result }
     ensures idle { connection.new.in_transaction ≡ false }
     ensures open { FindsOpen S.Store connection.old connection.new result }
     ensures same { LeavesAsIs S.Store connection.old connection.new }

@@ -17,6 +17,7 @@ ghost use Rattle.zeb_image.specs.Image.{Keeps};
 ghost use Rattle.zeb_image.specs.NameOf.{name_bytes};
 ghost use Rattle.zeb_change.specs.Reading.{NoReadFault};
 ghost use Rattle.zeb_engine.specs.Alone.{Alone, ScanSays};
+ghost use Rattle.zeb_engine.specs.AnyTables.{ScanOver, TellsOver};
 ghost use Rattle.zeb_engine.specs.Reads.{ScanReads};
 ghost use Rattle.zeb_engine.specs.Scanning.{AreAround};
 ghost use Rattle.zeb_engine.specs.Steps.{ready, AskedAmong, ScanAnswers};
@@ -71,6 +72,7 @@ fn terms_around<S: Alter, L: Layout>(
     ensures failed { HasCleanDisk (state S.Store connection.new) → IsStore (state S.Store connection.old)
         → (content : Content) → IsStorable content → holds_in L.format (state S.Store connection.old).now.trees content
         → IfErr result (λ refusal. IsFailure (refused (why_of refusal))) }
+    ensures few { IfErr result (λ refusal. (refusal ≡ Refusal.Damaged) ⊎ IsFailure (refused (why_of refusal))) }
     ensures unread { NoReadFault result }
     ensures ready { NeverUnready result }
     ensures caused { FailsForCause S.Store connection.old connection.new result }
@@ -112,6 +114,10 @@ pub(crate) fn scan<S: Alter, L: Layout>(
     ensures alone { HasCleanDisk (state S.Store connection.new)
         → Alone L.format (ScanSays profile.now around.entry.query.now around.entry.number around.entry.position) (name_bytes name.now)
         (state S.Store connection.old) result }
+    // Whatever the tables hold, it is of the database and of the register that are asked for, or refused by the definition or as damage.
+    ensures tables { HasCleanDisk (state S.Store connection.new) → IsStore (state S.Store connection.old)
+        → TellsOver (ScanOver profile.now (name_bytes name.now) around.entry.query.now around.entry.number around.entry.position)
+        (state S.Store connection.old).now.trees result }
     ensures idle { connection.new.in_transaction ≡ false }
     ensures open { FindsOpen S.Store connection.old connection.new result }
     ensures same { LeavesAsIs S.Store connection.old connection.new }

@@ -8,6 +8,7 @@ ghost use Rattle.sqlite.specs.State.{HasCleanDisk, IsLive, Opens, Survives};
 ghost use Rattle.zeb_engine.specs.Costs.{CommandCosts, CountsNothing, no_work};
 ghost use Rattle.zeb_engine.specs.Reads.{CommandReads};
 ghost use Rattle.zeb_engine.specs.Alone.{AnswersAlone};
+ghost use Rattle.zeb_engine.specs.AnyTables.{AnswersTables};
 ghost use Rattle.zeb_engine.specs.Analysed.{AnswersAnalysis};
 ghost use Rattle.zeb_engine.specs.Answers.{IsFailure, answer_of, refused};
 ghost use Rattle.zeb_change.specs.Refused.{why_of};
@@ -222,6 +223,10 @@ impl<S: Alter, L: Layout> Session<S, L> {
         // by the definition, read so, or for damage in a row that it has to read, as where a hit has no record to show.
         ensures alone { HasCleanDisk (state S.Store self.new.connection)
             → AnswersAlone L.format self.old.profile command.now (state S.Store self.old.connection) result }
+        // On any tables, also where they hold no content, a find, a scan, a stat and a dump of a ready register are refused by the definition,
+        // as damage or by a failure. Answered, a find shows each hit that is asked for as a record that is kept under it.
+        ensures tables { HasCleanDisk (state S.Store self.new.connection)
+            → AnswersTables (version_of L.format) self.old.profile command.now (state S.Store self.old.connection) result }
         // An analysis is answered by its files, whatever the tables hold, and also where the connection is shut.
         ensures analysed { AnswersAnalysis self.old.profile self.old.limits.records command.now result }
         // Damage is answered only where the tables are the image of nothing that can be held.
@@ -286,8 +291,9 @@ impl<S: Alter, L: Layout> Session<S, L> {
             → StaysUpgraded (version_of L.format) self.old.profile (state S.Store self.old.connection)
             (state S.Store self.new.connection) result }
         ensures failed { command.now ≡ Command.Init → IfErr result (λ refusal. IsFailure (refused (why_of refusal))) }
-        ensures alone { HasCleanDisk (state S.Store self.new.connection)
-            → AnswersAlone L.format self.old.profile command.now (state S.Store self.old.connection) result }
+        ensures asked { HasCleanDisk (state S.Store self.new.connection)
+            → AnswersAlone L.format self.old.profile command.now (state S.Store self.old.connection) result
+            × AnswersTables (version_of L.format) self.old.profile command.now (state S.Store self.old.connection) result }
         ensures analysed { AnswersAnalysis self.old.profile self.old.limits.records command.now result }
         ensures reads { HasCleanDisk (state S.Store self.new.connection) → OnlyAsks command.now
             → ChangesNothing (state S.Store self.old.connection) (state S.Store self.new.connection) }

@@ -8,6 +8,7 @@ use Rattle.zeb_change.specs.Base.{Kept}
 use Rattle.zeb_engine.specs.PrivateDumping.{KeepsBase}
 use Rattle.zeb_engine.specs.Works.{ShowsStore}
 use Rattle.zeb_engine.proofs.Dumps.{below}
+use Rattle.zeb_engine.proofs.ReadingOn.{ReadTo}
 use Rattle.zeb_engine.proofs.dump.bytes_of.Given as goal
 
 abbrev pub invariant-loop-turn : goal.invariant-loop-turn
@@ -19,6 +20,7 @@ invariant-loop-turn g l =
       crash : Survives old now (λ _. ⊥);
       open_still : HasCleanDisk now → IsTrue old.is_open → IsTrue now.is_open;
       same : HasCleanDisk now → ChangesNothing old now;
+      told : HasCleanDisk now → (trees : Trees) → ShowsStore old trees → IsTrue old.is_open → (l._turn ≤ l.next) × ReadTo trees l.database.0 l.next l.bytes.items;
       read : HasCleanDisk now → (trees : Trees) → ShowsStore old trees → IsTrue old.is_open → (records : List Kept) → KeepsBase trees l.database.0 records
           → (l._turn ≤ l.next) × (l.next ≤ 1000000000) × (l.bytes.items ≡ flat_map (λ (k : Kept). k.bytes) (below l.next records));
     }

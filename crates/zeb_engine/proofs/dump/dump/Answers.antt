@@ -1,15 +1,20 @@
-use Rattle.std.proofs.Common.{rules, ◌≡◌, ◌∙◌, Err, Ok, arith, refl, sym, ap, subst}
+use Rattle.std.proofs.Common.{rules, ◌≡◌, ◌∙◌, pos, Err, Ok, arith, refl, sym, ap, subst, inl, inr}
 use Rattle.sqlite.specs.Held.{state}
 use Rattle.sqlite.specs.State.{HasCleanDisk}
+use Rattle.sqlite.specs.Tree.{Trees}
 use Rattle.zeb_register.proofs.Calls.{nothing_then}
+use Rattle.zeb_register.specs.Store.{HasDatabase}
 use Rattle.zeb_register.specs.declared.catalog.Database.{Database}
 use Rattle.zeb_engine.specs.declared.replies.Reply.TheVariants.{Dumped}
 use Rattle.zeb_engine.specs.Answers.{dumped}
+use Rattle.zeb_engine.specs.AnyTables.{DumpOver, DumpTells}
 use Rattle.zeb_change.specs.Conditions.{conditions}
 use Rattle.zeb_image.specs.NameOf.{name_bytes}
 use Rattle.zeb_engine.specs.Steps.{dumped_by, dumped_in}
 use Rattle.zeb_engine.specs.Works.{Always, Serves}
 use Rattle.zeb_engine.proofs.Dumps.{Dumps, base_kept, dump_fails, dump_told, dump_unknown, unready_dumps}
+use Rattle.zeb_engine.proofs.OverTables.{few_over, named_misses, over_after, unready_over}
+use Rattle.zeb_engine.proofs.Showing.{still_shows}
 use Rattle.zeb_engine.proofs.StoreCauses.{look_caused, passed_cause, refusal_after, two_leave}
 use Rattle.zeb_engine.proofs.ReadyBases.{Tells, ready_base, ready_still}
 use Rattle.zeb_search.proofs.ReadLemmas.{clean_before}
@@ -102,3 +107,45 @@ returns-clause-serves g c clean limits before fits keeps =
     let s3 = state g.S.Store c.bytes_of.new.connection in
     let nothing = nothing_then s0 (state g.S.Store c.existing_database.new.connection) s3 it.still.nothing (c.bytes_of.ensures.same clean) in
     dump_told g.L.Layout.format k (name_bytes c.args.name.now) s0 s3 nothing before it.still.bases it.still.is keeps (Ok (Dumped bytes)) (ap (dumped_in (name_bytes c.args.name.now)) it.at.named ∙ ap dumped (sym told))
+
+-- ---- on any tables
+
+pub returns-in_err-check_ready-clause-tables : goal.returns-in_err-check_ready-clause-tables
+returns-in_err-check_ready-clause-tables g c clean store texts =
+    let refusal = c.in_err-check_ready.field-0.0 in
+    let told : c.from_residual.result ≡ Err refusal = search rules in
+    rw told (unready_over (version_of g.L.Layout.format) c.args.profile.now (DumpOver (name_bytes c.args.name.now)) (state g.S.Store c.args.connection.now) refusal c.in_err-check_ready.ensures.few (c.in_err-check_ready.ensures.texts clean)
+    (c.in_err-check_ready.ensures.whole clean) store texts)
+
+pub returns-in_err-database-clause-tables : goal.returns-in_err-database-clause-tables
+returns-in_err-database-clause-tables g c clean store texts =
+    let s0 = state g.S.Store c.args.connection.now in
+    let s1 = state g.S.Store c.check_ready.new.connection in
+    let clean1 = clean_before s1 (state g.S.Store c.existing_database.new.connection) c.existing_database.ensures.crash clean in
+    let refusal = c.in_err-database.field-0.0 in
+    let told : c.from_residual-in_err-database.result ≡ Err refusal = search rules in
+    let name = name_bytes c.args.name.now in
+    rw told (over_after (DumpOver name) s0 s1 (Err refusal) (c.check_ready.ensures.same clean1) (c.in_ok-check_ready.ensures.«open» clean1)
+    (λ there. named_misses (DumpTells s1.now.trees) name s1.now.trees refusal (c.in_err-database.ensures.misses clean there)) store)
+
+pub returns-in_err-bytes-clause-tables : goal.returns-in_err-bytes-clause-tables
+returns-in_err-bytes-clause-tables g c clean store texts =
+    let refusal = c.in_err-bytes.field-0.0 in
+    let told : c.from_residual-in_err-bytes.result ≡ Err refusal = search rules in
+    rw told (few_over (DumpOver (name_bytes c.args.name.now)) (state g.S.Store c.args.connection.now).now.trees refusal c.in_err-bytes.ensures.few)
+
+pub returns-clause-tables : goal.returns-clause-tables
+returns-clause-tables g c clean store texts =
+    let s0 = state g.S.Store c.args.connection.now in
+    let s1 = state g.S.Store c.check_ready.new.connection in
+    let s2 = state g.S.Store c.existing_database.new.connection in
+    let clean2 : HasCleanDisk s2 = omega (arith, c.bytes_of.ensures.crash.clean) in
+    let clean1 : HasCleanDisk s1 = omega (arith, clean2, c.existing_database.ensures.crash.clean) in
+    let at1 = still_shows s0 s1 s0.now.trees (c.check_ready.ensures.same clean1) (λ _. (store, refl)) in
+    let at2 = still_shows s1 s2 s0.now.trees (c.existing_database.ensures.same clean2) at1 in
+    let opened = c.in_ok-database.ensures.found clean2 in
+    let first = at1 opened.0 in
+    let database = c.in_ok-database.database in
+    let row = subst (λ (t : Trees). HasDatabase t database.id.0 (name_bytes c.args.name.now) (pos database.last)) first.1 (c.in_ok-database.ensures.row clean2 first.0) in
+    let bytes = c.in_ok-bytes.bytes in
+    inl (inr (database.id.0, pos database.last, row, (bytes.items, c.in_ok-bytes.ensures.read clean s0.now.trees at2 opened.1, refl)))

@@ -1,4 +1,4 @@
-use Rattle.std.proofs.Common.{rules, ◌≡◌, ℕ, pos, List, Bor, length, map, Err, IsTrue, arith, refl, sym, ap, subst, inr, string_bytes}
+use Rattle.std.proofs.Common.{rules, ◌≡◌, ℕ, pos, List, Bor, length, map, Err, Ok, IsTrue, arith, refl, sym, ap, subst, inl, inr, string_bytes}
 use Rattle.sqlite.specs.Held.{state}
 use Rattle.sqlite.specs.State.{HasCleanDisk}
 use Rattle.sqlite.specs.Tree.{Trees}
@@ -15,25 +15,32 @@ use Rattle.zeb_engine.specs.declared.find.Question.{Question}
 use Rattle.zeb_engine.specs.declared.replies.Reply.{Reply}
 use Rattle.zeb_change.specs.Base.{Base}
 use Rattle.zeb_change.specs.Conditions.{conditions}
+use Rattle.zeb_engine.specs.Alone.{OfDatabase}
 use Rattle.zeb_engine.specs.Answers.{Answer}
+use Rattle.zeb_engine.specs.AnyTables.{FindOver, FindTells}
 use Rattle.zeb_engine.specs.Finding.{asked_of}
 use Rattle.zeb_image.specs.NameOf.{name_bytes}
 use Rattle.zeb_change.specs.Outcomes.{query_refusal, register_refusal}
 use Rattle.zeb_engine.specs.Steps.{FindAnswers}
 use Rattle.zeb_change.specs.Refused.{Meets}
 use Rattle.zeb_engine.proofs.Asked.{existing_ends, query_ends, refused_ends}
-use Rattle.zeb_engine.proofs.Finds.{asked_ends, asked_kept, found_ends, hits_answered, idents_readable, plan_ends}
+use Rattle.zeb_engine.proofs.Finds.{asked_ends, asked_kept, found_ends, hits_answered, idents_readable, met_view, plan_ends}
 use Rattle.zeb_engine.proofs.ListedDatabases.{fault_fails}
 use Rattle.zeb_engine.proofs.Lookups.{base_found, hits_asked, hits_found, still_holds}
 use Rattle.zeb_engine.proofs.FindRefusals.{asked_refused, asked_small, hits_refused, misses_refused, plan_refused, query_refused, show_refused}
+use Rattle.zeb_engine.proofs.OverTables.{asked_over, fault_few, few_over, numbers_found, named_misses, or_fails, past_found, plan_found, query_over}
 use Rattle.zeb_engine.proofs.ReadyTexts.{fault_never}
-use Rattle.zeb_engine.proofs.Showing.{kept_fails}
+use Rattle.zeb_engine.proofs.Showing.{kept_fails, still_shows}
 use Rattle.zeb_engine.proofs.StoreCauses.{LeavesAll, accepted_leaves, fault_after, leaves_then, passed_cause, query_caused, refusal_after}
 use Rattle.zeb_engine.proofs.find.find.Goals as goal
 
 -- what may be answered of a database
 abbrev says : List Directive → Question → Base → Answer → Type 0
 says profile asked = FindAnswers profile asked.query.now asked.first asked.count
+
+-- the same on any tables
+abbrev tells : List Directive → Question → Trees → OfDatabase
+tells profile asked = FindTells profile asked.query.now asked.first asked.count
 
 pub returns-in_err-query-clause-found : goal.returns-in_err-query-clause-found
 returns-in_err-query-clause-found g c clean opened limits before bases is keeps =
@@ -283,3 +290,90 @@ returns-clause-work g c clean store content held =
       (query_value c.in_ok-query.query, c.in_ok-query.ensures.spelled, c.in_ok-plan.ensures.planned),
       (c.in_ok-database.database.id.0, pos c.in_ok-database.database.last, c.in_ok-database.ensures.row clean1 store, counted.0, counted.1, counted.2, counted.3, counted.4),
     )
+
+-- ---- on any tables
+
+pub returns-in_err-query-clause-tables : goal.returns-in_err-query-clause-tables
+returns-in_err-query-clause-tables g c clean store =
+    let fault = c.in_err-query.field-0.0 in
+    let told : c.from_residual.result ≡ Err (query_refusal fault) = search rules in
+    let trees = (state g.S.Store c.args.connection.now).now.trees in
+    rw told (query_over (tells c.args.profile.now c.args.question trees) (name_bytes c.args.name.now) trees c.args.question.query.now fault c.in_err-query.ensures.faulty)
+
+pub returns-in_err-database-clause-tables : goal.returns-in_err-database-clause-tables
+returns-in_err-database-clause-tables g c clean store =
+    let refusal = c.in_err-database.field-0.0 in
+    let told : c.from_residual-in_err-database.result ≡ Err refusal = search rules in
+    let trees = (state g.S.Store c.args.connection.now).now.trees in
+    let Tells = tells c.args.profile.now c.args.question trees in
+    let name = name_bytes c.args.name.now in
+    rw told (asked_over Tells name trees c.args.question.query.now c.in_ok-query.ensures.readable (Err refusal) (named_misses Tells name trees refusal (c.in_err-database.ensures.misses clean store)))
+
+pub returns-in_err-plan-clause-tables : goal.returns-in_err-plan-clause-tables
+returns-in_err-plan-clause-tables g c clean store =
+    let fault = c.in_err-plan.field-0.0 in
+    let told : c.from_residual-in_err-plan.result ≡ Err (query_refusal fault) = search rules in
+    let trees = (state g.S.Store c.args.connection.now).now.trees in
+    let database = c.in_ok-database.database in
+    let text = c.args.question.query.now in
+    rw told (or_fails (tells c.args.profile.now c.args.question trees) (name_bytes c.args.name.now) trees text c.in_ok-query.ensures.readable database.id.0 (pos database.last) (c.in_ok-database.ensures.row clean store) (query_refusal fault)
+    (plan_found c.args.profile.now text (query_value c.in_ok-query.query) c.in_ok-query.ensures.spelled (has_ident_in trees database.id.0) c.args.question.first c.args.question.count fault c.in_err-plan.ensures.planned))
+
+pub returns-in_err-hits-clause-tables : goal.returns-in_err-hits-clause-tables
+returns-in_err-hits-clause-tables g c clean store =
+    let fault = c.in_err-hits.field-0.0 in
+    let told : c.from_residual-in_err-hits.result ≡ Err (register_refusal fault) = search rules in
+    let question = c.args.question in
+    rw told (few_over (FindOver c.args.profile.now (name_bytes c.args.name.now) question.query.now question.first question.count) (state g.S.Store c.args.connection.now).now.trees (register_refusal fault) (fault_few fault))
+
+pub returns-in_err-asked-clause-tables : goal.returns-in_err-asked-clause-tables
+returns-in_err-asked-clause-tables g c clean store =
+    let s1 = state g.S.Store c.existing_database.new.connection in
+    let clean1 : HasCleanDisk s1 = omega (arith, c.hits.ensures.call.crash.clean) in
+    let refusal = c.in_err-asked.field-0.0 in
+    let told : c.from_residual-in_err-asked.result ≡ Err refusal = search rules in
+    let trees = (state g.S.Store c.args.connection.now).now.trees in
+    let database = c.in_ok-database.database in
+    let question = c.args.question in
+    let Asked = λ (wanted : List ℕ) (asked : Bor (List ℕ)). asked.now ≡ wanted in
+    let met = subst (λ (l : List ℕ). Meets Asked (asked_of l question.first question.count) (Err refusal)) c.deref.ensures.value c.in_err-asked.ensures.asked in
+    rw told (or_fails (tells c.args.profile.now question trees) (name_bytes c.args.name.now) trees question.query.now c.in_ok-query.ensures.readable database.id.0 (pos database.last) (c.in_ok-database.ensures.row clean1 store) refusal
+    (past_found c.args.profile.now question.query.now (query_value c.in_ok-query.query) c.in_ok-query.ensures.spelled (has_ident_in trees database.id.0) question.first question.count
+    (plan_value c.in_ok-plan.plan) c.in_ok-plan.ensures.planned c.in_ok-hits.hits.items Asked refusal met))
+
+pub returns-in_err-shown-clause-tables : goal.returns-in_err-shown-clause-tables
+returns-in_err-shown-clause-tables g c clean store =
+    let refusal = c.in_err-shown.field-0.0 in
+    let told : c.from_residual-in_err-shown.result ≡ Err refusal = search rules in
+    let question = c.args.question in
+    rw told (few_over (FindOver c.args.profile.now (name_bytes c.args.name.now) question.query.now question.first question.count) (state g.S.Store c.args.connection.now).now.trees refusal c.in_err-shown.ensures.few)
+
+pub returns-clause-tables : goal.returns-clause-tables
+returns-clause-tables g c clean store =
+    let s0 = state g.S.Store c.args.connection.now in
+    let s1 = state g.S.Store c.existing_database.new.connection in
+    let s2 = state g.S.Store c.hits.new.connection in
+    let clean2 : HasCleanDisk s2 = omega (arith, c.show.ensures.crash.clean) in
+    let clean1 : HasCleanDisk s1 = omega (arith, clean2, c.hits.ensures.call.crash.clean) in
+    let trees = s0.now.trees in
+    let found = still_shows s0 s1 trees (c.existing_database.ensures.same clean1) (λ _. (store, refl)) in
+    let shows = still_shows s1 s2 trees (c.hits.ensures.call.same clean2 c.existing_database.ensures.idle) found in
+    let database = c.in_ok-database.database in
+    let question = c.args.question in
+    let text = question.query.now in
+    let numbers = c.in_ok-hits.hits.items in
+    let asked = c.in_ok-asked.asked in
+    let Asked = λ (wanted : List ℕ) (asked : Bor (List ℕ)). asked.now ≡ wanted in
+    let met = subst (λ (l : List ℕ). Meets Asked (asked_of l question.first question.count) (Ok asked)) c.deref.ensures.value c.in_ok-asked.ensures.asked in
+    let said = met_view (λ (x : Bor (List ℕ)). x.now) (asked_of numbers question.first question.count) asked met in
+    let counted : c.len.result ≡ length numbers = search rules in
+    rw counted (inl (inl (
+      c.in_ok-query.ensures.readable,
+      inr (
+        database.id.0,
+        pos database.last,
+        c.in_ok-database.ensures.row clean1 store,
+        numbers_found c.args.profile.now text (query_value c.in_ok-query.query) c.in_ok-query.ensures.spelled (has_ident_in trees database.id.0) question.first question.count
+            (plan_value c.in_ok-plan.plan) c.in_ok-plan.ensures.planned numbers asked.now said (map (λ hit. (hit.sysno, string_bytes hit.ident)) c.in_ok-shown.shown.items) (c.in_ok-shown.ensures.shown clean trees shows),
+      ),
+    )))

@@ -16,6 +16,7 @@ use Rattle.zeb_query.proofs.HoldingLemmas.{take_whole}
 use Rattle.zeb_engine.proofs.ListedDatabases.{fault_or_damage}
 use Rattle.zeb_engine.proofs.Showing.{hidden_shown, ident_stored, none_shown, shown_more, still_shows}
 use Rattle.zeb_engine.proofs.StoreCauses.{LeavesAll, fault_after}
+use Rattle.zeb_engine.proofs.OverTables.{fault_few}
 use Rattle.zeb_engine.proofs.find.show.Goals as goal
 
 abbrev told : Hit → ℕ × List ℕ
@@ -86,3 +87,9 @@ returns-in_err-ident-clause-caused g c clean =
     let told : c.from_residual-in_err-ident.result ≡ Err (register_refusal fault) = search rules in
     let leaves : LeavesAll old now = record { survives = c.loop-number.invariant.crash; opened = c.loop-number.invariant.open_still first; nothing = c.loop-number.invariant.same first } in
     rw told (fault_after old now (state g.S.Store c.ident_of.new.conn) leaves fault clean c.in_err-ident.ensures.refused)
+
+pub returns-in_err-ident-clause-few : goal.returns-in_err-ident-clause-few
+returns-in_err-ident-clause-few g c =
+    let fault = c.in_err-ident.field-0.0 in
+    let told : c.from_residual-in_err-ident.result ≡ Err (register_refusal fault) = search rules in
+    rw told (fault_few fault)

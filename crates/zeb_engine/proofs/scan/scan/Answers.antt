@@ -1,4 +1,4 @@
-use Rattle.std.proofs.Common.{rules, arith, ◌≡◌, pos, List, IsTrue, refl, inr}
+use Rattle.std.proofs.Common.{rules, arith, ◌≡◌, pos, List, Err, IsTrue, refl, inl, inr}
 use Rattle.sqlite.specs.Held.{state}
 use Rattle.sqlite.specs.State.{HasCleanDisk}
 use Rattle.zeb_profile.specs.declared.directives.Directive.{Directive}
@@ -13,10 +13,13 @@ use Rattle.zeb_change.specs.Conditions.{conditions}
 use Rattle.zeb_change.specs.Outcomes.{query_refusal}
 use Rattle.zeb_image.specs.NameOf.{name_bytes}
 use Rattle.zeb_engine.specs.declared.scan.Around.{Around}
+use Rattle.zeb_engine.specs.Alone.{OfDatabase}
 use Rattle.zeb_engine.specs.Answers.{Answer}
+use Rattle.zeb_engine.specs.AnyTables.{ScanOver, ScanTells}
 use Rattle.zeb_engine.specs.Steps.{ScanAnswers}
 use Rattle.zeb_engine.proofs.Asked.{existing_ends, query_ends, refused_ends}
 use Rattle.zeb_engine.proofs.Lookups.{base_found, still_holds}
+use Rattle.zeb_engine.proofs.OverTables.{asked_over, few_over, named_misses, or_fails, plan_scanned, query_over, terms_scanned}
 use Rattle.zeb_engine.proofs.Scans.{plan_ends, scanned_ends, terms_answered}
 use Rattle.zeb_engine.proofs.StoreCauses.{accepted_leaves, passed_cause, query_caused, refusal_after}
 use Rattle.zeb_engine.proofs.scan.scan.Goals as goal
@@ -24,6 +27,10 @@ use Rattle.zeb_engine.proofs.scan.scan.Goals as goal
 -- what may be answered of a database
 abbrev says : List Directive → Around → Base → Answer → Type 0
 says profile asked = ScanAnswers profile asked.query.now asked.number asked.position
+
+-- the same on any tables
+abbrev tells : List Directive → Around → OfDatabase
+tells profile asked = ScanTells profile asked.query.now asked.number asked.position
 
 pub returns-in_err-query-clause-scanned : goal.returns-in_err-query-clause-scanned
 returns-in_err-query-clause-scanned g c clean opened limits before bases is keeps =
@@ -123,3 +130,54 @@ returns-clause-work g c clean store content held =
     let clean1 : HasCleanDisk s1 = omega (arith, c.terms_around.ensures.crash.clean) in
     let still = still_holds g.L.Layout.format content s0 s1 (c.existing_database.ensures.same clean1) (c.in_ok-database.ensures.found clean1).1 store held in
     c.in_ok-entries.ensures.work clean still.store content still.held
+
+-- ---- on any tables
+
+pub returns-in_err-query-clause-tables : goal.returns-in_err-query-clause-tables
+returns-in_err-query-clause-tables g c clean store =
+    let fault = c.in_err-query.field-0.0 in
+    let told : c.from_residual.result ≡ Err (query_refusal fault) = search rules in
+    let trees = (state g.S.Store c.args.connection.now).now.trees in
+    rw told (query_over (tells c.args.profile.now c.args.around) (name_bytes c.args.name.now) trees c.args.around.query.now fault c.in_err-query.ensures.faulty)
+
+pub returns-in_err-database-clause-tables : goal.returns-in_err-database-clause-tables
+returns-in_err-database-clause-tables g c clean store =
+    let refusal = c.in_err-database.field-0.0 in
+    let told : c.from_residual-in_err-database.result ≡ Err refusal = search rules in
+    let trees = (state g.S.Store c.args.connection.now).now.trees in
+    let Tells = tells c.args.profile.now c.args.around in
+    let name = name_bytes c.args.name.now in
+    rw told (asked_over Tells name trees c.args.around.query.now c.in_ok-query.ensures.readable (Err refusal) (named_misses Tells name trees refusal (c.in_err-database.ensures.misses clean store)))
+
+pub returns-in_err-plan-clause-tables : goal.returns-in_err-plan-clause-tables
+returns-in_err-plan-clause-tables g c clean store =
+    let fault = c.in_err-plan.field-0.0 in
+    let told : c.from_residual-in_err-plan.result ≡ Err (query_refusal fault) = search rules in
+    let trees = (state g.S.Store c.args.connection.now).now.trees in
+    let database = c.in_ok-database.database in
+    let text = c.args.around.query.now in
+    rw told (or_fails (tells c.args.profile.now c.args.around) (name_bytes c.args.name.now) trees text c.in_ok-query.ensures.readable database.id.0 (pos database.last) (c.in_ok-database.ensures.row clean store) (query_refusal fault)
+    (plan_scanned c.args.profile.now text (query_value c.in_ok-query.query) c.in_ok-query.ensures.spelled c.args.around.number c.args.around.position fault c.in_err-plan.ensures.planned))
+
+pub returns-in_err-entries-clause-tables : goal.returns-in_err-entries-clause-tables
+returns-in_err-entries-clause-tables g c clean store =
+    let refusal = c.in_err-entries.field-0.0 in
+    let told : c.from_residual-in_err-entries.result ≡ Err refusal = search rules in
+    let around = c.args.around in
+    rw told (few_over (ScanOver c.args.profile.now (name_bytes c.args.name.now) around.query.now around.number around.position) (state g.S.Store c.args.connection.now).now.trees refusal c.in_err-entries.ensures.few)
+
+pub returns-clause-tables : goal.returns-clause-tables
+returns-clause-tables g c clean store =
+    let s1 = state g.S.Store c.existing_database.new.connection in
+    let clean1 : HasCleanDisk s1 = omega (arith, c.terms_around.ensures.crash.clean) in
+    let database = c.in_ok-database.database in
+    let around = c.args.around in
+    inl (inl (
+      c.in_ok-query.ensures.readable,
+      inr (
+        database.id.0,
+        pos database.last,
+        c.in_ok-database.ensures.row clean1 store,
+        terms_scanned c.args.profile.now around.query.now (query_value c.in_ok-query.query) c.in_ok-query.ensures.spelled around.number around.position (scan_value c.in_ok-plan.plan) c.in_ok-plan.ensures.planned c.in_ok-entries.entries.items,
+      ),
+    ))

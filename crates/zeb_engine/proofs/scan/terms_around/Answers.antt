@@ -7,6 +7,7 @@ use Rattle.zeb_change.specs.Outcomes.{register_refusal}
 use Rattle.zeb_engine.proofs.ListedDatabases.{fault_fails}
 use Rattle.zeb_engine.proofs.AskedReads.{around_reads}
 use Rattle.zeb_engine.proofs.Lookups.{still_holds}
+use Rattle.zeb_engine.proofs.OverTables.{fault_few}
 use Rattle.zeb_engine.proofs.Scans.{around_lists}
 use Rattle.zeb_engine.proofs.StoreCauses.{LeavesAll, fault_after, fault_caused}
 use Rattle.zeb_engine.proofs.scan.terms_around.Goals as goal
@@ -58,3 +59,15 @@ returns-in_err-rest-clause-caused g c clean =
     let told : c.from_residual-in_err-rest.result ≡ Err (register_refusal fault) = search rules in
     let leaves : LeavesAll old mid = record { survives = c.terms_before.ensures.call.crash; opened = λ _. (c.in_ok-first.ensures.call.ok clean1).0.is_open; nothing = c.terms_before.ensures.call.same clean1 c.requires.idle } in
     rw told (fault_after old mid (state g.S.Store c.terms_from.new.conn) leaves fault clean c.in_err-rest.ensures.refused)
+
+pub returns-in_err-first-clause-few : goal.returns-in_err-first-clause-few
+returns-in_err-first-clause-few g c =
+    let fault = c.in_err-first.field-0.0 in
+    let told : c.from_residual.result ≡ Err (register_refusal fault) = search rules in
+    rw told (fault_few fault)
+
+pub returns-in_err-rest-clause-few : goal.returns-in_err-rest-clause-few
+returns-in_err-rest-clause-few g c =
+    let fault = c.in_err-rest.field-0.0 in
+    let told : c.from_residual-in_err-rest.result ≡ Err (register_refusal fault) = search rules in
+    rw told (fault_few fault)

@@ -10,10 +10,11 @@ use Rattle.zeb_register.specs.Occurring.{AreTotals}
 use Rattle.zeb_query.proofs.HoldingLemmas.{take_whole}
 use Rattle.zeb_engine.specs.declared.replies.Holding.{Holding}
 use Rattle.zeb_engine.specs.Answers.{extent_of}
-use Rattle.zeb_engine.specs.Counting.{IsExtent, Paired, Target}
+use Rattle.zeb_engine.specs.Counting.{IsExtent, IsUnder, Paired, Target}
 use Rattle.zeb_change.specs.Outcomes.{register_refusal}
 use Rattle.std.proofs.lemmas.List.{take_more}
 use Rattle.zeb_engine.proofs.ListedDatabases.{fault_fails}
+use Rattle.zeb_engine.proofs.OverTables.{fault_few}
 use Rattle.zeb_engine.proofs.Showing.{still_shows}
 use Rattle.zeb_engine.proofs.Stats.{paired_more}
 use Rattle.zeb_engine.proofs.StoreCauses.{LeavesAll, fault_after}
@@ -22,6 +23,9 @@ use Rattle.zeb_register.specs.Formats.{holds_in}
 
 abbrev Fits : (ℕ → Occurrence → Type 0) → List Directive → Target → Holding → Type 0
 Fits O profile target holding = IsExtent O profile target (extent_of holding)
+
+abbrev IsNamedHolding : List Directive → Target → Holding → Type 0
+IsNamedHolding profile target holding = IsUnder profile target (extent_of holding)
 
 pub loop-target-preserved : goal.loop-target-preserved
 loop-target-preserved g c =
@@ -42,13 +46,18 @@ loop-target-preserved g c =
           let target : Target = get_or c.args.targets.now index (0, Word) in
           let holding = c.in_ok-holding_of.field-0 in
           let is : Fits (posted content c.args.database.0) c.args.profile.now target holding = record {
-            name = c.in_ok-holding_of.ensures.name;
-            register = c.in_ok-holding_of.ensures.register;
+            under = record { name = c.in_ok-holding_of.ensures.name; register = c.in_ok-holding_of.ensures.register };
             totals = subst (AreTotals (posted content c.args.database.0) target.0 target.1) (sym c.in_ok-holding_of.ensures.totals) value;
           } in
           let more = paired_more (Fits (posted content c.args.database.0) c.args.profile.now) (take index c.args.targets.now) c.loop-target.holdings.items target holding (c.loop-target.invariant.held first trees shows was content has) is in
           subst (λ (l : List Target). Paired (Fits (posted content c.args.database.0) c.args.profile.now) l c.push_reserved.new.self.items) (sym (take_more c.args.targets.now index (0, Word) c.loop-target-test.true))
           (subst (Paired (Fits (posted content c.args.database.0) c.args.profile.now) (take index c.args.targets.now ++ target ∷ [])) (sym c.push_reserved.ensures.items) more);
+      named =
+          let target : Target = get_or c.args.targets.now index (0, Word) in
+          let is : IsNamedHolding c.args.profile.now target c.in_ok-holding_of.field-0 = record { name = c.in_ok-holding_of.ensures.name; register = c.in_ok-holding_of.ensures.register } in
+          let more = paired_more (IsNamedHolding c.args.profile.now) (take index c.args.targets.now) c.loop-target.holdings.items target c.in_ok-holding_of.field-0 c.loop-target.invariant.named is in
+          subst (λ (l : List Target). Paired (IsNamedHolding c.args.profile.now) l c.push_reserved.new.self.items) (sym (take_more c.args.targets.now index (0, Word) c.loop-target-test.true))
+          (subst (Paired (IsNamedHolding c.args.profile.now) (take index c.args.targets.now ++ target ∷ [])) (sym c.push_reserved.ensures.items) more);
       no_work = λ none. c.totals.ensures.no_work none ∙ c.loop-target.invariant.no_work none;
     }
 
@@ -76,3 +85,14 @@ returns-in_err-totals-clause-caused g c clean =
     let told : c.from_residual-in_err-totals.result ≡ Err (register_refusal fault) = search rules in
     let leaves : LeavesAll old now = record { survives = c.loop-target.invariant.crash; opened = c.loop-target.invariant.open_still first; nothing = c.loop-target.invariant.same first } in
     rw told (fault_after old now (state g.S.Store c.totals.new.conn) leaves fault clean c.in_err-totals.ensures.refused)
+
+pub returns-clause-named : goal.returns-clause-named
+returns-clause-named g c =
+    let whole = take_whole c.args.targets.now c.loop-target.target-index (omega (arith, c.loop-target-test.false)) in
+    subst (λ (l : List Target). Paired (IsNamedHolding c.args.profile.now) l c.loop-target.holdings.items) whole c.loop-target.invariant.named
+
+pub returns-in_err-totals-clause-few : goal.returns-in_err-totals-clause-few
+returns-in_err-totals-clause-few g c =
+    let fault = c.in_err-totals.field-0.0 in
+    let told : c.from_residual-in_err-totals.result ≡ Err (register_refusal fault) = search rules in
+    rw told (fault_few fault)

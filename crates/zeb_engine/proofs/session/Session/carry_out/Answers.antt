@@ -4,6 +4,7 @@ use Rattle.sqlite.specs.State.{Survives}
 use Rattle.zeb_register.specs.Store.{IsStore}
 use Rattle.zeb_change.specs.declared.settings.Limits.{Limits}
 use Rattle.zeb_engine.specs.Alone.{Alone, StatSays}
+use Rattle.zeb_engine.specs.AnyTables.{DumpOver, OverReady, StatOver}
 use Rattle.zeb_change.specs.Conditions.{conditions}
 use Rattle.zeb_engine.specs.Crashes.{Commits, CommitsBy}
 use Rattle.zeb_image.specs.Image.{IsImage}
@@ -12,7 +13,7 @@ use Rattle.zeb_engine.specs.Steps.{OnlyAsks, turned, TakesFiles, created, droppe
 use Rattle.zeb_engine.specs.PrivateChanging.{IsNoChange}
 use Rattle.zeb_engine.specs.Readiness.{LooksFirst}
 use Rattle.zeb_engine.specs.Works.{Always, Asks, Serves, ServesBy}
-use Rattle.zeb_engine.proofs.Commanding.{analysis_answers, analysis_serves, asks_serve, ends_serve, find_alone, find_serves, scan_alone, scan_serves}
+use Rattle.zeb_engine.proofs.Commanding.{analysis_answers, analysis_serves, asks_serve, ends_serve, find_alone, find_serves, find_tables, scan_alone, scan_serves, scan_tables}
 use Rattle.zeb_engine.proofs.Crashing.{ends_commit, none_commits, survives_as}
 use Rattle.zeb_engine.proofs.AskedReads.{find_command_reads, scan_command_reads}
 use Rattle.zeb_engine.proofs.Serving.{on_ok}
@@ -121,16 +122,22 @@ returns-in-Scan-clause-serves g c clean =
     rw c.in-Scan.is (scan_serves k old new c.scan.result c.in-Scan.database c.in-Scan.query c.in-Scan.number c.in-Scan.position (name_bytes of) c.as_str-in-Scan.result.now many at
     (ap name_bytes same_name) (c.as_str-in-Scan.ensures.value ∙ ap string_bytes same_query) (search rules) (search rules) (c.scan.ensures.serves clean))
 
-pub returns-in-Scan-clause-alone : goal.returns-in-Scan-clause-alone
-returns-in-Scan-clause-alone g c clean =
+pub returns-in-Scan-clause-asked : goal.returns-in-Scan-clause-asked
+returns-in-Scan-clause-asked g c clean =
     let old = state g.S.Store c.args.self.now.connection in
     let of = c.in-Scan.database-in-Scan-1-own.given.0.0 in
     let many = c.in-Scan.number-1-own.given.0.1.1.0 in
     let at = c.in-Scan.position-1-own.given.0.1.1.1.0 in
     let same_name : of ≡ c.in-Scan.database = search rules in
     let same_query : c.in-Scan.query-in-Scan-1-own.given.0.1.0 ≡ c.in-Scan.query = search rules in
-    rw c.in-Scan.is (scan_alone g.L.Layout.format c.args.self.now.profile old c.scan.result c.in-Scan.database c.in-Scan.query c.in-Scan.number c.in-Scan.position (name_bytes of) c.as_str-in-Scan.result.now many at
-    (ap name_bytes same_name) (c.as_str-in-Scan.ensures.value ∙ ap string_bytes same_query) (search rules) (search rules) (c.scan.ensures.alone clean))
+    let name = ap name_bytes same_name in
+    let query = c.as_str-in-Scan.ensures.value ∙ ap string_bytes same_query in
+    rw c.in-Scan.is (
+      scan_alone g.L.Layout.format c.args.self.now.profile old c.scan.result c.in-Scan.database c.in-Scan.query c.in-Scan.number c.in-Scan.position (name_bytes of) c.as_str-in-Scan.result.now many at
+          name query (search rules) (search rules) (c.scan.ensures.alone clean),
+      scan_tables (version_of g.L.Layout.format) c.args.self.now.profile old c.scan.result c.in-Scan.database c.in-Scan.query c.in-Scan.number c.in-Scan.position (name_bytes of) c.as_str-in-Scan.result.now many at
+          name query (search rules) (search rules) (c.scan.ensures.tables clean),
+    )
 
 pub returns-in-Init-clause-begun : goal.returns-in-Init-clause-begun
 returns-in-Init-clause-begun g c clean is =
@@ -141,49 +148,58 @@ returns-in-Init-clause-begun g c clean is =
     on_ok c.init_register.result (IsStore old → (limits : Limits) → IsStore new × IsImage new.now.trees (holding (of limits) [])) (IsStore old → IsStore new × IsImage new.now.trees (holding k []))
     (λ did store. did store c.args.self.now.limits) (c.init_register.ensures.begun clean)
 
-pub returns-in-Find-clause-alone : goal.returns-in-Find-clause-alone
-returns-in-Find-clause-alone g c clean =
+pub returns-in-Find-clause-asked : goal.returns-in-Find-clause-asked
+returns-in-Find-clause-asked g c clean =
     let old = state g.S.Store c.args.self.now.connection in
     let of = c.in-Find.database-in-Find-1-own.given.0.0 in
     let from = c.in-Find.first-1-own.given.0.1.1.0 in
     let many = c.in-Find.count-1-own.given.0.1.1.1.0 in
     let same_name : of ≡ c.in-Find.database = search rules in
     let same_query : c.in-Find.query-1-own.given.0.1.0 ≡ c.in-Find.query = search rules in
-    rw c.in-Find.is (find_alone g.L.Layout.format c.args.self.now.profile old c.find.result c.in-Find.database c.in-Find.query c.in-Find.first c.in-Find.count (name_bytes of) c.as_str.result.now from many
-    (ap name_bytes same_name) (c.as_str.ensures.value ∙ ap string_bytes same_query) (search rules) (search rules) (c.find.ensures.alone clean) (c.find.ensures.refused clean))
+    let name = ap name_bytes same_name in
+    let query = c.as_str.ensures.value ∙ ap string_bytes same_query in
+    rw c.in-Find.is (
+      find_alone g.L.Layout.format c.args.self.now.profile old c.find.result c.in-Find.database c.in-Find.query c.in-Find.first c.in-Find.count (name_bytes of) c.as_str.result.now from many
+          name query (search rules) (search rules) (c.find.ensures.alone clean) (c.find.ensures.refused clean),
+      find_tables (version_of g.L.Layout.format) c.args.self.now.profile old c.find.result c.in-Find.database c.in-Find.query c.in-Find.first c.in-Find.count (name_bytes of) c.as_str.result.now from many
+          name query (search rules) (search rules) (c.find.ensures.tables clean),
+    )
 
-pub returns-in-Init-clause-alone : goal.returns-in-Init-clause-alone
-returns-in-Init-clause-alone g c clean = rw c.in-Init.is tt
+pub returns-in-Init-clause-asked : goal.returns-in-Init-clause-asked
+returns-in-Init-clause-asked g c clean = rw c.in-Init.is (tt, tt)
 
-pub returns-in-Create-clause-alone : goal.returns-in-Create-clause-alone
-returns-in-Create-clause-alone g c clean = rw c.in-Create.is tt
+pub returns-in-Create-clause-asked : goal.returns-in-Create-clause-asked
+returns-in-Create-clause-asked g c clean = rw c.in-Create.is (tt, tt)
 
-pub returns-in-Drop-clause-alone : goal.returns-in-Drop-clause-alone
-returns-in-Drop-clause-alone g c clean = rw c.in-Drop.is tt
+pub returns-in-Drop-clause-asked : goal.returns-in-Drop-clause-asked
+returns-in-Drop-clause-asked g c clean = rw c.in-Drop.is (tt, tt)
 
-pub returns-in-Change-clause-alone : goal.returns-in-Change-clause-alone
-returns-in-Change-clause-alone g c clean = rw c.in-Change.is tt
+pub returns-in-Change-clause-asked : goal.returns-in-Change-clause-asked
+returns-in-Change-clause-asked g c clean = rw c.in-Change.is (tt, tt)
 
-pub returns-in-Check-clause-alone : goal.returns-in-Check-clause-alone
-returns-in-Check-clause-alone g c clean = rw c.in-Check.is tt
+pub returns-in-Check-clause-asked : goal.returns-in-Check-clause-asked
+returns-in-Check-clause-asked g c clean = rw c.in-Check.is (tt, tt)
 
-pub returns-in-Upgrade-clause-alone : goal.returns-in-Upgrade-clause-alone
-returns-in-Upgrade-clause-alone g c clean = rw c.in-Upgrade.is tt
+pub returns-in-Upgrade-clause-asked : goal.returns-in-Upgrade-clause-asked
+returns-in-Upgrade-clause-asked g c clean = rw c.in-Upgrade.is (tt, tt)
 
-pub returns-in-Reindex-clause-alone : goal.returns-in-Reindex-clause-alone
-returns-in-Reindex-clause-alone g c clean = rw c.in-Reindex.is tt
+pub returns-in-Reindex-clause-asked : goal.returns-in-Reindex-clause-asked
+returns-in-Reindex-clause-asked g c clean = rw c.in-Reindex.is (tt, tt)
 
-pub returns-in-Stat-clause-alone : goal.returns-in-Stat-clause-alone
-returns-in-Stat-clause-alone g c clean =
+pub returns-in-Stat-clause-asked : goal.returns-in-Stat-clause-asked
+returns-in-Stat-clause-asked g c clean =
     let old = state g.S.Store c.args.self.now.connection in
     let alone : Alone g.L.Layout.format (StatSays c.args.self.now.profile) (name_bytes c.in-Stat.name) old c.stat.result = c.stat.ensures.alone clean in
-    rw c.in-Stat.is alone
+    let told : OverReady (version_of g.L.Layout.format) c.args.self.now.profile (StatOver c.args.self.now.profile (name_bytes c.in-Stat.name)) old c.stat.result = c.stat.ensures.tables clean in
+    rw c.in-Stat.is (alone, told)
 
-pub returns-in-Dump-clause-alone : goal.returns-in-Dump-clause-alone
-returns-in-Dump-clause-alone g c clean = rw c.in-Dump.is tt
+pub returns-in-Dump-clause-asked : goal.returns-in-Dump-clause-asked
+returns-in-Dump-clause-asked g c clean =
+    let told : OverReady (version_of g.L.Layout.format) c.args.self.now.profile (DumpOver (name_bytes c.in-Dump.name)) (state g.S.Store c.args.self.now.connection) c.dump.result = c.dump.ensures.tables clean in
+    rw c.in-Dump.is (tt, told)
 
-pub returns-in-Analyse-clause-alone : goal.returns-in-Analyse-clause-alone
-returns-in-Analyse-clause-alone g c clean = rw c.in-Analyse.is tt
+pub returns-in-Analyse-clause-asked : goal.returns-in-Analyse-clause-asked
+returns-in-Analyse-clause-asked g c clean = rw c.in-Analyse.is (tt, tt)
 
 pub returns-in-Init-clause-survives : goal.returns-in-Init-clause-survives
 returns-in-Init-clause-survives g c =

@@ -54,3 +54,9 @@ returns-clause-no_work g c clean none =
     let old = state g.S.Store c.args.self.now.connection in
     command_counts_nothing g.L.Layout.row_work k old c.carry_out-answer.result c.carry_out-answer.new.self.work none c.args.command.now
     (c.carry_out-answer.ensures.work clean) (c.carry_out-answer.ensures.no_work none)
+
+pub returns-clause-alone : goal.returns-clause-alone
+returns-clause-alone g c clean = (c.carry_out-answer.ensures.asked clean).0
+
+pub returns-clause-tables : goal.returns-clause-tables
+returns-clause-tables g c clean = (c.carry_out-answer.ensures.asked clean).1

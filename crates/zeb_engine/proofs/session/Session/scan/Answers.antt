@@ -8,12 +8,14 @@ use Rattle.zeb_change.specs.Base.{Base}
 use Rattle.zeb_image.specs.Image.{Keeps}
 use Rattle.zeb_image.specs.NameOf.{name_bytes}
 use Rattle.zeb_engine.specs.Alone.{ScanSays}
+use Rattle.zeb_engine.specs.AnyTables.{ScanOver}
 use Rattle.zeb_engine.specs.Steps.{ScanAnswers}
 use Rattle.zeb_engine.specs.Steps.{ready}
 use Rattle.zeb_engine.specs.Works.{ScansFrom}
 use Rattle.zeb_engine.proofs.Commanding.{ready_met}
 use Rattle.zeb_engine.proofs.Asked.{alone_after, ready_asked, unready_asked}
 use Rattle.zeb_engine.proofs.AskedReads.{told_after}
+use Rattle.zeb_engine.proofs.OverTables.{over_after, unready_over}
 use Rattle.zeb_engine.proofs.Serving.{keeps_still}
 use Rattle.zeb_engine.proofs.StoreCauses.{accepted_leaves, cause_after, passed_cause}
 use Rattle.zeb_engine.proofs.session.Session.scan.Goals as goal
@@ -97,3 +99,18 @@ returns-clause-caused g c clean =
     let old = state g.S.Store c.args.self.now.connection in
     let looked = accepted_leaves old mid c.check_ready.ensures.crash (c.in_ok-check_ready.ensures.open clean1) (c.check_ready.ensures.same clean1) in
     cause_after old mid (state g.S.Store c.scan.new.connection) looked c.scan.result (c.scan.ensures.caused clean)
+
+pub returns-in_err-check_ready-clause-tables : goal.returns-in_err-check_ready-clause-tables
+returns-in_err-check_ready-clause-tables g c clean store texts =
+    let refusal = c.in_err-check_ready.field-0.0 in
+    let told : c.from_residual.result ≡ Err refusal = search rules in
+    rw told (unready_over (version_of g.L.Layout.format) c.args.self.now.profile (ScanOver c.args.self.now.profile (name_bytes c.args.database.now) c.args.around.query.now c.args.around.number c.args.around.position) (state g.S.Store c.args.self.now.connection) refusal
+    c.in_err-check_ready.ensures.few (c.in_err-check_ready.ensures.texts clean) (c.in_err-check_ready.ensures.whole clean) store texts)
+
+pub returns-clause-tables : goal.returns-clause-tables
+returns-clause-tables g c clean store texts =
+    let old = state g.S.Store c.args.self.now.connection in
+    let mid = state g.S.Store c.check_ready.new.connection in
+    let clean1 : HasCleanDisk mid = omega (arith, c.scan.ensures.crash.clean) in
+    over_after (ScanOver c.args.self.now.profile (name_bytes c.args.database.now) c.args.around.query.now c.args.around.number c.args.around.position) old mid c.scan.result
+    (c.check_ready.ensures.same clean1) (c.in_ok-check_ready.ensures.«open» clean1) (c.scan.ensures.tables clean) store

@@ -1,0 +1,143 @@
+-- A find, a scan and a stat on any tables of a store, step by step.
+use Rattle.std.proofs.Common.{◌≡◌, ◌≢◌, ◌⊎◌, ℕ, ℤ, List, length, map, Result, Ok, Err, string_bytes, refl, sym, ap, subst, inl, inr}
+use Rattle.sqlite.specs.Effect.{Database}
+use Rattle.sqlite.specs.State.{State}
+use Rattle.sqlite.specs.Tree.{Trees}
+use Rattle.zeb_profile.specs.declared.directives.Directive.{Directive}
+use Rattle.zeb_query.specs.declared.faults.QueryFault.{QueryFault}
+use Rattle.zeb_query.specs.declared.faults.QueryFault.TheVariants.{Diagnostic, Memory}
+use Rattle.zeb_query.specs.Checks.{Fails}
+use Rattle.zeb_query.specs.Grammar.{QueryValue, SpellsQuery}
+use Rattle.zeb_query.specs.Places.{IsFaultOf, IsReadable}
+use Rattle.zeb_query.specs.Plans.{PlanValue, ScanValue, plan_of, scan_of}
+use Rattle.zeb_register.specs.declared.RegFault.{RegFault}
+use Rattle.zeb_register.specs.declared.RegFault.TheVariants as register
+use Rattle.zeb_register.specs.declared.registers.TermCount.{TermCount}
+use Rattle.zeb_register.specs.Calls.{ChangesNothing}
+use Rattle.zeb_register.specs.Store.{HasDatabase, IsStore}
+use Rattle.zeb_register.proofs.Calls.{store_same}
+use Rattle.zeb_change.specs.declared.refusals.Refusal.{Refusal}
+use Rattle.zeb_change.specs.declared.refusals.Refusal.TheVariants as refusal
+use Rattle.zeb_change.specs.Outcomes.{query_refusal, register_refusal}
+use Rattle.zeb_change.specs.Refused.{Why, diagnostic, why_of, Meets}
+use Rattle.zeb_engine.specs.declared.replies.Reply.{Reply}
+use Rattle.zeb_engine.specs.Adopting.{StaysOpen}
+use Rattle.zeb_engine.specs.Alone.{IsAsked, IsSaidOrMissed, OfDatabase}
+use Rattle.zeb_engine.specs.Answers.{Answer, answer_of, found, refused, scanned, IsFailure}
+use Rattle.zeb_engine.specs.AnyTables.{AnyHits, AnyTerms, OverReady, TellsOver}
+use Rattle.zeb_engine.specs.Finding.{AreShown, IsAnsweredBy, IsPlannedBy, IsShown, asked_of}
+use Rattle.zeb_engine.specs.PrivateLooking.{IsUnready, MissesDatabase}
+use Rattle.zeb_engine.specs.Readiness.{IsReadyFor, IsRefusedOver}
+use Rattle.zeb_engine.specs.Scanning.{IsScannedBy, IsScanPlannedBy}
+use Rattle.zeb_engine.proofs.ReadyTexts.{unready_fails}
+
+-- ---- damage and failures
+
+-- refused as damage, or by a failure
+abbrev pub IsFew : Refusal → Type 0
+IsFew why = (why ≡ refusal.Damaged) ⊎ IsFailure (refused (why_of why))
+
+pub fault_few : (fault : RegFault) → IsFew (register_refusal fault)
+fault_few register.Damaged = inl refl
+fault_few register.Store = inr (inl refl)
+fault_few register.Memory = inr (inr refl)
+
+pub few_over : (Over : Trees → Answer → Type 0) (trees : Trees) (why : Refusal) → IsFew why → TellsOver Over trees (Err why)
+few_over Over trees why (inl is) = inr (inl (ap Err is))
+few_over Over trees why (inr failed) = inr (inr failed)
+
+-- ---- after a look at whether the register is ready
+
+pub over_after : (Over : Trees → Answer → Type 0) (old mid : State) (result : Result Reply Refusal) → ChangesNothing old mid → StaysOpen old mid
+    → (IsStore mid → TellsOver Over mid.now.trees result) → IsStore old → TellsOver Over old.now.trees result
+over_after Over old mid result nothing opened told store =
+    let same = nothing opened.1 in
+    subst (λ (d : Database). TellsOver Over d.trees result) same.1 (told (store_same old mid same.1 store))
+
+-- a register that is ready is refused there by a failure alone
+pub unready_over : (version : List ℕ) (profile : List Directive) (Over : Trees → Answer → Type 0) (s : State) (why : Refusal) → IsUnready why → (IsStore s → IsRefusedOver version profile s.now.trees why)
+    → (IsStore s → IsReadyFor version profile s.now.trees → ◌≢◌ {A = Result (Unit {0}) Refusal} (Err why) (Err refusal.Damaged)) → OverReady version profile Over s (Err why)
+unready_over version profile Over s why few texts whole store is = inr (inr (unready_fails version profile s.now.trees is why few (texts store) (whole store is)))
+
+-- ---- the database of a name
+
+module _ (Tells : OfDatabase) (name : List ℕ) (trees : Trees) where
+  abbrev pub NamedEnds : Result Reply Refusal → Type 0
+  NamedEnds result = TellsOver (λ t. IsSaidOrMissed Tells name t) trees result
+
+  pub named_misses : (why : Refusal) → IsFailure (refused (why_of why)) ⊎ MissesDatabase trees name why → NamedEnds (Err why)
+  named_misses why (inl failed) = inr (inr failed)
+  named_misses why (inr (inl none)) = inl (inl (none.0, ap refused none.1))
+  named_misses why (inr (inr damaged)) = inr (inl (ap Err damaged.0))
+
+  module _ (text : List ℕ) where
+    abbrev pub AskedEnds : Result Reply Refusal → Type 0
+    AskedEnds result = TellsOver (λ t. IsAsked Tells name text t) trees result
+
+    pub query_over : (e : QueryFault) → IsFaultOf e text → AskedEnds (Err (query_refusal e))
+    query_over Memory is = inr (inr (inr refl))
+    query_over (Diagnostic number place addinfo) is = inl (inr (number, place, is.0, ap (λ t. refused (diagnostic number place t)) is.1))
+
+    module _ (readable : IsReadable text) where
+      -- what is told of the database is told of the query
+      pub asked_over : (result : Result Reply Refusal) → NamedEnds result → AskedEnds result
+      asked_over result (inl told) = inl (inl (readable, told))
+      asked_over result (inr few) = inr few
+
+      pub said_over : (id last : ℤ) → HasDatabase trees id name last → (result : Result Reply Refusal) → Tells id last (answer_of result) → AskedEnds result
+      said_over id last row result is = inl (inl (readable, inr (id, last, row, is)))
+
+-- ---- what a query comes to
+
+-- it is said so, or it failed
+abbrev pub IsOrFails : (Answer → Type 0) → Refusal → Type 0
+IsOrFails Is why = Is (refused (why_of why)) ⊎ IsFailure (refused (why_of why))
+
+pub or_fails : (Tells : OfDatabase) (name : List ℕ) (trees : Trees) (text : List ℕ) → IsReadable text → (id last : ℤ) → HasDatabase trees id name last → (why : Refusal)
+    → IsOrFails (Tells id last) why → TellsOver (λ t. IsAsked Tells name text t) trees (Err why)
+or_fails Tells name trees text readable id last row why (inl is) = said_over Tells name trees text readable id last row (Err why) is
+or_fails Tells name trees text readable id last row why (inr failed) = inr (inr failed)
+
+module _ (profile : List Directive) (text : List ℕ) (value : QueryValue) (spells : SpellsQuery text value) where
+  module _ (Named : ℕ → List ℕ → Type 0) (first count : ℕ) where
+    abbrev pub Finds : Answer → Type 0
+    Finds = IsAnsweredBy Named AnyHits profile text first count
+
+    planned_found : (answer : Answer) → IsPlannedBy Named AnyHits (plan_of profile value) first count answer → Finds answer
+    planned_found answer is = (value, spells, is)
+
+    pub plan_found : (e : QueryFault) → Fails e (plan_of profile value) → IsOrFails Finds (query_refusal e)
+    plan_found Memory said = inr (inr refl)
+    plan_found (Diagnostic number place addinfo) said =
+        let answer = refused (diagnostic number place (string_bytes addinfo)) in
+        inl (planned_found answer (subst (λ r. IsPlannedBy Named AnyHits r first count answer) (sym said) refl))
+
+    module _ (plan : PlanValue) (planned : plan_of profile value ≡ Ok plan) (numbers : List ℕ) where
+      shown_found : (answer : Answer) → IsShown Named numbers (asked_of numbers first count) answer → Finds answer
+      shown_found answer is = planned_found answer (subst (λ r. IsPlannedBy Named AnyHits r first count answer) (sym planned) (numbers, tt, is))
+
+      pub past_found : {X : Type 0} (Good : List ℕ → X → Type 0) (why : Refusal) → Meets {X = X} Good (asked_of numbers first count) (Err why) → IsOrFails Finds why
+      past_found Good why (inl failed) = inr failed
+      past_found Good why (inr said) =
+          let answer = refused (why_of why) in
+          inl (shown_found answer (subst (λ (r : Result (List ℕ) Why). IsShown Named numbers r answer) (sym said) refl))
+
+      pub numbers_found : (asked : List ℕ) → asked_of numbers first count ≡ Ok asked → (shown : List (ℕ × List ℕ)) → AreShown Named asked shown → Finds (found (length numbers) shown)
+      numbers_found asked said shown told =
+          let answer = found (length numbers) shown in
+          shown_found answer (subst (λ (r : Result (List ℕ) Why). IsShown Named numbers r answer) (sym said) (shown, told, refl))
+
+  module _ (number position : ℕ) where
+    abbrev pub Scans : Answer → Type 0
+    Scans = IsScannedBy AnyTerms profile text number position
+
+    pub plan_scanned : (e : QueryFault) → Fails e (scan_of profile value) → IsOrFails Scans (query_refusal e)
+    plan_scanned Memory said = inr (inr refl)
+    plan_scanned (Diagnostic number_of place addinfo) said =
+        let answer = refused (diagnostic number_of place (string_bytes addinfo)) in
+        inl (value, spells, subst (λ r. IsScanPlannedBy AnyTerms r number position answer) (sym said) refl)
+
+    pub terms_scanned : (plan : ScanValue) → scan_of profile value ≡ Ok plan → (terms : List TermCount) → Scans (scanned plan.register (map (λ t. (t.term, t.records)) terms))
+    terms_scanned plan planned terms =
+        let answer = scanned plan.register (map (λ t. (t.term, t.records)) terms) in
+        (value, spells, subst (λ r. IsScanPlannedBy AnyTerms r number position answer) (sym planned) (terms, tt, refl))
