@@ -31,3 +31,6 @@ pub mod ReadFaults
 pub mod CostLemmas
 pub mod PutKeys
 pub mod TermTexts
+pub mod RecordSizes
+pub mod RecordRoom
+pub mod FoldRoom

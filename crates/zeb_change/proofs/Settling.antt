@@ -55,13 +55,13 @@ pub record WritesNoted (format : Format) (profile : List Directive) (id : ℤ) (
 module _ {format : Format} {profile : List Directive} {id : ℤ} {records_of : ℤ → List Kept} {row_work : ℕ} {mid new : Standing} {fold : Fold} {work : Work} {result : Result (Unit {0}) RegFault}
     (w : WritesNoted format profile id records_of row_work mid new fold work result) where
   -- what the registers will hold can be stored
-  will_storable : (base : Base) (under : WillBe format profile id records_of mid base) → IsStorable under.1.content
+  pub will_storable : (base : Base) (under : WillBe format profile id records_of mid base) → IsStorable under.1.content
   will_storable base under = posted_storable profile (with_records id base.records records_of) (with_numbered profile id records_of base under.2 under.3) under.1.content under.1.posted
 
   -- ---- a write that is done
 
   module _ (done : result ≡ Ok tt) where
-    settled : IsSettled format row_work id mid.tables new.tables mid.pending new.pending fold.progress.work work
+    pub settled : IsSettled format row_work id mid.tables new.tables mid.pending new.pending fold.progress.work work
     settled = subst (λ (r : Result (Unit {0}) RegFault). OnOk r (IsSettled format row_work id mid.tables new.tables mid.pending new.pending fold.progress.work work)) done
         (w.does.written w.clean w.mode w.under.0)
 

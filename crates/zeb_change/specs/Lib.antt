@@ -22,3 +22,4 @@ pub mod PrivateNotes
 pub mod PrivatePending
 pub mod PrivateStanding
 pub mod PrivateRecords
+pub mod PrivateAsked

@@ -1,19 +1,25 @@
 //! The records of files, folded into a database inside a transaction.
 
-ghost use Rattle.std.specs.Prelude.{◌≡◌, ◌≢◌, ◌+◌, ℕ, ℤ, List, map, Some, Ok, Err, true, false, IsTrue, IfErr, OnOk};
+ghost use Rattle.std.specs.Prelude.{◌≡◌, ◌≢◌, ◌+◌, ◌<◌, ◌^◌, ℕ, ℤ, List, map, Some, Ok, Err, true, false, IsTrue, IfErr, OnOk};
 ghost use Rattle.sqlite.specs.Held.{state};
 ghost use Rattle.sqlite.specs.State.{HasCleanDisk, Survives};
 ghost use Rattle.zeb_marc.specs.Splits.{next_of, split_of};
+ghost use Rattle.zeb_register.specs.Calls.{MayRefuse};
 ghost use Rattle.zeb_register.specs.Formats.{Format};
+ghost use Rattle.zeb_register.specs.Hindrances.{HasRowids};
+ghost use Rattle.zeb_register.specs.Room.{HasRoom};
+ghost use Rattle.zeb_register.specs.Store.{records_tree};
+ghost use Rattle.zeb_change.specs.Asked.{AskFiles, AskSlices, AsksRecord};
 ghost use Rattle.zeb_change.specs.Folding.{Progress as FoldProgress, folded, file_folded, files_folded, splits_of};
 ghost use Rattle.zeb_change.specs.Base.{Base, Kept};
-ghost use Rattle.zeb_change.specs.Costs.{IsCostIn, IsFilesCost, IsSlicesCost, IsWorkFor};
+ghost use Rattle.zeb_change.specs.Costs.{IsCostIn, IsFilesCost, IsSlicesCost, IsWorkFor, newer_of};
 ghost use Rattle.zeb_change.specs.Refused.{NeverUnready, Meets};
 ghost use Rattle.zeb_change.specs.Reading.{NamesFailed, NoneFailed, NoReadFault, ReadsNext, TellsFailed, BlamesFailed};
 ghost use Rattle.zeb_change.specs.Inside.{Stays, WorksInside};
 ghost use Rattle.zeb_change.specs.Holding.{HoldsSome};
 ghost use Rattle.zeb_change.specs.UnderWay.{IsFolded, IsUnderWay, StandsFor, conditions_of};
 ghost use Rattle.zeb_change.specs.Noted.{noted_count};
+ghost use Rattle.zeb_change.specs.PrivateAsked.{FoldsInRoom};
 ghost use Rattle.zeb_change.specs.PrivateStanding.{Folds, KeepsSome, Spends, WillBe, standing};
 
 use crate::counts::counts_are_numbers;
@@ -43,6 +49,7 @@ fn read_record<R: Source>(
     ensures fault { (other : ℕ) → result ≡ Err (Refusal.ReadFault other) → (other ≡ file) × (R.has_failed reader.new ≡ true) }
     ensures ready { NeverUnready result }
     ensures sound { result ≢ Err Refusal.Damaged }
+    ensures unstored { result ≢ Err Refusal.Store }
 {
     if reader.has_failed() {
         return Err(Refusal::ReadFault { file });
@@ -103,6 +110,10 @@ fn note_record<S: Alter>(
         (standing (state S.Store tx.old.conn.now) pending.old) base
         → OnOk result ((n : ℕ) × IsCostIn setting.now.profile.now setting.now.kind incoming.entry.bytes.now base n
         × (noted_count pending.new ≡ noted_count pending.old + n)) }
+    ensures room { HasCleanDisk (state S.Store tx.new.conn.now) → IsTrue (state S.Store tx.old.conn.now).in_transaction
+        → (format : Format) → FoldsInRoom format setting.now.profile.now fold.old (standing (state S.Store tx.old.conn.now) pending.old)
+        (standing (state S.Store tx.new.conn.now) pending.new)
+        (λ most. AsksRecord setting.now.profile.now most (newer_of setting.now.kind incoming.entry.bytes.now)) result }
 {
     if fold.tally.records >= setting.limits.records {
         return Err(Refusal::TooManyRecords);
@@ -137,6 +148,10 @@ fn take_record<S: Alter, L: Layout>(
         → Spends L.format L.row_work setting.now fold.old fold.new (standing (state S.Store tx.old.conn.now) pending.old)
         (standing (state S.Store tx.new.conn.now) pending.new)
         (λ c p. IsCostIn c.profile setting.now.kind incoming.entry.bytes.now p.base) result }
+    ensures room { HasCleanDisk (state S.Store tx.new.conn.now) → IsTrue (state S.Store tx.old.conn.now).in_transaction
+        → FoldsInRoom L.format setting.now.profile.now fold.old (standing (state S.Store tx.old.conn.now) pending.old)
+        (standing (state S.Store tx.new.conn.now) pending.new)
+        (λ most. AsksRecord setting.now.profile.now most (newer_of setting.now.kind incoming.entry.bytes.now)) result }
 {
     note_record(tx, setting, fold, pending, incoming)?;
     let database = fold.progress.database;
@@ -179,6 +194,11 @@ fn fold_file<S: Alter, L: Layout, R: Source>(
         → Spends L.format L.row_work setting.now fold.old fold.new (standing (state S.Store tx.old.conn.now) pending.old)
         (standing (state S.Store tx.new.conn.now) pending.new)
         (λ c p. IsSlicesCost c setting.now.kind file 1 (split_of text).slices p) result }
+    ensures room { HasCleanDisk (state S.Store tx.new.conn.now) → IsTrue (state S.Store tx.old.conn.now).in_transaction
+        → (text : List ℕ) → R.remaining reader.old ≡ Some text
+        → FoldsInRoom L.format setting.now.profile.now fold.old (standing (state S.Store tx.old.conn.now) pending.old)
+        (standing (state S.Store tx.new.conn.now) pending.new)
+        (λ most. AskSlices setting.now.profile.now setting.now.kind most (split_of text).slices) result }
 {
     for nth in 1..u64::MAX {
         if !read_record(reader, buffer, file, nth)? {
@@ -223,6 +243,11 @@ fn fold_readers<S: Alter, L: Layout, R: Source>(
         → Spends L.format L.row_work setting.now fold.old fold.new (standing (state S.Store tx.old.conn.now) pending.old)
         (standing (state S.Store tx.new.conn.now) pending.new)
         (λ c p. IsFilesCost c setting.now.kind 1 (splits_of texts) p) result }
+    ensures room { HasCleanDisk (state S.Store tx.new.conn.now) → IsTrue (state S.Store tx.old.conn.now).in_transaction
+        → (texts : List (List ℕ)) → map R.remaining readers.old ≡ map Some texts
+        → FoldsInRoom L.format setting.now.profile.now fold.old (standing (state S.Store tx.old.conn.now) pending.old)
+        (standing (state S.Store tx.new.conn.now) pending.new)
+        (λ most. AskFiles setting.now.profile.now setting.now.kind most (splits_of texts)) result }
 {
     for (index, reader) in readers.iter_mut().enumerate() {
         let file = index as u64 + 1;
@@ -273,6 +298,16 @@ pub fn fold_files<S: Alter, L: Layout, R: Source>(
         → IsUnderWay L.format setting.now.profile.now fold.old.progress.database.0 records_of (state S.Store tx.old.conn.now) p.base
         → OnOk result ((n : ℕ) × IsFilesCost (conditions_of version setting.now) setting.now.kind 1 (splits_of texts) p n
         × IsWorkFor L.row_work n fold.old.progress.work fold.new.progress.work) }
+    // Where the tables have room for what the files ask for, a failed store has a cause.
+    ensures room { HasCleanDisk (state S.Store tx.new.conn.now) → IsTrue (state S.Store tx.old.conn.now).in_transaction
+        → (texts : List (List ℕ)) → map R.remaining readers.old ≡ map Some texts
+        → (records_of : ℤ → List Kept)
+        → HoldsSome L.format setting.now.profile.now fold.old.progress.database.0 records_of (state S.Store tx.old.conn.now)
+        fold.old.progress.last
+        → (places rowids : ℕ) → AskFiles setting.now.profile.now setting.now.kind places (splits_of texts) places rowids
+        → HasRoom L.format places (state S.Store tx.old.conn.now).now.trees
+        → HasRowids rowids records_tree (state S.Store tx.old.conn.now).now.trees → rowids < 2 ^ 63
+        → result ≡ Err Refusal.Store → MayRefuse (state S.Store tx.old.conn.now) (state S.Store tx.new.conn.now) }
 {
     let mut pending = Pending::new(setting.alloc, MOST_NOTED);
     fold_readers::<S, L, R>(tx, setting, fold, &mut pending, buffer, readers)?;

@@ -1,6 +1,6 @@
 //! One record of a change: it is added, replaces a kept one, or takes it away.
 
-ghost use Rattle.std.specs.Prelude.{◌≡◌, ◌⊎◌, ◌↔◌, ◌+◌, ℕ, ℤ, List, Some, None, Result, Ok, Err, string_bytes, IsTrue, OnOk, IfOk, IfErr};
+ghost use Rattle.std.specs.Prelude.{◌≡◌, ◌≢◌, ◌⊎◌, ◌↔◌, ◌+◌, ℕ, ℤ, List, Some, None, Result, Ok, Err, string_bytes, IsTrue, OnOk, IfOk, IfErr};
 ghost use Rattle.std.specs.List.{Contains};
 ghost use Rattle.sqlite.specs.Held.{state};
 ghost use Rattle.sqlite.specs.State.{HasCleanDisk};
@@ -13,7 +13,8 @@ ghost use Rattle.zeb_change.specs.Folding.{Changed, changed_record, deleted, ide
 ghost use Rattle.zeb_change.specs.Base.{Base, Kept, kept_as};
 ghost use Rattle.zeb_change.specs.Reading.{NoReadFault};
 ghost use Rattle.zeb_change.specs.PrivateRecords.{AreOccurrencesOf, IsElderAs, IsIdle, KeepsNewer, NotesAs, NotesNewer, Takes, elder_bytes};
-ghost use Rattle.zeb_change.specs.Costs.{IsCostIn};
+ghost use Rattle.zeb_change.specs.Costs.{IsCostIn, newer_of};
+ghost use Rattle.zeb_change.specs.PrivateAsked.{KeepsInRoom, TakesRoom};
 ghost use Rattle.zeb_change.specs.Inside.{WorksInside};
 ghost use Rattle.zeb_change.specs.Stored.{IsKept};
 ghost use Rattle.zeb_change.specs.UnderWay.{conditions_of};
@@ -89,6 +90,9 @@ fn insert<S: Alter>(
     ensures unread { NoReadFault result }
     ensures ready { NeverUnready result }
     ensures cost { NotesNewer setting.now None newer.now pending.old pending.new result }
+    ensures room { HasCleanDisk (state S.Store tx.new.conn.now) → IsTrue (state S.Store tx.old.conn.now).in_transaction
+        → KeepsInRoom setting.now progress.old.database.0 None newer.now (standing (state S.Store tx.old.conn.now) pending.old)
+        (standing (state S.Store tx.new.conn.now) pending.new) result }
 {
     if progress.last >= setting.limits.numbers {
         return Err(Refusal::DatabaseFull);
@@ -117,6 +121,9 @@ fn replace<S: Alter>(
     ensures unread { NoReadFault result }
     ensures ready { NeverUnready result }
     ensures cost { NotesNewer setting.now (Some elder.now) newer.now pending.old pending.new result }
+    ensures room { HasCleanDisk (state S.Store tx.new.conn.now) → IsTrue (state S.Store tx.old.conn.now).in_transaction
+        → KeepsInRoom setting.now progress.now.database.0 (Some elder.now) newer.now (standing (state S.Store tx.old.conn.now) pending.old)
+        (standing (state S.Store tx.new.conn.now) pending.new) result }
 {
     let old = elder_occurrences(setting, newer.ident, elder)?;
     let sysno = elder.sysno;
@@ -144,6 +151,10 @@ fn withdraw<S: Alter>(
     ensures unread { NoReadFault result }
     ensures ready { NeverUnready result }
     ensures cost { OnOk result (NotesAs setting.now.profile.now (Some elder.now.bytes.items) None pending.old pending.new) }
+    ensures room { HasCleanDisk (state S.Store tx.new.conn.now) → IsTrue (state S.Store tx.old.conn.now).in_transaction
+        → TakesRoom setting.now.profile.now progress.now.database.0 (standing (state S.Store tx.old.conn.now) pending.old)
+        (standing (state S.Store tx.new.conn.now) pending.new)
+        (λ base. IsElderAs ident.now base (Some elder.now)) None result }
 {
     let old = elder_occurrences(setting, ident, elder)?;
     let sysno = elder.sysno;
@@ -180,6 +191,9 @@ fn keep<S: Alter>(
     ensures unread { NoReadFault result }
     ensures ready { NeverUnready result }
     ensures cost { NotesNewer setting.now elder newer.now pending.old pending.new result }
+    ensures room { HasCleanDisk (state S.Store tx.new.conn.now) → IsTrue (state S.Store tx.old.conn.now).in_transaction
+        → KeepsInRoom setting.now progress.old.database.0 elder newer.now (standing (state S.Store tx.old.conn.now) pending.old)
+        (standing (state S.Store tx.new.conn.now) pending.new) result }
 {
     match elder {
         Some(elder) => replace(tx, setting, progress, pending, &elder, newer),
@@ -200,6 +214,7 @@ fn sound_record<'a>(
         (why_of refusal))) }
     ensures unread { NoReadFault result }
     ensures ready { NeverUnready result }
+    ensures unstored { result ≢ Err Refusal.Store }
 {
     let Incoming { bytes, file, nth } = incoming;
     let record = match Marc::read(bytes) {
@@ -247,6 +262,10 @@ pub(crate) fn change_record<S: Alter>(
         (standing (state S.Store tx.old.conn.now) pending.old) base
         → OnOk result ((n : ℕ) × IsCostIn setting.now.profile.now setting.now.kind incoming.entry.bytes.now base n
         × (noted_count pending.new ≡ noted_count pending.old + n)) }
+    ensures room { HasCleanDisk (state S.Store tx.new.conn.now) → IsTrue (state S.Store tx.old.conn.now).in_transaction
+        → TakesRoom setting.now.profile.now progress.old.database.0 (standing (state S.Store tx.old.conn.now) pending.old)
+        (standing (state S.Store tx.new.conn.now) pending.new) (λ _. Unit {0})
+        (newer_of setting.now.kind incoming.entry.bytes.now) result }
 {
     let Incoming { bytes, file, nth } = incoming;
     let (record, named) = sound_record(setting, incoming)?;

@@ -9,10 +9,10 @@ ghost use Rattle.zeb_register.specs.Content.{Content, IsStorable};
 ghost use Rattle.zeb_register.specs.Formats.{holds_in};
 ghost use Rattle.zeb_register.specs.Room.{FitInRow, HasRoom};
 ghost use Rattle.zeb_register.specs.Store.{IsStore, KeepsLists};
-ghost use Rattle.zeb_change.specs.Asked.{HasRoomFor, PutsPlaces};
+ghost use Rattle.zeb_change.specs.Asked.{PutsPlaces, WritesInRoom};
 ghost use Rattle.zeb_change.specs.Costs.{IsWorkFor};
 ghost use Rattle.zeb_change.specs.NoteWords.{KeyChange};
-ghost use Rattle.zeb_change.specs.Noted.{IsNothingNoted, Settles, WillHold};
+ghost use Rattle.zeb_change.specs.Noted.{IsNothingNoted, Settles};
 ghost use Rattle.zeb_change.specs.PrivateNotes.{IsCutOff, counts_in, places_in};
 ghost use Rattle.zeb_change.specs.PrivatePending.{AreGivenInOrder, ArePutAt};
 
@@ -112,11 +112,8 @@ pub fn write_pending<S: Alter, L: Layout>(
     ensures call { Settles L.format L.row_work db.0 (state S.Store tx.old.conn.now) (state S.Store tx.new.conn.now) pending.old pending.new
         work.old work.new result }
     ensures all { OnOk result (IsNothingNoted pending.new) }
-    ensures room { (ahead : Content) (most spare : ℕ) → IsStorable ahead
-        → InStore (state S.Store tx.old.conn.now) (state S.Store tx.new.conn.now) (λ trees. WillHold L.format trees db.0 pending.old ahead
-        → HasRoomFor L.format most trees pending.old spare
-        → (result ≡ Err RegFault.Store → MayRefuse (state S.Store tx.old.conn.now) (state S.Store tx.new.conn.now))
-        × OnOk result (HasRoomFor L.format most (state S.Store tx.new.conn.now).now.trees pending.new spare)) }
+    ensures room { WritesInRoom L.format db.0 (state S.Store tx.old.conn.now) (state S.Store tx.new.conn.now) pending.old pending.new
+        result }
 {
     while let Some((key, notes)) = pending.take_first() {
         write_key::<S, L>(tx, alloc, work, db, &key, &notes)?;
@@ -136,11 +133,8 @@ pub fn write_where_full<S: Alter, L: Layout>(
     ensures same { tx.new.conn.ghost_name ≡ tx.old.conn.ghost_name }
     ensures call { Settles L.format L.row_work db.0 (state S.Store tx.old.conn.now) (state S.Store tx.new.conn.now) pending.old pending.new
         work.old work.new result }
-    ensures room { (ahead : Content) (most spare : ℕ) → IsStorable ahead
-        → InStore (state S.Store tx.old.conn.now) (state S.Store tx.new.conn.now) (λ trees. WillHold L.format trees db.0 pending.old ahead
-        → HasRoomFor L.format most trees pending.old spare
-        → (result ≡ Err RegFault.Store → MayRefuse (state S.Store tx.old.conn.now) (state S.Store tx.new.conn.now))
-        × OnOk result (HasRoomFor L.format most (state S.Store tx.new.conn.now).now.trees pending.new spare)) }
+    ensures room { WritesInRoom L.format db.0 (state S.Store tx.old.conn.now) (state S.Store tx.new.conn.now) pending.old pending.new
+        result }
 {
     if pending.is_full() {
         return write_pending::<S, L>(tx, alloc, work, db, pending);

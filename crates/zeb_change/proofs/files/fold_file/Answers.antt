@@ -1,16 +1,27 @@
-use Rattle.std.proofs.Common.{rules, arith, ◌≡◌, ℕ, List, true, false, inl, inr, refl, sym, Ok, Err, subst, subst₂}
+use Rattle.std.proofs.Common.{rules, arith, ◌≡◌, ◌∙◌, ◌+◌, ℕ, ℤ, IsTrue, List, true, false, inl, inr, refl, sym, Some, Result, Ok, Err, OnOk, ap, subst, subst₂}
 use Rattle.sqlite.specs.Held.{state}
 use Rattle.sqlite.specs.State.{HasCleanDisk}
 use Rattle.zeb_marc.specs.Splits.{next_of, split_of}
 use Rattle.zeb_change.specs.Refused.{why_of, Meets}
 use Rattle.zeb_change.specs.Folding.{Progress, folded, file_folded}
 use Rattle.zeb_change.specs.Reading.{ReadsNext}
-use Rattle.zeb_change.specs.PrivateStanding.{WillBeFolded, standing}
+use Rattle.zeb_change.specs.PrivateStanding.{WillBeFolded, WillHoldSome, standing}
 use Rattle.zeb_change.specs.UnderWay.{conditions_of}
 use Rattle.zeb_change.proofs.FoldsOn.{folds_on, same_id, still_some, still_way}
 use Rattle.zeb_change.proofs.FoldFiles.{Good, at_first, ended, faulty, record_refused, record_taken, sound, told_end}
-use Rattle.zeb_change.specs.Costs.{IsCostIn, IsSlicesCost}
+use Rattle.zeb_change.specs.Costs.{IsCostIn, IsSlicesCost, newer_of}
 use Rattle.zeb_change.proofs.FoldCosts.{none_spent, spent_more, all_spent, end_cost, slice_cost}
+use Rattle.zeb_register.specs.Calls.{MayRefuse}
+use Rattle.zeb_register.proofs.Causes.{may_after}
+use Rattle.zeb_change.specs.declared.refusals.Refusal.{Refusal}
+use Rattle.zeb_change.specs.declared.refusals.Refusal.TheVariants.{Store}
+use Rattle.zeb_change.specs.Asked.{AskSlices, AsksRecord}
+use Rattle.zeb_change.specs.Base.{Kept}
+use Rattle.zeb_change.specs.PrivateAsked.{HasRoomAt}
+use Rattle.zeb_change.proofs.FoldRoom.{NextRoom, next_room}
+use Rattle.zeb_change.proofs.RecordRoom.{not_refused, refused_for, room_enough}
+use Rattle.zeb_change.proofs.files.fold_file.Given as given
+use Rattle.zeb_change.proofs.files.fold_file.Goals.{After-take_record}
 use Rattle.zeb_change.proofs.files.fold_file.Goals as goal
 
 pub loop-nth-init : goal.loop-nth-init
@@ -19,6 +30,7 @@ loop-nth-init g c = record {
   same = refl;
   on = record { crash = search rules; stays = search rules; database = refl; honest = λ clean mode records_of some. some };
   counted = refl;
+  room = λ clean mode text told records_of some most places rowids asks spare more has. record { left = text; remains = told; places = places; rowids = rowids; asks = asks; room = has };
   under = λ clean mode text told version records_of p stands under_way. (
     at_first g.L.Layout.format (conditions_of version c.args.setting.now) c.args.setting.now.kind c.args.file c.args.fold.now.progress.database.0 records_of text
         (g.R.Source.remaining c.args.reader.now) (standing (state g.S.Store c.args.tx.now.conn.now) c.args.pending.now) c.args.fold.now p told stands under_way,
@@ -72,6 +84,67 @@ returns-in_err-take_record-clause-folded g c = λ clean mode text told sound ver
           (subst (λ bytes. folded conditions setting.kind c.args.file c.loop-nth.nth bytes under.progress ≡ Err (why_of c.in_err-take_record.field-0.0)) c.bytes.ensures why))
     ])
 
+-- ---- where there is room
+
+-- the record that was read asks for room that is there
+next_of_file : (g : given.Over) (c : After-take_record g) → HasCleanDisk (state g.S.Store c.loop-nth.tx.conn.now) → IsTrue (state g.S.Store c.args.tx.now.conn.now).in_transaction
+    → (text : List ℕ) → g.R.Source.remaining c.args.reader.now ≡ Some text → (records_of : ℤ → List Kept)
+    → WillHoldSome g.L.Layout.format c.args.setting.now.profile.now c.args.fold.now.progress.database.0 records_of (standing (state g.S.Store c.args.tx.now.conn.now) c.args.pending.now) c.args.fold.now.progress.last
+    → (most places rowids : ℕ) → AskSlices c.args.setting.now.profile.now c.args.setting.now.kind most (split_of text).slices places rowids
+    → (spare more : ℕ) → HasRoomAt g.L.Layout.format most (standing (state g.S.Store c.args.tx.now.conn.now) c.args.pending.now) (places + spare) (rowids + more)
+    → NextRoom g.L.Layout.format c.args.setting.now.profile.now c.args.setting.now.kind c.read_record.new.buffer (g.R.Source.remaining c.read_record.new.reader)
+    (standing (state g.S.Store c.loop-nth.tx.conn.now) c.loop-nth.pending) most spare more
+next_of_file g c clean mode text told records_of some most places rowids asks spare more has =
+    let kind = c.args.setting.now.kind in
+    let room = c.loop-nth.invariant.room clean mode text told records_of some most places rowids asks spare more has in
+    let found : c.in_ok-read_record.field-0 ≡ true = search rules in
+    let fine : g.R.Source.has_failed c.read_record.new.reader ≡ false = sound (g.R.Source.has_failed c.read_record.new.reader) (λ failed. let no = c.in_ok-read_record.ensures.failed failed in absurd (cc)) in
+    let read = subst (λ b. ReadsNext c.args.file c.loop-nth.nth (next_of room.left) (Ok b) c.read_record.new.buffer (g.R.Source.remaining c.read_record.new.reader)) found (c.in_ok-read_record.ensures.told room.left room.remains fine) in
+    next_room g.L.Layout.format c.args.setting.now.profile.now kind c.args.file c.loop-nth.nth (g.R.Source.remaining c.loop-nth.reader) (standing (state g.S.Store c.loop-nth.tx.conn.now) c.loop-nth.pending)
+    most spare more room c.read_record.new.buffer (g.R.Source.remaining c.read_record.new.reader) read
+
+-- it is folded in
+taken_room : (g : given.Over) (c : After-take_record g) → HasCleanDisk (state g.S.Store c.take_record.new.tx.conn.now) → IsTrue (state g.S.Store c.args.tx.now.conn.now).in_transaction
+    → (records_of : ℤ → List Kept)
+    → WillHoldSome g.L.Layout.format c.args.setting.now.profile.now c.args.fold.now.progress.database.0 records_of (standing (state g.S.Store c.args.tx.now.conn.now) c.args.pending.now) c.args.fold.now.progress.last
+    → (most spare more : ℕ)
+    → (room : NextRoom g.L.Layout.format c.args.setting.now.profile.now c.args.setting.now.kind c.read_record.new.buffer (g.R.Source.remaining c.read_record.new.reader)
+    (standing (state g.S.Store c.loop-nth.tx.conn.now) c.loop-nth.pending) most spare more)
+    → (c.take_record.result ≡ Err Store → MayRefuse (state g.S.Store c.loop-nth.tx.conn.now) (state g.S.Store c.take_record.new.tx.conn.now))
+    × OnOk c.take_record.result (HasRoomAt g.L.Layout.format most (standing (state g.S.Store c.take_record.new.tx.conn.now) c.take_record.new.pending) (room.others + spare) (room.rest + more))
+taken_room g c clean mode records_of some most spare more room =
+    let profile = c.args.setting.now.profile.now in
+    let on = c.loop-nth.invariant.on in
+    let was : HasCleanDisk (state g.S.Store c.loop-nth.tx.conn.now) = omega (arith, c.take_record.ensures.inside.crash.clean) in
+    let asked = subst (λ (bytes : List ℕ). AsksRecord profile most (newer_of c.args.setting.now.kind bytes) room.place room.rowid) (sym c.bytes.ensures) room.asks in
+    c.take_record.ensures.room clean (on.stays was mode).mode records_of (still_some on was mode records_of some) most room.place room.rowid asked (room.others + spare) (room.rest + more) room.room
+
+pub returns-in_err-read_record-clause-room : goal.returns-in_err-read_record-clause-room
+returns-in_err-read_record-clause-room g c clean mode text told records_of some most places rowids asks spare more has =
+    let result : c.from_residual.result ≡ Err c.in_err-read_record.field-0.0 = search rules in
+    let other = c.in_err-read_record.ensures.unstored in
+    refused_for _ _ c.from_residual.result c.in_err-read_record.field-0.0 result (λ store. absurd (other (ap Err store)))
+
+pub returns-then-not-branch-clause-room : goal.returns-then-not-branch-clause-room
+returns-then-not-branch-clause-room g c clean mode text told records_of some most places rowids asks spare more has =
+    let room = c.loop-nth.invariant.room clean mode text told records_of some most places rowids asks spare more has in
+    let now = standing (state g.S.Store c.loop-nth.tx.conn.now) c.loop-nth.pending in
+    (λ store. absurd (not_refused tt Store store), room_enough g.L.Layout.format most now room.places room.rowids spare more room.room)
+
+pub returns-in_err-take_record-clause-room : goal.returns-in_err-take_record-clause-room
+returns-in_err-take_record-clause-room g c clean mode text told records_of some most places rowids asks spare more has =
+    let old = state g.S.Store c.args.tx.now.conn.now in
+    let now = state g.S.Store c.loop-nth.tx.conn.now in
+    let next = state g.S.Store c.take_record.new.tx.conn.now in
+    let on = c.loop-nth.invariant.on in
+    let at = (goal.at.returns-in_err-take_record-clause-room g c).After-take_record in
+    let was : HasCleanDisk now = omega (arith, c.take_record.ensures.inside.crash.clean) in
+    let room = next_of_file g at was mode text told records_of some most places rowids asks spare more has in
+    let took = taken_room g at clean mode records_of some most spare more room in
+    let result : c.from_residual-in_err-take_record.result ≡ Err c.in_err-take_record.field-0.0 = search rules in
+    refused_for _ _ c.from_residual-in_err-take_record.result c.in_err-take_record.field-0.0 result (λ store.
+        may_after old now next on.crash (on.stays was mode).stays_open (λ _. took.0 (c.in_err-take_record.was ∙ ap Err store)))
+
 pub loop-nth-preserved : goal.loop-nth-preserved
 loop-nth-preserved g c =
     let old = standing (state g.S.Store c.args.tx.now.conn.now) c.args.pending.now in
@@ -83,6 +156,12 @@ loop-nth-preserved g c =
       same = search rules;
       on = folds_on c.loop-nth.invariant.on next c.take_record.new.fold c.in_ok-take_record.ensures.inside c.in_ok-take_record.ensures.database c.in_ok-take_record.ensures.honest;
       counted = omega (arith, c.loop-nth.invariant.counted, c.in_ok-take_record.ensures.counted);
+      room = λ clean mode text told records_of some most places rowids asks spare more has.
+          let next_up = (goal.at.loop-nth-preserved g c).After-take_record in
+          let was : HasCleanDisk now.tables = omega (arith, c.take_record.ensures.inside.crash.clean) in
+          let room = next_of_file g next_up was mode text told records_of some most places rowids asks spare more has in
+          let took = taken_room g next_up clean mode records_of some most spare more room in
+          room.leaves next (subst (λ (r : Result (Unit {0}) Refusal). OnOk r (HasRoomAt g.L.Layout.format most next (room.others + spare) (room.rest + more))) c.in_ok-take_record.was took.1);
       under = λ clean mode text told version records_of p stands under_way.
           let conditions = conditions_of version setting in
           let was : HasCleanDisk now.tables = omega (arith, c.take_record.ensures.inside.crash.clean) in

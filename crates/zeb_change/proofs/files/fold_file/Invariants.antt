@@ -9,7 +9,9 @@ use Rattle.zeb_change.specs.UnderWay.{StandsFor, conditions_of}
 use Rattle.zeb_change.specs.Costs.{IsSlicesCost}
 use Rattle.zeb_change.proofs.FoldsOn.{FoldsOn}
 use Rattle.zeb_change.proofs.FoldCosts.{Spent}
+use Rattle.zeb_change.specs.Asked.{AskSlices}
 use Rattle.zeb_change.proofs.FoldFiles.{Under}
+use Rattle.zeb_change.proofs.FoldRoom.{FileRoom, LeavesRoom}
 use Rattle.zeb_change.proofs.files.fold_file.Given as goal
 
 abbrev pub invariant-loop-nth : goal.invariant-loop-nth
@@ -26,4 +28,7 @@ invariant-loop-nth g l =
           (g.R.Source.remaining l.reader) old now l.fold)
           × Spent g.L.Layout.row_work (IsSlicesCost (conditions_of version l.setting) l.setting.kind l.file l.nth (split_of under.left).slices under.progress)
           (IsSlicesCost (conditions_of version l.setting) l.setting.kind l.file 1 (split_of text).slices p) l.fn.fold.progress.work l.fold.progress.work l.fn.pending l.pending;
+      room : HasCleanDisk now.tables → IsTrue old.tables.in_transaction → (text : List ℕ) → g.R.Source.remaining l.fn.reader ≡ Some text
+          → LeavesRoom g.L.Layout.format l.setting.profile.now l.fn.fold old (λ most. AskSlices l.setting.profile.now l.setting.kind most (split_of text).slices)
+          (FileRoom g.L.Layout.format l.setting.profile.now l.setting.kind (g.R.Source.remaining l.reader) now);
     }

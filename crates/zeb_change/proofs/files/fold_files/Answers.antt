@@ -1,7 +1,16 @@
-use Rattle.std.proofs.Common.{◌≡◌, ◌∙◌, ℤ, List, IsTrue, rules, arith, Err, ap, subst, sym}
+use Rattle.std.proofs.Common.{◌≡◌, ◌∙◌, ◌<◌, ◌^◌, ℕ, ℤ, List, map, Some, IsTrue, rules, arith, Result, Err, OnOk, ap, subst, sym}
 use Rattle.sqlite.specs.Held.{state}
 use Rattle.sqlite.specs.State.{HasCleanDisk}
+use Rattle.zeb_register.specs.Calls.{MayRefuse}
+use Rattle.zeb_register.specs.Hindrances.{HasRowids}
+use Rattle.zeb_register.specs.Room.{HasRoom}
+use Rattle.zeb_register.specs.Store.{records_tree}
+use Rattle.zeb_register.proofs.Causes.{may_after}
+use Rattle.zeb_change.specs.declared.refusals.Refusal.{Refusal}
+use Rattle.zeb_change.specs.declared.refusals.Refusal.TheVariants.{Store}
+use Rattle.zeb_change.specs.Asked.{AskFiles, WritesInRoom}
 use Rattle.zeb_change.specs.Base.{Kept}
+use Rattle.zeb_change.specs.PrivateAsked.{HasRoomAt}
 use Rattle.zeb_change.specs.Folding.{Progress, files_folded, splits_of}
 use Rattle.zeb_change.specs.Holding.{HoldsSome}
 use Rattle.zeb_change.specs.Outcomes.{register_refusal}
@@ -11,8 +20,10 @@ use Rattle.zeb_change.specs.UnderWay.{IsFolded, conditions_of}
 use Rattle.zeb_change.proofs.CostLemmas.{due_end}
 use Rattle.zeb_change.proofs.NotedChanges.{nothing_count}
 use Rattle.zeb_change.proofs.Settling.{WritesNoted, at_id, begun, ended, ended_fold, refused_fold, settled_due, settled_fold, settled_holds, worked, write_honest, write_refused}
+use Rattle.zeb_change.proofs.FoldRoom.{room_begun, write_caused}
+use Rattle.zeb_change.proofs.RecordRoom.{not_refused, one_refusal, only_store}
 use Rattle.zeb_change.proofs.files.fold_files.Given as given
-use Rattle.zeb_change.proofs.files.fold_files.Goals.{After-write_pending}
+use Rattle.zeb_change.proofs.files.fold_files.Goals.{After-fold_readers, After-write_pending}
 use Rattle.zeb_change.proofs.files.fold_files.Goals as goal
 
 -- all files are folded in, and what is noted is written
@@ -131,3 +142,45 @@ returns-clause-work g c clean mode texts told version records_of p stands under 
       due_end g.L.Layout.row_work read.0 c.args.fold.now.progress.work c.fold_readers.new.fold.progress.work c.write_pending.new.work first pending left c.counts_are_numbers.ensures
           (nothing_count first c.new-pending.ensures) (nothing_count left c.in_ok-write_pending.ensures.all) read.2 (settled_due write c.in_ok-write_pending.was),
     )
+
+-- ---- where there is room
+
+-- what is asked is there at first, and when all files are folded in there is room for what is noted
+read_room : (g : given.Over) (c : After-fold_readers g) → HasCleanDisk (state g.S.Store c.fold_readers.new.tx.conn.now) → IsTrue (state g.S.Store c.args.tx.now.conn.now).in_transaction
+    → (texts : List (List ℕ)) → map g.R.Source.remaining c.args.readers.now ≡ map Some texts → (records_of : ℤ → List Kept)
+    → HoldsSome g.L.Layout.format c.args.setting.now.profile.now c.args.fold.now.progress.database.0 records_of (state g.S.Store c.args.tx.now.conn.now) c.args.fold.now.progress.last
+    → (places rowids : ℕ) → AskFiles c.args.setting.now.profile.now c.args.setting.now.kind places (splits_of texts) places rowids
+    → HasRoom g.L.Layout.format places (state g.S.Store c.args.tx.now.conn.now).now.trees → HasRowids rowids records_tree (state g.S.Store c.args.tx.now.conn.now).now.trees → rowids < 2 ^ 63
+    → (c.fold_readers.result ≡ Err Store → MayRefuse (state g.S.Store c.args.tx.now.conn.now) (state g.S.Store c.fold_readers.new.tx.conn.now))
+    × OnOk c.fold_readers.result (HasRoomAt g.L.Layout.format places (standing (state g.S.Store c.fold_readers.new.tx.conn.now) c.fold_readers.new.pending) 0 0)
+read_room g c clean mode texts told records_of some places rowids asks room rows few =
+    let format = g.L.Layout.format in
+    let old = state g.S.Store c.args.tx.now.conn.now in
+    let first = c.new-pending.result in
+    let will = begun format c.args.setting.now.profile.now c.args.fold.now.progress.database.0 records_of first c.new-pending.ensures old some.0 some.2 in
+    c.fold_readers.ensures.room clean mode texts told records_of (some.0, some.1, will) places places rowids asks 0 0 (room_begun format places rowids old first c.new-pending.ensures room rows few)
+
+pub returns-in_err-fold_readers-clause-room : goal.returns-in_err-fold_readers-clause-room
+returns-in_err-fold_readers-clause-room g c clean mode texts told records_of some places rowids asks room rows few store =
+    let at = (goal.at.returns-in_err-fold_readers-clause-room g c).After-fold_readers in
+    let result : c.from_residual.result ≡ Err c.in_err-fold_readers.field-0.0 = search rules in
+    (read_room g at clean mode texts told records_of some places rowids asks room rows few).0 (c.in_err-fold_readers.was ∙ sym result ∙ store)
+
+pub returns-in_err-write_pending-clause-room : goal.returns-in_err-write_pending-clause-room
+returns-in_err-write_pending-clause-room g c clean mode texts told records_of some places rowids asks room rows few store =
+    let old = state g.S.Store c.args.tx.now.conn.now in
+    let mid = state g.S.Store c.fold_readers.new.tx.conn.now in
+    let new = state g.S.Store c.write_pending.new.tx.conn.now in
+    let fault = c.in_err-write_pending.field-0.0 in
+    let at = (goal.at.returns-in_err-write_pending-clause-room g c).After-fold_readers in
+    let result : c.from_residual-in_err-write_pending.result ≡ Err (register_refusal fault) = search rules in
+    let write = written g (goal.at.returns-in_err-write_pending-clause-room g c).After-write_pending clean mode records_of some in
+    let read = read_room g at write.was mode texts told records_of some places rowids asks room rows few in
+    let left = subst (λ (r : Result (Unit {0}) Refusal). OnOk r (HasRoomAt g.L.Layout.format places (standing mid c.fold_readers.new.pending) 0 0)) c.in_ok-fold_readers.was read.1 in
+    let stays = c.in_ok-fold_readers.ensures.inside.stays write.was mode in
+    let writes = subst (λ i. WritesInRoom g.L.Layout.format i mid new c.fold_readers.new.pending c.write_pending.new.pending c.write_pending.result) (ap (λ d. d.0) c.fold_readers.ensures.database) c.write_pending.ensures.room in
+    may_after old mid new c.fold_readers.ensures.inside.crash stays.stays_open (λ _.
+    write_caused write writes places 0 0 left (c.in_err-write_pending.was ∙ ap Err (only_store fault (one_refusal c.from_residual-in_err-write_pending.result (register_refusal fault) Store result store))))
+
+pub returns-clause-room : goal.returns-clause-room
+returns-clause-room g c clean mode texts told records_of some places rowids asks room rows few store = absurd (not_refused tt Store store)

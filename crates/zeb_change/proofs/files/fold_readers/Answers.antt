@@ -1,18 +1,26 @@
-use Rattle.std.proofs.Common.{rules, arith, ◌≡◌, ◌≢◌, ◌∙◌, ◌+◌, ◌≤◌, ◌<◌, ◌∷◌, ℕ, suc, List, Some, drop, length, map, false, inl, inr, refl, sym, Ok, Err, ap, subst, get_or, get_or-set_other, get_or-set_same, slice_set, length-set}
+use Rattle.std.proofs.Common.{rules, arith, ◌≡◌, ◌≢◌, ◌∙◌, ◌+◌, ◌≤◌, ◌<◌, ◌∷◌, ℕ, suc, ℤ, IsTrue, List, Some, drop, length, map, false, inl, inr, refl, sym, Result, Ok, Err, OnOk, ap, subst, get_or, get_or-set_other, get_or-set_same, slice_set, length-set}
 use Rattle.sqlite.specs.Held.{state}
 use Rattle.sqlite.specs.State.{HasCleanDisk}
 use Rattle.zeb_marc.specs.Splits.{split_of}
 use Rattle.zeb_change.specs.Refused.{why_of, Meets}
 use Rattle.zeb_change.specs.Folding.{Progress, file_folded, files_folded, splits_of}
 use Rattle.zeb_change.specs.Reading.{HasFailedAt}
-use Rattle.zeb_change.specs.declared.refusals.Refusal.TheVariants.{ReadFault}
-use Rattle.zeb_change.specs.PrivateStanding.{WillBeFolded, standing}
+use Rattle.zeb_change.specs.declared.refusals.Refusal.{Refusal}
+use Rattle.zeb_change.specs.declared.refusals.Refusal.TheVariants.{ReadFault, Store}
+use Rattle.zeb_change.specs.PrivateStanding.{WillBeFolded, WillHoldSome, standing}
 use Rattle.zeb_change.specs.UnderWay.{conditions_of}
 use Rattle.zeb_change.proofs.FoldsOn.{folds_on, same_id, still_some, still_way}
 use Rattle.zeb_change.proofs.FoldFiles.{Good, sound}
 use Rattle.zeb_change.proofs.FoldAll.{text_at, as_many, fine_at, fine_more, failed_here, failed_now, none_at, before_files, all_files, file_refused, file_taken}
 use Rattle.zeb_change.specs.Costs.{IsFilesCost}
 use Rattle.zeb_change.proofs.FoldCosts.{RestCost, none_spent, spent_more, all_spent, file_cost, no_file_cost}
+use Rattle.zeb_register.specs.Calls.{MayRefuse}
+use Rattle.zeb_register.proofs.Causes.{may_after}
+use Rattle.zeb_change.specs.Asked.{AskFiles}
+use Rattle.zeb_change.specs.Base.{Kept}
+use Rattle.zeb_change.specs.PrivateAsked.{HasRoomAt}
+use Rattle.zeb_change.proofs.FoldRoom.{NextFileRoom, next_file_room}
+use Rattle.zeb_change.proofs.RecordRoom.{not_refused, refused_for, room_enough}
 use Rattle.zeb_change.proofs.files.fold_readers.Given as given
 use Rattle.zeb_change.proofs.files.fold_readers.Goals.{After-fold_file}
 use Rattle.zeb_change.proofs.files.fold_readers.Goals as goal
@@ -24,6 +32,7 @@ loop-index-init g c = record {
   on = record { crash = search rules; stays = search rules; database = refl; honest = λ clean mode records_of some. some };
   unread = λ j d behind. refl;
   fine = λ j none d. absurd (omega (arith, none));
+  room = λ clean mode texts told records_of some most places rowids asks spare more has. record { places = places; rowids = rowids; asks = asks; room = has };
   over = λ clean mode texts told version records_of p stands under_way. (
     before_files g.L.Layout.format (conditions_of version c.args.setting.now) c.args.setting.now.kind texts c.args.fold.now.progress.database.0 records_of (standing (state g.S.Store c.args.tx.now.conn.now) c.args.pending.now) c.args.fold.now p stands under_way,
     none_spent g.L.Layout.row_work (IsFilesCost (conditions_of version c.args.setting.now) c.args.setting.now.kind 1 (splits_of texts) p) c.args.fold.now.progress.work c.args.pending.now,
@@ -77,6 +86,56 @@ returns-in_err-fold_file-clause-folded g c = λ clean mode texts told fine versi
       | inr why ↦ inr (file_refused g.L.Layout.format conditions setting.kind index texts id records_of said old now c.loop-index.fold over text.0 text.2 (why_of c.in_err-fold_file.field-0.0) why)
     ])
 
+-- ---- where there is room
+
+-- the next file asks for room that is there
+next_of_files : (g : given.Over) (c : After-fold_file g) → HasCleanDisk (state g.S.Store c.loop-index.tx.conn.now) → IsTrue (state g.S.Store c.args.tx.now.conn.now).in_transaction
+    → (texts : List (List ℕ)) (told : map g.R.Source.remaining c.args.readers.now ≡ map Some texts) → (records_of : ℤ → List Kept)
+    → WillHoldSome g.L.Layout.format c.args.setting.now.profile.now c.args.fold.now.progress.database.0 records_of (standing (state g.S.Store c.args.tx.now.conn.now) c.args.pending.now) c.args.fold.now.progress.last
+    → (most places rowids : ℕ) → AskFiles c.args.setting.now.profile.now c.args.setting.now.kind most (splits_of texts) places rowids
+    → (spare more : ℕ) → HasRoomAt g.L.Layout.format most (standing (state g.S.Store c.args.tx.now.conn.now) c.args.pending.now) (places + spare) (rowids + more)
+    → NextFileRoom g.L.Layout.format c.args.setting.now.profile.now c.args.setting.now.kind c.loop-index.index texts (text_here g c texts told).0
+    (standing (state g.S.Store c.loop-index.tx.conn.now) c.loop-index.pending) most spare more
+next_of_files g c clean mode texts told records_of some most places rowids asks spare more has =
+    let text = text_here g c texts told in
+    next_file_room g.L.Layout.format c.args.setting.now.profile.now c.args.setting.now.kind c.loop-index.index texts text.0 (standing (state g.S.Store c.loop-index.tx.conn.now) c.loop-index.pending) most spare more text.2
+    (c.loop-index.invariant.room clean mode texts told records_of some most places rowids asks spare more has)
+
+-- it is folded in
+taken_room : (g : given.Over) (c : After-fold_file g) → HasCleanDisk (state g.S.Store c.fold_file.new.tx.conn.now) → IsTrue (state g.S.Store c.args.tx.now.conn.now).in_transaction
+    → (texts : List (List ℕ)) (told : map g.R.Source.remaining c.args.readers.now ≡ map Some texts) → (records_of : ℤ → List Kept)
+    → WillHoldSome g.L.Layout.format c.args.setting.now.profile.now c.args.fold.now.progress.database.0 records_of (standing (state g.S.Store c.args.tx.now.conn.now) c.args.pending.now) c.args.fold.now.progress.last
+    → (most spare more : ℕ)
+    → (room : NextFileRoom g.L.Layout.format c.args.setting.now.profile.now c.args.setting.now.kind c.loop-index.index texts (text_here g c texts told).0
+    (standing (state g.S.Store c.loop-index.tx.conn.now) c.loop-index.pending) most spare more)
+    → (c.fold_file.result ≡ Err Store → MayRefuse (state g.S.Store c.loop-index.tx.conn.now) (state g.S.Store c.fold_file.new.tx.conn.now))
+    × OnOk c.fold_file.result (HasRoomAt g.L.Layout.format most (standing (state g.S.Store c.fold_file.new.tx.conn.now) c.fold_file.new.pending) (room.others + spare) (room.rest + more))
+taken_room g c clean mode texts told records_of some most spare more room =
+    let on = c.loop-index.invariant.on in
+    let text = text_here g c texts told in
+    let was : HasCleanDisk (state g.S.Store c.loop-index.tx.conn.now) = omega (arith, c.fold_file.ensures.inside.crash.clean) in
+    c.fold_file.ensures.room clean (on.stays was mode).mode text.0 text.1 records_of (still_some on was mode records_of some) most room.place room.rowid room.asks (room.others + spare) (room.rest + more) room.room
+
+pub returns-clause-room : goal.returns-clause-room
+returns-clause-room g c clean mode texts told records_of some most places rowids asks spare more has =
+    let room = c.loop-index.invariant.room clean mode texts told records_of some most places rowids asks spare more has in
+    let now = standing (state g.S.Store c.loop-index.tx.conn.now) c.loop-index.pending in
+    (λ store. absurd (not_refused tt Store store), room_enough g.L.Layout.format most now room.places room.rowids spare more room.room)
+
+pub returns-in_err-fold_file-clause-room : goal.returns-in_err-fold_file-clause-room
+returns-in_err-fold_file-clause-room g c clean mode texts told records_of some most places rowids asks spare more has =
+    let old = state g.S.Store c.args.tx.now.conn.now in
+    let now = state g.S.Store c.loop-index.tx.conn.now in
+    let next = state g.S.Store c.fold_file.new.tx.conn.now in
+    let on = c.loop-index.invariant.on in
+    let at = (goal.at.returns-in_err-fold_file-clause-room g c).After-fold_file in
+    let was : HasCleanDisk now = omega (arith, c.fold_file.ensures.inside.crash.clean) in
+    let room = next_of_files g at was mode texts told records_of some most places rowids asks spare more has in
+    let took = taken_room g at clean mode texts told records_of some most spare more room in
+    let result : c.from_residual.result ≡ Err c.in_err-fold_file.field-0.0 = search rules in
+    refused_for _ _ c.from_residual.result c.in_err-fold_file.field-0.0 result (λ store.
+        may_after old now next on.crash (on.stays was mode).stays_open (λ _. took.0 (c.in_err-fold_file.was ∙ ap Err store)))
+
 pub loop-index-preserved : goal.loop-index-preserved
 loop-index-preserved g c =
     let setting = c.args.setting.now in
@@ -95,6 +154,12 @@ loop-index-preserved g c =
       fine =
           let sound_one : g.R.Source.has_failed c.fold_file.new.reader ≡ false = sound (g.R.Source.has_failed c.fold_file.new.reader) (λ failed. let no = c.in_ok-fold_file.ensures.failed failed in absurd (cc)) in
           fine_more g.R.Source.has_failed readers index c.loop-index.invariant.fine c.fold_file.new.reader (omega (arith, c.loop-index-test.true, c.loop-index.auto.readers)) sound_one;
+      room = λ clean mode texts told records_of some most places rowids asks spare more has.
+          let at = (goal.at.loop-index-preserved g c).After-fold_file in
+          let was : HasCleanDisk now.tables = omega (arith, c.fold_file.ensures.inside.crash.clean) in
+          let room = next_of_files g at was mode texts told records_of some most places rowids asks spare more has in
+          let took = taken_room g at clean mode texts told records_of some most spare more room in
+          room.leaves next (subst (λ (r : Result (Unit {0}) Refusal). OnOk r (HasRoomAt g.L.Layout.format most next (room.others + spare) (room.rest + more))) c.in_ok-fold_file.was took.1);
       over = λ clean mode texts told version records_of p stands under_way.
           let conditions = conditions_of version setting in
           let was : HasCleanDisk now.tables = omega (arith, c.fold_file.ensures.inside.crash.clean) in

@@ -6,7 +6,9 @@ use Rattle.zeb_change.specs.Base.{Kept}
 use Rattle.zeb_change.specs.PrivateStanding.{WillBe, standing}
 use Rattle.zeb_change.specs.UnderWay.{StandsFor, conditions_of}
 use Rattle.zeb_change.specs.Costs.{IsFilesCost}
+use Rattle.zeb_change.specs.Asked.{AskFiles}
 use Rattle.zeb_change.proofs.FoldAll.{Over}
+use Rattle.zeb_change.proofs.FoldRoom.{FilesRoom, LeavesRoom}
 use Rattle.zeb_change.proofs.FoldsOn.{FoldsOn}
 use Rattle.zeb_change.proofs.FoldCosts.{RestCost, Spent}
 use Rattle.zeb_change.proofs.files.fold_readers.Given as goal
@@ -25,4 +27,7 @@ invariant-loop-index g l =
           → (over : Over g.L.Layout.format (conditions_of version l.setting) l.setting.kind l.index texts l.fn.fold.progress.database.0 records_of (files_folded (conditions_of version l.setting) l.setting.kind 1 (splits_of texts) p) old now l.fold)
           × Spent g.L.Layout.row_work (RestCost (conditions_of version l.setting) l.setting.kind l.index texts over.progress) (IsFilesCost (conditions_of version l.setting) l.setting.kind 1 (splits_of texts) p)
           l.fn.fold.progress.work l.fold.progress.work l.fn.pending l.pending;
+      room : HasCleanDisk now.tables → IsTrue old.tables.in_transaction → (texts : List (List ℕ)) → map g.R.Source.remaining l.fn.readers ≡ map Some texts
+          → LeavesRoom g.L.Layout.format l.setting.profile.now l.fn.fold old (λ most. AskFiles l.setting.profile.now l.setting.kind most (splits_of texts))
+          (FilesRoom g.L.Layout.format l.setting.profile.now l.setting.kind l.index texts now);
     }

@@ -1,4 +1,4 @@
-use Rattle.std.proofs.Common.{rules, arith, ◌≡◌, true, false, inl, inr, sym, nat_le, [], Err, subst}
+use Rattle.std.proofs.Common.{rules, arith, ◌≡◌, true, false, inl, inr, sym, nat_le, [], Err, ap, subst}
 use Rattle.std.proofs.lemmas.Bool.Decides.{nat_tests}
 use Rattle.sqlite.specs.Held.{state}
 use Rattle.zeb_change.specs.Folding.{Progress, changed_record, folded}
@@ -9,6 +9,7 @@ use Rattle.zeb_change.specs.UnderWay.{conditions_of}
 use Rattle.zeb_change.specs.Refused.{Meets}
 use Rattle.zeb_change.proofs.FoldSteps.{too_many, folded_err, one_folded}
 use Rattle.zeb_change.proofs.NoDamage.{record_tells, refused_honest, taken_holds}
+use Rattle.zeb_change.proofs.RecordRoom.{refused_for}
 use Rattle.zeb_change.proofs.files.note_record.Goals as goal
 
 pub returns-then-fold-setting-clause-folded : goal.returns-then-fold-setting-clause-folded
@@ -61,3 +62,15 @@ returns-clause-honest g c clean mode format records_of some =
       taken_holds format c.args.setting.now.profile.now c.args.fold.now.progress.database.0 records_of old new c.change_record.new.progress.last said c.in_ok-fate.fate
           (c.in_ok-fate.ensures.taken clean mode [] format records_of some.0 some.1 some.2),
     )
+
+-- ---- where there is room
+
+pub returns-in_err-fate-clause-room : goal.returns-in_err-fate-clause-room
+returns-in_err-fate-clause-room g c clean mode format records_of some most places rowids asks spare more has =
+    let told : c.from_residual.result ≡ Err c.in_err-fate.field-0.0 = search rules in
+    refused_for _ _ c.from_residual.result c.in_err-fate.field-0.0 told (λ store.
+        (c.in_err-fate.ensures.room clean mode format records_of some.0 some.2 tt most places rowids asks spare more has).0 (ap Err store))
+
+pub returns-clause-room : goal.returns-clause-room
+returns-clause-room g c clean mode format records_of some most places rowids asks spare more has =
+    (λ store. absurd (cc), (c.in_ok-fate.ensures.room clean mode format records_of some.0 some.2 tt most places rowids asks spare more has).1)

@@ -1,7 +1,10 @@
-use Rattle.std.proofs.Common.{◌≡◌, ℤ, List, IsTrue, rules, arith, Err, ap, subst, sym}
+use Rattle.std.proofs.Common.{◌≡◌, ◌∙◌, ℤ, List, IsTrue, rules, arith, Err, ap, subst, sym}
 use Rattle.sqlite.specs.Held.{state}
 use Rattle.sqlite.specs.State.{HasCleanDisk}
 use Rattle.zeb_register.specs.declared.registers.Work.{Work}
+use Rattle.zeb_register.proofs.Causes.{may_after}
+use Rattle.zeb_change.specs.Asked.{WritesInRoom}
+use Rattle.zeb_change.specs.declared.refusals.Refusal.TheVariants.{Damaged, Store}
 use Rattle.zeb_change.specs.Base.{Kept}
 use Rattle.zeb_change.specs.Folding.{Progress, folded}
 use Rattle.zeb_change.specs.Noted.{IsDueFor}
@@ -10,6 +13,8 @@ use Rattle.zeb_change.specs.PrivateStanding.{WillBeFolded, WillHoldSome, standin
 use Rattle.zeb_change.specs.Refused.{Meets}
 use Rattle.zeb_change.specs.UnderWay.{conditions_of}
 use Rattle.zeb_change.proofs.CostLemmas.{due_more}
+use Rattle.zeb_change.proofs.FoldRoom.{write_caused, write_left}
+use Rattle.zeb_change.proofs.RecordRoom.{not_refused, only_store, refused_for}
 use Rattle.zeb_change.proofs.Settling.{WritesNoted, at_id, settled_due, settled_fold, settled_holds, worked, write_honest, write_refused}
 use Rattle.zeb_change.proofs.TransactionLemmas.{continues_then}
 use Rattle.zeb_change.proofs.files.take_record.Given as given
@@ -96,7 +101,7 @@ returns-clause-folded g c clean mode version records_of p stands under =
 
 pub returns-clause-honest : goal.returns-clause-honest
 returns-clause-honest g c clean mode records_of some =
-    (λ is. cc, settled_holds (written g (goal.at.returns-clause-honest g c).After-write_where_full clean mode records_of some) c.in_ok-write_where_full.was)
+    (λ is. not_refused tt Damaged is, settled_holds (written g (goal.at.returns-clause-honest g c).After-write_where_full clean mode records_of some) c.in_ok-write_where_full.was)
 
 pub returns-clause-work : goal.returns-clause-work
 returns-clause-work g c clean mode version records_of p stands under =
@@ -108,3 +113,41 @@ returns-clause-work g c clean mode version records_of p stands under =
     let noted = c.in_ok-note_record.ensures.cost write.was mode g.L.Layout.format records_of p.base under in
     let due = subst (λ (w : Work). IsDueFor row_work 0 w now pending left) c.note_record.ensures.place.1 (settled_due write c.in_ok-write_where_full.was) in
     (noted.0, noted.1, due_more row_work noted.0 c.args.fold.now.progress.work now c.args.pending.now pending left noted.2 due)
+
+-- ---- where there is room
+
+pub returns-in_err-note_record-clause-room : goal.returns-in_err-note_record-clause-room
+returns-in_err-note_record-clause-room g c clean mode records_of some most places rowids asks spare more has =
+    let result : c.from_residual.result ≡ Err c.in_err-note_record.field-0.0 = search rules in
+    refused_for _ _ c.from_residual.result c.in_err-note_record.field-0.0 result (λ store.
+        (c.in_err-note_record.ensures.room clean mode g.L.Layout.format records_of some most places rowids asks spare more has).0 (ap Err store))
+
+-- what the write of what is noted does with the room, by the name that the fold has of the database
+writes_in_room : (g : given.Over) (c : After-write_where_full g)
+    → WritesInRoom g.L.Layout.format c.args.fold.now.progress.database.0 (state g.S.Store c.note_record.new.tx.conn.now) (state g.S.Store c.write_where_full.new.tx.conn.now) c.note_record.new.pending
+    c.write_where_full.new.pending c.write_where_full.result
+writes_in_room g c =
+    subst (λ i. WritesInRoom g.L.Layout.format i (state g.S.Store c.note_record.new.tx.conn.now) (state g.S.Store c.write_where_full.new.tx.conn.now) c.note_record.new.pending
+    c.write_where_full.new.pending c.write_where_full.result) (ap (λ d. d.0) c.note_record.ensures.place.0) c.write_where_full.ensures.room
+
+pub returns-in_err-write_where_full-clause-room : goal.returns-in_err-write_where_full-clause-room
+returns-in_err-write_where_full-clause-room g c clean mode records_of some most places rowids asks spare more has =
+    let old = state g.S.Store c.args.tx.now.conn.now in
+    let mid = state g.S.Store c.note_record.new.tx.conn.now in
+    let new = state g.S.Store c.write_where_full.new.tx.conn.now in
+    let fault = c.in_err-write_where_full.field-0.0 in
+    let result : c.from_residual-in_err-write_where_full.result ≡ Err (register_refusal fault) = search rules in
+    let at = (goal.at.returns-in_err-write_where_full-clause-room g c).After-write_where_full in
+    let write = written g at clean mode records_of some in
+    let left = (c.in_ok-note_record.ensures.room write.was mode g.L.Layout.format records_of some most places rowids asks spare more has).1 in
+    let stays = c.in_ok-note_record.ensures.inside.stays write.was mode in
+    refused_for _ _ c.from_residual-in_err-write_where_full.result (register_refusal fault) result (λ store.
+        may_after old mid new c.note_record.ensures.inside.crash stays.stays_open (λ _.
+        write_caused write (writes_in_room g at) most spare more left (c.in_err-write_where_full.was ∙ ap Err (only_store fault store))))
+
+pub returns-clause-room : goal.returns-clause-room
+returns-clause-room g c clean mode records_of some most places rowids asks spare more has =
+    let at = (goal.at.returns-clause-room g c).After-write_where_full in
+    let write = written g at clean mode records_of some in
+    let left = (c.in_ok-note_record.ensures.room write.was mode g.L.Layout.format records_of some most places rowids asks spare more has).1 in
+    (λ store. absurd (not_refused tt Store store), write_left write (writes_in_room g at) most spare more left c.in_ok-write_where_full.was)

@@ -29,6 +29,9 @@ use Rattle.zeb_change.proofs.CostLemmas.{cost_in, same_cost, ok_so}
 use Rattle.zeb_change.proofs.BaseLemmas.{one_ident}
 use Rattle.zeb_change.proofs.FoldLemmas.{named_record}
 use Rattle.zeb_change.proofs.Idle.{elder_alike, updated_alike}
+use Rattle.zeb_change.specs.Asked.{AsksRecord}
+use Rattle.zeb_change.specs.PrivateAsked.{HasRoomAt, KeepsRoom, TakesRoom}
+use Rattle.zeb_change.proofs.RecordRoom.{only_store, refused_for, room_after_reading, room_enough, room_seen}
 use Rattle.zeb_change.proofs.StoredLemmas.{elder_is, are_numbered}
 use Rattle.zeb_change.proofs.TurnLemmas.{passed_on, turned_so, passed_over}
 use Rattle.zeb_change.proofs.UnderWay.{fault_fails, same_way}
@@ -266,3 +269,71 @@ returns-then-has_bytes-clause-cost g c clean mode format records_of base under =
     let kind = ap (λ (k : Kind). newer_of k bytes) c.in-Update-default.is-0 in
     let cost = subst (λ (elder : Option (List _)). IsRecordCost (occurs_by profile elder) (occurs_by profile (Some bytes)) 0) (sym (c.if-has_bytes.ensures.0 refl)) (same_cost profile (Some bytes)) in
     (0, cost_in profile c.args.setting.now.kind bytes c.as_str-ident.result.now base c.in_ok-elder.elder (Some bytes) 0 (named g found) there kind cost, omega arith)
+
+-- ---- where there is room
+
+pub returns-in_err-elder-clause-room : goal.returns-in_err-elder-clause-room
+returns-in_err-elder-clause-room g c clean mode format records_of base under fits most places rowids asks spare more has =
+    let fault = c.in_err-elder.field-0.0 in
+    let told : c.from_residual-in_err-elder.result ≡ Err (register_refusal fault) = search rules in
+    refused_for _ _ c.from_residual-in_err-elder.result (register_refusal fault) told (λ store.
+        c.in_err-elder.ensures.refused clean mode under.0 (ap Err (only_store fault store)))
+
+-- nothing becomes of the record
+idle_room : (g : given.Over) (c : In_ok-elder g) → HasCleanDisk (state g.S.Store c.record_of_ident.new.tx.conn.now) → IsTrue (state g.S.Store c.args.tx.now.conn.now).in_transaction
+    → (format : Format) (most places rowids spare more : ℕ) → HasRoomAt format most (standing (state g.S.Store c.args.tx.now.conn.now) c.args.pending.now) (places + spare) (rowids + more)
+    → HasRoomAt format most (standing (state g.S.Store c.record_of_ident.new.tx.conn.now) c.args.pending.now) spare more
+idle_room g c clean mode format most places rowids spare more has =
+    let old = state g.S.Store c.args.tx.now.conn.now in
+    room_seen format most old (state g.S.Store c.record_of_ident.new.tx.conn.now) c.args.pending.now spare more (c.in_ok-elder.ensures.call.ok clean mode).now_is
+    (room_enough format most (standing old c.args.pending.now) places rowids spare more has)
+
+pub returns-then-has_bytes-clause-room : goal.returns-then-has_bytes-clause-room
+returns-then-has_bytes-clause-room g c clean mode format records_of base under fits most places rowids asks spare more has =
+    (λ store. absurd (cc), idle_room g (goal.at.returns-then-has_bytes-clause-room g c).In_ok-elder clean mode format most places rowids spare more has)
+
+pub returns-clause-room : goal.returns-clause-room
+returns-clause-room g c clean mode format records_of base under fits most places rowids asks spare more has =
+    (λ store. absurd (cc), idle_room g (goal.at.returns-clause-room g c).In_ok-elder clean mode format most places rowids spare more has)
+
+-- what is done with it, behind the look at its elder
+turned_room : (g : given.Over) (c : In_ok-elder g) → HasCleanDisk (state g.S.Store c.record_of_ident.new.tx.conn.now) → IsTrue (state g.S.Store c.args.tx.now.conn.now).in_transaction
+    → (format : Format) (records_of : ℤ → List Kept) (base : Base)
+    → WillBe format c.args.setting.now.profile.now c.args.progress.now.database.0 records_of (standing (state g.S.Store c.args.tx.now.conn.now) c.args.pending.now) base
+    → (elder : Option Elder) → c.in_ok-elder.elder ≡ elder → (newer : Option (List ℕ)) → newer_of c.args.setting.now.kind c.args.incoming.bytes.now ≡ newer → (new : Standing) (result : Result Fate Refusal)
+    → (IsTrue (state g.S.Store c.record_of_ident.new.tx.conn.now).in_transaction
+    → TakesRoom c.args.setting.now.profile.now c.args.progress.now.database.0 (standing (state g.S.Store c.record_of_ident.new.tx.conn.now) c.args.pending.now) new
+    (λ b. IsElderAs c.as_str-ident.result.now b elder) newer result)
+    → (most places rowids : ℕ) → AsksRecord c.args.setting.now.profile.now most (newer_of c.args.setting.now.kind c.args.incoming.bytes.now) places rowids
+    → KeepsRoom format most places rowids (standing (state g.S.Store c.args.tx.now.conn.now) c.args.pending.now) new result
+turned_room g c clean mode format records_of base under elder is newer kind new result takes most places rowids asks =
+    let old = state g.S.Store c.args.tx.now.conn.now in
+    let mid = state g.S.Store c.record_of_ident.new.tx.conn.now in
+    let profile = c.args.setting.now.profile.now in
+    let id = c.args.progress.now.database.0 in
+    let reads = c.in_ok-elder.ensures.call.ok clean mode in
+    let there = subst (λ (e : Option Elder). IsElderAs c.as_str-ident.result.now base e) is (elder_found g c clean mode format records_of base under) in
+    let asked = subst (λ (bytes : Option (List ℕ)). AsksRecord profile most bytes places rowids) kind asks in
+    room_after_reading format most places rowids old mid c.args.pending.now new result reads c.record_of_ident.ensures.call.crash
+    (takes reads.mode format records_of base (same_way format profile id records_of old mid c.args.pending.now base reads.now_is under) there most places rowids asked)
+
+pub returns-in-Update-default-clause-room : goal.returns-in-Update-default-clause-room
+returns-in-Update-default-clause-room g c clean mode format records_of base under fits =
+    let clean_mid : HasCleanDisk (state g.S.Store c.record_of_ident.new.tx.conn.now) = omega (arith, c.keep.ensures.inside.crash.clean) in
+    turned_room g (goal.at.returns-in-Update-default-clause-room g c).In_ok-elder clean_mid mode format records_of base under c.in_ok-elder.elder refl (Some c.args.incoming.bytes.now)
+    (ap (λ (k : Kind). newer_of k c.args.incoming.bytes.now) c.in-Update-default.is-0) (standing (state g.S.Store c.keep.new.tx.conn.now) c.keep.new.pending) c.keep.result
+    (λ on. c.keep.ensures.room clean on (newer_found g c))
+
+pub returns-in-Delete-Some-clause-room : goal.returns-in-Delete-Some-clause-room
+returns-in-Delete-Some-clause-room g c clean mode format records_of base under fits =
+    let clean_mid : HasCleanDisk (state g.S.Store c.record_of_ident.new.tx.conn.now) = omega (arith, c.withdraw.ensures.inside.crash.clean) in
+    turned_room g (goal.at.returns-in-Delete-Some-clause-room g c).In_ok-elder clean_mid mode format records_of base under (Some c.in-Delete-Some.elder) c.in-Delete-Some.is-1 None
+    (ap (λ (k : Kind). newer_of k c.args.incoming.bytes.now) c.in-Delete-Some.is-0) (standing (state g.S.Store c.withdraw.new.tx.conn.now) c.withdraw.new.pending) c.withdraw.result
+    (λ on. c.withdraw.ensures.room clean on)
+
+pub returns-in-Adelete-Some-clause-room : goal.returns-in-Adelete-Some-clause-room
+returns-in-Adelete-Some-clause-room g c clean mode format records_of base under fits =
+    let clean_mid : HasCleanDisk (state g.S.Store c.record_of_ident.new.tx.conn.now) = omega (arith, c.withdraw-in-Adelete-Some.ensures.inside.crash.clean) in
+    turned_room g (goal.at.returns-in-Adelete-Some-clause-room g c).In_ok-elder clean_mid mode format records_of base under (Some c.in-Adelete-Some.elder) c.in-Adelete-Some.is-1 None
+    (ap (λ (k : Kind). newer_of k c.args.incoming.bytes.now) c.in-Adelete-Some.is-0) (standing (state g.S.Store c.withdraw-in-Adelete-Some.new.tx.conn.now) c.withdraw-in-Adelete-Some.new.pending)
+    c.withdraw-in-Adelete-Some.result (λ on. c.withdraw-in-Adelete-Some.ensures.room clean on)

@@ -1,10 +1,14 @@
-use Rattle.std.proofs.Common.{◌+◌, rules, refl, sym, subst}
+use Rattle.std.proofs.Common.{◌≡◌, ◌+◌, arith, rules, ap, inl, inr, length, pos, refl, sym, subst, Err, []}
 use Rattle.sqlite.specs.Held.{state}
+use Rattle.sqlite_rules.proofs.ListLemmas.{has_contained}
+use Rattle.zeb_change.specs.Outcomes.{register_refusal}
 use Rattle.zeb_change.specs.PrivateRecords.{IsNewer}
 use Rattle.zeb_change.specs.UnderWay.{conditions_of}
 use Rattle.zeb_change.proofs.TransactionLemmas.{goes_on}
 use Rattle.zeb_change.proofs.TurnLemmas.{none_rise, inserted}
 use Rattle.zeb_change.proofs.CostLemmas.{new_cost}
+use Rattle.zeb_change.proofs.RecordRoom.{newer_few, newer_fits, newer_storable, only_store, put_served, refused_for, room_after}
+use Rattle.zeb_change.proofs.UnderWay.{registers_still}
 use Rattle.zeb_change.proofs.records.insert.Goals as goal
 use Rattle.zeb_register.proofs.FormatLemmas.{registers_stay}
 
@@ -30,3 +34,37 @@ returns-clause-cost g c is =
     let are = subst (IsNewer profile c.args.newer.now.ident.now bytes) (sym c.deref.ensures.value) is in
     let noted = c.in_ok-note_keys.ensures.cost none_rise are.found.rising in
     (noted.0, new_cost profile bytes c.deref.result.now noted.0 are.found noted.1, noted.2)
+
+-- ---- where there is room
+
+pub returns-in_err-record_put-clause-room : goal.returns-in_err-record_put-clause-room
+returns-in_err-record_put-clause-room g c clean mode is format records_of base under none most places rowids asks spare more has =
+    let newer = c.args.newer.now in
+    let profile = c.args.setting.now.profile.now in
+    let told : c.from_residual.result ≡ Err (register_refusal c.in_err-record_put.field-0.0) = search rules in
+    refused_for _ _ c.from_residual.result (register_refusal c.in_err-record_put.field-0.0) told (λ store.
+        elim (c.in_err-record_put.ensures.refused (omega (arith, c.if-progress-setting.false)) clean mode under.0 (ap Err (only_store c.in_err-record_put.field-0.0 store))) [
+          | inl cause ↦ cause
+          | inr hinders ↦ absurd (put_served profile c.args.progress.now.database.0 (pos (c.args.progress.now.last + 1)) newer.ident.now newer.bytes.now (rowids + more) (state g.S.Store c.args.tx.now.conn.now).now.trees is.whole is.named (omega (arith, asks.put)) has.records hinders)
+        ])
+
+pub returns-clause-room : goal.returns-clause-room
+returns-clause-room g c clean mode is format records_of base under none most places rowids asks spare more has =
+    let newer = c.args.newer.now in
+    let profile = c.args.setting.now.profile.now in
+    let old = state g.S.Store c.args.tx.now.conn.now in
+    let mid = state g.S.Store c.record_put.new.tx.conn.now in
+    let are = subst (IsNewer profile newer.ident.now newer.bytes.now) (sym c.deref.ensures.value) is in
+    let within = has.places.few in
+    let noted = c.in_ok-note_keys.ensures.room (has.places.noted + (places + spare)) has.places.noted none_rise are.found.rising (omega arith) (omega (arith, c.if-progress-setting.false))
+    (newer_storable profile most newer.bytes.now places rowids asks c.deref.result.now are.found)
+    (λ o here. elim here [
+      | inl nothing ↦ absurd (has_contained [] o nothing)
+      | inr in_newer ↦ newer_fits profile most newer.bytes.now places rowids asks c.deref.result.now are.found (has.places.noted + (places + spare)) within o in_newer
+    ])
+    has.places.among in (
+      (λ store. absurd (cc)),
+      room_after format most old mid c.args.pending.now c.note_keys.new.pending places rowids spare more 1 (length c.deref.result.now) has
+          (registers_still old mid _ ((c.in_ok-record_put.ensures.call.ok clean mode).rows under.0)) (c.in_ok-record_put.ensures.rowids clean mode under.0) (omega (arith, asks.put))
+          (newer_few profile most newer.bytes.now places rowids asks c.deref.result.now are.found) noted,
+    )

@@ -20,3 +20,11 @@ pub returns-in-None-clause-cost : goal.returns-in-None-clause-cost
 returns-in-None-clause-cost g c is =
     subst (λ (found : Option Elder). OnOk c.insert.result (NotesAs c.args.setting.now.profile.now (elder_bytes found) (Some c.args.newer.now.bytes.now)
     c.args.pending.now c.insert.new.pending)) (sym c.in-None.is) (c.insert.ensures.cost is)
+
+pub returns-in-Some-clause-room : goal.returns-in-Some-clause-room
+returns-in-Some-clause-room g c clean mode is format records_of base under there =
+    c.replace.ensures.room clean mode is format records_of base under (subst (λ (found : Option Elder). IsElderAs c.args.newer.now.ident.now base found) c.in-Some.is there)
+
+pub returns-in-None-clause-room : goal.returns-in-None-clause-room
+returns-in-None-clause-room g c clean mode is format records_of base under there =
+    c.insert.ensures.room clean mode is format records_of base under (subst (λ (found : Option Elder). IsElderAs c.args.newer.now.ident.now base found) c.in-None.is there)

@@ -1,5 +1,7 @@
-use Rattle.std.proofs.Common.{◌≡◌, rules, Err, inr, ap, sym, subst}
+use Rattle.std.proofs.Common.{◌≡◌, ◌+◌, ◌≤◌, arith, rules, Err, [], inl, inr, ap, sym, subst}
 use Rattle.sqlite.specs.Held.{state}
+use Rattle.sqlite_rules.proofs.ListLemmas.{has_contained}
+use Rattle.zeb_change.specs.Outcomes.{register_refusal}
 use Rattle.zeb_change.specs.Refused.{why_of}
 use Rattle.zeb_change.specs.Folding.{Changed, deleted}
 use Rattle.zeb_change.specs.Base.{kept_as}
@@ -7,6 +9,8 @@ use Rattle.zeb_change.specs.PrivateRecords.{AreOccurrencesOf}
 use Rattle.zeb_change.specs.PrivateStanding.{WillBeTaken, standing}
 use Rattle.zeb_change.proofs.TurnLemmas.{passed_on, elder_kept, none_rise, withdrawn}
 use Rattle.zeb_change.proofs.CostLemmas.{old_cost}
+use Rattle.zeb_change.proofs.RecordRoom.{elder_numbered, found_fits, only_store, refused_for, room_after}
+use Rattle.zeb_change.proofs.UnderWay.{registers_still}
 use Rattle.zeb_change.proofs.records.withdraw.Goals as goal
 use Rattle.zeb_register.proofs.FormatLemmas.{registers_stay}
 
@@ -38,3 +42,38 @@ returns-clause-cost g c =
     let was = subst (AreOccurrencesOf profile c.args.elder.now.bytes.items) (sym c.deref.ensures.value) c.in_ok-old.ensures.found in
     let noted = c.in_ok-note_keys.ensures.cost was.rising none_rise in
     (noted.0, old_cost profile c.args.elder.now.bytes.items c.deref.result.now noted.0 was noted.1, noted.2)
+
+-- ---- where there is room
+
+pub returns-in_err-old-clause-room : goal.returns-in_err-old-clause-room
+returns-in_err-old-clause-room g c clean mode format records_of base under there most places rowids asks spare more has =
+    let told : c.from_residual.result ≡ Err c.in_err-old.field-0.0 = search rules in
+    let memory = c.in_err-old.ensures.fails (elder_kept c.args.setting.now.profile.now c.args.ident.now base c.args.elder.now under.2 there) in
+    refused_for _ _ c.from_residual.result c.in_err-old.field-0.0 told (λ store. absurd (cc))
+
+pub returns-in_err-record_take-clause-room : goal.returns-in_err-record_take-clause-room
+returns-in_err-record_take-clause-room g c clean mode format records_of base under there most places rowids asks spare more has =
+    let number = elder_numbered c.args.setting.now.profile.now base under.2 c.args.ident.now c.args.elder.now there in
+    let told : c.from_residual-in_err-record_take.result ≡ Err (register_refusal c.in_err-record_take.field-0.0) = search rules in
+    refused_for _ _ c.from_residual-in_err-record_take.result (register_refusal c.in_err-record_take.field-0.0) told (λ store.
+        c.in_err-record_take.ensures.refused number.1 clean mode under.0 (ap Err (only_store c.in_err-record_take.field-0.0 store)))
+
+pub returns-clause-room : goal.returns-clause-room
+returns-clause-room g c clean mode format records_of base under there most places rowids asks spare more has =
+    let profile = c.args.setting.now.profile.now in
+    let old = state g.S.Store c.args.tx.now.conn.now in
+    let mid = state g.S.Store c.record_take.new.tx.conn.now in
+    let was = subst (AreOccurrencesOf profile c.args.elder.now.bytes.items) (sym c.deref.ensures.value) c.in_ok-old.ensures.found in
+    let number = elder_numbered profile base under.2 c.args.ident.now c.args.elder.now there in
+    let fits = found_fits format profile c.args.progress.now.database.0 records_of (standing old c.args.pending.now) base under most (places + spare) has.places c.args.ident.now c.args.elder.now there c.deref.result.now was in
+    let noted = c.in_ok-note_keys.ensures.room (has.places.noted + (places + spare)) has.places.noted was.rising none_rise number.0 number.1
+    (λ o nothing. absurd (has_contained [] o nothing))
+    (λ o here. elim here [
+      | inl in_elder ↦ fits o in_elder
+      | inr nothing ↦ absurd (has_contained [] o nothing)
+    ])
+    has.places.among in (
+      (λ store. absurd (cc)),
+      room_after format most old mid c.args.pending.now c.note_keys.new.pending places rowids spare more 0 0 has
+          (registers_still old mid _ ((c.in_ok-record_take.ensures.call.ok clean mode).rows under.0)) (c.in_ok-record_take.ensures.rowids clean mode under.0) (omega arith) (omega arith) noted,
+    )
