@@ -1,5 +1,5 @@
 -- Room for the records that are left of a fold, as one more of them is folded in.
-use Rattle.std.proofs.Common.{◌≡◌, ◌∙◌, ◌+◌, ◌<◌, ◌≤◌, ◌^◌, ℕ, suc, ℤ, List, [], ◌∷◌, Option, Some, Result, Ok, Err, OnOk, drop, refl, sym, subst, subst₂, true, arith}
+use Rattle.std.proofs.Common.{◌≡◌, ◌+◌, ◌<◌, ◌^◌, ℕ, suc, ℤ, List, ◌∷◌, Option, Some, Result, Ok, Err, OnOk, drop, refl, sym, subst, subst₂, true, arith}
 use Rattle.zeb_marc.specs.Splits.{a_slice, next_of, split_of}
 use Rattle.zeb_marc.proofs.SplitLaws.{split_of-next}
 use Rattle.zeb_profile.specs.declared.directives.Directive.{Directive}

@@ -1,5 +1,5 @@
 -- A record and its identifier are short, so the row of a record is never too large.
-use Rattle.std.proofs.Common.{◌≡◌, ℕ, ◌+◌, ◌<◌, ◌≤◌, ◌^◌, ℤ, Bool, true, false, cond, leb, nat_lt, ◌==◌, ◌||◌, List, [], ◌∷◌, length, take, Option, Some, None, Result, Ok, Err, refl, ap, subst, sym, ◌∙◌, length-take, arith}
+use Rattle.std.proofs.Common.{◌≡◌, ℕ, ◌<◌, ◌≤◌, ◌^◌, ℤ, Bool, true, false, cond, leb, nat_lt, ◌==◌, ◌||◌, List, [], ◌∷◌, length, take, Option, Some, None, Ok, Err, refl, ap, subst, length-take, arith}
 use Rattle.std.specs.Option.{option_and_then}
 use Rattle.std.specs.Str.Lossy.{utf8_lossy}
 use Rattle.std.proofs.lemmas.Bool.{leb-true, ltb-false}
@@ -13,9 +13,8 @@ use Rattle.zeb_marc.proofs.Entries.{first_failing-append_none, first_failing-con
 use Rattle.zeb_marc.proofs.PartLaws.{number_of-below}
 use Rattle.zeb_profile.specs.declared.directives.Directive.{Directive}
 use Rattle.zeb_profile.specs.Indexes.{identifier_pattern}
-use Rattle.zeb_extract.specs.declared.naming.IdentFault.{IdentFault}
 use Rattle.zeb_extract.specs.declared.naming.IdentFault.TheVariants.{BadIdentifier, NoIdentifier}
-use Rattle.zeb_extract.specs.Identifier.{checked, first_fitting, has_control, held_in, identifier_of, without_spaces}
+use Rattle.zeb_extract.specs.Identifier.{checked, first_fitting, has_control, held_in, without_spaces}
 use Rattle.zeb_register.specs.Hindrances.{IsTooLarge}
 use Rattle.zeb_register.specs.Store.{record_row}
 use Rattle.zeb_change.specs.Folding.{ident_in}

@@ -143,7 +143,7 @@ returns-in_err-take_record-clause-room g c clean mode text told records_of some 
     let took = taken_room g at clean mode records_of some most spare more room in
     let result : c.from_residual-in_err-take_record.result ≡ Err c.in_err-take_record.field-0.0 = search rules in
     refused_for _ _ c.from_residual-in_err-take_record.result c.in_err-take_record.field-0.0 result (λ store.
-        may_after old now next on.crash (on.stays was mode).stays_open (λ _. took.0 (c.in_err-take_record.was ∙ ap Err store)))
+    may_after old now next on.crash (on.stays was mode).stays_open (λ _. took.0 (c.in_err-take_record.was ∙ ap Err store)))
 
 pub loop-nth-preserved : goal.loop-nth-preserved
 loop-nth-preserved g c =

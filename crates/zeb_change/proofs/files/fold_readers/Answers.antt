@@ -134,7 +134,7 @@ returns-in_err-fold_file-clause-room g c clean mode texts told records_of some m
     let took = taken_room g at clean mode texts told records_of some most spare more room in
     let result : c.from_residual.result ≡ Err c.in_err-fold_file.field-0.0 = search rules in
     refused_for _ _ c.from_residual.result c.in_err-fold_file.field-0.0 result (λ store.
-        may_after old now next on.crash (on.stays was mode).stays_open (λ _. took.0 (c.in_err-fold_file.was ∙ ap Err store)))
+    may_after old now next on.crash (on.stays was mode).stays_open (λ _. took.0 (c.in_err-fold_file.was ∙ ap Err store)))
 
 pub loop-index-preserved : goal.loop-index-preserved
 loop-index-preserved g c =

@@ -69,7 +69,7 @@ pub returns-in_err-fate-clause-room : goal.returns-in_err-fate-clause-room
 returns-in_err-fate-clause-room g c clean mode format records_of some most places rowids asks spare more has =
     let told : c.from_residual.result ≡ Err c.in_err-fate.field-0.0 = search rules in
     refused_for _ _ c.from_residual.result c.in_err-fate.field-0.0 told (λ store.
-        (c.in_err-fate.ensures.room clean mode format records_of some.0 some.2 tt most places rowids asks spare more has).0 (ap Err store))
+    (c.in_err-fate.ensures.room clean mode format records_of some.0 some.2 tt most places rowids asks spare more has).0 (ap Err store))
 
 pub returns-clause-room : goal.returns-clause-room
 returns-clause-room g c clean mode format records_of some most places rowids asks spare more has =

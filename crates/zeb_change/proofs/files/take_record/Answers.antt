@@ -120,7 +120,7 @@ pub returns-in_err-note_record-clause-room : goal.returns-in_err-note_record-cla
 returns-in_err-note_record-clause-room g c clean mode records_of some most places rowids asks spare more has =
     let result : c.from_residual.result ≡ Err c.in_err-note_record.field-0.0 = search rules in
     refused_for _ _ c.from_residual.result c.in_err-note_record.field-0.0 result (λ store.
-        (c.in_err-note_record.ensures.room clean mode g.L.Layout.format records_of some most places rowids asks spare more has).0 (ap Err store))
+    (c.in_err-note_record.ensures.room clean mode g.L.Layout.format records_of some most places rowids asks spare more has).0 (ap Err store))
 
 -- what the write of what is noted does with the room, by the name that the fold has of the database
 writes_in_room : (g : given.Over) (c : After-write_where_full g)
@@ -142,8 +142,8 @@ returns-in_err-write_where_full-clause-room g c clean mode records_of some most 
     let left = (c.in_ok-note_record.ensures.room write.was mode g.L.Layout.format records_of some most places rowids asks spare more has).1 in
     let stays = c.in_ok-note_record.ensures.inside.stays write.was mode in
     refused_for _ _ c.from_residual-in_err-write_where_full.result (register_refusal fault) result (λ store.
-        may_after old mid new c.note_record.ensures.inside.crash stays.stays_open (λ _.
-        write_caused write (writes_in_room g at) most spare more left (c.in_err-write_where_full.was ∙ ap Err (only_store fault store))))
+    may_after old mid new c.note_record.ensures.inside.crash stays.stays_open (λ _.
+    write_caused write (writes_in_room g at) most spare more left (c.in_err-write_where_full.was ∙ ap Err (only_store fault store))))
 
 pub returns-clause-room : goal.returns-clause-room
 returns-clause-room g c clean mode records_of some most places rowids asks spare more has =

@@ -277,7 +277,7 @@ returns-in_err-elder-clause-room g c clean mode format records_of base under fit
     let fault = c.in_err-elder.field-0.0 in
     let told : c.from_residual-in_err-elder.result ≡ Err (register_refusal fault) = search rules in
     refused_for _ _ c.from_residual-in_err-elder.result (register_refusal fault) told (λ store.
-        c.in_err-elder.ensures.refused clean mode under.0 (ap Err (only_store fault store)))
+    c.in_err-elder.ensures.refused clean mode under.0 (ap Err (only_store fault store)))
 
 -- nothing becomes of the record
 idle_room : (g : given.Over) (c : In_ok-elder g) → HasCleanDisk (state g.S.Store c.record_of_ident.new.tx.conn.now) → IsTrue (state g.S.Store c.args.tx.now.conn.now).in_transaction

@@ -43,10 +43,10 @@ returns-in_err-record_put-clause-room g c clean mode is format records_of base u
     let profile = c.args.setting.now.profile.now in
     let told : c.from_residual.result ≡ Err (register_refusal c.in_err-record_put.field-0.0) = search rules in
     refused_for _ _ c.from_residual.result (register_refusal c.in_err-record_put.field-0.0) told (λ store.
-        elim (c.in_err-record_put.ensures.refused (omega (arith, c.if-progress-setting.false)) clean mode under.0 (ap Err (only_store c.in_err-record_put.field-0.0 store))) [
-          | inl cause ↦ cause
-          | inr hinders ↦ absurd (put_served profile c.args.progress.now.database.0 (pos (c.args.progress.now.last + 1)) newer.ident.now newer.bytes.now (rowids + more) (state g.S.Store c.args.tx.now.conn.now).now.trees is.whole is.named (omega (arith, asks.put)) has.records hinders)
-        ])
+    elim (c.in_err-record_put.ensures.refused (omega (arith, c.if-progress-setting.false)) clean mode under.0 (ap Err (only_store c.in_err-record_put.field-0.0 store))) [
+      | inl cause ↦ cause
+      | inr hinders ↦ absurd (put_served profile c.args.progress.now.database.0 (pos (c.args.progress.now.last + 1)) newer.ident.now newer.bytes.now (rowids + more) (state g.S.Store c.args.tx.now.conn.now).now.trees is.whole is.named (omega (arith, asks.put)) has.records hinders)
+    ])
 
 pub returns-clause-room : goal.returns-clause-room
 returns-clause-room g c clean mode is format records_of base under none most places rowids asks spare more has =

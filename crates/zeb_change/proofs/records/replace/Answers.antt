@@ -1,4 +1,4 @@
-use Rattle.std.proofs.Common.{◌≡◌, ◌+◌, ◌≤◌, arith, rules, Err, inl, inr, length, pos, ap, sym, subst}
+use Rattle.std.proofs.Common.{◌≡◌, ◌+◌, arith, rules, Err, inl, inr, length, pos, ap, sym, subst}
 use Rattle.sqlite.specs.Held.{state}
 use Rattle.zeb_change.specs.Outcomes.{register_refusal}
 use Rattle.zeb_change.specs.Refused.{why_of}
@@ -63,10 +63,10 @@ returns-in_err-record_put-clause-room g c clean mode is format records_of base u
     let number = elder_numbered profile base under.2 newer.ident.now c.args.elder.now there in
     let told : c.from_residual-in_err-record_put.result ≡ Err (register_refusal c.in_err-record_put.field-0.0) = search rules in
     refused_for _ _ c.from_residual-in_err-record_put.result (register_refusal c.in_err-record_put.field-0.0) told (λ store.
-        elim (c.in_err-record_put.ensures.refused number.1 clean mode under.0 (ap Err (only_store c.in_err-record_put.field-0.0 store))) [
-          | inl cause ↦ cause
-          | inr hinders ↦ absurd (put_served profile c.args.progress.now.database.0 (pos c.args.elder.now.sysno) newer.ident.now newer.bytes.now (rowids + more) (state g.S.Store c.args.tx.now.conn.now).now.trees is.whole is.named (omega (arith, asks.put)) has.records hinders)
-        ])
+    elim (c.in_err-record_put.ensures.refused number.1 clean mode under.0 (ap Err (only_store c.in_err-record_put.field-0.0 store))) [
+      | inl cause ↦ cause
+      | inr hinders ↦ absurd (put_served profile c.args.progress.now.database.0 (pos c.args.elder.now.sysno) newer.ident.now newer.bytes.now (rowids + more) (state g.S.Store c.args.tx.now.conn.now).now.trees is.whole is.named (omega (arith, asks.put)) has.records hinders)
+    ])
 
 pub returns-clause-room : goal.returns-clause-room
 returns-clause-room g c clean mode is format records_of base under there most places rowids asks spare more has =

@@ -1,4 +1,4 @@
-use Rattle.std.proofs.Common.{◌≡◌, ◌+◌, ◌≤◌, arith, rules, Err, [], inl, inr, ap, sym, subst}
+use Rattle.std.proofs.Common.{◌≡◌, ◌+◌, arith, rules, Err, [], inl, inr, ap, sym, subst}
 use Rattle.sqlite.specs.Held.{state}
 use Rattle.sqlite_rules.proofs.ListLemmas.{has_contained}
 use Rattle.zeb_change.specs.Outcomes.{register_refusal}
@@ -56,7 +56,7 @@ returns-in_err-record_take-clause-room g c clean mode format records_of base und
     let number = elder_numbered c.args.setting.now.profile.now base under.2 c.args.ident.now c.args.elder.now there in
     let told : c.from_residual-in_err-record_take.result ≡ Err (register_refusal c.in_err-record_take.field-0.0) = search rules in
     refused_for _ _ c.from_residual-in_err-record_take.result (register_refusal c.in_err-record_take.field-0.0) told (λ store.
-        c.in_err-record_take.ensures.refused number.1 clean mode under.0 (ap Err (only_store c.in_err-record_take.field-0.0 store)))
+    c.in_err-record_take.ensures.refused number.1 clean mode under.0 (ap Err (only_store c.in_err-record_take.field-0.0 store)))
 
 pub returns-clause-room : goal.returns-clause-room
 returns-clause-room g c clean mode format records_of base under there most places rowids asks spare more has =
