@@ -43,11 +43,11 @@ row_id : (format : Format) (profile : List _) (trees : Trees) (bases : List Base
 row_id format profile trees bases image id name last row = let found = (image.lists.listed id name last).0 row in found.2 ∙ ap image.lists.id_of (sym found.3)
 
 -- a row of databases is written, and nothing else
-kept_registers : (id : ℤ) (name : List ℕ) (last : ℤ) (old new : State) → Changes databases_tree (PutsDatabase id name last) old new → KeepsRegisters old.now.trees new.now.trees
+pub kept_registers : (id : ℤ) (name : List ℕ) (last : ℤ) (old new : State) → Changes databases_tree (PutsDatabase id name last) old new → KeepsRegisters old.now.trees new.now.trees
 kept_registers id name last old new put =
     (put.others.1.1.1.0 (λ e. absurd (omega (arith, e))), put.others.1.1.1.1.0 (λ e. absurd (omega (arith, e))), put.others.1.1.1.1.1.0 (λ e. absurd (omega (arith, e))))
 
-kept_records : (id : ℤ) (name : List ℕ) (last : ℤ) (old new : State) → Changes databases_tree (PutsDatabase id name last) old new → new.now.trees 4 ≡ old.now.trees 4
+pub kept_records : (id : ℤ) (name : List ℕ) (last : ℤ) (old new : State) → Changes databases_tree (PutsDatabase id name last) old new → new.now.trees 4 ≡ old.now.trees 4
 kept_records id name last old new put = put.others.1.1.0 (λ e. absurd (omega (arith, e)))
 
 kept_texts : (id : ℤ) (name : List ℕ) (last : ℤ) (old new : State) → Changes databases_tree (PutsDatabase id name last) old new → new.now.trees 0 ≡ old.now.trees 0

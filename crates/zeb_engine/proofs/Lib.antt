@@ -74,3 +74,4 @@ pub mod EveryAnswer
 pub mod CheckFollows
 pub mod AskedReads
 pub mod NoWork
+pub mod ChangeRoom

@@ -1,16 +1,24 @@
 -- Why a command answers that the store failed.
-use Rattle.std.specs.Prelude.{◌≡◌, ◌⊎◌, List, Result, IfErr, codes}
+use Rattle.std.specs.Prelude.{◌≡◌, ◌⊎◌, ◌<◌, ◌^◌, ℕ, List, map, Result, Err, IfErr, codes}
 use Rattle.sqlite.specs.State.{State}
 use Rattle.sqlite.specs.Tree.{Trees}
 use Rattle.zeb_profile.specs.declared.directives.Directive.{Directive}
 use Rattle.zeb_profile.specs.Canonical.{canonical_text}
 use Rattle.zeb_register.specs.Calls.{MayRefuse}
-use Rattle.zeb_register.specs.Hindrances.{IsTooLarge, LacksRowids}
-use Rattle.zeb_register.specs.Store.{IsStore, databases_tree, entry}
+use Rattle.zeb_register.specs.Formats.{Format}
+use Rattle.zeb_register.specs.Hindrances.{HasRowids, IsTooLarge, LacksRowids}
+use Rattle.zeb_register.specs.Room.{HasRoom}
+use Rattle.zeb_register.specs.Store.{IsStore, databases_tree, entry, records_tree}
+use Rattle.zeb_change.specs.Asked.{AskFiles}
+use Rattle.zeb_change.specs.Folding.{splits_of}
+use Rattle.zeb_change.specs.declared.settings.Kind.{Kind}
 use Rattle.zeb_change.specs.declared.refusals.Refusal.{Refusal}
 use Rattle.zeb_change.specs.Refused.{store_failed, why_of}
 use Rattle.zeb_change.specs.declared.refusals.Refusal.TheVariants.{Store}
+use Rattle.zeb_image.specs.Holdings.{Holdings}
+use Rattle.zeb_image.specs.Image.{Keeps}
 use Rattle.zeb_engine.specs.declared.commands.Command.{Command}
+use Rattle.zeb_engine.specs.Works.{Always}
 use Rattle.zeb_engine.specs.declared.commands.Command.TheVariants.{Init, Create, Drop, Change, Reindex, Upgrade}
 
 -- On the tables of a store it has a cause: the connection was shut, the disk failed during the call, or a limit on steps is set. A failed
@@ -49,3 +57,28 @@ TellsFailure command refusal = why_of refusal ≡ store_failed
 abbrev pub HasCommandCause : {T : Type 0} → List Directive → Command → State → State → Result T Refusal → Type 0
 HasCommandCause profile command old new result =
     IsStore old → IfErr result (λ refusal. TellsFailure command refusal → MayRefuse old new ⊎ MayHinder profile command old.now.trees)
+
+-- ---- a change that has room
+
+-- The tables have room for a change by these files: in the registers for the places that their records ask for, each of whose keys has a row for
+-- them all, rowids for the records, and two for the row of the database, which is written before the records and after them.
+pub record HasRoomToChange (format : Format) (profile : List Directive) (kind : Kind) (texts : List (List ℕ)) (trees : Trees) : Type 0 where
+  pub places : ℕ
+  pub rowids : ℕ
+  pub asks : AskFiles profile kind places (splits_of texts) places rowids
+  pub few : rowids < 2 ^ 63
+  pub registers : HasRoom format places trees
+  pub records : HasRowids rowids records_tree trees
+  pub databases : HasRowids 2 databases_tree trees
+
+-- Of tables that are the image of holdings which fit: where they have such room, the store fails for a cause alone.
+abbrev pub ChangesInRoom : {T : Type 0} → Format → List Directive → Kind → List (List ℕ) → (Trees → Holdings → Type 0) → State → State → Result T Refusal → Type 0
+ChangesInRoom format profile kind texts Fits old new result =
+    (before : Holdings) → Fits old.now.trees before → Keeps old before → HasRoomToChange format profile kind texts old.now.trees
+    → result ≡ Err Store → MayRefuse old new
+
+-- the same of a command that is a change
+abbrev pub CommandInRoom : {T : Type 0} → Format → List Directive → Command → State → State → Result T Refusal → Type 0
+CommandInRoom format profile (Change kind name files) old new result =
+    ChangesInRoom format profile kind (map (λ file. file.items) files.items) Always old new result
+CommandInRoom format profile other old new result = Unit {0}

@@ -4,9 +4,11 @@ ghost use Rattle.std.specs.Prelude.{◌≡◌, ◌≢◌, ℕ, List, map, Some, 
 ghost use Rattle.sqlite.specs.Held.{state};
 ghost use Rattle.sqlite.specs.State.{HasCleanDisk, Survives};
 ghost use Rattle.zeb_register.specs.Formats.{version_of};
+ghost use Rattle.zeb_register.specs.Calls.{MayRefuse};
 ghost use Rattle.zeb_register.specs.Store.{IsStore};
 ghost use Rattle.zeb_engine.specs.PrivateChanging.{BeginsWith, MayBegin, comes_to, last_of};
 ghost use Rattle.zeb_change.specs.Conditions.{Conditions};
+ghost use Rattle.zeb_engine.specs.Causes.{ChangesInRoom, HasRoomToChange};
 ghost use Rattle.zeb_engine.specs.Crashes.{Commits};
 ghost use Rattle.zeb_change.specs.Base.{Base};
 ghost use Rattle.zeb_image.specs.Holdings.{Holdings, base_named};
@@ -20,7 +22,7 @@ ghost use Rattle.zeb_engine.specs.Transactions.{Commanded};
 ghost use Rattle.zeb_change.specs.Inside.{Stays};
 ghost use Rattle.zeb_change.specs.UnderWay.{conditions_of};
 ghost use Rattle.zeb_engine.specs.Works.{IsReady, Serves, Works};
-ghost use Rattle.zeb_engine.specs.PrivateConnections.{CommitsNothing, LeavesAsIs};
+ghost use Rattle.zeb_engine.specs.PrivateConnections.{CommitsNothing, FailsForCause, LeavesAsIs};
 
 use crate::readiness::existing_database;
 use crate::replies::Reply;
@@ -92,6 +94,13 @@ fn apply<S: Alter, L: Layout, R: Source>(
         → IsStore (state S.Store tx.old.conn.now) → IsImage (state S.Store tx.old.conn.now).now.trees before
         → Costs L.row_work (conditions_of (version_of L.format) change.now.setting) change.now.setting.kind
         (name_bytes change.now.name.now) texts work.old work.new before) }
+    ensures room { HasCleanDisk (state S.Store tx.new.conn.now) → IsTrue (state S.Store tx.old.conn.now).in_transaction
+        → (texts : List (List ℕ)) → map R.remaining readers.old ≡ map Some texts → NoneFailed R.has_failed readers.new
+        → (before : Holdings) → MayBegin (version_of L.format) change.now.setting (name_bytes change.now.name.now) change.now.found
+        (state S.Store tx.old.conn.now).now.trees before
+        → IsStore (state S.Store tx.old.conn.now) → IsImage (state S.Store tx.old.conn.now).now.trees before
+        → HasRoomToChange L.format change.now.setting.profile.now change.now.setting.kind texts (state S.Store tx.old.conn.now).now.trees
+        → result ≡ Err Refusal.Store → MayRefuse (state S.Store tx.old.conn.now) (state S.Store tx.new.conn.now) }
 {
     // Its profile is some text's.
     change.setting.profile.is_of_some_text();
@@ -149,6 +158,11 @@ fn transact<S: Alter, L: Layout, R: Source>(
         → Keeps (state S.Store connection.old) before
         → Costs L.row_work (conditions_of (version_of L.format) change.now.setting) change.now.setting.kind
         (name_bytes change.now.name.now) texts work.old work.new before) }
+    ensures room { HasCleanDisk (state S.Store connection.new)
+        → (texts : List (List ℕ)) → map R.remaining readers.old ≡ map Some texts → NoneFailed R.has_failed readers.new
+        → ChangesInRoom L.format change.now.setting.profile.now change.now.setting.kind texts
+        (MayBegin (version_of L.format) change.now.setting (name_bytes change.now.name.now) change.now.found)
+        (state S.Store connection.old) (state S.Store connection.new) result }
 {
     let _settled = connection.is_autocommit();
     let mut tx = connection.transaction();
@@ -174,6 +188,7 @@ fn found_for<S: Alter, L: Layout>(
     ensures unread { NoReadFault result }
     ensures ready { NeverUnready result }
     ensures crash { CommitsNothing S.Store connection.old connection.new }
+    ensures caused { FailsForCause S.Store connection.old connection.new result }
 {
     match setting.kind {
         Kind::Update => Ok(database_of(connection, name.as_str())?),
@@ -221,6 +236,11 @@ pub(crate) fn change_database<S: Alter, L: Layout, R: Source>(
         → Keeps (state S.Store connection.old) before
         → Costs L.row_work (conditions_of (version_of L.format) setting.entry) setting.entry.kind
         (name_bytes name.now) texts work.old work.new before) }
+    ensures room { HasCleanDisk (state S.Store connection.new)
+        → (texts : List (List ℕ)) → map R.remaining readers.old ≡ map Some texts → NoneFailed R.has_failed readers.new
+        → ChangesInRoom L.format setting.entry.profile.now setting.entry.kind texts
+        (IsReady (conditions_of (version_of L.format) setting.entry))
+        (state S.Store connection.old) (state S.Store connection.new) result }
 {
     let found = found_for::<S, L>(connection, &setting, name)?;
     let mut buffer = RecordBuf::new(setting.alloc)?;

@@ -13,7 +13,7 @@ ghost use Rattle.zeb_engine.specs.Analysed.{AnswersAnalysis};
 ghost use Rattle.zeb_engine.specs.Answers.{IsFailure, answer_of, refused};
 ghost use Rattle.zeb_change.specs.Refused.{why_of};
 ghost use Rattle.zeb_change.specs.Conditions.{conditions};
-ghost use Rattle.zeb_engine.specs.Causes.{HasCommandCause};
+ghost use Rattle.zeb_engine.specs.Causes.{CommandInRoom, HasCommandCause};
 ghost use Rattle.zeb_engine.specs.Checking.{ChecksTables, ReindexLeaves, ReindexesTables, StaysUpgraded, UpgradesTables};
 ghost use Rattle.zeb_engine.specs.Readiness.{GoesByTexts, LooksFirst};
 ghost use Rattle.zeb_change.specs.Reading.{NoReadFault};
@@ -251,6 +251,9 @@ impl<S: Alter, L: Layout> Session<S, L> {
         // Over a layout whose rows count nothing no work is counted.
         ensures no_work { HasCleanDisk (state S.Store self.new.connection) → L.row_work ≡ 0
             → CountsNothing command.now (state S.Store self.old.connection) result self.new.work }
+        // So does a change, but for its commit, where the tables have room for what its files ask for.
+        ensures room { HasCleanDisk (state S.Store self.new.connection) → CommandInRoom L.format self.old.profile command.now
+            (state S.Store self.old.connection) (state S.Store self.new.connection) result }
     {
         let answer = self.carry_out(command);
         // What is shown is what was committed.
@@ -306,6 +309,8 @@ impl<S: Alter, L: Layout> Session<S, L> {
         ensures caused { HasCleanDisk (state S.Store self.new.connection)
             → HasCommandCause self.old.profile command.now (state S.Store self.old.connection) (state S.Store self.new.connection) result }
         ensures no_work { L.row_work ≡ 0 → IsNoChange command.now → self.new.work ≡ no_work }
+        ensures room { HasCleanDisk (state S.Store self.new.connection) → CommandInRoom L.format self.old.profile command.now
+            (state S.Store self.old.connection) (state S.Store self.new.connection) result }
     {
         self.work = Work::default();
         match command {

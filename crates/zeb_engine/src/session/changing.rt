@@ -9,11 +9,12 @@ ghost use Rattle.zeb_change.specs.Reading.{HasFailedAt, NamesFailed, NoneFailed,
 ghost use Rattle.zeb_image.specs.Holdings.{Holdings};
 ghost use Rattle.zeb_image.specs.Image.{Keeps};
 ghost use Rattle.zeb_image.specs.NameOf.{name_bytes};
+ghost use Rattle.zeb_engine.specs.Causes.{ChangesInRoom};
 ghost use Rattle.zeb_engine.specs.Costs.{CostsAlone};
 ghost use Rattle.zeb_engine.specs.Crashes.{CommitsBy, Endures};
 ghost use Rattle.zeb_engine.specs.Steps.{TakesFiles};
 ghost use Rattle.zeb_engine.specs.Transactions.{Commanded, IsDurable};
-ghost use Rattle.zeb_engine.specs.Works.{ServesBy};
+ghost use Rattle.zeb_engine.specs.Works.{Always, ServesBy};
 ghost use Rattle.zeb_engine.specs.PrivateConnections.{TellsReady};
 
 use crate::changes::change_database;
@@ -47,6 +48,9 @@ impl<S: Alter, L: Layout> Session<S, L> {
         ensures work { HasCleanDisk (state S.Store self.new.connection)
             → CostsAlone L.row_work (conditions (version_of L.format) self.old.profile self.old.limits) kind (name_bytes database.now)
             (map (λ file. file.items) files.now) (state S.Store self.old.connection) result self.new.work }
+        ensures room { HasCleanDisk (state S.Store self.new.connection)
+            → ChangesInRoom L.format self.old.profile kind (map (λ file. file.items) files.now) Always
+            (state S.Store self.old.connection) (state S.Store self.new.connection) result }
     {
         let mut readers = Vec::with_capacity(self.alloc, files.len())?;
         for file in files {
@@ -92,6 +96,11 @@ impl<S: Alter, L: Layout> Session<S, L> {
             → map R.remaining readers.old ≡ map Some texts
             → CostsAlone L.row_work (conditions (version_of L.format) self.old.profile self.old.limits) kind
             (name_bytes database.now) texts (state S.Store self.old.connection) result self.new.work }
+        // Where the tables have room for what the files ask for, a failed store has a cause, but for the commit.
+        ensures room { HasCleanDisk (state S.Store self.new.connection) → (texts : List (List ℕ))
+            → map R.remaining readers.old ≡ map Some texts → NoneFailed R.has_failed readers.new
+            → ChangesInRoom L.format self.old.profile kind texts Always
+            (state S.Store self.old.connection) (state S.Store self.new.connection) result }
     {
         let answer = self.change_from(database, kind, readers);
         // What is shown is what was committed.
@@ -124,6 +133,10 @@ impl<S: Alter, L: Layout> Session<S, L> {
             → map R.remaining readers.old ≡ map Some texts
             → CostsAlone L.row_work (conditions (version_of L.format) self.old.profile self.old.limits) kind
             (name_bytes database.now) texts (state S.Store self.old.connection) result self.new.work }
+        ensures room { HasCleanDisk (state S.Store self.new.connection) → (texts : List (List ℕ))
+            → map R.remaining readers.old ≡ map Some texts → NoneFailed R.has_failed readers.new
+            → ChangesInRoom L.format self.old.profile kind texts Always
+            (state S.Store self.old.connection) (state S.Store self.new.connection) result }
     {
         self.work = Work::default();
         check_readers(readers)?;

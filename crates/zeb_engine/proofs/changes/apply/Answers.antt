@@ -1,10 +1,10 @@
-use Rattle.std.proofs.Common.{rules, arith, ◌≡◌, ◌∙◌, pos, Result, Ok, Err, inl, refl, sym, ap, subst}
+use Rattle.std.proofs.Common.{rules, arith, ◌≡◌, ◌∙◌, ◌≤◌, length, inr, pos, Result, Ok, Err, inl, refl, sym, ap, subst}
 use Rattle.sqlite.specs.Held.{state}
 use Rattle.sqlite.specs.State.{HasCleanDisk, KeepsCommit}
 use Rattle.zeb_register.specs.Catalog.{PutsDatabase}
 use Rattle.zeb_register.specs.Store.{Changes, databases_tree}
 use Rattle.zeb_change.specs.declared.refusals.Refusal.{Refusal}
-use Rattle.zeb_change.specs.declared.refusals.Refusal.TheVariants.{ReadFault}
+use Rattle.zeb_change.specs.declared.refusals.Refusal.TheVariants.{ReadFault, Store}
 use Rattle.zeb_change.specs.Folding.{at_first, Progress}
 use Rattle.zeb_change.specs.Outcomes.{register_refusal}
 use Rattle.zeb_change.specs.UnderWay.{IsFolded}
@@ -17,6 +17,11 @@ use Rattle.zeb_engine.specs.Works.{Works}
 use Rattle.zeb_engine.proofs.ChangeWay.{change_begun, change_done, change_led, change_refused, change_way, under_change}
 use Rattle.zeb_engine.proofs.Honest.{failure_honest}
 use Rattle.zeb_engine.proofs.WriteSteps.{Leads}
+use Rattle.zeb_register.proofs.Causes.{may_after}
+use Rattle.zeb_register.proofs.TakenRowids.{has_less}
+use Rattle.zeb_change.specs.UnderWay.{conditions_of}
+use Rattle.zeb_change.proofs.RecordRoom.{not_refused, one_refusal, only_store, rowids_same}
+use Rattle.zeb_engine.proofs.ChangeRoom.{begin_below, room_behind, row_served}
 use Rattle.zeb_engine.proofs.changes.apply.Goals as goal
 use Rattle.zeb_register.specs.Formats.{version_of}
 
@@ -166,3 +171,75 @@ returns-clause-work g c = λ clean inside texts told before known store image.
     let b = change_begun format change c.is_of_some_text.ensures before (state g.S.Store c.args.tx.now.conn.now) mid image id known _ _ c.as_str-name.ensures c.last-last.ensures (c.in_ok-database.ensures.put first inside store) in
     let worked = c.in_ok-fold_files.ensures.work second on.mode texts told (version_of format) b.image.lists.records_of (at_first b.start) (record { last = c.last-last.ensures ∙ b.last_is; taken = c.new.ensures.0; inserted = c.new.ensures.1; updated = c.new.ensures.2; deleted = c.new.ensures.3 }) (change_way format change c.is_of_some_text.ensures before mid id b) in
     (worked.0, record { bases = b.bases; is_ready = b.is_ready; start = b.start; starts = b.starts; cost = worked.1 }, worked.2)
+
+-- ---- where there is room
+
+pub returns-in_err-database-clause-room : goal.returns-in_err-database-clause-room
+returns-in_err-database-clause-room g c clean inside texts told fine before known store image room refused =
+    let change = c.args.change.now in
+    let trees = (state g.S.Store c.args.tx.now.conn.now).now.trees in
+    let name = name_bytes change.name.now in
+    let fault = c.in_err-database.field-0.0 in
+    let result : c.from_residual.result ≡ Err (register_refusal fault) = search rules in
+    let below = begin_below change.setting.kind name change.found (conditions_of (version_of g.L.Layout.format) change.setting) trees before known image in
+    let is = only_store fault (one_refusal c.from_residual.result (register_refusal fault) Store result refused) in
+    let short = subst (λ n. length n ≤ 64) (sym c.as_str-name.ensures) change.name.now.named.at_most_64 in
+    elim (c.in_err-database.ensures.refused (omega (arith, c.last-last.ensures, below)) clean inside store (ap Err is)) [
+      | inl cause ↦ cause
+      | inr hinders ↦ absurd (row_served c.as_str-name.result.now (pos c.last-last.result) trees short (has_less 1 2 databases_tree trees (omega arith) room.databases) hinders)
+    ]
+
+pub returns-in_err-fold_files-clause-room : goal.returns-in_err-fold_files-clause-room
+returns-in_err-fold_files-clause-room g c clean inside texts told fine before known store image room refused =
+    let old = state g.S.Store c.args.tx.now.conn.now in
+    let mid = state g.S.Store c.database_put.new.tx.conn.now in
+    let new = state g.S.Store c.fold_files.new.tx.conn.now in
+    let change = c.args.change.now in
+    let id = c.in_ok-database.database.0 in
+    let format = g.L.Layout.format in
+    let refusal = c.in_err-fold_files.field-0.0 in
+    let result : c.from_residual-in_err-fold_files.result ≡ Err refusal = search rules in
+    let first : HasCleanDisk mid = omega (arith, c.fold_files.ensures.crash.clean) in
+    let on = c.in_ok-database.ensures.call.ok first inside in
+    let put = c.in_ok-database.ensures.put first inside store in
+    let b = change_begun format change c.is_of_some_text.ensures before old mid image id known _ _ c.as_str-name.ensures c.last-last.ensures put in
+    let has = room_behind format change.setting.profile.now change.setting.kind texts id c.as_str-name.result.now (pos c.last-last.result) old mid put (c.in_ok-database.ensures.rowids first inside store) room in
+    let is = one_refusal c.from_residual-in_err-fold_files.result refusal Store result refused in
+    may_after old mid new c.database_put.ensures.call.crash (λ _. on.is_open) (λ _.
+    c.in_err-fold_files.ensures.room clean on.mode texts told b.image.lists.records_of (b.start, c.last-last.ensures ∙ b.last_is, change_way format change c.is_of_some_text.ensures before mid id b)
+    has.places has.rowids has.asks has.registers has.records has.few (ap Err is))
+
+pub returns-in_err-database_put-clause-room : goal.returns-in_err-database_put-clause-room
+returns-in_err-database_put-clause-room g c clean inside texts told fine before known store image room refused =
+    let old = state g.S.Store c.args.tx.now.conn.now in
+    let mid = state g.S.Store c.database_put.new.tx.conn.now in
+    let now = state g.S.Store c.fold_files.new.tx.conn.now in
+    let new = state g.S.Store c.database_put-2.new.tx.conn.now in
+    let change = c.args.change.now in
+    let id = c.in_ok-database.database.0 in
+    let format = g.L.Layout.format in
+    let k = under_change format change in
+    let broken = c.in_err-database_put.field-0.0 in
+    let result : c.from_residual-in_err-database_put.result ≡ Err (register_refusal broken) = search rules in
+    let second : HasCleanDisk now = omega (arith, c.database_put-2.ensures.call.crash.clean) in
+    let first : HasCleanDisk mid = omega (arith, c.fold_files.ensures.crash.clean) in
+    let on = c.in_ok-database.ensures.call.ok first inside in
+    let put = c.in_ok-database.ensures.put first inside store in
+    let further = c.in_ok-fold_files.ensures.stays second on.mode in
+    let b = change_begun format change c.is_of_some_text.ensures before old mid image id known _ _ c.as_str-name.ensures c.last-last.ensures put in
+    let has = room_behind format change.setting.profile.now change.setting.kind texts id c.as_str-name.result.now (pos c.last-last.result) old mid put (c.in_ok-database.ensures.rowids first inside store) room in
+    let met = c.in_ok-fold_files.ensures.folded second on.mode texts told fine (version_of format) b.image.lists.records_of (at_first b.start) (record { last = c.last-last.ensures ∙ b.last_is; taken = c.new.ensures.0; inserted = c.new.ensures.1; updated = c.new.ensures.2; deleted = c.new.ensures.3 }) (change_way format change c.is_of_some_text.ensures before mid id b) in
+    let done = change_done format change c.is_of_some_text.ensures before mid id b texts (λ (q : Progress) (x : Unit {0}). IsFolded format k.profile id b.image.lists.records_of mid now c.fold_files.new.fold q) tt met in
+    let is = only_store broken (one_refusal c.from_residual-in_err-database_put.result (register_refusal broken) Store result refused) in
+    let short = subst (λ n. length n ≤ 64) (sym c.as_str-name.ensures) change.name.now.named.at_most_64 in
+    let last = done.2.stands.last in
+    let few = done.2.under_way.2.few in
+    may_after old mid new c.database_put.ensures.call.crash (λ _. on.is_open) (λ _. may_after mid now new c.fold_files.ensures.crash further.stays_open (λ _.
+    elim (c.in_err-database_put.ensures.refused (omega (arith, last, few)) clean further.mode done.2.under_way.0 (ap Err is)) [
+      | inl cause ↦ cause
+      | inr hinders ↦ absurd (row_served c.as_str-name.result.now (pos c.fold_files.new.fold.progress.last) now.now.trees short
+          (rowids_same 1 databases_tree mid.now.trees now.now.trees done.2.names.1 has.databases) hinders)
+    ]))
+
+pub returns-clause-room : goal.returns-clause-room
+returns-clause-room g c clean inside texts told fine before known store image room refused = absurd (not_refused _ Store refused)

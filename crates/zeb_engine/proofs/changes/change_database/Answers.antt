@@ -1,8 +1,8 @@
-use Rattle.std.proofs.Common.{◌≡◌, [], Err, rules, arith, refl, sym, subst, inl, inr, Option, IsTrue}
+use Rattle.std.proofs.Common.{◌≡◌, [], Err, rules, ap, arith, refl, sym, subst, inl, inr, Option, IsTrue}
 use Rattle.sqlite.specs.Held.{state}
 use Rattle.sqlite.specs.State.{HasCleanDisk}
 use Rattle.zeb_register.specs.declared.catalog.Database.{Database}
-use Rattle.zeb_change.specs.declared.refusals.Refusal.TheVariants.{Memory}
+use Rattle.zeb_change.specs.declared.refusals.Refusal.TheVariants.{Memory, Store}
 use Rattle.zeb_engine.specs.PrivateChanging.{BeginsWith, comes_to}
 use Rattle.zeb_change.specs.Base.{Base}
 use Rattle.zeb_image.specs.NameOf.{name_bytes}
@@ -15,6 +15,10 @@ use Rattle.zeb_engine.proofs.Honest.{start_honest}
 use Rattle.zeb_engine.proofs.Readers.{no_file_failed}
 use Rattle.zeb_engine.proofs.Serving.{early_serves, opened_so}
 use Rattle.zeb_register.specs.Formats.{version_of}
+use Rattle.zeb_register.proofs.Causes.{may_after}
+use Rattle.zeb_change.specs.Refused.{why_of}
+use Rattle.zeb_change.proofs.RecordRoom.{one_refusal}
+use Rattle.zeb_engine.proofs.ChangeRoom.{room_still, where_open}
 use Rattle.zeb_engine.proofs.changes.change_database.Goals as goal
 
 pub returns-in_err-found-clause-serves : goal.returns-in_err-found-clause-serves
@@ -99,3 +103,34 @@ returns-clause-work g c = λ clean texts told.
     let known = begins_still (version_of g.L.Layout.format) c.args.setting (name_bytes c.args.name.now) c.in_ok-found.found (state g.S.Store c.args.connection.now) mid before ready.0
     (c.in_ok-found.ensures.begins first opened (conditions_of (version_of g.L.Layout.format) c.args.setting) before ready.0 ready.1 keeps) (c.found_for.ensures.same first) keeps in
     works known.0 before known.1 known.2)
+
+-- ---- where there is room
+
+pub returns-in_err-found-clause-room : goal.returns-in_err-found-clause-room
+returns-in_err-found-clause-room g c clean texts told fine before ready keeps room refused =
+    let old = state g.S.Store c.args.connection.now in
+    let new = state g.S.Store c.found_for.new.connection in
+    let refusal = c.in_err-found.field-0.0 in
+    let result : c.from_residual.result ≡ Err refusal = search rules in
+    let is = one_refusal c.from_residual.result refusal Store result refused in
+    where_open old new (λ opened. c.in_err-found.ensures.caused clean (keeps opened).0.0 (ap why_of is))
+
+pub returns-in_err-buffer-clause-room : goal.returns-in_err-buffer-clause-room
+returns-in_err-buffer-clause-room g c clean texts told fine before ready keeps room refused =
+    let result : c.from_residual-in_err-buffer.result ≡ Err Memory = search rules in
+    let is = one_refusal c.from_residual-in_err-buffer.result Memory Store result refused in
+    absurd (cc)
+
+pub returns-clause-room : goal.returns-clause-room
+returns-clause-room g c clean texts told fine before ready keeps room refused =
+    let old = state g.S.Store c.args.connection.now in
+    let mid = state g.S.Store c.found_for.new.connection in
+    let new = state g.S.Store c.transact.new.connection in
+    let setting = c.args.setting in
+    let first : HasCleanDisk mid = omega (arith, c.transact.ensures.survives.clean) in
+    where_open old new (λ opened.
+    let known = begins_still (version_of g.L.Layout.format) setting (name_bytes c.args.name.now) c.in_ok-found.found old mid before ready.0
+    (c.in_ok-found.ensures.begins first opened (conditions_of (version_of g.L.Layout.format) setting) before ready.0 ready.1 keeps) (c.found_for.ensures.same first) keeps in
+    let same = (c.found_for.ensures.same first known.0).1 in
+    may_after old mid new c.found_for.ensures.crash (λ _. known.0) (λ _.
+    c.transact.ensures.room clean texts told fine before known.1 known.2 (room_still g.L.Layout.format setting.profile.now setting.kind texts old mid same room) refused))

@@ -13,6 +13,7 @@ use Rattle.zeb_engine.specs.Steps.{start_of}
 use Rattle.zeb_engine.proofs.ChangeBegins.{update_begins}
 use Rattle.zeb_engine.proofs.ListedDatabases.{counted, fault_meets}
 use Rattle.zeb_engine.proofs.ReadyImages.{image_some}
+use Rattle.zeb_engine.proofs.StoreCauses.{fault_caused, passed_cause}
 use Rattle.zeb_engine.proofs.changes.found_for.Goals as goal
 
 pub returns-in_err-database_of-in-Update-clause-begins : goal.returns-in_err-database_of-in-Update-clause-begins
@@ -37,3 +38,10 @@ returns-in_ok-database_of-in-Update-clause-begins g c = λ clean opened under be
     let still : IsTrue (state g.S.Store c.database_of.new.conn).is_open = (c.in_ok-database_of-in-Update.ensures.call.ok clean).0.is_open in
     let known = subst (λ n. IsDatabaseOf old.now.trees n found) c.as_str.ensures (c.in_ok-database_of-in-Update.ensures.value clean at.0.0) in
     rw c.in-Update.is (update_begins g.L.Layout.format under old before bases is at.0.1 name (IsTrue (state g.S.Store c.database_of.new.conn).is_open) still found known)
+
+pub returns-in_err-database_of-in-Update-clause-caused : goal.returns-in_err-database_of-in-Update-clause-caused
+returns-in_err-database_of-in-Update-clause-caused g c clean =
+    let fault = c.in_err-database_of-in-Update.field-0.0 in
+    let told : c.from_residual.result ≡ Err (register_refusal fault) = search rules in
+    passed_cause (state g.S.Store c.args.connection.now) (state g.S.Store c.database_of.new.conn) (register_refusal fault) c.from_residual.result told
+    (λ store. fault_caused fault (λ is. c.in_err-database_of-in-Update.ensures.refused clean store (ap Err is)))

@@ -1,8 +1,8 @@
-use Rattle.std.proofs.Common.{◌≡◌, ◌≢◌, ◌∙◌, ℕ, List, map, Some, Result, Ok, Err, IsTrue, rules, arith, refl, sym, subst, subst₂}
+use Rattle.std.proofs.Common.{◌≡◌, ◌≢◌, ◌∙◌, ℕ, List, map, Some, Result, Ok, Err, IsTrue, rules, arith, ap, refl, sym, subst, subst₂}
 use Rattle.sqlite.specs.Held.{Held, state}
 use Rattle.sqlite.specs.State.{HasCleanDisk}
 use Rattle.zeb_change.specs.declared.refusals.Refusal.{Refusal}
-use Rattle.zeb_change.specs.declared.refusals.Refusal.TheVariants.{Damaged, ReadFault}
+use Rattle.zeb_change.specs.declared.refusals.Refusal.TheVariants.{Commit, Damaged, ReadFault, Store}
 use Rattle.zeb_engine.specs.declared.replies.Reply.{Reply}
 use Rattle.zeb_engine.specs.PrivateChanging.{BeginsWith, MayBegin, comes_to}
 use Rattle.zeb_image.specs.Image.{IsImage}
@@ -16,6 +16,11 @@ use Rattle.zeb_engine.proofs.Serving.{refusal_serves, reply_serves}
 use Rattle.zeb_register.specs.Formats.{version_of}
 use Rattle.zeb_engine.specs.Costs.{Costs}
 use Rattle.zeb_image.specs.Holdings.{Holdings}
+use Rattle.zeb_register.specs.Calls.{MayRefuse}
+use Rattle.zeb_change.proofs.RecordRoom.{not_refused, one_refusal}
+use Rattle.zeb_engine.specs.Causes.{HasRoomToChange}
+use Rattle.zeb_engine.proofs.ChangeRoom.{where_open}
+use Rattle.zeb_engine.proofs.WriteCauses.{may_later}
 use Rattle.zeb_engine.proofs.changes.transact.Goals as goal
 
 pub returns-in_err-reply-clause-serves : goal.returns-in_err-reply-clause-serves
@@ -107,3 +112,36 @@ returns-clause-work g c = λ clean opened texts told before known keeps.
     let began = subst (λ (held : Held _). (before : Holdings) → BeginsWith change.setting.kind name change.found k (state g.S.Store held).now.trees before → IsStore (state g.S.Store held) → IsImage (state g.S.Store held).now.trees before
     → Costs g.L.Layout.row_work k change.setting.kind name texts c.args.work.now c.apply.new.work before) begun worked in
     began before known (record { is = was.0.is; sound = was.0.sound; keyed = was.0.keyed }) was.1
+
+-- ---- where there is room
+
+pub returns-in_err-reply-clause-room : goal.returns-in_err-reply-clause-room
+returns-in_err-reply-clause-room g c clean texts told fine before known keeps room refused =
+    let begun = c.transaction-tx.ensures.begun in
+    let change = c.args.change.now in
+    let name = name_bytes change.name.now in
+    let own = version_of g.L.Layout.format in
+    let end = c.drop-tx.new.self.0 in
+    let mid = state g.S.Store c.apply.new.tx.conn.now in
+    let late : HasCleanDisk (state g.S.Store end) = search rules in
+    let same : end ≡ c.connection-1.given.0 = search rules in
+    let refusal = c.in_err-reply.field-0.0 in
+    let result : c.from_residual.result ≡ Err refusal = search rules in
+    let is = one_refusal c.from_residual.result refusal Store result refused in
+    let said = c.in_err-reply.ensures.room (omega (arith, c.drop-tx.ensures.survives.clean)) (rw begun refl) texts told fine before in
+    let in_room = subst (λ (held : Held _). MayBegin own change.setting name change.found (state g.S.Store held).now.trees before → IsStore (state g.S.Store held) → IsImage (state g.S.Store held).now.trees before
+    → HasRoomToChange g.L.Layout.format change.setting.profile.now change.setting.kind texts (state g.S.Store held).now.trees → ◌≡◌ {A = Result Reply Refusal} (Err refusal) (Err Store) → MayRefuse (state g.S.Store held) mid) begun said in
+    subst (λ h. MayRefuse (state g.S.Store c.args.connection.now) (state g.S.Store h)) same
+    (where_open (state g.S.Store c.args.connection.now) (state g.S.Store end) (λ opened.
+    let at = (keeps opened).0 in
+    may_later (state g.S.Store c.args.connection.now) mid (state g.S.Store end) c.drop-tx.ensures.survives.counts
+    (in_room known (record { is = at.0.is; sound = at.0.sound; keyed = at.0.keyed }) at.1 room (ap Err is))))
+
+pub returns-in_err-commit-clause-room : goal.returns-in_err-commit-clause-room
+returns-in_err-commit-clause-room g c clean texts told fine before known keeps room refused =
+    let result : c.from_residual-in_err-commit.result ≡ Err Commit = search rules in
+    let is = one_refusal c.from_residual-in_err-commit.result Commit Store result refused in
+    absurd (cc)
+
+pub returns-clause-room : goal.returns-clause-room
+returns-clause-room g c clean texts told fine before known keeps room refused = absurd (not_refused _ Store refused)

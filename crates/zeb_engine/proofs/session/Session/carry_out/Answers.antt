@@ -20,6 +20,7 @@ use Rattle.zeb_engine.proofs.Serving.{on_ok}
 use Rattle.zeb_engine.proofs.StoreCauses.{analysis_caused}
 use Rattle.zeb_engine.proofs.WriteCauses.{asked_cause, unsaid}
 use Rattle.zeb_engine.proofs.Unasked.{reads_command}
+use Rattle.zeb_engine.specs.Causes.{ChangesInRoom}
 use Rattle.zeb_engine.specs.Costs.{CostsAlone, no_work}
 use Rattle.zeb_engine.proofs.session.Session.carry_out.Goals as goal
 use Rattle.zeb_register.specs.Formats.{version_of}
@@ -492,3 +493,11 @@ returns-in-Analyse-clause-caused g c clean =
     let s = state g.S.Store c.args.self.now.connection in
     let result = c.analyse_files.result in
     rw c.in-Analyse.is (asked_cause s s result (analysis_caused k (map (λ file. file.items) c.deref-in-Analyse.result.now) s s result c.analyse_files.ensures.told))
+
+pub returns-in-Change-clause-room : goal.returns-in-Change-clause-room
+returns-in-Change-clause-room g c clean =
+    let old = state g.S.Store c.args.self.now.connection in
+    let profile = c.args.self.now.profile in
+    rw c.in-Change.is (each_so
+    c.in-Change.kind-1-own.given.0.0 c.in-Change.kind c.in-Change.database-1-own.given.0.1.0 c.in-Change.database c.deref.result.now c.in-Change.files.items (search rules) (search rules) (search rules)
+    (λ kind named files. ChangesInRoom g.L.Layout.format profile kind (map (λ file. file.items) files) Always old (state g.S.Store c.change.new.self.connection) c.change.result) (c.change.ensures.room clean))

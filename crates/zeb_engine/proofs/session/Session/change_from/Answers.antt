@@ -1,4 +1,4 @@
-use Rattle.std.proofs.Common.{◌≡◌, [], Err, IsErrAnd, inl, inr, refl, rules, arith, sym, subst}
+use Rattle.std.proofs.Common.{◌≡◌, [], Err, IsErrAnd, ap, inl, inr, refl, rules, arith, sym, subst}
 use Rattle.sqlite.specs.Held.{state}
 use Rattle.sqlite.specs.State.{HasCleanDisk}
 use Rattle.zeb_change.specs.Conditions.{conditions}
@@ -17,6 +17,10 @@ use Rattle.zeb_engine.proofs.Readers.{no_file_failed, named_or_none}
 use Rattle.zeb_engine.proofs.Serving.{on_ok}
 use Rattle.zeb_register.specs.declared.registers.Work.{Work}
 use Rattle.zeb_engine.specs.Costs.{Costs, no_work}
+use Rattle.zeb_register.proofs.Causes.{may_after}
+use Rattle.zeb_change.specs.declared.refusals.Refusal.TheVariants.{Store}
+use Rattle.zeb_change.proofs.RecordRoom.{one_refusal}
+use Rattle.zeb_engine.proofs.ChangeRoom.{room_still, where_open}
 use Rattle.zeb_engine.proofs.session.Session.change_from.Goals as goal
 use Rattle.zeb_register.specs.Formats.{version_of}
 use Rattle.zeb_engine.proofs.ReadyTexts.{ready_then}
@@ -125,3 +129,33 @@ returns-clause-work g c = λ clean texts told.
     let met = ready_kept k old mid before (c.in_ok-check_ready.ensures.ready first limits before keeps) (c.check_ready.ensures.same first) keeps in
     subst (λ (work : Work). Costs g.L.Layout.row_work k c.args.kind (name_bytes c.args.database.now) texts work c.change_database.new.work before) fresh
     (works before met.2.1 (met.0, met.1) met.3)) (c.change_database.ensures.work clean texts told)
+
+-- ---- where there is room
+
+pub returns-in_err-check_readers-clause-room : goal.returns-in_err-check_readers-clause-room
+returns-in_err-check_readers-clause-room g c clean texts told fine before fits keeps room refused =
+    let named = c.in_err-check_readers.ensures.named in
+    absurd (no_file_failed g.R.Source.has_failed c.args.readers.now fine named.0 named.1)
+
+pub returns-in_err-check_ready-clause-room : goal.returns-in_err-check_ready-clause-room
+returns-in_err-check_ready-clause-room g c clean texts told fine before fits keeps room refused =
+    let old = state g.S.Store c.args.self.now.connection in
+    let new = state g.S.Store c.check_ready.new.connection in
+    let refusal = c.in_err-check_ready.field-0.0 in
+    let result : c.from_residual-in_err-check_ready.result ≡ Err refusal = search rules in
+    let is = one_refusal c.from_residual-in_err-check_ready.result refusal Store result refused in
+    where_open old new (λ opened. c.in_err-check_ready.ensures.caused clean (keeps opened).0.0 (ap why_of is))
+
+pub returns-clause-room : goal.returns-clause-room
+returns-clause-room g c clean texts told fine before fits keeps room refused =
+    let limits = c.args.self.now.limits in
+    let profile = c.args.self.now.profile in
+    let k = conditions (version_of g.L.Layout.format) profile limits in
+    let old = state g.S.Store c.args.self.now.connection in
+    let mid = state g.S.Store c.check_ready.new.connection in
+    let new = state g.S.Store c.change_database.new.connection in
+    let first : HasCleanDisk mid = omega (arith, c.change_database.ensures.survives.clean) in
+    let met = ready_kept k old mid before (c.in_ok-check_ready.ensures.ready first limits before keeps) (c.check_ready.ensures.same first) keeps in
+    let same = (c.check_ready.ensures.same first met.2.1).1 in
+    may_after old mid new c.check_ready.ensures.crash (λ _. met.2.1) (λ _.
+    c.change_database.ensures.room clean texts told fine before (met.0, met.1) met.3 (room_still g.L.Layout.format profile c.args.kind texts old mid same room) refused)
