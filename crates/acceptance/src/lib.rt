@@ -13,6 +13,8 @@ mod changes;
 #[cfg(test)]
 mod databases;
 #[cfg(test)]
+mod failing_readers;
+#[cfg(test)]
 mod finds;
 #[cfg(test)]
 mod limits;

@@ -1,56 +1,16 @@
 //! Records from readers, one held at a time.
 
-use command_rows::commands::{Row, Step, TITLES, adopted, answers, is_refused_with, name, prints};
+use command_rows::commands::{Row, Step, TITLES, adopted, answers, name, prints};
 use sqlite::{Connection, MemStore};
 use std::alloc::{AllocGlobal, Global};
 use std::process::Abort;
 use std::test::Fail;
-use worked_samples::{BARE, BOOKS, CAFE, MOBY};
+use worked_samples::{BOOKS, MOBY};
 use zeb_engine::{Kind, Limits, Refusal, Reply, Session};
 use zeb_marc::{ReadFailed, Source};
 use zeb_packed::Blocks;
 
 pub type Memory = Session<MemStore, Blocks>;
-
-/// Gives bytes one at a time, and then ends or fails.
-#[derive(Drop)]
-struct Stream<'a> {
-    bytes: &'a [u8],
-    breaks: bool,
-    failed: bool,
-}
-
-impl Source for Stream<'_> {
-    ghost use Rattle.std.specs.Prelude.{None};
-
-    ghost remaining = { λ _. None };
-
-    ghost has_failed = { λ s. s.failed };
-
-    ghost reads = { λ _. 0 };
-
-    fn read(&mut self, buffer: &mut [u8]) -> Result<usize, ReadFailed> {
-        if buffer.is_empty() {
-            return Ok(0);
-        }
-        match self.bytes.split_first() {
-            Some((first, rest)) => {
-                buffer[0] = *first;
-                self.bytes = rest;
-                Ok(1)
-            }
-            None if self.breaks => {
-                self.failed = true;
-                Err(ReadFailed)
-            }
-            None => Ok(0),
-        }
-    }
-
-    fn has_failed(&self) -> bool {
-        self.failed
-    }
-}
 
 /// Makes records as they are read, one for each number below an end, from 0 on or down to it.
 #[derive(Drop)]
@@ -147,27 +107,13 @@ pub fn opened_under(alloc: Global, profile: &str) -> Result<Memory, Fail> {
     ))
 }
 
-/// A reader that gives the bytes, and then fails.
-fn torn<'a>(bytes: &'a [u8]) -> Stream<'a> {
-    Stream {
-        bytes,
-        breaks: true,
-        failed: false,
-    }
-}
-
-/// A reader that gives the bytes, and then ends.
-fn whole<'a>(bytes: &'a [u8]) -> Stream<'a> {
-    Stream {
-        bytes,
-        breaks: false,
-        failed: false,
-    }
-}
-
-/// The answer to an update from readers.
-fn updated<R: Source>(session: &mut Memory, readers: &mut [R]) -> Result<Reply, Refusal> {
-    session.update_from(&name("Default")?, Kind::Update, readers)
+/// The answer to a change of the database `Default` from readers.
+pub fn changed<R: Source>(
+    session: &mut Memory,
+    kind: Kind,
+    readers: &mut [R],
+) -> Result<Reply, Refusal> {
+    session.update_from(&name("Default")?, kind, readers)
 }
 
 /// An update from readers prints so.
@@ -177,87 +123,7 @@ fn update_prints<R: Source>(
     readers: &mut [R],
     wanted: &str,
 ) -> Result<(), Fail> {
-    prints(rt, &updated(session, readers), wanted, 0)?;
-    Ok(())
-}
-
-/// Wherever the first of two readers fails, and wherever the second one does.
-#[test]
-fn a_reader_that_fails_is_named(rt: HostRuntime) -> Result<(), Fail> {
-    let mut session = opened(rt.alloc())?;
-    answers(&rt, &mut session, &[(Step::Init, "ok\n")])?;
-    let mut both = Vec::from_slice(rt.alloc(), MOBY)?;
-    both.extend_from_slice(CAFE)?;
-    for place in 0..=both.len() {
-        let mut readers = [torn(&both[..place])];
-        update_prints(
-            &rt,
-            &mut session,
-            &mut readers,
-            "zebraidx: file 1: read fault",
-        )?;
-    }
-    for place in 0..=CAFE.len() {
-        let mut readers = [whole(MOBY), torn(&CAFE[..place])];
-        update_prints(
-            &rt,
-            &mut session,
-            &mut readers,
-            "zebraidx: file 2: read fault",
-        )?;
-    }
-    answers(
-        &rt,
-        &mut session,
-        &[(
-            Step::Find("@attr 1=4 moby"),
-            "zebraidx: diagnostic 235 at 0: Default",
-        )],
-    )
-}
-
-/// What is printed before each update from a reader that had failed.
-const BEFORE: [Row<'static>; 3] = [
-    (
-        Step::Find("@attr 1=4 moby"),
-        "zebraidx: register not initialised",
-    ),
-    (Step::Init, "ok\n"),
-    (
-        Step::Find("@attr 1=4 moby"),
-        "zebraidx: diagnostic 235 at 0: Default",
-    ),
-];
-
-#[test]
-fn a_reader_that_had_failed_is_named(rt: HostRuntime) -> Result<(), Fail> {
-    let mut session = opened(rt.alloc())?;
-    for rows in BEFORE.chunks(1) {
-        answers(&rt, &mut session, rows)?;
-        let failed = Stream {
-            bytes: CAFE,
-            breaks: true,
-            failed: true,
-        };
-        let mut readers = [whole(MOBY), failed];
-        update_prints(
-            &rt,
-            &mut session,
-            &mut readers,
-            "zebraidx: file 2: read fault",
-        )?;
-    }
-    Ok(())
-}
-
-#[test]
-fn a_record_is_refused_before_the_read_that_fails(rt: HostRuntime) -> Result<(), Fail> {
-    let mut session = opened(rt.alloc())?;
-    answers(&rt, &mut session, &[(Step::Init, "ok\n")])?;
-    let bare = "zebraidx: file 1 record 1: NoIdentifier";
-    update_prints(&rt, &mut session, &mut [torn(BARE)], bare)?;
-    let given = updated(&mut session, &mut [torn(b"")]);
-    assert!(rt; is_refused_with(&given, 3));
+    prints(rt, &changed(session, Kind::Update, readers), wanted, 0)?;
     Ok(())
 }
 

@@ -11,7 +11,7 @@ pub const SUBJECTS: &str =
     "store books.db\nidentifier 001\natt 4 Title\natt 31 Date\natt 1016 Any\natt 21 Any\nmelm 245$a Title:w\nmelm 245 Title:w\nmelm 260$c Date:n\nall Any\n";
 
 /// `BOOKS`, whose records are named by their titles.
-const BY_TITLE: &str =
+pub const BY_TITLE: &str =
     "store books.db\nidentifier 245$a\natt 4 Title\natt 31 Date\natt 1016 Any\nmelm 245$a Title:w,Title:p\nmelm 245 Title:w\nmelm 260$c Date:n\nall Any\n";
 
 const NOT_BEGUN: &str = "zebraidx: register not initialised";

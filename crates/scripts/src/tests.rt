@@ -1,16 +1,16 @@
-//! The program on scripts, words, and sources and writers that fail.
+//! The program on scripts: how one is run, and what it answers.
 
 use sqlite::MemStore;
 use std::alloc::Global;
-use std::io::BufWriter;
 use std::process::Abort;
+use std::str;
 use std::test::Fail;
-use std::{io, str};
-use zeb_marc::{FromRead, Slice};
+use zeb_marc::Slice;
 use zeb_paths::{Paths, Shelf};
 use zeb_program::{FAILED, Sink, run};
 
 mod by_lines;
+mod failing;
 mod fakes;
 mod folder;
 mod memory;
@@ -21,7 +21,6 @@ mod scans;
 mod warnings;
 mod words;
 
-use fakes::{Brittle, Endless, Torn};
 use records::with_records;
 
 /// A profile with the titles alone, the dividing line, and a register that is initialised.
@@ -332,92 +331,4 @@ fn deletes_records(rt: HostRuntime) -> Result<(), Fail> {
         "ok\nzebraidx: diagnostic 235 at 0: X\n",
         1,
     )
-}
-
-#[test]
-fn refuses_what_it_cannot_read(rt: HostRuntime) -> Result<(), Fail> {
-    let refusal = b"zebraidx: cannot read input\n".as_slice();
-    let outcome = run_script(rt.alloc(), b"store \xff\n");
-    assert_eq!(rt; outcome.status, 3);
-    assert_eq!(rt; outcome.output.as_slice(), refusal);
-    // A read that fails at the beginning, in the midst and where the end would be.
-    for count in [0, 1, 30, TITLES.len()] {
-        let mut output = Vec::new(rt.alloc());
-        let mut input = FromRead::new(Torn::new(&TITLES.as_bytes()[..count]));
-        let status = run(
-            rt.alloc(),
-            &[],
-            &mut no_paths(),
-            &mut input,
-            &mut Sink::new(&mut output),
-            &mut Sink::new(io::sink()),
-        );
-        assert_eq!(rt; status, 3);
-        assert_eq!(rt; output.as_slice(), refusal);
-    }
-    let mut output = Vec::new(rt.alloc());
-    let status = run(
-        rt.alloc(),
-        &[],
-        &mut no_paths(),
-        &mut FromRead::new(Endless),
-        &mut Sink::new(&mut output),
-        &mut Sink::new(io::sink()),
-    );
-    assert_eq!(rt; status, 3);
-    assert_eq!(rt; output.as_slice(), refusal);
-    Ok(())
-}
-
-#[test]
-fn tells_of_failed_writes(rt: HostRuntime) -> Result<(), Fail> {
-    let script = format!(in rt.alloc(); "{TITLES}init\nfind X @attr 1=4 whale\nx\n")?;
-    let lines = b"ok\nzebraidx: diagnostic 235 at 0: X\nzebraidx: bad line 8\n".as_slice();
-    let mut needed = 0;
-    for calls in 0..100usize {
-        let mut writer = Brittle::new(calls, Vec::new(rt.alloc()));
-        let status = run(
-            rt.alloc(),
-            &[],
-            &mut no_paths(),
-            &mut Slice::new(script.as_bytes()),
-            &mut Sink::new(&mut writer),
-            &mut Sink::new(io::sink()),
-        );
-        assert!(rt; lines.starts_with(writer.written()));
-        if status == 2 {
-            assert_eq!(rt; writer.written(), lines);
-            needed = calls;
-            break;
-        }
-        assert_eq!(rt; status, 3, "after {calls} calls");
-    }
-    // Each line is a write at least, and the end another call.
-    assert!(rt; needed >= 4);
-    let words = vec![in rt.alloc(); String::from_str(rt.alloc(), "init")?]?;
-    let mut fault_output = Sink::new(Brittle::new(0, Vec::new(rt.alloc())));
-    let status = run(
-        rt.alloc(),
-        words.as_slice(),
-        &mut no_paths(),
-        &mut Slice::new(b""),
-        &mut Sink::new(io::sink()),
-        &mut fault_output,
-    );
-    assert_eq!(rt; status, 3);
-    assert!(rt; fault_output.has_failed());
-    // A writer that holds all back is full at the end alone.
-    let brittle = Brittle::new(0, Vec::new(rt.alloc()));
-    let mut output = Sink::new(BufWriter::new(rt.alloc(), brittle)?);
-    let status = run(
-        rt.alloc(),
-        &[],
-        &mut no_paths(),
-        &mut Slice::new(script.as_bytes()),
-        &mut output,
-        &mut Sink::new(io::sink()),
-    );
-    assert_eq!(rt; status, 3);
-    assert!(rt; output.has_failed());
-    Ok(())
 }

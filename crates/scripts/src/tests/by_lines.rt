@@ -1,16 +1,8 @@
 //! A batch and a shell, over paths and a store in memory.
 
-ghost use Rattle.std.specs.Prelude.{◌≡◌, false};
-
-use super::fakes::{Brittle, Torn};
 use super::records::with_records;
-use super::words::{contents, expect, loaded, run_words, shelved};
-use std::alloc::Global;
-use std::str;
+use super::words::{expect, loaded, run_words};
 use std::test::Fail;
-use zeb_marc::{FromRead, Source};
-use zeb_paths::Shelf;
-use zeb_program::{Output, Sink, run};
 
 /// The words that run the lines of the input.
 const WORDS: [&str; 2] = ["batch", "shell"];
@@ -114,59 +106,4 @@ fn a_shell_opens_the_register_before_it_reads(rt: HostRuntime) -> Result<(), Fai
         &outcome,
         (3, "", "zebraidx: store fault\n"),
     )
-}
-
-/// Runs a shell over a loaded store.
-fn shell<R: Source, W: Output, V: Output>(
-    alloc: Global,
-    input: &mut R,
-    output: &mut Sink<W>,
-    fault_output: &mut Sink<V>,
-) -> Result<u8, Fail>
-    requires { R.has_failed input.old ≡ false }
-{
-    let words = vec![in alloc; String::from_str(alloc, "shell")?]?;
-    let contents = contents(alloc)?;
-    let files = shelved(alloc, &contents)?;
-    let mut shelf = Shelf::new(&files, Some(loaded(alloc)?));
-    Ok(run(alloc, &words, &mut shelf, input, output, fault_output))
-}
-
-#[test]
-fn a_shell_ends_where_a_read_fails(rt: HostRuntime) -> Result<(), Fail> {
-    let mut output = Vec::new(rt.alloc());
-    let mut fault_output = Vec::new(rt.alloc());
-    let status = shell(
-        rt.alloc(),
-        &mut FromRead::new(Torn::new(b"find Default moby\nfind")),
-        &mut Sink::new(&mut output),
-        &mut Sink::new(&mut fault_output),
-    )?;
-    // What was answered before stays; the torn line is not run.
-    assert_eq!(rt; status, 3);
-    assert_eq!(rt; str::from_utf8(output.as_slice())?, "hits 1\n1 a1\n");
-    assert_eq!(rt;
-        str::from_utf8(fault_output.as_slice())?,
-        "zebraidx: cannot read input\n"
-    );
-    Ok(())
-}
-
-#[test]
-fn a_shell_reads_no_line_behind_a_failed_write(rt: HostRuntime) -> Result<(), Fail> {
-    // A line's answer is a write, and passing it on another call. The input fails at its end, if it is read so far.
-    for (calls, reads_all) in [(0, false), (1, false), (2, false), (3, false), (4, true)] {
-        let mut input = FromRead::new(Torn::new(b"find Default moby\nfind Default moby\n"));
-        let mut writer = Brittle::new(calls, Vec::new(rt.alloc()));
-        let mut faults = Vec::new(rt.alloc());
-        let status = shell(
-            rt.alloc(),
-            &mut input,
-            &mut Sink::new(&mut writer),
-            &mut Sink::new(&mut faults),
-        )?;
-        assert_eq!(rt; status, 3);
-        assert_eq!(rt; input.has_failed(), reads_all, "after {calls} calls");
-    }
-    Ok(())
 }

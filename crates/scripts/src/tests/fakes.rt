@@ -2,19 +2,21 @@
 
 ghost use Rattle.std.specs.Prelude.{[]};
 
+use std::alloc::Global;
 use std::io;
 use std::io::{ErrorKind, Read, Write};
 use zeb_program::Output;
 
-/// A reader of some bytes, after which each read fails.
+/// A reader of some bytes, at most so many at a time, after which each read fails.
 #[derive(Drop)]
 pub struct Torn<'a> {
     bytes: &'a [u8],
+    most: usize,
 }
 
 impl<'a> Torn<'a> {
-    pub fn new(bytes: &'a [u8]) -> Torn<'a> {
-        Torn { bytes }
+    pub fn new(bytes: &'a [u8], most: usize) -> Torn<'a> {
+        Torn { bytes, most }
     }
 }
 
@@ -23,7 +25,7 @@ impl Read for Torn<'_> {
         if self.bytes.is_empty() {
             return Err(io::Error::from(ErrorKind::TimedOut));
         }
-        let count = self.bytes.len().min(buffer.len());
+        let count = self.bytes.len().min(buffer.len()).min(self.most);
         let (now, later) = self.bytes.split_at(count);
         buffer[..count].copy_from_slice(now);
         self.bytes = later;
@@ -44,44 +46,51 @@ impl Read for Endless {
     }
 }
 
-/// A writer of which some calls succeed, and after them each fails.
+/// A writer that takes a byte at a time, so many in all, and passes on so many times; then each call fails.
 #[derive(Drop)]
-pub struct Brittle {
-    calls: usize,
+pub struct Narrow {
+    room: usize,
+    passes: usize,
     written: Vec<u8>,
 }
 
-impl Brittle {
-    pub fn new(calls: usize, written: Vec<u8>) -> Brittle {
-        Brittle { calls, written }
+impl Narrow {
+    pub fn new(alloc: Global, room: usize, passes: usize) -> Narrow {
+        Narrow {
+            room,
+            passes,
+            written: Vec::new(alloc),
+        }
     }
 
     pub fn written(&self) -> &[u8] {
         self.written.as_slice()
     }
+}
 
-    fn call(&mut self) -> io::Result<()> {
-        if self.calls == 0 {
+impl Write for Narrow {
+    fn write(&mut self, bytes: &[u8]) -> io::Result<usize> {
+        let Some((first, _)) = bytes.split_first() else {
+            return Ok(0);
+        };
+        if self.room == 0 {
             return Err(io::Error::from(ErrorKind::BrokenPipe));
         }
-        self.calls -= 1;
+        self.room -= 1;
+        self.written.extend_from_slice(&[*first])?;
+        Ok(1)
+    }
+
+    fn flush(&mut self) -> io::Result<()> {
+        if self.passes == 0 {
+            return Err(io::Error::from(ErrorKind::BrokenPipe));
+        }
+        self.passes -= 1;
         Ok(())
     }
 }
 
-impl Write for Brittle {
-    fn write(&mut self, bytes: &[u8]) -> io::Result<usize> {
-        self.call()?;
-        self.written.extend_from_slice(bytes)?;
-        Ok(bytes.len())
-    }
-
-    fn flush(&mut self) -> io::Result<()> {
-        self.call()
-    }
-}
-
-impl Output for Brittle {
+impl Output for Narrow {
     ghost held_back = { λ _. [] };
 
     fn pass_on(&mut self) -> io::Result<()> {
