@@ -178,7 +178,7 @@ fn is_alike(
     let [plain, packed] = both.quick(alloc, query)?;
     let wanted = format!(in alloc; "{query}\n{slow}{slow}")?;
     let printed = format!(in alloc; "{query}\n{plain}{packed}")?;
-    is_text(rt, &printed, &wanted, tally.asked);
+    is_text(&printed, &wanted, tally.asked)?;
     tally.count(&slow);
     Ok(())
 }
@@ -198,11 +198,5 @@ fn finds_are_as_slow_ones(rt: HostRuntime) -> Result<(), Fail> {
     for query in &queries(alloc)? {
         is_alike(&rt, &mut both, query, &mut tally)?;
     }
-    is_text(
-        &rt,
-        &tally.text(alloc)?,
-        "asked 1064 found 434 refused 343",
-        0,
-    );
-    Ok(())
+    is_text(&tally.text(alloc)?, "asked 1064 found 434 refused 343", 0)
 }

@@ -3,7 +3,6 @@
 use crate::texts::is_text;
 use sqlite::{Alter, Connection, MemStore};
 use std::alloc::{AllocError, AllocGlobal, Global};
-use std::process::Abort;
 use std::test::Fail;
 use zeb_engine::{
     Command, DbName, Kind, Limits, Refusal, Reply, Session, refusal_line, render, status,
@@ -148,14 +147,13 @@ pub fn answer<S: Alter, L: Layout>(
 
 /// For an answer this text is printed.
 pub fn prints(
-    rt: &(impl Abort + AllocGlobal),
+    rt: &impl AllocGlobal,
     answer: &Result<Reply, Refusal>,
     wanted: &str,
     place: usize,
-) -> Result<(), AllocError> {
+) -> Result<(), Fail> {
     let text = told(rt.alloc(), answer)?;
-    is_text(rt, &text, wanted, place);
-    Ok(())
+    is_text(&text, wanted, place)
 }
 
 /// Whether the answer is a refusal of this status.
@@ -168,7 +166,7 @@ pub fn is_refused_with(answer: &Result<Reply, Refusal>, wanted: u8) -> bool {
 
 /// For each step its text is printed.
 pub fn answers<S: Alter, L: Layout>(
-    rt: &(impl Abort + AllocGlobal),
+    rt: &impl AllocGlobal,
     session: &mut Session<S, L>,
     rows: &[Row<'_>],
 ) -> Result<(), Fail> {
@@ -200,7 +198,7 @@ pub fn adopted<S: Alter + Drop, L: Layout>(
 
 /// Runs a script over a connection, which is given back.
 pub fn run<S: Alter + Drop, L: Layout>(
-    rt: &(impl Abort + AllocGlobal),
+    rt: &impl AllocGlobal,
     connection: Connection<S>,
     limits: Limits,
     profile: &str,
@@ -215,7 +213,7 @@ pub fn run<S: Alter + Drop, L: Layout>(
 
 /// Runs a script over a new register in memory, of this layout.
 pub fn run_in_memory<L: Layout>(
-    rt: &(impl Abort + AllocGlobal),
+    rt: &impl AllocGlobal,
     limits: Limits,
     script: Script,
 ) -> Result<(), Fail> {
@@ -227,7 +225,7 @@ pub fn run_in_memory<L: Layout>(
 }
 
 /// Runs each script over either layout.
-pub fn run_each(rt: &(impl Abort + AllocGlobal), scripts: &[Script]) -> Result<(), Fail> {
+pub fn run_each(rt: &impl AllocGlobal, scripts: &[Script]) -> Result<(), Fail> {
     for script in scripts {
         run_in_memory::<Rows>(rt, Limits::GREATEST, script)?;
         run_in_memory::<Blocks>(rt, Limits::GREATEST, script)?;

@@ -3,7 +3,6 @@
 use crate::texts::is_text;
 use sqlite::{Alter, Connection};
 use std::alloc::AllocGlobal;
-use std::process::Abort;
 use std::test::Fail;
 use tables::queries::{execute, rows};
 use zeb_register::RegFault;
@@ -32,14 +31,14 @@ fn answer<S: Alter>(
 
 /// Each statement is carried out, and gets its answer.
 pub fn tables_answer<S: Alter>(
-    rt: &(impl Abort + AllocGlobal),
+    rt: &impl AllocGlobal,
     connection: &mut Connection<S>,
     all: &[TableRow<'_>],
 ) -> Result<(), Fail> {
     for (place, (statement, wanted)) in all.iter().enumerate() {
         let mut text = String::new(rt.alloc());
         answer(connection, statement, &mut text)?;
-        is_text(rt, &text, wanted, place);
+        is_text(&text, wanted, place)?;
     }
     Ok(())
 }

@@ -4,7 +4,6 @@ use crate::commands::{Row, run};
 use crate::statements::{TableRow, tables_answer};
 use sqlite::{Alter, Connection, MemStore};
 use std::alloc::AllocGlobal;
-use std::process::Abort;
 use std::test::Fail;
 use zeb_engine::Limits;
 use zeb_packed::Blocks;
@@ -33,7 +32,7 @@ pub type Story = &'static [Part<'static>];
 
 /// Does a part with a connection, which is given back.
 pub fn done<S: Alter + Drop>(
-    rt: &(impl Abort + AllocGlobal),
+    rt: &impl AllocGlobal,
     connection: Connection<S>,
     part: &Part<'_>,
 ) -> Result<Connection<S>, Fail> {
@@ -50,7 +49,7 @@ pub fn done<S: Alter + Drop>(
 }
 
 /// Goes through a story over a new store in memory, and gives the connection.
-pub fn told(rt: &(impl Abort + AllocGlobal), story: Story) -> Result<Connection<MemStore>, Fail> {
+pub fn told(rt: &impl AllocGlobal, story: Story) -> Result<Connection<MemStore>, Fail> {
     let mut connection = Connection::open_in_memory(rt.alloc())?;
     for part in story {
         connection = done(rt, connection, part)?;

@@ -47,7 +47,7 @@ fn done_beside(
     let before = all_rows(rt.alloc(), &mut connection, queries)?;
     let mut connection = done(rt, connection, part)?;
     let after = all_rows(rt.alloc(), &mut connection, queries)?;
-    is_text(rt, &after, &before, 0);
+    is_text(&after, &before, 0)?;
     Ok(connection)
 }
 

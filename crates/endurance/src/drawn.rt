@@ -107,12 +107,7 @@ pub fn asked<L: Layout>(
     let given = answer(&mut session, &command);
     let mut connection = session.release();
     if given.is_err() {
-        is_text(
-            rt,
-            &all_rows(rt.alloc(), &mut connection, &TABLES)?,
-            &before,
-            0,
-        );
+        is_text(&all_rows(rt.alloc(), &mut connection, &TABLES)?, &before, 0)?;
     }
     let text = told(rt.alloc(), &given)?;
     Ok((connection, text))
@@ -164,7 +159,7 @@ fn prints<L: Layout>(
     wanted: &str,
 ) -> Result<Connection<MemStore>, Fail> {
     let (connection, text) = asked::<L>(rt, connection, step)?;
-    is_text(rt, &text, wanted, 0);
+    is_text(&text, wanted, 0)?;
     Ok(connection)
 }
 
@@ -207,13 +202,13 @@ fn drawn(rt: &(impl Abort + AllocGlobal), draw: &mut Draw) -> Result<(), Fail> {
     let mut again = *draw;
     let (mut plain, printed) = made::<Rows>(rt, draw)?;
     let (mut packed, wanted) = made::<Blocks>(rt, &mut again)?;
-    is_text(rt, &printed, &wanted, 0);
+    is_text(&printed, &wanted, 0)?;
     let is_plain_harmed = is_harmed(&mut plain, draw);
     let is_packed_harmed = is_harmed(&mut packed, &mut again);
     let printed = told_apart::<Rows>(rt, plain, is_plain_harmed)?;
     let wanted = told_apart::<Blocks>(rt, packed, is_packed_harmed)?;
     if !is_plain_harmed && !is_packed_harmed {
-        is_text(rt, &printed, &wanted, 0);
+        is_text(&printed, &wanted, 0)?;
     }
     Ok(())
 }

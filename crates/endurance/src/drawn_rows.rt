@@ -293,7 +293,7 @@ fn rows_drawn_by_lot_are_refused_or_answered(rt: HostRuntime) -> Result<(), Fail
         let (is_plain_sound, printed) = drawn::<Rows>(&rt, &mut draw, PLAIN)?;
         let (is_packed_sound, wanted) = drawn::<Blocks>(&rt, &mut again, PACKED)?;
         if is_plain_sound && is_packed_sound {
-            is_text(&rt, &printed, &wanted, place);
+            is_text(&printed, &wanted, place)?;
         }
     }
     Ok(())

@@ -199,7 +199,7 @@ fn is_taken_over_as(
         let (mut after, taken) = offered(rt.alloc(), connection);
         assert_eq!(rt; taken, *wanted, "store {place}");
         if !taken {
-            is_text(rt, &shown(rt.alloc(), &mut after, query)?, &before, place);
+            is_text(&shown(rt.alloc(), &mut after, query)?, &before, place)?;
         }
         connection = after;
     }

@@ -92,7 +92,7 @@ fn list_prints(
 ) -> Result<(), Fail> {
     for (place, (given, (_, wanted))) in answers.iter().zip(LIST.iter()).enumerate() {
         if place < count {
-            is_text(rt, &printed(rt.alloc(), given)?, wanted, place);
+            is_text(&printed(rt.alloc(), given)?, wanted, place)?;
         }
     }
     Ok(())
@@ -119,14 +119,13 @@ fn is_as_without(
         };
         if let Some(wanted) = answers.get(there) {
             let wanted = printed(rt.alloc(), wanted)?;
-            is_text(rt, &printed(rt.alloc(), given)?, &wanted, there);
+            is_text(&printed(rt.alloc(), given)?, &wanted, there)?;
         }
     }
     let mut connection = connection;
     let mut new = session.release();
     let wanted = state(rt.alloc(), &mut new)?;
-    is_text(rt, &state(rt.alloc(), &mut connection)?, &wanted, left_out);
-    Ok(())
+    is_text(&state(rt.alloc(), &mut connection)?, &wanted, left_out)
 }
 
 /// A list that is refused has run nothing. In one that isn't, a command that memory was refused for is as one that wasn't given.

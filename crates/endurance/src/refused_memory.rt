@@ -226,12 +226,12 @@ fn answered(
     let (again, first) = asked_in(rt.alloc(), connection, kept, profile, given);
     connection = again;
     if !lacks_memory(&first) {
-        is_text(rt, &printed(rt.alloc(), &first)?, wanted, 0);
+        is_text(&printed(rt.alloc(), &first)?, wanted, 0)?;
         return Ok(connection);
     }
-    is_text(rt, &state(rt.alloc(), &mut connection)?, &before, 0);
+    is_text(&state(rt.alloc(), &mut connection)?, &before, 0)?;
     let (connection, second) = asked_in(rt.alloc(), connection, kept, profile, given);
-    is_text(rt, &printed(rt.alloc(), &second)?, wanted, 0);
+    is_text(&printed(rt.alloc(), &second)?, wanted, 0)?;
     Ok(connection)
 }
 
