@@ -4,7 +4,8 @@ use crate::slow_find::Kept;
 use command_rows::lots::Draw;
 use std::alloc::{AllocError, Global};
 use std::test::Fail;
-use zeb_extract::{Occurrence, occurrences};
+use zeb_extract::occurrences;
+use zeb_keys::Occurrence;
 use zeb_marc::Marc;
 use zeb_profile::Profile;
 

@@ -2,8 +2,8 @@
 
 use std::alloc::{AllocError, Global};
 use zeb_engine::{Hit, Refusal, Reply};
-use zeb_extract::Occurrence;
-use zeb_profile::{Profile, Register};
+use zeb_keys::{Occurrence, Register};
+use zeb_profile::Profile;
 use zeb_query::{
     DistanceRelation, NearPlan, Operator, Order, Plan, Relation, Separation, TermPlan, plan,
     read_pqf,

@@ -2,9 +2,10 @@
 use std::alloc::{AllocError, Global};
 use std::test::Fail;
 use worked_samples::{BOOKS, CAFE, MOBY};
-use zeb_extract::{IdentFault, Key, Occurrence, Term, identifier, occurrences};
+use zeb_extract::{IdentFault, identifier, occurrences};
+use zeb_keys::{Key, Occurrence, Register, Term};
 use zeb_marc::Marc;
-use zeb_profile::{Profile, Register};
+use zeb_profile::Profile;
 
 /// The analysis of `MOBY` under `BOOKS`, in the order of occurrences; of a number with all the digits that are kept.
 const MOBY_LINES: &str = "Title:w 2 2 dick

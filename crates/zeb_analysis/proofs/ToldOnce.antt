@@ -2,10 +2,10 @@
 use Rattle.std.proofs.Common.{◌≡◌, ◌∙◌, ℕ, List, [], ◌∷◌, Result, Ok, Err, refl, sym, ap, subst}
 use Rattle.zeb_profile.specs.declared.directives.Directive.{Directive}
 use Rattle.zeb_profile.specs.Indexes.{unit_targets}
-use Rattle.zeb_extract.specs.declared.keys.Occurrence.{Occurrence}
+use Rattle.zeb_keys.specs.declared.keys.Occurrence.{Occurrence}
 use Rattle.zeb_extract.specs.Identifier.{identifier_of}
 use Rattle.zeb_extract.specs.Occurrences.{IsOccurrence}
-use Rattle.zeb_extract.proofs.Rising.{rising_unique, occurrence_total, occurrences_apart}
+use Rattle.zeb_keys.proofs.Rising.{rising_unique, occurrence_total, occurrences_apart}
 use Rattle.zeb_analysis.specs.declared.faults.AnalysisFault.{AnalysisFault}
 use Rattle.zeb_analysis.specs.Analysing.{Analysed, AreAnalysesOf, IsAnalysisOf, AnalysesTo, Standing, standing_in_all, units_in}
 

@@ -7,7 +7,8 @@ ghost use Rattle.zeb_analysis.specs.PrivateWalk.{Extends, ReadsPlace};
 
 use crate::faults::AnalysisFault;
 use std::alloc::Global;
-use zeb_extract::{Occurrence, identifier, occurrences};
+use zeb_extract::{identifier, occurrences};
+use zeb_keys::Occurrence;
 use zeb_marc::{Marc, RecordBuf, Slice, next_record};
 use zeb_profile::Profile;
 

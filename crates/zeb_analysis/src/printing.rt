@@ -5,8 +5,7 @@ ghost use Rattle.zeb_analysis.specs.Printing.{analysis_text, name_at, occurrence
 
 use crate::analysing::Analysis;
 use std::alloc::{AllocError, Global};
-use zeb_extract::Occurrence;
-use zeb_profile::Register;
+use zeb_keys::{Occurrence, Register};
 use zeb_text::number_of_key;
 
 /// The number of a key without leading zeros; another text as it is.

@@ -12,7 +12,7 @@ use Rattle.zeb_register.specs.Hindrances.{HasRowids}
 use Rattle.zeb_register.specs.Room.{HasRoom}
 use Rattle.zeb_register.specs.Store.{records_tree}
 use Rattle.zeb_register.specs.declared.registers.Work.{Work}
-use Rattle.zeb_extract.specs.declared.keys.Key.{Key}
+use Rattle.zeb_keys.specs.declared.keys.Key.{Key}
 use Rattle.zeb_change.specs.declared.files.Fold.{Fold}
 use Rattle.zeb_change.specs.declared.key_notes.KeyNotes.{KeyNotes}
 use Rattle.zeb_change.specs.declared.pending.Pending.{Pending}

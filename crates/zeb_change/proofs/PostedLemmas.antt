@@ -5,8 +5,8 @@ use Rattle.std.proofs.lemmas.Bool.Decides.{Decides-eqb}
 use Rattle.sqlite_rules.specs.Lists.{Has}
 use Rattle.sqlite_rules.proofs.ListLemmas.{has_contained, contains_had}
 use Rattle.zeb_profile.specs.declared.directives.Directive.{Directive}
-use Rattle.zeb_extract.specs.declared.keys.Key.{Key}
-use Rattle.zeb_extract.specs.declared.keys.Occurrence.{Occurrence}
+use Rattle.zeb_keys.specs.declared.keys.Key.{Key}
+use Rattle.zeb_keys.specs.declared.keys.Occurrence.{Occurrence}
 use Rattle.zeb_register.specs.declared.registers.Place.{Place}
 use Rattle.zeb_register.specs.Content.{Content, posting_at, Posting}
 use Rattle.zeb_change.specs.Reposted.{occurrence_at, ArePostingsOf, IsReposted}

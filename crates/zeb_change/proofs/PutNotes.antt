@@ -7,8 +7,8 @@ use Rattle.std.specs.Map.{lookup, set_value}
 use Rattle.std.specs.BTreeMap.{insert_entry, is_at}
 use Rattle.std.proofs.lemmas.List.{map-append}
 use Rattle.std.proofs.lemmas.List.Sums.{sum_by-append}
-use Rattle.zeb_extract.specs.declared.keys.Key.{Key}
-use Rattle.zeb_extract.specs.Order.{key_order}
+use Rattle.zeb_keys.specs.declared.keys.Key.{Key}
+use Rattle.zeb_keys.specs.Order.{key_order}
 use Rattle.zeb_register.specs.Hindrances.{IsStorablePlaced, Placed, rows_of}
 use Rattle.zeb_register.specs.Room.{FitInRow}
 use Rattle.zeb_change.specs.declared.key_notes.KeyNotes.{KeyNotes}

@@ -4,9 +4,9 @@ use Rattle.std.specs.List.{Contains}
 use Rattle.std.specs.List.Sorted.{IsStrictlySortedBy}
 use Rattle.sqlite_rules.specs.Lists.{Has}
 use Rattle.sqlite_rules.proofs.ListLemmas.{has_contained, contains_had}
-use Rattle.zeb_extract.specs.declared.keys.Key.{Key}
-use Rattle.zeb_extract.specs.declared.keys.Occurrence.{Occurrence}
-use Rattle.zeb_extract.proofs.Rising.{key_total, keys_apart}
+use Rattle.zeb_keys.specs.declared.keys.Key.{Key}
+use Rattle.zeb_keys.specs.declared.keys.Occurrence.{Occurrence}
+use Rattle.zeb_keys.proofs.Rising.{key_total, keys_apart}
 use Rattle.zeb_register.specs.declared.registers.Place.{Place}
 use Rattle.zeb_register.specs.Content.{Content, IsRising, posting_at, posting_cmp, IsChangedAt, Posting}
 use Rattle.zeb_register.proofs.RisingLists.{told_by}

@@ -3,7 +3,7 @@ use Rattle.std.proofs.Common.{◌≡◌, ℕ, ℤ, pos, ◌+◌, ◌<◌, List, 
 use Rattle.sqlite.specs.Tree.{Trees}
 use Rattle.sqlite.specs.State.{State}
 use Rattle.zeb_profile.specs.declared.directives.Directive.{Directive}
-use Rattle.zeb_extract.specs.declared.keys.Occurrence.{Occurrence}
+use Rattle.zeb_keys.specs.declared.keys.Occurrence.{Occurrence}
 use Rattle.zeb_register.specs.Content.{Content}
 use Rattle.zeb_register.specs.Sql.{Loses, Replaces}
 use Rattle.zeb_register.specs.Store.{Changes, KeepsRegisters, records_tree, record_row, HasNumber, SharesRecord}

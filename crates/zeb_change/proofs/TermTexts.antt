@@ -27,10 +27,10 @@ use Rattle.zeb_marc.specs.Directory.{FieldText}
 use Rattle.zeb_marc.specs.Records.{fields_of}
 use Rattle.zeb_marc.specs.Contents.{Content as Piece, UnitText, numbered_from, units_of}
 use Rattle.zeb_profile.specs.declared.directives.Directive.{Directive}
-use Rattle.zeb_profile.specs.declared.registers.Register.{Register}
-use Rattle.zeb_profile.specs.declared.registers.Register.TheVariants.{Word, Phrase, Number}
+use Rattle.zeb_keys.specs.declared.registers.Register.{Register}
+use Rattle.zeb_keys.specs.declared.registers.Register.TheVariants.{Word, Phrase, Number}
 use Rattle.zeb_profile.specs.Indexes.{unit_targets}
-use Rattle.zeb_extract.specs.declared.keys.Occurrence.{Occurrence}
+use Rattle.zeb_keys.specs.declared.keys.Occurrence.{Occurrence}
 use Rattle.zeb_extract.specs.Occurrences.{Targets, IsOccurrence, text_of, word_terms, joined, terms_of}
 use Rattle.zeb_extract.proofs.Members.{Contains-map}
 use Rattle.zeb_register.specs.Content.{Content, IsStorable, IsStorablePosting}

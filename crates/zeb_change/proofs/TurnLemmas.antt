@@ -7,8 +7,8 @@ use Rattle.sqlite.specs.State.{State}
 use Rattle.sqlite_rules.proofs.ListLemmas.{contains_had}
 use Rattle.zeb_marc.specs.Records.{first_fault}
 use Rattle.zeb_profile.specs.declared.directives.Directive.{Directive}
-use Rattle.zeb_extract.specs.declared.keys.Occurrence.{Occurrence}
-use Rattle.zeb_extract.specs.Order.{IsRising as AreRising}
+use Rattle.zeb_keys.specs.declared.keys.Occurrence.{Occurrence}
+use Rattle.zeb_keys.specs.Order.{IsRising as AreRising}
 use Rattle.zeb_register.specs.declared.kept.Elder.{Elder}
 use Rattle.zeb_register.specs.Content.{Content}
 use Rattle.zeb_register.specs.Sql.{Loses}

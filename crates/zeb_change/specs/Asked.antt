@@ -5,9 +5,9 @@ use Rattle.sqlite.specs.State.{State}
 use Rattle.sqlite.specs.Tree.{Trees}
 use Rattle.zeb_marc.specs.Splits.{Split}
 use Rattle.zeb_profile.specs.declared.directives.Directive.{Directive}
-use Rattle.zeb_extract.specs.declared.keys.Key.{Key}
-use Rattle.zeb_extract.specs.declared.keys.Occurrence.{Occurrence}
-use Rattle.zeb_extract.specs.Order.{IsRising}
+use Rattle.zeb_keys.specs.declared.keys.Key.{Key}
+use Rattle.zeb_keys.specs.declared.keys.Occurrence.{Occurrence}
+use Rattle.zeb_keys.specs.Order.{IsRising}
 use Rattle.zeb_register.specs.declared.faults.RegFault.{RegFault}
 use Rattle.zeb_register.specs.declared.faults.RegFault.TheVariants.{Store}
 use Rattle.zeb_register.specs.Calls.{MayRefuse}

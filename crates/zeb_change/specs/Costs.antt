@@ -7,10 +7,10 @@ use Rattle.zeb_marc.specs.Contents.{units_of}
 use Rattle.zeb_marc.specs.Splits.{Split}
 use Rattle.zeb_profile.specs.declared.directives.Directive.{Directive}
 use Rattle.zeb_profile.specs.Indexes.{unit_targets}
-use Rattle.zeb_extract.specs.declared.keys.Key.{Key}
-use Rattle.zeb_extract.specs.declared.keys.Occurrence.{Occurrence}
+use Rattle.zeb_keys.specs.declared.keys.Key.{Key}
+use Rattle.zeb_keys.specs.declared.keys.Occurrence.{Occurrence}
 use Rattle.zeb_extract.specs.Occurrences.{IsOccurrence}
-use Rattle.zeb_extract.specs.Order.{key_order}
+use Rattle.zeb_keys.specs.Order.{key_order}
 use Rattle.zeb_register.specs.declared.registers.Work.{Work}
 use Rattle.zeb_register.specs.Tallies.{Works}
 use Rattle.zeb_change.specs.declared.settings.Kind.{Kind}

@@ -5,7 +5,7 @@ use Rattle.zeb_marc.specs.Records.{fields_of}
 use Rattle.zeb_marc.specs.Contents.{units_of}
 use Rattle.zeb_profile.specs.declared.directives.Directive.{Directive}
 use Rattle.zeb_profile.specs.Indexes.{unit_targets}
-use Rattle.zeb_extract.specs.declared.keys.Occurrence.{Occurrence}
+use Rattle.zeb_keys.specs.declared.keys.Occurrence.{Occurrence}
 use Rattle.zeb_extract.specs.Occurrences.{IsOccurrence}
 use Rattle.zeb_change.specs.Base.{Kept}
 

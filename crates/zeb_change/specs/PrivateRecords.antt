@@ -7,9 +7,9 @@ use Rattle.zeb_marc.specs.Records.{first_fault, fields_of}
 use Rattle.zeb_marc.specs.Contents.{units_of}
 use Rattle.zeb_profile.specs.declared.directives.Directive.{Directive}
 use Rattle.zeb_profile.specs.Indexes.{unit_targets}
-use Rattle.zeb_extract.specs.declared.keys.Occurrence.{Occurrence}
+use Rattle.zeb_keys.specs.declared.keys.Occurrence.{Occurrence}
 use Rattle.zeb_extract.specs.Occurrences.{IsOccurrence}
-use Rattle.zeb_extract.specs.Order.{IsRising}
+use Rattle.zeb_keys.specs.Order.{IsRising}
 use Rattle.zeb_register.specs.declared.kept.Elder.{Elder}
 use Rattle.zeb_register.specs.Store.{KeepsRegisters}
 use Rattle.zeb_change.specs.declared.records.Newer.{Newer}

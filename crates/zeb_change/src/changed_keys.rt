@@ -1,13 +1,13 @@
 //! The keys whose places differ between two lists of occurrences.
 
 ghost use Rattle.std.specs.Prelude.{◌≡◌, ◌+◌, ◌≤◌, ◌<◌, ◌⊎◌, length, map, take, drop, IfOk, OnOk, IfSome, IfNone, []};
-ghost use Rattle.zeb_extract.specs.Order.{IsRising as AreRising};
+ghost use Rattle.zeb_keys.specs.Order.{IsRising as AreRising};
 ghost use Rattle.zeb_change.specs.PrivateChangedKeys.{AreChangedKeys, IsNoted, place_in};
 ghost use Rattle.zeb_change.specs.PrivateKeyRuns.{BeginsWithKey, AreOfKey, Stops, IsNotAbove};
 
 use std::alloc::{AllocError, Global};
 use std::cmp::Ordering;
-use zeb_extract::{Key, Occurrence, order_is_by_parts};
+use zeb_keys::{Key, Occurrence, order_is_by_parts};
 use zeb_register::Place;
 
 /// A key with its places in the elder record and in the newer one. Either list rises.

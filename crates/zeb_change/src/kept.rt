@@ -5,7 +5,8 @@ ghost use Rattle.zeb_change.specs.PrivateRecords.{AreOccurrencesOf};
 ghost use Rattle.zeb_change.specs.Stored.{IsKept};
 
 use std::alloc::Global;
-use zeb_extract::{IdentFault, Occurrence, identifier, occurrences};
+use zeb_extract::{IdentFault, identifier, occurrences};
+use zeb_keys::Occurrence;
 use zeb_marc::Marc;
 use zeb_profile::Profile;
 use zeb_register::RegFault;

@@ -2,9 +2,9 @@
 
 ghost use Rattle.std.specs.Prelude.{◌≡◌, ◌⊎◌, ◌+◌, ◌<◌, ◌≤◌, ◌^◌, ℕ, ℤ, length, OnOk};
 ghost use Rattle.std.specs.List.{Contains};
-ghost use Rattle.zeb_extract.specs.Order.{IsRising as AreRising};
+ghost use Rattle.zeb_keys.specs.Order.{IsRising as AreRising};
 ghost use Rattle.zeb_register.specs.Content.{Content, IsRising};
-ghost use Rattle.zeb_extract.specs.declared.keys.Occurrence.{Occurrence};
+ghost use Rattle.zeb_keys.specs.declared.keys.Occurrence.{Occurrence};
 ghost use Rattle.zeb_register.specs.Room.{FitInRow};
 ghost use Rattle.zeb_change.specs.Asked.{IsStorableOccurrence, PutAmong};
 ghost use Rattle.zeb_change.specs.Costs.{IsRecordCost};
@@ -14,7 +14,7 @@ ghost use Rattle.zeb_change.specs.Reposted.{ArePostingsOf, AreTheSame, IsReposte
 use crate::changed_keys::changed_keys;
 use crate::pending::Pending;
 use std::alloc::{AllocError, Global};
-use zeb_extract::Occurrence;
+use zeb_keys::Occurrence;
 use zeb_register::RecordChange;
 
 /// Notes what becomes of just those keys whose places differ between two rising lists of occurrences, in the record with this number: the

@@ -7,7 +7,7 @@ ghost use Rattle.zeb_change.specs.PrivatePending.{IsNotNoted, IsNotedAlso, IsTak
 use crate::key_notes::KeyNotes;
 use std::alloc::{AllocError, Global};
 use std::collections::BTreeMap;
-use zeb_extract::{Key, order_is_by_parts};
+use zeb_keys::{Key, order_is_by_parts};
 use zeb_register::RecordChange;
 
 /// How many bytes a key takes beside its term and the words of its changes: 64 in the map, whose nodes are two thirds full or more, and

@@ -21,7 +21,7 @@ use crate::key_notes::{KeyNotes, PlaceCounts};
 use crate::pending::Pending;
 use sqlite::{Alter, Transaction};
 use std::alloc::{AllocError, Global};
-use zeb_extract::Key;
+use zeb_keys::Key;
 use zeb_register::{DatabaseId, Layout, Place, RecordChange, RegFault, Work};
 
 /// So many places at the front, and those behind them; all where there are fewer.

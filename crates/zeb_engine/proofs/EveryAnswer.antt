@@ -17,7 +17,7 @@ use Rattle.zeb_query.specs.Checks.{Refusal}
 use Rattle.zeb_query.specs.Plans.{PlanValue, ScanValue, plan_of, scan_of}
 use Rattle.zeb_query.specs.Places.{IsReadable}
 use Rattle.zeb_query.proofs.TextFaults.{read_or_faulty}
-use Rattle.zeb_extract.specs.declared.keys.Occurrence.{Occurrence}
+use Rattle.zeb_keys.specs.declared.keys.Occurrence.{Occurrence}
 use Rattle.zeb_extract.specs.Listing.{listing}
 use Rattle.zeb_extract.proofs.Listed.{occurrences_are_listed}
 use Rattle.zeb_extract.proofs.Members.{Contains-flat_map, Contains-map, from_flat_map, from_map}

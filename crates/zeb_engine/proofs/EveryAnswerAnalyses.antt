@@ -7,13 +7,13 @@ use Rattle.zeb_marc.specs.declared.faults.MarcFault.{MarcFault}
 use Rattle.zeb_marc.specs.Records.{first_fault}
 use Rattle.zeb_profile.specs.declared.directives.Directive.{Directive}
 use Rattle.zeb_profile.specs.Indexes.{unit_targets}
-use Rattle.zeb_extract.specs.declared.keys.Occurrence.{Occurrence}
+use Rattle.zeb_keys.specs.declared.keys.Occurrence.{Occurrence}
 use Rattle.zeb_extract.specs.declared.naming.IdentFault.{IdentFault}
 use Rattle.zeb_extract.specs.Identifier.{identifier_of}
 use Rattle.zeb_extract.specs.Listing.{listing}
 use Rattle.zeb_extract.specs.Occurrences.{IsOccurrence}
 use Rattle.zeb_extract.proofs.Listed.{occurrences_are_listed}
-use Rattle.zeb_extract.proofs.Rising.{occurrence_total, occurrences_apart}
+use Rattle.zeb_keys.proofs.Rising.{occurrence_total, occurrences_apart}
 use Rattle.zeb_analysis.specs.declared.faults.AnalysisFault.{AnalysisFault}
 use Rattle.zeb_analysis.specs.declared.faults.AnalysisFault.TheVariants.{TooManyRecords}
 use Rattle.zeb_analysis.specs.Analysing.{Analysed, AnalysesTo, AreAnalysesOf, IsAnalysisOf, Standing, first_refusal, refusal_at, refused_content, refused_name, refused_record, standing_in_all, units_in}

@@ -8,8 +8,8 @@ use Rattle.sqlite_rules.specs.Lists.{Has}
 use Rattle.zeb_text.specs.Symbols.{Symbol, Char, Star}
 use Rattle.zeb_text.specs.Patterns.{Matches}
 use Rattle.zeb_text.specs.Numbers.{number_key}
-use Rattle.zeb_profile.specs.declared.Register.{Register}
-use Rattle.zeb_profile.specs.declared.Register.TheVariants as register
+use Rattle.zeb_keys.specs.declared.Register.{Register}
+use Rattle.zeb_keys.specs.declared.Register.TheVariants as register
 use Rattle.zeb_query.specs.declared.plans.DistanceRelation.{DistanceRelation}
 use Rattle.zeb_query.specs.declared.plans.DistanceRelation.TheVariants as at
 use Rattle.zeb_query.specs.declared.plans.Operator.{Operator}
@@ -20,9 +20,9 @@ use Rattle.zeb_query.specs.declared.plans.Relation.{Relation}
 use Rattle.zeb_query.specs.declared.plans.Relation.TheVariants as relation
 use Rattle.zeb_query.specs.declared.plans.Separation.{Separation}
 use Rattle.zeb_query.specs.Plans.{PlanValue, TermOf, PairOf, NearOf, TermPlanValue, RecordNumberOf, AlwaysOf, NumberOf, OrderedOf, CompleteOf, PhraseOf, AllWordsOf, AnyWordOf}
-use Rattle.zeb_extract.specs.declared.keys.Key.{Key}
-use Rattle.zeb_extract.specs.declared.keys.Occurrence.{Occurrence}
-use Rattle.zeb_extract.proofs.Rising.{key_total, keys_apart, occurrence_total, occurrences_apart}
+use Rattle.zeb_keys.specs.declared.keys.Key.{Key}
+use Rattle.zeb_keys.specs.declared.keys.Occurrence.{Occurrence}
+use Rattle.zeb_keys.proofs.Rising.{key_total, keys_apart, occurrence_total, occurrences_apart}
 use Rattle.zeb_register.specs.Occurring.{key_in}
 use Rattle.zeb_register.proofs.RisingLists.{told_by}
 use Rattle.zeb_search.specs.Comparing.{AreApart, AreSeparated, IsDistant, Precedes, Stands, StandsInOrder}

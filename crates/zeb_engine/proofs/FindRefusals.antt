@@ -10,7 +10,7 @@ use Rattle.zeb_query.specs.Checks.{Fails}
 use Rattle.zeb_query.specs.Places.{IsFaultOf, IsReadable}
 use Rattle.zeb_query.specs.Grammar.{QueryValue, SpellsQuery}
 use Rattle.zeb_query.specs.Plans.{AllWordsOf, AlwaysOf, AnyWordOf, CompleteOf, HasSmallNumber, HasSmallNumbers, NearOf, NumberOf, OrderedOf, PairOf, PhraseOf, PlanValue, RecordNumberOf, TermOf, TermPlanValue, plan_of}
-use Rattle.zeb_extract.specs.declared.keys.Occurrence.{Occurrence}
+use Rattle.zeb_keys.specs.declared.keys.Occurrence.{Occurrence}
 use Rattle.zeb_register.specs.declared.RegFault.{RegFault}
 use Rattle.zeb_register.specs.declared.RegFault.TheVariants as register
 use Rattle.zeb_register.specs.Content.{Content, IsStorable, posted}

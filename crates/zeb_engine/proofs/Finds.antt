@@ -11,7 +11,7 @@ use Rattle.zeb_query.specs.Checks.{Fails, Refusal as PlanRefusal}
 use Rattle.zeb_query.specs.Grammar.{QueryValue, SpellsQuery}
 use Rattle.zeb_query.specs.Places.{IsReadable}
 use Rattle.zeb_query.specs.Plans.{PlanValue, plan_of}
-use Rattle.zeb_extract.specs.declared.keys.Occurrence.{Occurrence}
+use Rattle.zeb_keys.specs.declared.keys.Occurrence.{Occurrence}
 use Rattle.zeb_register.specs.Content.{posted}
 use Rattle.zeb_register.specs.Formats.{Format}
 use Rattle.zeb_change.specs.declared.refusals.Refusal.{Refusal}

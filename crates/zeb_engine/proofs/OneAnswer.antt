@@ -7,7 +7,7 @@ use Rattle.zeb_query.specs.Checks.{Refusal}
 use Rattle.zeb_query.specs.Grammar.{QueryValue}
 use Rattle.zeb_query.specs.Plans.{PlanValue, ScanValue, plan_of, scan_of}
 use Rattle.zeb_query.proofs.TextFaults.{apart, one_fault, one_query}
-use Rattle.zeb_extract.specs.declared.keys.Occurrence.{Occurrence}
+use Rattle.zeb_keys.specs.declared.keys.Occurrence.{Occurrence}
 use Rattle.zeb_analysis.proofs.ToldOnce.{told_once as analyses_once}
 use Rattle.zeb_register.specs.declared.registers.TermCount.{TermCount}
 use Rattle.zeb_register.proofs.OccurringLemmas.{one_terms}

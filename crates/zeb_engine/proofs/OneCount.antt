@@ -1,7 +1,7 @@
 -- What the definition says that a stat answers is one answer.
 use Rattle.std.proofs.Common.{◌≡◌, ◌∙◌, ℕ, List, [], ◌∷◌, length, Option, Some, None, Result, Ok, Err, sym, ap, ap₂}
 use Rattle.zeb_profile.specs.declared.directives.Directive.{Directive}
-use Rattle.zeb_extract.specs.declared.keys.Occurrence.{Occurrence}
+use Rattle.zeb_keys.specs.declared.keys.Occurrence.{Occurrence}
 use Rattle.zeb_register.proofs.OccurringLemmas.{one_totals}
 use Rattle.zeb_engine.specs.Answers.{Answer, Extent, counted}
 use Rattle.zeb_change.specs.Refused.{Why}

@@ -12,7 +12,7 @@ use Rattle.zeb_profile.specs.Canonical.{canonical_text}
 use Rattle.zeb_register.specs.Formats.{plain_rows, version_of}
 use Rattle.zeb_query.specs.Checks.{Refusal}
 use Rattle.zeb_query.specs.Plans.{PlanValue, ScanValue, plan_of, scan_of}
-use Rattle.zeb_extract.specs.declared.keys.Occurrence.{Occurrence}
+use Rattle.zeb_keys.specs.declared.keys.Occurrence.{Occurrence}
 use Rattle.zeb_extract.specs.declared.naming.IdentFault.{IdentFault}
 use Rattle.zeb_extract.specs.declared.naming.IdentFault.TheVariants as ident
 use Rattle.zeb_analysis.specs.declared.faults.AnalysisFault.{AnalysisFault}

@@ -16,8 +16,8 @@ use Rattle.zeb_marc.specs.Directory.{has_tag_bytes, has_digits, is_in_area}
 use Rattle.zeb_marc.specs.Records.{first_fault, fields_of}
 use Rattle.zeb_marc.specs.Splits.{split_of, next_of}
 use Rattle.zeb_marc.specs.Worked.{worked_record, worked_fields}
-use Rattle.zeb_profile.specs.declared.registers.Register.TheVariants.{Word}
-use Rattle.zeb_extract.specs.declared.keys.Occurrence.{Occurrence}
+use Rattle.zeb_keys.specs.declared.registers.Register.TheVariants.{Word}
+use Rattle.zeb_keys.specs.declared.keys.Occurrence.{Occurrence}
 use Rattle.zeb_query.specs.Plans.{PlanValue}
 use Rattle.zeb_register.specs.Occurring.{HasKey}
 use Rattle.zeb_extract.specs.Identifier.{identifier_of}

@@ -1,6 +1,6 @@
 -- What a command answers.
 use Rattle.std.specs.Prelude.{ℕ, List, map, Result, Ok, Err, string_bytes}
-use Rattle.zeb_profile.specs.declared.registers.Register.{Register}
+use Rattle.zeb_keys.specs.declared.registers.Register.{Register}
 use Rattle.zeb_analysis.specs.Analysing.{Analysed}
 use Rattle.zeb_analysis.specs.Analysing as analysing
 use Rattle.zeb_change.specs.declared.refusals.Refusal.{Refusal}

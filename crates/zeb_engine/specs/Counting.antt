@@ -2,10 +2,10 @@
 -- occurrences there are in each register of each index. Read with the bytes of all kept records, no register is looked into.
 use Rattle.std.specs.Prelude.{◌≡◌, ℕ, zero, suc, List, [], ◌∷◌, ◌++◌, length, slice_get, unwrap_or, if◌then◌else◌}
 use Rattle.zeb_profile.specs.declared.directives.Directive.{Directive}
-use Rattle.zeb_profile.specs.declared.registers.Register.{Register}
-use Rattle.zeb_profile.specs.declared.registers.Register.TheVariants.{Word, Phrase, Number}
+use Rattle.zeb_keys.specs.declared.registers.Register.{Register}
+use Rattle.zeb_keys.specs.declared.registers.Register.TheVariants.{Word, Phrase, Number}
 use Rattle.zeb_profile.specs.Indexes.{has_pair, index_names}
-use Rattle.zeb_extract.specs.declared.keys.Occurrence.{Occurrence}
+use Rattle.zeb_keys.specs.declared.keys.Occurrence.{Occurrence}
 use Rattle.zeb_register.specs.Occurring.{AreTotals}
 use Rattle.zeb_engine.specs.Answers.{Answer, Extent, counted}
 

@@ -9,7 +9,7 @@ use Rattle.zeb_profile.specs.declared.directives.Directive.{Directive}
 use Rattle.zeb_query.specs.Checks.{Refusal}
 use Rattle.zeb_query.specs.Grammar.{QueryValue, SpellsQuery}
 use Rattle.zeb_query.specs.Plans.{PlanValue, plan_of}
-use Rattle.zeb_extract.specs.declared.keys.Occurrence.{Occurrence}
+use Rattle.zeb_keys.specs.declared.keys.Occurrence.{Occurrence}
 use Rattle.zeb_search.specs.Holds.{TreeHolds}
 use Rattle.zeb_search.specs.Lists.{AreNumbers}
 use Rattle.zeb_engine.specs.Answers.{Answer, found, refused}

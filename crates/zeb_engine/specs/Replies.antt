@@ -5,9 +5,9 @@ use Rattle.std.specs.Char.{is_ascii_digit}
 use Rattle.std.specs.List.{flat_map, list_all}
 use Rattle.std.specs.Fmt.{decimal}
 use Rattle.std.specs.Str.Parse.{digits_value}
-use Rattle.zeb_profile.specs.Canonical.{register_text}
-use Rattle.zeb_profile.specs.declared.registers.Register.{Register}
-use Rattle.zeb_profile.specs.declared.registers.Register.TheVariants.{Word, Phrase, Number}
+use Rattle.zeb_keys.specs.Registers.{register_text}
+use Rattle.zeb_keys.specs.declared.registers.Register.{Register}
+use Rattle.zeb_keys.specs.declared.registers.Register.TheVariants.{Word, Phrase, Number}
 use Rattle.zeb_analysis.specs.declared.analysing.Analysis.{Analysis}
 use Rattle.zeb_analysis.specs.Analysing.{analysed}
 use Rattle.zeb_analysis.specs.Printing.{analysis_text}

@@ -6,7 +6,7 @@ use Rattle.zeb_profile.specs.declared.directives.Directive.{Directive}
 use Rattle.zeb_query.specs.Checks.{Refusal}
 use Rattle.zeb_query.specs.Grammar.{QueryValue, SpellsQuery}
 use Rattle.zeb_query.specs.Plans.{ScanValue, scan_of}
-use Rattle.zeb_extract.specs.declared.keys.Occurrence.{Occurrence}
+use Rattle.zeb_keys.specs.declared.keys.Occurrence.{Occurrence}
 use Rattle.zeb_register.specs.declared.registers.TermCount.{TermCount}
 use Rattle.zeb_register.specs.Occurring.{AreTermsOf, is_before, is_from, last}
 use Rattle.zeb_engine.specs.Answers.{Answer, scanned, refused}

@@ -6,7 +6,7 @@ ghost use Rattle.zeb_marc.specs.Splits.{Split};
 ghost use Rattle.zeb_profile.specs.declared.directives.Directive.{Directive};
 ghost use Rattle.zeb_profile.specs.Canonical.{canonical_text};
 ghost use Rattle.zeb_profile.specs.Laws.{IsProfile};
-ghost use Rattle.zeb_profile.specs.declared.registers.Register.TheVariants.{Word};
+ghost use Rattle.zeb_keys.specs.declared.registers.Register.TheVariants.{Word};
 ghost use Rattle.zeb_register.specs.Occurring.{TermIn};
 ghost use Rattle.zeb_search.specs.Holds.{TreeHolds};
 ghost use Rattle.zeb_engine.specs.Answers.{Answer, changed, refused};

@@ -5,7 +5,7 @@ ghost use Rattle.std.specs.List.{flat_map};
 
 use std::alloc::{AllocError, Global};
 use zeb_analysis::{Analysis, analysis_lines};
-use zeb_profile::Register;
+use zeb_keys::Register;
 use zeb_register::TermCount;
 use zeb_text::number_of_key;
 

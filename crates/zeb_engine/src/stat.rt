@@ -26,7 +26,8 @@ use sqlite::{Alter, Connection};
 use std::alloc::{AllocError, Global};
 use zeb_change::Refusal;
 use zeb_image::DbName;
-use zeb_profile::{Profile, Register};
+use zeb_keys::Register;
+use zeb_profile::Profile;
 use zeb_register::{DatabaseId, Layout, RegisterOf, Totals, Work, record_count};
 
 /// The register is added where some line has it as a target.

@@ -15,11 +15,11 @@ use Rattle.zeb_profile.specs.Indexes.{unit_targets}
 use Rattle.zeb_text.specs.Folding.{folded}
 use Rattle.zeb_text.specs.Words.{is_word_character, runs_of}
 use Rattle.zeb_text.specs.Numbers.{numerals_of, number_key}
-use Rattle.zeb_extract.specs.declared.keys.Occurrence.{Occurrence}
+use Rattle.zeb_keys.specs.declared.keys.Occurrence.{Occurrence}
 use Rattle.zeb_extract.specs.Occurrences.{IsOccurrence}
 use Rattle.zeb_extract.specs.Identifier.{identifier_of}
 use Rattle.zeb_extract.specs.Listing.{listing}
-use Rattle.zeb_extract.specs.Order.{IsRising}
+use Rattle.zeb_keys.specs.Order.{IsRising}
 use Rattle.zeb_extract.specs.Sample.{moby_dick, moby_dick_analysis, title_profile, date_at}
 use Rattle.zeb_extract.proofs.Listed.{occurrences_are_listed}
 use Rattle.zeb_extract.proofs.Members.{from_map}

@@ -1,8 +1,6 @@
 pub mod Stripped
 pub mod Analysis
 pub mod Members
-pub mod Rising
-pub mod Ordered
 pub mod Spaces
 pub mod Listed
 pub mod Example

@@ -5,8 +5,8 @@ use Rattle.std.specs.List.{Contains, enumerate_from}
 use Rattle.zeb_text.specs.Words.{joined_text}
 use borrow.Author.Tests.{eqb-true}
 use Rattle.zeb_marc.specs.Contents.{UnitText}
-use Rattle.zeb_profile.specs.declared.registers.Register.{Register}
-use Rattle.zeb_extract.specs.declared.keys.Occurrence.{Occurrence}
+use Rattle.zeb_keys.specs.declared.registers.Register.{Register}
+use Rattle.zeb_keys.specs.declared.keys.Occurrence.{Occurrence}
 use Rattle.zeb_extract.specs.Occurrences.{Targets, joined, terms_of, text_of, IsOccurrence}
 use Rattle.zeb_extract.specs.Listing.{occurrence_at, listed, listed_in, unit_listing, listing}
 use Rattle.zeb_extract.proofs.Members.{Contains-map, from_map, Contains-flat_map, from_flat_map}

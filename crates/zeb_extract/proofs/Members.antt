@@ -1,26 +1,8 @@
 -- Membership in a list that is made of others: by a function, or of pieces joined end to end.
-use Rattle.std.proofs.Common.{◌≡◌, ℕ, ◌<◌, List, [], ◌∷◌, ◌⊎◌, inl, inr, ⊎_elim, map, get_or, refl, sym, subst, arith}
+use Rattle.std.proofs.Common.{◌≡◌, List, [], ◌∷◌, ⊎_elim, map, sym, subst}
 use Rattle.std.specs.List.{Contains, flat_map}
 use Rattle.std.proofs.lemmas.List.Elements.{Contains-append_left, Contains-append_right, Contains-append_cases}
-
-module _ {X : Type 0} where
-  pub no_member : (x : X) → Contains [] x → ⊥
-  no_member x h = omega (arith, h.1)
-
-  pub first_member : (x : X) (xs : List X) → Contains (x ∷ xs) x
-  first_member x xs = (0, omega arith, refl)
-
-  pub later_member : (x : X) (xs : List X) (y : X) → Contains xs y → Contains (x ∷ xs) y
-  later_member x xs y h = Contains-append_right (x ∷ []) xs y h
-
-  pub only_member : (x y : X) → Contains (x ∷ []) y → x ≡ y
-  only_member x y h = only_at x y h.0 h.1 h.2
-    where
-      only_at : (x y : X) (k : ℕ) → k < 1 → get_or (x ∷ []) k y ≡ y → x ≡ y
-      only_at x y k inside e = let first : k ≡ 0 = omega arith in subst (λ n. get_or (x ∷ []) n y ≡ y) first e
-
-  pub member_cases : (x : X) (xs : List X) (y : X) → Contains (x ∷ xs) y → (x ≡ y) ⊎ Contains xs y
-  member_cases x xs y h = ⊎_elim (λ one. inl (only_member x y one)) (λ rest. inr rest) (Contains-append_cases (x ∷ []) xs y h)
+use Rattle.zeb_keys.proofs.Members.{no_member, first_member, later_member, member_cases}
 
 module _ {X A : Type 0} (f : X → A) where
   pub Contains-map : (xs : List X) (x : X) → Contains xs x → Contains (map f xs) (f x)

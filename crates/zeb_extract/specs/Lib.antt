@@ -1,4 +1,3 @@
-pub mod Order
 pub mod Identifier
 pub mod Stripped
 pub mod Names

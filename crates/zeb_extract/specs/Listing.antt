@@ -3,8 +3,8 @@
 use Rattle.std.specs.Prelude.{ℕ, List, map}
 use Rattle.std.specs.List.{enumerate_from, flat_map}
 use Rattle.zeb_marc.specs.Contents.{UnitText}
-use Rattle.zeb_profile.specs.declared.registers.Register.{Register}
-use Rattle.zeb_extract.specs.declared.keys.Occurrence.{Occurrence}
+use Rattle.zeb_keys.specs.declared.registers.Register.{Register}
+use Rattle.zeb_keys.specs.declared.keys.Occurrence.{Occurrence}
 use Rattle.zeb_extract.specs.Occurrences.{Targets, terms_of, text_of}
 
 -- the numbered term in this register of this index, from this unit

@@ -11,9 +11,9 @@ use Rattle.std.specs.Str.Lossy.{utf8_lossy}
 use Rattle.zeb_text.specs.Words.{joined_text, words_of}
 use Rattle.zeb_text.specs.Numbers.{numbers_of, number_key}
 use Rattle.zeb_marc.specs.Contents.{UnitText}
-use Rattle.zeb_profile.specs.declared.registers.Register.{Register}
-use Rattle.zeb_profile.specs.declared.registers.Register.TheVariants.{Word, Phrase, Number}
-use Rattle.zeb_extract.specs.declared.keys.Occurrence.{Occurrence}
+use Rattle.zeb_keys.specs.declared.registers.Register.{Register}
+use Rattle.zeb_keys.specs.declared.registers.Register.TheVariants.{Word, Phrase, Number}
+use Rattle.zeb_keys.specs.declared.keys.Occurrence.{Occurrence}
 
 -- the characters that bytes are read as
 abbrev pub text_of : List ℕ → List ℕ

@@ -6,9 +6,9 @@ use Rattle.zeb_marc.specs.Contents.{UnitText}
 use Rattle.zeb_marc.specs.Worked.{worked_units}
 use Rattle.zeb_profile.specs.declared.directives.Directive.{Directive}
 use Rattle.zeb_profile.specs.declared.directives.Directive.TheVariants.{Store, Identifier, Att, Melm, All}
-use Rattle.zeb_profile.specs.declared.registers.Register.{Register}
-use Rattle.zeb_profile.specs.declared.registers.Register.TheVariants.{Word, Phrase, Number}
-use Rattle.zeb_extract.specs.declared.keys.Occurrence.{Occurrence}
+use Rattle.zeb_keys.specs.declared.registers.Register.{Register}
+use Rattle.zeb_keys.specs.declared.registers.Register.TheVariants.{Word, Phrase, Number}
+use Rattle.zeb_keys.specs.declared.keys.Occurrence.{Occurrence}
 
 -- *Moby Dick*: the control number, the title, the remainder of the title, and the date
 abbrev pub moby_dick : List UnitText

@@ -6,15 +6,15 @@ ghost use Rattle.zeb_marc.specs.Contents.{units_of};
 ghost use Rattle.zeb_marc.specs.Units.{unit_text};
 ghost use Rattle.zeb_profile.specs.Indexes.{unit_targets};
 ghost use Rattle.zeb_text.specs.Numbers.{numbers_of, number_key};
-ghost use Rattle.zeb_extract.specs.declared.keys.Occurrence.{Occurrence};
+ghost use Rattle.zeb_keys.specs.declared.keys.Occurrence.{Occurrence};
 ghost use Rattle.zeb_extract.specs.Listing.{listed, unit_listing};
 ghost use Rattle.zeb_extract.specs.Occurrences.{IsOccurrence, joined, terms_of, word_terms};
-ghost use Rattle.zeb_extract.specs.Order.{IsRising, TellsApart};
+ghost use Rattle.zeb_keys.specs.Order.{IsRising, TellsApart};
 
-use crate::{Key, Occurrence, Term};
 use std::alloc::{AllocError, Global};
+use zeb_keys::{Key, Occurrence, Register, Term};
 use zeb_marc::{Marc, Unit};
-use zeb_profile::{Profile, Register};
+use zeb_profile::Profile;
 
 /// The occurrences of a record, in strictly rising order.
 ///

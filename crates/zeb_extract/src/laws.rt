@@ -1,47 +1,17 @@
 //! Laws of the definitions that the contracts cite. Each is a function with no code, whose contract is the law.
-ghost use Rattle.std.specs.Prelude.{◌≡◌, ◌↔◌, ◌∷◌, ◌++◌, [], ℕ, List, codes, true};
-ghost use Rattle.std.specs.Cmp.{IsTotalOrder};
+ghost use Rattle.std.specs.Prelude.{◌≡◌, ◌↔◌, ◌∷◌, ◌++◌, [], ℕ, List, codes};
 ghost use Rattle.std.specs.List.{Contains};
-ghost use Rattle.zeb_extract.specs.declared.keys.Key.{Key};
-ghost use Rattle.zeb_extract.specs.declared.keys.Occurrence.{Occurrence};
+ghost use Rattle.zeb_keys.specs.declared.keys.Occurrence.{Occurrence};
 ghost use Rattle.zeb_profile.specs.Indexes.{unit_targets};
 ghost use Rattle.zeb_profile.specs.Profiles.{profile_of};
 ghost use Rattle.zeb_extract.specs.Identifier.{identifier_of, without_spaces};
 ghost use Rattle.zeb_extract.specs.Stripped.{IsStripped};
 ghost use Rattle.zeb_extract.specs.Occurrences.{IsOccurrence, terms_of, text_of};
 ghost use Rattle.zeb_text.specs.Numbers.{number_key};
-ghost use Rattle.zeb_extract.specs.Order.{key_order, occurrence_order, IsRising, TellsApart};
+ghost use Rattle.zeb_keys.specs.Order.{IsRising};
 ghost use Rattle.zeb_extract.specs.Sample.{moby_dick, moby_dick_analysis, date_profile, date_at, date_text, title_profile, title_text};
 
-use crate::{Key, Occurrence, Term};
-use zeb_profile::Register;
-
-/// Keys compare by index, then register, then the bytes of the term; occurrences by key, then unit, then place.
-pub fn order_is_by_parts()
-    ensures keys { (a b : Key) → ⟦<Key as Ord>⟧.cmp a b ≡ key_order a b }
-    ensures occurrences { (a b : Occurrence) → ⟦<Occurrence as Ord>⟧.cmp a b ≡ occurrence_order a b }
-{}
-
-/// Both orders are total, and answer `Equal` of equal values alone.
-pub fn order_is_total()
-    ensures keys { IsTotalOrder key_order }
-    ensures keys_apart { TellsApart key_order }
-    ensures occurrences { IsTotalOrder occurrence_order }
-    ensures occurrences_apart { TellsApart occurrence_order }
-{}
-
-/// Keys, occurrences and terms are equal as the program compares them exactly where they are the same.
-pub fn equality_is_identity()
-    ensures terms { (a b : List ℕ) → (⟦<Term as PartialEq>⟧.eq a b ≡ true) ↔ (a ≡ b) }
-    ensures keys { (a b : Key) → (⟦<Key as PartialEq>⟧.eq a b ≡ true) ↔ (a ≡ b) }
-    ensures occurrences { (a b : Occurrence) → (⟦<Occurrence as PartialEq>⟧.eq a b ≡ true) ↔ (a ≡ b) }
-{}
-
-/// Two rising lists of occurrences that have the same members are the same list.
-pub fn rising_list_is_one()
-    ensures { (xs ys : List Occurrence) → IsRising xs → IsRising ys → ((o : Occurrence) → Contains xs o ↔ Contains ys o)
-        → xs ≡ ys }
-{}
+use zeb_keys::{Occurrence, Register};
 
 /// An identifier's spaces (U+0020) go from both ends of its text and from nowhere else: the text is spaces, what is left,
 /// and spaces, and what is left neither begins nor ends with one. There is one text that is left so.

@@ -12,7 +12,7 @@ use Rattle.zeb_profile.specs.Indexes.{identifier_pattern}
 use Rattle.zeb_profile.specs.Laws.{IsProfile, SaysTheSame}
 use Rattle.zeb_profile.proofs.ProfilesBack.{one_text_says_the_same}
 use Rattle.zeb_profile.proofs.SaysProps.{SaysTheSame-prop}
-use Rattle.zeb_extract.specs.declared.keys.Occurrence.{Occurrence}
+use Rattle.zeb_keys.specs.declared.keys.Occurrence.{Occurrence}
 use Rattle.zeb_extract.specs.Identifier.{first_fitting, held_in}
 use Rattle.zeb_register.specs.Content.{Content}
 use Rattle.zeb_change.specs.Occurs.{OccursIn}

@@ -8,7 +8,7 @@ use Rattle.sqlite_rules.proofs.ListLemmas.{has_contained}
 use Rattle.zeb_marc.specs.Records.{fields_of}
 use Rattle.zeb_profile.specs.declared.directives.Directive.{Directive}
 use Rattle.zeb_profile.specs.Indexes.{unit_targets}
-use Rattle.zeb_extract.specs.declared.keys.Occurrence.{Occurrence}
+use Rattle.zeb_keys.specs.declared.keys.Occurrence.{Occurrence}
 use Rattle.zeb_register.specs.declared.kept.Record.{Record}
 use Rattle.zeb_register.specs.declared.registers.Place.{Place}
 use Rattle.zeb_register.specs.Content.{Content, IsRising, IsStorable, IsStorablePosting, posting_at}

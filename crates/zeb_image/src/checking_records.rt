@@ -12,7 +12,8 @@ ghost use Rattle.zeb_image.specs.PrivateChecking.{AreOccurrencesOrNone, ArePosti
 use crate::fronted::{Fronted, add_postings, sorted, without_fronts};
 use std::alloc::{AllocError, Global};
 use std::cmp::Ordering;
-use zeb_extract::{IdentFault, Occurrence, identifier, occurrences, order_is_by_parts};
+use zeb_extract::{IdentFault, identifier, occurrences};
+use zeb_keys::{Occurrence, order_is_by_parts};
 use zeb_marc::Marc;
 use zeb_profile::Profile;
 use zeb_register::{KeyPosting, Record, RegFault};

@@ -7,7 +7,7 @@ ghost use Rattle.zeb_image.specs.PrivateChecking.{bare, posting_of};
 
 use std::alloc::{AllocError, Global};
 use std::cmp::Ordering;
-use zeb_extract::Occurrence;
+use zeb_keys::Occurrence;
 use zeb_register::{KeyPosting, Posting};
 
 /// So many bytes of a term make its number.

@@ -7,8 +7,8 @@ use Rattle.sqlite.specs.Tree.{Trees}
 use Rattle.sqlite_rules.specs.Lists.{Has}
 use Rattle.zeb_blocks.specs.declared.postings.Posting.{Posting}
 use Rattle.zeb_blocks.specs.Blocks.{BlockSpells, LiesIn, spelled_from, start_of}
-use Rattle.zeb_extract.specs.declared.keys.Key.{Key}
-use Rattle.zeb_profile.specs.Indexes.{register_code}
+use Rattle.zeb_keys.specs.declared.keys.Key.{Key}
+use Rattle.zeb_keys.specs.Registers.{register_code}
 use Rattle.zeb_register.specs.Content.{Content, IsStorable, posted}
 use Rattle.zeb_register.specs.Occurring.{HasKey, IsCount}
 use Rattle.zeb_register.specs.PackedBlocks.{HoldsBlocks, part_in, IsRecordNumber}

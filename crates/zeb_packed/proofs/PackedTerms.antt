@@ -13,9 +13,9 @@ use Rattle.sqlite_rules.specs.Lists.{Has}
 use Rattle.sqlite_rules.proofs.ListLemmas.{all_has, has_either, has_filtered, has_kept, has_left, has_right}
 use Rattle.sqlite_rules.proofs.ProbeLemmas.{has_mapped, mapped_has}
 use Rattle.sqlite_value.proofs.OrderLemmas.{row_cmp_total, value_cmp-Text}
-use Rattle.zeb_extract.specs.declared.keys.Key.{Key}
-use Rattle.zeb_profile.specs.declared.Register.{Register}
-use Rattle.zeb_profile.specs.Indexes.{register_code}
+use Rattle.zeb_keys.specs.declared.keys.Key.{Key}
+use Rattle.zeb_keys.specs.declared.Register.{Register}
+use Rattle.zeb_keys.specs.Registers.{register_code}
 use Rattle.zeb_register.specs.declared.registers.TermCount.{TermCount}
 use Rattle.zeb_register.specs.Content.{Content, IsStorable, posted}
 use Rattle.zeb_register.specs.Occurring.{AreTermsBefore, AreTermsFrom, AreTermsOf, HasKey, IsCount, TermIn, is_before, is_from, key_in, last, term_cmp}

@@ -14,7 +14,7 @@ use Rattle.sqlite_rules.specs.Lists.{Has}
 use Rattle.sqlite_rules.proofs.ListLemmas.{all_has, has_either, has_left, has_right}
 use Rattle.sqlite_rules.proofs.ProbeLemmas.{has_mapped, mapped_has}
 use Rattle.zeb_blocks.specs.declared.postings.Posting.{Posting}
-use Rattle.zeb_profile.specs.declared.Register.{Register}
+use Rattle.zeb_keys.specs.declared.Register.{Register}
 use Rattle.zeb_register.specs.declared.registers.TermCount.{TermCount}
 use Rattle.zeb_register.specs.Content.{Content, posted, posting_cmp}
 use Rattle.zeb_register.specs.Occurring.{AreSpotsOf, AreTermsOf, Spot, key_in, spot_cmp, term_cmp}

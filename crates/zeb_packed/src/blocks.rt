@@ -25,7 +25,7 @@ use crate::statements::packed::{block_rows, dict_rows, dict_rows_before, dict_ro
 use sqlite::{Alter, Connection, Transaction};
 use std::alloc::Global;
 use zeb_blocks::Posting;
-use zeb_extract::Key;
+use zeb_keys::Key;
 use zeb_register::for_layouts::{blocks_agree, database_drop_whole, nothing_inside};
 use zeb_register::{
     DatabaseId, Expected, Layout, Place, RecordChange, RegFault, RegisterOf, TermCount, Totals,

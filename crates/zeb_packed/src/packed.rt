@@ -14,8 +14,7 @@ ghost use Rattle.zeb_register.specs.Tallies.{Rises};
 use sqlite::{Alter, Connection, Row};
 use std::alloc::Global;
 use zeb_blocks::{Damaged, Posting, push_block};
-use zeb_extract::Term;
-use zeb_profile::Register;
+use zeb_keys::{Register, Term};
 use zeb_register::for_layouts::{read, read_bytes};
 use zeb_register::{DatabaseId, RegFault, TermCount};
 

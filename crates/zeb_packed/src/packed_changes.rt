@@ -31,7 +31,7 @@ use crate::statements::packed_changes::{
 use sqlite::{Alter, Error, ErrorCode, Row, Transaction};
 use std::alloc::Global;
 use zeb_blocks::{Posting, spell};
-use zeb_extract::Key;
+use zeb_keys::Key;
 use zeb_register::for_layouts::{KeyOf, read, stored};
 use zeb_register::{DatabaseId, RegFault};
 

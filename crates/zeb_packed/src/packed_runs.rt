@@ -22,7 +22,7 @@ use crate::packed_changes::{Known, block_begin, block_list, block_write, dict_wr
 use crate::packed_parts::Held;
 use sqlite::{Alter, Transaction};
 use std::alloc::Global;
-use zeb_extract::Key;
+use zeb_keys::Key;
 use zeb_register::{DatabaseId, RecordChange, RegFault, Work};
 
 /// How many system numbers belong to one block.

@@ -3,10 +3,10 @@ use denote.Struct.Props.{props}
 use base.Stored.{Coded-set}
 use Rattle.std.proofs.Common.{List}
 use Rattle.zeb_profile.specs.contracts.patterns.UnitPattern as pattern_row
-use Rattle.zeb_profile.specs.contracts.registers.Register as register_row
+use Rattle.zeb_keys.specs.contracts.registers.Register as register_row
 use Rattle.zeb_profile.specs.declared.directives.Directive.{Directive}
 use Rattle.zeb_profile.specs.declared.patterns.UnitPattern.{UnitPattern}
-use Rattle.zeb_profile.specs.declared.registers.Register.{Register}
+use Rattle.zeb_keys.specs.declared.registers.Register.{Register}
 use Rattle.zeb_profile.specs.Laws.{SaysTheSame}
 
 pattern_set : IsSet UnitPattern

@@ -9,7 +9,7 @@ use Rattle.std.specs.Option.{option_and_then}
 use Rattle.zeb_profile.specs.Canonical.{canonical_line, canonical_text}
 use Rattle.zeb_profile.specs.Indexes.{all_line_targets, first_spelling, fits, further_pairs, identifier_pattern, index_by_name, index_names, is_control_tag, melm_targets, names_in, pair_of, use_name}
 use Rattle.zeb_profile.specs.Laws.{SaysTheSame, StoreSaysNothingElse, without_store}
-use Rattle.zeb_profile.specs.declared.registers.Register.{Register}
+use Rattle.zeb_keys.specs.declared.registers.Register.{Register}
 use Rattle.zeb_profile.specs.Words.{same_name}
 use Rattle.zeb_profile.specs.Profiles.{all_targets, targets_in}
 

@@ -10,9 +10,10 @@ use Rattle.std.proofs.lemmas.List.Splits.{length-slice_split, slice_split_at, sl
 use Rattle.std.proofs.lemmas.List.Sums.{AllPass-from_list_all, position_or_len_is}
 use Rattle.zeb_profile.specs.declared.directives.Target.{Target}
 use Rattle.zeb_profile.specs.declared.faults.ProfileFaultKind.TheVariants.{DuplicateTarget}
-use Rattle.zeb_profile.specs.declared.registers.Register.{Register}
-use Rattle.zeb_profile.specs.declared.registers.Register.TheVariants.{Word, Phrase, Number}
-use Rattle.zeb_profile.specs.Canonical.{register_text, target_text, targets_text}
+use Rattle.zeb_keys.specs.declared.registers.Register.{Register}
+use Rattle.zeb_keys.specs.declared.registers.Register.TheVariants.{Word, Phrase, Number}
+use Rattle.zeb_profile.specs.Canonical.{target_text, targets_text}
+use Rattle.zeb_keys.specs.Registers.{register_text}
 use Rattle.zeb_profile.specs.Outcomes.{◌>>=◌}
 use Rattle.zeb_profile.specs.Words.{is_colon, is_comma, is_name, is_name_byte, name_of, register_after_colon, register_of, same_target, target_of, targets_after, targets_of}
 use Rattle.zeb_profile.proofs.PlainWords.{IsPlain}

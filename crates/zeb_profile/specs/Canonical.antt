@@ -7,13 +7,7 @@ use Rattle.zeb_profile.specs.declared.directives.Directive.{Directive}
 use Rattle.zeb_profile.specs.declared.directives.Directive.TheVariants.{Store, Identifier, Att, Melm, All}
 use Rattle.zeb_profile.specs.declared.directives.Target.{Target}
 use Rattle.zeb_profile.specs.declared.patterns.UnitPattern.{UnitPattern}
-use Rattle.zeb_profile.specs.declared.registers.Register.{Register}
-use Rattle.zeb_profile.specs.declared.registers.Register.TheVariants.{Word, Phrase, Number}
-
-abbrev pub register_text : Register → List ℕ
-register_text Word = codes "w"
-register_text Phrase = codes "p"
-register_text Number = codes "n"
+use Rattle.zeb_keys.specs.Registers.{register_text}
 
 abbrev pub code_text : Option ℕ → List ℕ
 code_text None = []

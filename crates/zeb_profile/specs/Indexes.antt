@@ -1,7 +1,7 @@
 -- Zebra manual, "Abstract syntaxes": what the directives `att` and `melm` say of indexes and of units.
 -- Own rules of this project, which the manual leaves open or has otherwise: which indexes there are, their order and their spelling; that
--- `all` adds to every unit of a data field what its `melm` line lacks, so that a unit has each target once; what `store` and `identifier`
--- say; and the numbers of registers.
+-- `all` adds to every unit of a data field what its `melm` line lacks, so that a unit has each target once; and what `store` and
+-- `identifier` say.
 use Rattle.std.specs.Prelude.{ℕ, Bool, true, false, not, ◌&&◌, List, [], ◌∷◌, ◌++◌, ◌==◌, map, filter, Option, Some, None, unwrap_or, slice_index, if◌then◌else◌}
 use Rattle.std.specs.List.{find, list_any, flat_map, position, position_or_len}
 use Rattle.std.specs.Option.{option_and_then}
@@ -10,8 +10,7 @@ use Rattle.zeb_profile.specs.declared.directives.Directive.{Directive}
 use Rattle.zeb_profile.specs.declared.directives.Directive.TheVariants.{Store, Identifier, Att, Melm, All}
 use Rattle.zeb_profile.specs.declared.directives.Target.{Target}
 use Rattle.zeb_profile.specs.declared.patterns.UnitPattern.{UnitPattern}
-use Rattle.zeb_profile.specs.declared.registers.Register.{Register}
-use Rattle.zeb_profile.specs.declared.registers.Register.TheVariants.{Word, Phrase, Number}
+use Rattle.zeb_keys.specs.declared.registers.Register.{Register}
 use Rattle.zeb_profile.specs.Profiles.{targets_in, all_targets}
 use Rattle.zeb_profile.specs.Words.{same_name, same_register, target_names}
 
@@ -117,9 +116,3 @@ store_path (Melm pattern targets ∷ others) = store_path others
 store_path (Att number name ∷ others) = store_path others
 store_path (All targets ∷ others) = store_path others
 store_path (Identifier pattern ∷ others) = store_path others
-
--- the number of a register: by it registers are ordered, and tables know them (this project's own)
-abbrev pub register_code : Register → ℕ
-register_code Word = 0
-register_code Phrase = 1
-register_code Number = 2

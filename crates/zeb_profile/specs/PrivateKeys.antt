@@ -8,7 +8,7 @@ use Rattle.std.specs.BTreeSet.{BTreeSet, contains_text}
 use Rattle.std.specs.List.{find, list_any}
 use Rattle.std.specs.Option.{option_or}
 use Rattle.std.specs.Str.{bytes_eq, str_to_ascii_lowercase}
-use Rattle.zeb_profile.specs.Canonical.{register_text}
+use Rattle.zeb_keys.specs.Registers.{register_text}
 use Rattle.zeb_profile.specs.declared.directives.Directive.{Directive}
 use Rattle.zeb_profile.specs.declared.directives.Directive.TheVariants.{Att}
 use Rattle.zeb_profile.specs.declared.directives.Target.{Target}

@@ -1,7 +1,7 @@
 -- What an iterator over a unit's targets has left.
 use Rattle.std.specs.Prelude.{ℕ, List, ◌++◌, map}
 use Rattle.zeb_profile.specs.declared.unit_targets.Targets.{Targets}
-use Rattle.zeb_profile.specs.declared.registers.Register.{Register}
+use Rattle.zeb_keys.specs.declared.registers.Register.{Register}
 use Rattle.zeb_profile.specs.Indexes.{pair_of, further_pairs}
 
 -- the targets of the `melm` line that are left, and those of `all` that the line lacks

@@ -11,8 +11,8 @@ use Rattle.zeb_profile.specs.declared.directives.Target.{Target}
 use Rattle.zeb_profile.specs.declared.faults.ProfileFaultKind.{ProfileFaultKind}
 use Rattle.zeb_profile.specs.declared.faults.ProfileFaultKind.TheVariants.{Directive as FaultyDirective, Name, Register as FaultyRegister, Pattern, DuplicateTarget}
 use Rattle.zeb_profile.specs.declared.patterns.UnitPattern.{UnitPattern}
-use Rattle.zeb_profile.specs.declared.registers.Register.{Register}
-use Rattle.zeb_profile.specs.declared.registers.Register.TheVariants.{Word, Phrase, Number}
+use Rattle.zeb_keys.specs.declared.registers.Register.{Register}
+use Rattle.zeb_keys.specs.declared.registers.Register.TheVariants.{Word, Phrase, Number}
 use Rattle.zeb_profile.specs.Outcomes.{◌>>=◌}
 
 -- PATTERN: a tag of three ASCII letters or digits, or a tag, the dollar sign (36) and a code, which is a printable

@@ -12,10 +12,12 @@ ghost use Rattle.zeb_profile.specs.Profiles.{targets_in, is_identifier as identi
 
 use crate::lines::{first_word, trim};
 use crate::names::Name;
-use crate::{ProfileFaultKind, Register, UnitPattern};
+use crate::registers::read_register;
+use crate::{ProfileFaultKind, UnitPattern};
 use std::alloc::{AllocError, Global};
 use std::collections::BTreeSet;
 use std::marker::Model;
+use zeb_keys::Register;
 
 /// One target of a `melm` or `all` line: an index by its name, and a register.
 #[derive(Debug, Drop)]
@@ -136,7 +138,7 @@ impl Target {
             }),
             Some((name, register)) => Ok(Target {
                 name: Name::read(alloc, name)?,
-                register: Register::read(register)?,
+                register: read_register(register)?,
             }),
         }
     }

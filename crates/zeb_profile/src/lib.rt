@@ -26,5 +26,4 @@ pub use laws::{
 };
 pub use lookups::Profile;
 pub use patterns::UnitPattern;
-pub use registers::Register;
 pub use unit_targets::Targets;

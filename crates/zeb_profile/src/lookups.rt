@@ -18,9 +18,10 @@ use crate::searches::{
     further_targets, has_pair, identifier_pattern, melm_targets, store_path, use_name,
 };
 use crate::unit_targets::Targets;
-use crate::{ProfileFault, Register, UnitPattern};
+use crate::{ProfileFault, UnitPattern};
 use std::alloc::{AllocError, Global};
 use std::marker::Model;
+use zeb_keys::Register;
 
 /// An indexing profile: where the register is kept, where a record's identifier stands, and which units go into
 /// which indexes. Contracts see it as the list of its directives.

@@ -5,10 +5,11 @@ ghost use Rattle.std.specs.List.{list_any};
 ghost use Rattle.zeb_profile.specs.Indexes as indexes;
 ghost use Rattle.zeb_profile.specs.Profiles.{all_targets as all_targets_in};
 
+use crate::UnitPattern;
 use crate::directives::{Directive, Target};
 use crate::indexes::index_of;
 use crate::names::Name;
-use crate::{Register, UnitPattern};
+use zeb_keys::Register;
 
 /// The name that a use attribute is tied to.
 pub(crate) fn use_name(directives: &[Directive], number: u32) -> Option<&Name>
@@ -113,7 +114,7 @@ pub(crate) fn names_pair(targets: &[Target], names: &[Name], index: u32, registe
     ensures { result ≡ list_any (indexes.same_pair (index, register)) (map (indexes.pair_of names.now) targets.now) }
 {
     for target in targets {
-        if index == index_of(names, target) && register.is_same(target.register) {
+        if index == index_of(names, target) && register == target.register {
             return true;
         }
     }

@@ -3,11 +3,11 @@
 ghost use Rattle.std.specs.Prelude.{◌≡◌, ◌<◌, ◌^◌, ◌++◌, ◌∷◌, [], List, ℕ, length, map, drop, IfSome, IfNone};
 ghost use Rattle.zeb_profile.specs.Indexes.{pair_of, further_pairs};
 
-use crate::Register;
 use crate::directives::Target;
 use crate::indexes::index_of;
 use crate::names::Name;
 use crate::searches::names_pair;
+use zeb_keys::Register;
 
 /// The targets of a unit, each pair of an index number and a register once.
 #[derive(Drop)]

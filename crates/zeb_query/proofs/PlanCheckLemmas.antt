@@ -4,8 +4,8 @@ use Rattle.std.proofs.Common.{◌≡◌, ℕ, Bool, true, false, cond, List, [],
 use Rattle.std.specs.Prelude.{Result, Ok, not, chars, ◌||◌, ◌&&◌}
 use Rattle.std.specs.Str.Parse.{digits_value}
 use Rattle.zeb_profile.specs.declared.Profile.{Profile}
-use Rattle.zeb_profile.specs.declared.Register.{Register}
-use Rattle.zeb_profile.specs.declared.Register.TheVariants as register
+use Rattle.zeb_keys.specs.declared.Register.{Register}
+use Rattle.zeb_keys.specs.declared.Register.TheVariants as register
 use Rattle.zeb_profile.specs.Indexes.{has_pair}
 use Rattle.zeb_text.specs.Symbols.{Symbol}
 use Rattle.zeb_text.specs.Numbers.{number_key}

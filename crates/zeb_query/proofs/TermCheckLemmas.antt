@@ -3,7 +3,7 @@ use Rattle.std.proofs.Common.{◌≡◌, ℕ, Bool, true, false, cond, List, [],
 use Rattle.std.specs.Prelude.{Ok, not, chars, nat_lt, ◌||◌, ◌&&◌}
 use Rattle.std.specs.Option.{is_some, is_none, unwrap_or}
 use Rattle.zeb_profile.specs.declared.Profile.{Profile}
-use Rattle.zeb_profile.specs.declared.Register.{Register}
+use Rattle.zeb_keys.specs.declared.Register.{Register}
 use Rattle.zeb_profile.specs.Indexes.{has_pair}
 use Rattle.zeb_text.specs.declared.Cut.TheVariants as cut
 use Rattle.zeb_text.specs.Symbols.{Symbol}

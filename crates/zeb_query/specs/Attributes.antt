@@ -12,7 +12,7 @@ use Rattle.std.specs.Prelude.{Bool, List, None, Option, Some, [], chars, codes, 
 use Rattle.std.specs.Str.{bytes_eq}
 use Rattle.zeb_profile.specs.Indexes.{index_by_name, index_by_use}
 use Rattle.zeb_profile.specs.declared.Profile.{Profile}
-use Rattle.zeb_profile.specs.declared.Register.{Register}
+use Rattle.zeb_keys.specs.declared.Register.{Register}
 use Rattle.zeb_text.specs.Symbols.{Symbol}
 use Rattle.zeb_text.specs.Truncation.{joined_patterns, patterns_of}
 use Rattle.zeb_text.specs.Words.{words_of}
@@ -22,7 +22,7 @@ use Rattle.zeb_text.specs.declared.Spread.TheVariants.{Each, Ends}
 use Rattle.zeb_query.specs.declared.plans.Order.{Order}
 use Rattle.zeb_query.specs.declared.plans.Relation.{Relation}
 use Rattle.zeb_query.specs.declared.plans.Relation.TheVariants.{Equal, Greater, GreaterOrEqual, Less, LessOrEqual}
-use Rattle.zeb_profile.specs.declared.Register.TheVariants as register
+use Rattle.zeb_keys.specs.declared.Register.TheVariants as register
 use Rattle.zeb_query.specs.declared.plans.Order.TheVariants as in_order
 use Rattle.zeb_text.specs.declared.Cut.TheVariants as cut
 use Rattle.zeb_query.specs.Grammar.{AttributeValue, HeadValue, number_of}

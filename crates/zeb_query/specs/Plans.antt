@@ -7,7 +7,7 @@ use Rattle.std.specs.Prelude.{Bool, List, None, Option, Result, Some, [], false,
 use Rattle.std.specs.Str.Parse.{digits_value}
 use Rattle.zeb_profile.specs.Indexes.{has_pair}
 use Rattle.zeb_profile.specs.declared.Profile.{Profile}
-use Rattle.zeb_profile.specs.declared.Register.{Register}
+use Rattle.zeb_keys.specs.declared.Register.{Register}
 use Rattle.zeb_text.specs.Numbers.{number_key}
 use Rattle.zeb_text.specs.Symbols.{Symbol}
 use Rattle.zeb_query.specs.declared.plans.Operator.{Operator}
@@ -19,7 +19,7 @@ use Rattle.zeb_query.specs.declared.plans.Separation.{Separation}
 use Rattle.zeb_query.specs.declared.plans.TermPlan.{TermPlan}
 use Rattle.zeb_query.specs.declared.queries.Connective.{Connective}
 use Rattle.zeb_query.specs.declared.queries.Connective.TheVariants.{And, Not, Or, Proximity}
-use Rattle.zeb_profile.specs.declared.Register.TheVariants as register
+use Rattle.zeb_keys.specs.declared.Register.TheVariants as register
 use Rattle.zeb_query.specs.declared.plans.Operator.TheVariants as operator
 use Rattle.zeb_query.specs.declared.plans.TermPlan.TheVariants as term
 use Rattle.zeb_query.specs.Grammar.{HeadValue, NamedValue, PairValue, QueryValue, TermValue, TreeValue, heads, no_head}

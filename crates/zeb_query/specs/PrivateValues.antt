@@ -2,8 +2,8 @@
 -- clause reaches this file: it stands in specs/ since the contracts of private functions can cite nothing else.
 use Rattle.std.specs.Prelude.{ℕ, List, [], Option, Some, None, if◌then◌else◌, ◌||◌, ◌&&◌, Bool, true, false, not, chars, map, ◌++◌, option_and_then}
 use Rattle.std.specs.Option.{unwrap_or}
-use Rattle.zeb_profile.specs.declared.Register.{Register}
-use Rattle.zeb_profile.specs.declared.Register.TheVariants as register
+use Rattle.zeb_keys.specs.declared.Register.{Register}
+use Rattle.zeb_keys.specs.declared.Register.TheVariants as register
 use Rattle.zeb_profile.specs.declared.Profile.{Profile}
 use Rattle.zeb_text.specs.declared.Cut.{Cut}
 use Rattle.zeb_text.specs.declared.Cut.TheVariants as cut

@@ -3,7 +3,7 @@
 use Rattle.std.specs.Prelude.{List, None, Result, Some, [], codes, zero, suc, ℕ, ◌++◌, ◌∷◌, ◌≡◌}
 use Rattle.zeb_profile.specs.declared.directives.Directive.{Directive}
 use Rattle.zeb_profile.specs.declared.directives.Directive.TheVariants.{All, Att, Identifier, Melm, Store}
-use Rattle.zeb_profile.specs.declared.registers.Register.TheVariants.{Number, Phrase, Word}
+use Rattle.zeb_keys.specs.declared.registers.Register.TheVariants.{Number, Phrase, Word}
 use Rattle.zeb_query.specs.Grammar.{QueryValue, SpellsQuery}
 use Rattle.zeb_query.specs.Checks.{Refusal}
 use Rattle.zeb_query.specs.Plans.{PlanValue, ScanValue, plan_of, scan_of}

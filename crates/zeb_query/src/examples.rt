@@ -1,7 +1,7 @@
 //! Worked examples of the definitions: what texts and queries come to, as a reader would work them out.
 ghost use Rattle.std.specs.Prelude.{◌≡◌, ◌<◌, ℕ, List, length, [], ◌∷◌, ◌++◌, false, true, Some, None, Ok, codes};
 ghost use Rattle.zeb_text.specs.Symbols.{Star, literal};
-ghost use Rattle.zeb_profile.specs.declared.registers.Register.TheVariants.{Word, Phrase, Number};
+ghost use Rattle.zeb_keys.specs.declared.registers.Register.TheVariants.{Word, Phrase, Number};
 ghost use Rattle.zeb_query.specs.Places.{IsReadable, IsFaulty};
 ghost use Rattle.zeb_query.specs.Plans.{TermOf, PairOf, NearOf, RecordNumberOf, AlwaysOf, NumberOf, OrderedOf, CompleteOf, PhraseOf, AllWordsOf, AnyWordOf};
 ghost use Rattle.zeb_query.specs.Checks.{refused};

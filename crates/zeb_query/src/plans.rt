@@ -1,5 +1,5 @@
 //! Plans: what a query asks for of the registers, and where a scan begins.
-use zeb_profile::Register;
+use zeb_keys::Register;
 use zeb_text::Pattern;
 
 /// An operator over two sets of records.

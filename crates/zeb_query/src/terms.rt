@@ -17,7 +17,8 @@ use crate::digits::number_of;
 use crate::holding::Holding;
 use crate::{Leaf, QueryFault, Relation};
 use std::alloc::Global;
-use zeb_profile::{Profile, Register};
+use zeb_keys::Register;
+use zeb_profile::Profile;
 use zeb_text::{Cut, Pattern, Spread, pattern_words};
 
 /// The greatest number of words in a term, a limit of this project's own.

@@ -8,10 +8,10 @@ use Rattle.std.proofs.lemmas.Bool.Decides.{nat_tests}
 use Rattle.sqlite_rules.specs.Lists.{Has}
 use Rattle.sqlite_rules.proofs.ListLemmas.{has_filtered, has_kept}
 use Rattle.sqlite_rules.proofs.ProbeLemmas.{has_mapped, mapped_has}
-use Rattle.zeb_extract.specs.declared.keys.Key.{Key}
+use Rattle.zeb_keys.specs.declared.keys.Key.{Key}
 use Rattle.zeb_register.specs.declared.registers.Place.{Place}
 use Rattle.zeb_blocks.specs.declared.postings.Posting.{Posting}
-use Rattle.zeb_extract.proofs.Rising.{key_total, keys_apart}
+use Rattle.zeb_keys.proofs.Rising.{key_total, keys_apart}
 use Rattle.zeb_register.specs.Content.{Content, posting_cmp, IsRising, posting_at, ArePlacesOf, IsChangedAt, IsWithout}
 use Rattle.zeb_register.proofs.RisingLists.{same_list, kept_rises, told_by, with_all, all_there, all_rise}
 

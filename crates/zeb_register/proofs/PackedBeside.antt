@@ -14,10 +14,10 @@ use Rattle.sqlite_rules.proofs.ProbeLemmas.{has_mapped, mapped_has}
 use Rattle.sqlite_value.proofs.OrderLemmas.{row_cmp_total, value_cmp-Int, value_cmp-Text}
 use Rattle.zeb_blocks.specs.declared.postings.Posting.{Posting}
 use Rattle.zeb_blocks.specs.Blocks.{BlockSpells, IsNumbered, spelled_from, start_of}
-use Rattle.zeb_extract.specs.declared.keys.Key.{Key}
-use Rattle.zeb_profile.specs.Indexes.{register_code}
-use Rattle.zeb_extract.specs.Order.{key_order}
-use Rattle.zeb_extract.proofs.Rising.{key_total, keys_apart}
+use Rattle.zeb_keys.specs.declared.keys.Key.{Key}
+use Rattle.zeb_keys.specs.Registers.{register_code}
+use Rattle.zeb_keys.specs.Order.{key_order}
+use Rattle.zeb_keys.proofs.Rising.{key_total, keys_apart}
 use Rattle.zeb_register.specs.declared.expected.KeyPosting.{KeyPosting}
 use Rattle.zeb_register.specs.Content.{posting_cmp}
 use Rattle.zeb_register.specs.Expected.{key_posting_order}

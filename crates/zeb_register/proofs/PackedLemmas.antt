@@ -13,8 +13,8 @@ use Rattle.zeb_blocks.specs.declared.postings.Posting.{Posting}
 use Rattle.zeb_blocks.specs.Blocks.{BlockSpells, IsNumbered, LiesIn, spelled_from, start_of}
 use Rattle.zeb_blocks.proofs.Lists.{same_list as one_list_spelled}
 use Rattle.zeb_blocks.proofs.Taking.{spells_start}
-use Rattle.zeb_extract.specs.declared.keys.Key.{Key}
-use Rattle.zeb_profile.specs.declared.Register.{Register}
+use Rattle.zeb_keys.specs.declared.keys.Key.{Key}
+use Rattle.zeb_keys.specs.declared.Register.{Register}
 use Rattle.zeb_register.specs.declared.registers.TermCount.{TermCount}
 use Rattle.zeb_register.specs.Content.{Content, IsRising, IsWithout, posted, posting_cmp}
 use Rattle.zeb_register.specs.Occurring.{AreTermsOf, HasKey, key_in}

@@ -14,7 +14,7 @@ use Rattle.sqlite_rules.proofs.ListLemmas.{all_has, has_left, has_right, has_eit
 use Rattle.sqlite_value.proofs.OrderLemmas.{row_cmp_total, value_cmp-Int}
 use Rattle.zeb_blocks.specs.declared.postings.Posting.{Posting}
 use Rattle.zeb_blocks.specs.Blocks.{BlockSpells, spelled_from, start_of}
-use Rattle.zeb_extract.specs.declared.keys.Key.{Key}
+use Rattle.zeb_keys.specs.declared.keys.Key.{Key}
 use Rattle.zeb_register.specs.Content.{Content, posting_cmp}
 use Rattle.zeb_register.specs.PackedBlocks.{HoldsBlocks, SpellsPart, blocks_of, part_in}
 use Rattle.zeb_register.specs.PackedRows.{AreSpelled}

@@ -12,7 +12,7 @@ use Rattle.sqlite_rules.proofs.ListLemmas.{all_has, has_either, has_left, has_ri
 use Rattle.sqlite_rules.proofs.ProbeLemmas.{mapped_has}
 use Rattle.zeb_blocks.specs.declared.postings.Posting.{Posting}
 use Rattle.zeb_blocks.proofs.Sizes.{length-block}
-use Rattle.zeb_extract.specs.declared.keys.Key.{Key}
+use Rattle.zeb_keys.specs.declared.keys.Key.{Key}
 use Rattle.zeb_register.specs.declared.registers.Place.{Place}
 use Rattle.zeb_register.specs.declared.registers.RecordChange.{RecordChange}
 use Rattle.zeb_register.specs.Content.{AreChangedAt, AreListChanges, Content, posting_at, posting_cmp}

@@ -6,7 +6,7 @@ use Rattle.std.specs.List.Sorted.{IsStrictlySortedBy}
 use Rattle.sqlite_rules.specs.Lists.{Has}
 use Rattle.sqlite_rules.proofs.ListLemmas.{has_filtered, has_kept}
 use Rattle.sqlite_rules.proofs.ProbeLemmas.{has_mapped, mapped_has}
-use Rattle.zeb_profile.specs.declared.Register.{Register}
+use Rattle.zeb_keys.specs.declared.Register.{Register}
 use Rattle.zeb_blocks.specs.declared.postings.Posting.{Posting}
 use Rattle.zeb_register.specs.declared.registers.TermCount.{TermCount}
 use Rattle.zeb_register.specs.Content.{Content, posted}

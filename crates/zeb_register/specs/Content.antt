@@ -9,8 +9,8 @@ use Rattle.sqlite.specs.State.{State}
 use Rattle.sqlite_rules.specs.Lists.{Has}
 pub use Rattle.zeb_blocks.specs.declared.postings.Posting.{Posting}
 pub use Rattle.zeb_blocks.specs.Order.{posting_cmp}
-use Rattle.zeb_extract.specs.declared.keys.Key.{Key}
-use Rattle.zeb_extract.specs.declared.keys.Occurrence.{Occurrence}
+use Rattle.zeb_keys.specs.declared.keys.Key.{Key}
+use Rattle.zeb_keys.specs.declared.keys.Occurrence.{Occurrence}
 use Rattle.zeb_register.specs.declared.registers.Place.{Place}
 use Rattle.zeb_register.specs.declared.registers.RecordChange.{RecordChange}
 use Rattle.zeb_register.specs.Sql.{Loses}

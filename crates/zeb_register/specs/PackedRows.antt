@@ -6,7 +6,7 @@ use Rattle.zeb_register.specs.PackedBlocks.{SpellsPart, IsBlockRow}
 use Rattle.sqlite.specs.Tree.{Trees}
 use Rattle.sqlite_rules.specs.Lists.{Has}
 use Rattle.zeb_blocks.specs.Blocks.{IsNumbered}
-use Rattle.zeb_extract.specs.declared.keys.Key.{Key}
+use Rattle.zeb_keys.specs.declared.keys.Key.{Key}
 use Rattle.zeb_register.specs.declared.registers.RecordChange.{RecordChange}
 use Rattle.zeb_register.specs.Content.{Content, IsRising}
 use Rattle.zeb_register.specs.Sql.{HasRow}

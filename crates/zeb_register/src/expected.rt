@@ -11,7 +11,7 @@ use crate::values::{is_blob, is_number, is_text};
 use crate::{ListedDatabase, Record};
 use sqlite::Row;
 use zeb_blocks::Posting;
-use zeb_extract::Key;
+use zeb_keys::Key;
 
 /// A posting under its key.
 #[derive(Debug, PartialEq, Eq, Drop)]

@@ -9,7 +9,7 @@ use crate::KeyPosting;
 use crate::expected::is_key;
 use crate::values::is_number;
 use sqlite::Row;
-use zeb_extract::Key;
+use zeb_keys::Key;
 
 /// The postings of a key that stand from a place on: where they end, and how many records have one of them.
 #[derive(Clone, Copy, Debug)]

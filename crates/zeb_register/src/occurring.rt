@@ -2,7 +2,7 @@
 
 ghost use Rattle.std.specs.Prelude.{◌≡◌, ◌↔◌, ℕ, ℤ, List};
 ghost use Rattle.sqlite.specs.Tree.{Trees};
-ghost use Rattle.zeb_extract.specs.declared.keys.Occurrence.{Occurrence};
+ghost use Rattle.zeb_keys.specs.declared.keys.Occurrence.{Occurrence};
 ghost use Rattle.zeb_register.specs.Content.{Content, posted};
 ghost use Rattle.zeb_register.specs.Formats.{Format, holds_in};
 ghost use Rattle.zeb_register.specs.Occurring.{AreTermsOf, AreTotals};

@@ -21,7 +21,7 @@ use sqlite::types::ValueRef;
 use sqlite::{Alter, Connection, Row};
 use std::alloc::Global;
 use zeb_blocks::{Posting, Postings};
-use zeb_extract::Key;
+use zeb_keys::Key;
 
 /// Whether the tables hold just what is expected, in packed blocks. Unreadable rows are not expected. It changes nothing.
 pub fn blocks_agree<S: Alter>(

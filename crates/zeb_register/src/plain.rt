@@ -23,7 +23,7 @@ use crate::{DatabaseId, Expected, RegFault};
 use sqlite::{Alter, Connection, Row, Transaction};
 use std::alloc::Global;
 use zeb_blocks::Posting;
-use zeb_extract::Key;
+use zeb_keys::Key;
 
 /// The layout with one row of `postings` for each posting, and no row of `blocks` or `dict`. It counts no work.
 #[derive(Clone, Copy, Debug, PartialEq, Eq)]

@@ -24,7 +24,7 @@ use crate::statements::postings::{place_rows, places_lift, posting_put};
 use crate::values::{read, stored};
 use crate::{DatabaseId, RegFault};
 use sqlite::{Alter, Row, Transaction};
-use zeb_extract::Key;
+use zeb_keys::Key;
 
 /// Puts the places `new` of a key in a record where `old` stood. Both lists rise. It fails as `key_change` of
 /// `Layout` does.

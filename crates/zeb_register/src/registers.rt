@@ -17,8 +17,7 @@ use crate::{DatabaseId, Expected, RegFault};
 use sqlite::{Alter, Connection, Transaction};
 use std::alloc::Global;
 use zeb_blocks::Posting;
-use zeb_extract::{Key, Term};
-use zeb_profile::Register;
+use zeb_keys::{Key, Register, Term};
 
 /// A place of a record at which a key stands: the number of the unit, and the number of the word or number in it. Both are 1 to `2^63 - 1`.
 #[derive(Clone, Copy, Debug, PartialEq, Eq)]
@@ -86,7 +85,7 @@ pub trait Layout {
     ghost use Rattle.zeb_register.specs.declared.registers.TermCount.{TermCount};
     ghost use Rattle.zeb_register.specs.Between.{AreKeysBetween, IsPostingBetween};
     ghost use Rattle.zeb_register.specs.Hindrances.{HindersPlaces, placed, rows_of};
-    ghost use Rattle.zeb_extract.specs.declared.keys.Key.{Key};
+    ghost use Rattle.zeb_keys.specs.declared.keys.Key.{Key};
     ghost use Rattle.zeb_blocks.specs.declared.postings.Posting.{Posting};
 
     /// In which format the tables keep the registers.

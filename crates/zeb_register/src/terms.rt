@@ -22,7 +22,7 @@ use crate::values::read;
 use sqlite::{Alter, Connection, Row};
 use std::alloc::{AllocError, Global};
 use zeb_blocks::Posting;
-use zeb_extract::Term;
+use zeb_keys::Term;
 
 /// The terms of rows that rise by term and then by record, each with the number of its records.
 pub(crate) fn count_terms(alloc: Global, rows: &[Row]) -> Result<Vec<TermCount>, RegFault>

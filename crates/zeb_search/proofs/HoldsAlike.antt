@@ -1,12 +1,12 @@
 -- Where two sets have the same occurrences and the same records are kept, a query holds on the same records.
 use Rattle.std.proofs.Common.{◌↔◌, ℕ, List, [], ◌∷◌, Some, None, inl, inr}
 use Rattle.zeb_text.specs.Symbols.{Symbol}
-use Rattle.zeb_profile.specs.declared.Register.{Register}
+use Rattle.zeb_keys.specs.declared.Register.{Register}
 use Rattle.zeb_query.specs.declared.plans.Operator.{Operator}
 use Rattle.zeb_query.specs.declared.plans.Operator.TheVariants as operator
 use Rattle.zeb_query.specs.declared.plans.Separation.{Separation}
 use Rattle.zeb_query.specs.Plans.{PlanValue, TermOf, PairOf, NearOf, TermPlanValue, RecordNumberOf, AlwaysOf, NumberOf, OrderedOf, CompleteOf, PhraseOf, AllWordsOf, AnyWordOf}
-use Rattle.zeb_extract.specs.declared.keys.Occurrence.{Occurrence}
+use Rattle.zeb_keys.specs.declared.keys.Occurrence.{Occurrence}
 use Rattle.zeb_search.specs.Holds.{AreJoined, HasEntry, HasWord, HasWords, HasNear, TermHolds, TreeHolds}
 
 -- ---- what holds by fewer occurrences holds by more
@@ -16,7 +16,7 @@ module _ (O P : ℕ → Occurrence → Type 0) (so : (n : ℕ) (o : Occurrence) 
   entry_along index register Q n h = (h.0, (h.1.0, so n h.1.0 h.1.1, h.1.2), h.2)
 
   word_along : (index : ℕ) (pattern : List Symbol) (n seq pos : ℕ) → HasWord O index pattern n seq pos → HasWord P index pattern n seq pos
-  word_along index pattern n seq pos h = (h.0, so n (record { key = record { index = index; register = Rattle.zeb_profile.specs.declared.registers.Register.TheVariants.Word; term = h.0 }; seq = seq; pos = pos }) h.1, h.2)
+  word_along index pattern n seq pos h = (h.0, so n (record { key = record { index = index; register = Rattle.zeb_keys.specs.declared.registers.Register.TheVariants.Word; term = h.0 }; seq = seq; pos = pos }) h.1, h.2)
 
   words_along : (index : ℕ) (patterns : List (List Symbol)) (n seq pos : ℕ) → HasWords O index patterns n seq pos → HasWords P index patterns n seq pos
   words_along index [] n seq pos h = h

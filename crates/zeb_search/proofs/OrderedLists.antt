@@ -9,8 +9,8 @@ use Rattle.std.proofs.lemmas.List.Sorted.{IsPermutation-refl}
 use Rattle.sqlite_rules.specs.Lists.{Has}
 use Rattle.sqlite_rules.proofs.ListLemmas.{has_contained, contains_had}
 use Rattle.sqlite_rules.proofs.ProbeLemmas.{has_mapped, mapped_has}
-use Rattle.zeb_extract.specs.Order.{TellsApart}
-use Rattle.zeb_extract.proofs.Ordered.{rising_from_dedup, members_from_dedup}
+use Rattle.zeb_keys.specs.Order.{TellsApart}
+use Rattle.zeb_keys.proofs.Ordered.{rising_from_dedup, members_from_dedup}
 use Rattle.zeb_register.specs.Content.{posting_cmp, Posting}
 use Rattle.zeb_register.proofs.ContentChanges.{posting_total, postings_apart, numbers_apart}
 use Rattle.zeb_search.specs.Lists.{AreJust, AreNumbers, ArePostings}

@@ -3,10 +3,10 @@ use Rattle.std.proofs.Common.{◌≡◌, ◌↔◌, ◌∙◌, ℕ, false, Bool,
 use Rattle.std.proofs.lemmas.Str.{encodes-chars}
 use Rattle.zeb_text.specs.Symbols.{Symbol, literal}
 use Rattle.zeb_text.proofs.MatchLemmas.{literal-same, same-literal}
-use Rattle.zeb_profile.specs.declared.Register.TheVariants as register
+use Rattle.zeb_keys.specs.declared.Register.TheVariants as register
 use Rattle.zeb_query.specs.Plans.{PhraseOf}
-use Rattle.zeb_extract.specs.declared.keys.Key.{Key}
-use Rattle.zeb_extract.specs.declared.keys.Occurrence.{Occurrence}
+use Rattle.zeb_keys.specs.declared.keys.Key.{Key}
+use Rattle.zeb_keys.specs.declared.keys.Occurrence.{Occurrence}
 use Rattle.zeb_register.specs.Occurring.{TermIn}
 use Rattle.zeb_search.specs.Holds.{Fits, TermHolds}
 

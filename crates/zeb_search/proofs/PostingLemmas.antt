@@ -2,9 +2,9 @@
 use Rattle.std.proofs.Common.{◌≡◌, ◌↔◌, ℕ, ℤ, List, refl, subst, sym}
 use Rattle.std.specs.List.Sorted.{IsStrictlySortedBy}
 use Rattle.sqlite_rules.specs.Lists.{Has}
-use Rattle.zeb_profile.specs.declared.Register.{Register}
-use Rattle.zeb_profile.specs.declared.Register.TheVariants as register
-use Rattle.zeb_extract.specs.declared.keys.Key.{Key}
+use Rattle.zeb_keys.specs.declared.Register.{Register}
+use Rattle.zeb_keys.specs.declared.Register.TheVariants as register
+use Rattle.zeb_keys.specs.declared.keys.Key.{Key}
 use Rattle.zeb_text.specs.Symbols.{Symbol}
 use Rattle.zeb_register.specs.Content.{Content, posted, posting_cmp, Posting}
 use Rattle.zeb_register.specs.Occurring.{key_in}

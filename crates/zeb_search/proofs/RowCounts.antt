@@ -1,7 +1,7 @@
 -- How many rows of `blocks` lists have, those of one pattern more.
 use Rattle.std.proofs.Common.{◌++◌, ◌∷◌, ◌+◌, [], ℕ, ℤ, List, arith, refl}
 use Rattle.zeb_text.specs.Symbols.{Symbol}
-use Rattle.zeb_profile.specs.declared.Register.TheVariants as register
+use Rattle.zeb_keys.specs.declared.Register.TheVariants as register
 use Rattle.zeb_register.specs.Content.{Content, Posting}
 use Rattle.zeb_search.specs.Holds.{Fits}
 use Rattle.zeb_search.specs.ListRows.{EntryRows, WordRows}

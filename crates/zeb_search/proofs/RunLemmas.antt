@@ -2,7 +2,7 @@
 use Rattle.std.proofs.Common.{◌≡◌, ◌↔◌, ◌≤◌, ◌++◌, ℕ, ℤ, IsTrue, List, length, inl, inr, subst, sym}
 use Rattle.sqlite_rules.specs.Lists.{Has}
 use Rattle.sqlite_rules.proofs.ListLemmas.{has_either, has_left, has_right}
-use Rattle.zeb_extract.specs.declared.keys.Key.{Key}
+use Rattle.zeb_keys.specs.declared.keys.Key.{Key}
 use Rattle.zeb_register.specs.declared.registers.RegisterOf.{RegisterOf}
 use Rattle.zeb_register.specs.Content.{Content, Posting}
 use Rattle.zeb_register.specs.Occurring.{key_in}

@@ -9,9 +9,9 @@ use Rattle.zeb_text.specs.Patterns.{Matches}
 use Rattle.zeb_text.specs.Symbols.{Symbol, Char, Star, literal}
 use Rattle.zeb_text.proofs.MatchLemmas.{literal-same, same-literal}
 use Rattle.zeb_text.proofs.KeyLemmas.{keys_order}
-use Rattle.zeb_profile.specs.declared.Register.{Register}
-use Rattle.zeb_extract.specs.declared.keys.Key.{Key}
-use Rattle.zeb_extract.specs.declared.keys.Occurrence.{Occurrence}
+use Rattle.zeb_keys.specs.declared.Register.{Register}
+use Rattle.zeb_keys.specs.declared.keys.Key.{Key}
+use Rattle.zeb_keys.specs.declared.keys.Occurrence.{Occurrence}
 use Rattle.zeb_register.specs.declared.registers.TermCount.{TermCount}
 use Rattle.zeb_register.specs.Occurring.{AreTermsOf, key_in}
 use Rattle.zeb_register.proofs.ContentChanges.{numbers_apart}

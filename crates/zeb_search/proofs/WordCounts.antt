@@ -2,7 +2,7 @@
 use Rattle.std.proofs.Common.{◌++◌, ◌∷◌, [], ℕ, ℤ, List, refl}
 use Rattle.sqlite.specs.State.{State, Survives}
 use Rattle.zeb_text.specs.Symbols.{Symbol}
-use Rattle.zeb_profile.specs.declared.Register.TheVariants as register
+use Rattle.zeb_keys.specs.declared.Register.TheVariants as register
 use Rattle.zeb_register.specs.declared.registers.Work.{Work}
 use Rattle.zeb_register.specs.Content.{Content, Posting}
 use Rattle.zeb_register.specs.Formats.{Format}

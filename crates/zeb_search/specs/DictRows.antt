@@ -2,8 +2,8 @@
 -- the query that asks for entries which it doesn't name.
 use Rattle.std.specs.Prelude.{◌≡◌, ◌⊎◌, ◌+◌, ◌*◌, ℕ, ℤ, List, [], ◌∷◌, Some, None, length}
 use Rattle.zeb_text.specs.Symbols.{Symbol}
-use Rattle.zeb_profile.specs.declared.Register.{Register}
-use Rattle.zeb_profile.specs.declared.Register.TheVariants as register
+use Rattle.zeb_keys.specs.declared.Register.{Register}
+use Rattle.zeb_keys.specs.declared.Register.TheVariants as register
 use Rattle.zeb_query.specs.Plans.{PlanValue, TermOf, PairOf, NearOf, TermPlanValue, RecordNumberOf, AlwaysOf, NumberOf, OrderedOf, CompleteOf, PhraseOf, AllWordsOf, AnyWordOf}
 use Rattle.zeb_register.specs.declared.registers.TermCount.{TermCount}
 use Rattle.zeb_register.specs.Content.{Content, posted}

@@ -2,11 +2,11 @@
 -- the entries that are asked for, each once a pattern.
 use Rattle.std.specs.Prelude.{◌≡◌, ◌+◌, ℕ, ℤ, List, [], ◌∷◌, Some, None, sum_by}
 use Rattle.zeb_text.specs.Symbols.{Symbol}
-use Rattle.zeb_profile.specs.declared.Register.{Register}
-use Rattle.zeb_profile.specs.declared.Register.TheVariants as register
+use Rattle.zeb_keys.specs.declared.Register.{Register}
+use Rattle.zeb_keys.specs.declared.Register.TheVariants as register
 use Rattle.zeb_query.specs.Plans.{PlanValue, TermOf, PairOf, NearOf, TermPlanValue, RecordNumberOf, AlwaysOf, NumberOf, OrderedOf, CompleteOf, PhraseOf, AllWordsOf, AnyWordOf}
-use Rattle.zeb_extract.specs.declared.keys.Key.{Key}
-use Rattle.zeb_extract.specs.declared.keys.Occurrence.{Occurrence}
+use Rattle.zeb_keys.specs.declared.keys.Key.{Key}
+use Rattle.zeb_keys.specs.declared.keys.Occurrence.{Occurrence}
 use Rattle.sqlite_rules.specs.Lists.{Has}
 use Rattle.zeb_register.specs.Content.{Content, Posting, posted}
 use Rattle.zeb_register.specs.Occurring.{TermIn, key_in}

@@ -2,9 +2,9 @@
 use Rattle.std.specs.Prelude.{◌≡◌, ◌↔◌, ◌⊎◌, ◌+◌, ◌++◌, ◌≤◌, ℕ, ℤ, IsTrue, List, [], ◌∷◌, Option, Some, None, String, length, string_bytes}
 use Rattle.std.specs.declared.alloc.Global.{Global}
 use Rattle.sqlite_rules.specs.Lists.{Has}
-use Rattle.zeb_profile.specs.declared.Register.{Register}
-use Rattle.zeb_extract.specs.declared.keys.Key.{Key}
-use Rattle.zeb_extract.specs.declared.keys.Occurrence.{Occurrence}
+use Rattle.zeb_keys.specs.declared.Register.{Register}
+use Rattle.zeb_keys.specs.declared.keys.Key.{Key}
+use Rattle.zeb_keys.specs.declared.keys.Occurrence.{Occurrence}
 use Rattle.zeb_register.specs.declared.registers.RegisterOf.{RegisterOf}
 use Rattle.zeb_register.specs.declared.registers.TermCount.{TermCount}
 use Rattle.zeb_register.specs.Between.{term_list}

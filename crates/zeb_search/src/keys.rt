@@ -17,8 +17,7 @@ use crate::ranges::text_above;
 use crate::terms::Wanted;
 use sqlite::{Alter, Connection};
 use std::alloc::{AllocError, Global};
-use zeb_extract::Key;
-use zeb_profile::Register;
+use zeb_keys::{Key, Register};
 use zeb_register::{Layout, RegFault, RegisterOf, TermCount, Work};
 
 /// How many terms of a register are read at first. Most patterns match few terms, and each term that is read costs as much as a short

@@ -24,7 +24,7 @@ use crate::terms::Wanted;
 use crate::words::{all_words_hits, any_word_hits, phrase_hits};
 use sqlite::{Alter, Connection};
 use std::alloc::Global;
-use zeb_profile::Register;
+use zeb_keys::Register;
 use zeb_query::{NearPlan, Plan, TermPlan};
 use zeb_register::{DatabaseId, Layout, RegFault, RegisterOf, Work, ident_of};
 

@@ -22,8 +22,7 @@ use crate::registers::IndexOf;
 use crate::terms::Wanted;
 use sqlite::{Alter, Connection};
 use std::alloc::Global;
-use zeb_extract::Key;
-use zeb_profile::Register;
+use zeb_keys::{Key, Register};
 use zeb_register::{Layout, Posting, RegFault, RegisterOf, Work};
 use zeb_text::Pattern;
 

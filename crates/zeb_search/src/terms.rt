@@ -7,7 +7,7 @@ ghost use Rattle.zeb_search.specs.Holds.{IsNumberAt};
 ghost use Rattle.zeb_search.specs.PrivateTerms.{IsWanted, NamesEntry};
 
 use std::alloc::{AllocError, Global};
-use zeb_extract::Term;
+use zeb_keys::Term;
 use zeb_query::{Order, Relation};
 use zeb_text::{Pattern, key_of_number, number_of_key};
 

@@ -19,7 +19,7 @@ use crate::registers::IndexOf;
 use crate::terms::Wanted;
 use sqlite::{Alter, Connection};
 use std::alloc::{AllocError, Global};
-use zeb_profile::Register;
+use zeb_keys::Register;
 use zeb_query::Operator;
 use zeb_register::{Layout, Posting, RegFault, RegisterOf, Work};
 use zeb_text::Pattern;

@@ -3,8 +3,7 @@
 use sqlite::{Alter, Connection, Transaction};
 use std::alloc::{AllocError, Global};
 use std::fmt::Write;
-use zeb_extract::{Key, Term};
-use zeb_profile::Register;
+use zeb_keys::{Key, Register, Term};
 use zeb_register::{
     DatabaseId, Layout, Place, RegFault, Rows, Work, database_put, make_tables, meta_put,
     record_of_ident, record_put, record_take, wipe,

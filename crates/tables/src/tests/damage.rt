@@ -3,7 +3,7 @@
 use super::calls::{Call, Under};
 use super::readings::{In, Read};
 use super::{Part, Script, Step};
-use zeb_profile::Register;
+use zeb_keys::Register;
 
 const TITLES: In = (0, Register::Word);
 

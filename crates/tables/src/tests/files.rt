@@ -14,7 +14,7 @@ use std::process::Abort;
 use std::test::Fail;
 use std::time::SystemTime;
 use std::{env, fs};
-use zeb_profile::Register;
+use zeb_keys::Register;
 
 const WHALE: Under<'static> = (0, Register::Word, "whale");
 

@@ -5,7 +5,7 @@ use super::moby_dick::ROWS;
 use super::readings::Read;
 use super::{Part, Script, Step};
 use crate::queries::POSTINGS;
-use zeb_profile::Register;
+use zeb_keys::Register;
 
 const WHALE: Under<'static> = (0, Register::Word, "whale");
 

@@ -8,7 +8,7 @@ use sqlite::{Alter, Connection, MemStore};
 use std::alloc::{AllocGlobal, Global};
 use std::process::Abort;
 use std::test::Fail;
-use zeb_profile::Register;
+use zeb_keys::Register;
 use zeb_register::{DatabaseId, RegFault};
 
 fn answered<S: Alter>(

@@ -5,7 +5,7 @@ use super::readings::Read;
 use super::{Part, Row, Script, Step};
 use crate::queries::POSTINGS;
 use worked_samples::{CAFE, MOBY};
-use zeb_profile::Register;
+use zeb_keys::Register;
 
 /// The canonical text of a profile with the indexes Title (0), Date (1) and Any (2).
 const PROFILE: &str =

@@ -6,8 +6,8 @@ use std::alloc::{AllocGlobal, Global};
 use std::fmt::Write;
 use std::process::Abort;
 use std::test::Fail;
+use zeb_keys::Register;
 use zeb_packed::Blocks;
-use zeb_profile::Register;
 use zeb_register::{
     DatabaseId, Layout, Place, RegFault, RegisterOf, Rows, Work, database_put, make_tables,
 };

@@ -4,7 +4,7 @@ use super::calls::{At, Call, Under};
 use super::readings::Read;
 use super::{Part, Script, Step};
 use crate::queries::POSTINGS;
-use zeb_profile::Register;
+use zeb_keys::Register;
 
 const UNDER: Under<'static> = (0xffff_ffff, Register::Number, "999999999999999999");
 

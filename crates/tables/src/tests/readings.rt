@@ -4,7 +4,7 @@ use super::calls::{Under, key};
 use sqlite::{Alter, Connection};
 use std::alloc::Global;
 use std::fmt::Write;
-use zeb_profile::Register;
+use zeb_keys::Register;
 use zeb_register::{
     DatabaseId, Layout, RegFault, RegisterOf, Rows, TermCount, Work, database_of, ident_of,
     meta_of, record_count, record_from, records,

@@ -3,7 +3,7 @@
 use super::calls::{At, Call, Under};
 use super::readings::{In, Read};
 use super::{Part, Row, Script, Step};
-use zeb_profile::Register;
+use zeb_keys::Register;
 
 const WORDS: In = (0, Register::Word);
 

@@ -6,7 +6,7 @@ use super::{Row, Step, answers};
 use sqlite::{Alter, Connection, Transaction};
 use std::alloc::Global;
 use std::test::Fail;
-use zeb_profile::Register;
+use zeb_keys::Register;
 use zeb_register::{DatabaseId, RegFault};
 
 const RECORDS: u64 = 3_000;

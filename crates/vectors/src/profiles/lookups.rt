@@ -4,8 +4,9 @@ use super::read;
 use std::process::Abort;
 use std::test::Fail;
 use worked_samples::BOOKS;
-use zeb_profile::Register::{Number, Phrase, Word};
-use zeb_profile::{Profile, ProfileFault, ProfileFaultKind, Register, UnitPattern};
+use zeb_keys::Register;
+use zeb_keys::Register::{Number, Phrase, Word};
+use zeb_profile::{Profile, ProfileFault, ProfileFaultKind, UnitPattern};
 
 #[test]
 fn indexes(rt: HostRuntime) -> Result<(), Fail> {

@@ -3,7 +3,7 @@
 use super::lookups::targets_are;
 use super::read;
 use std::test::Fail;
-use zeb_profile::Register::{Number, Phrase, Word};
+use zeb_keys::Register::{Number, Phrase, Word};
 
 /// A copy of that file, byte by byte.
 const MARC21: &str =

@@ -3,7 +3,7 @@
 use super::{Asked, BOOKS, Table, line_of, tables_hold};
 use std::alloc::{AllocError, Global};
 use std::test::Fail;
-use zeb_profile::Register;
+use zeb_keys::Register;
 use zeb_query::{NearPlan, Order, PairPlan, Plan, QueryFault, TermPlan};
 use zeb_text::Pattern;
 

@@ -1,7 +1,7 @@
 //! What statements are told of a key.
 
 use crate::DatabaseId;
-use zeb_extract::Key;
+use zeb_keys::Key;
 
 /// A key of a database.
 #[derive(Clone, Copy, Debug)]

@@ -1,10 +1,10 @@
 use Rattle.std.proofs.Common.{◌≡◌, ◌⊎◌, ◌+◌, ◌<◌, ◌≤◌, ◌^◌, ℕ, ℤ, [], length}
 use Rattle.std.specs.List.{Contains}
-use Rattle.zeb_extract.specs.declared.keys.Occurrence.{Occurrence}
+use Rattle.zeb_keys.specs.declared.keys.Occurrence.{Occurrence}
 use Rattle.zeb_register.specs.Room.{FitInRow}
 use Rattle.zeb_change.specs.Asked.{IsStorableOccurrence, PutAmong}
 use Rattle.zeb_change.proofs.PutKeys.{places_put}
-use Rattle.zeb_extract.specs.Order.{IsRising as AreRising}
+use Rattle.zeb_keys.specs.Order.{IsRising as AreRising}
 use Rattle.zeb_register.specs.Content.{Content, IsRising}
 use Rattle.zeb_change.specs.Reposted.{ArePostingsOf}
 use Rattle.zeb_change.specs.Noted.{LeadsTo, noted_count}

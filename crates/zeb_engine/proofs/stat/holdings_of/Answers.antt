@@ -2,8 +2,8 @@ use Rattle.std.proofs.Common.{rules, ◌≡◌, ◌∙◌, ◌++◌, ◌∷◌, 
 use Rattle.sqlite.specs.Held.{state}
 use Rattle.sqlite.specs.State.{HasCleanDisk}
 use Rattle.sqlite.specs.Tree.{Trees}
-use Rattle.zeb_profile.specs.declared.registers.Register.TheVariants.{Word}
-use Rattle.zeb_extract.specs.declared.keys.Occurrence.{Occurrence}
+use Rattle.zeb_keys.specs.declared.registers.Register.TheVariants.{Word}
+use Rattle.zeb_keys.specs.declared.keys.Occurrence.{Occurrence}
 use Rattle.zeb_profile.specs.declared.directives.Directive.{Directive}
 use Rattle.zeb_register.specs.Content.{posted}
 use Rattle.zeb_register.specs.Occurring.{AreTotals}

@@ -7,7 +7,7 @@ use Rattle.zeb_marc.specs.Contents.{units_of}
 use Rattle.zeb_profile.specs.Indexes.{unit_targets}
 use Rattle.zeb_extract.specs.Identifier.{identifier_of}
 use Rattle.zeb_extract.specs.Occurrences.{IsOccurrence}
-use Rattle.zeb_extract.specs.declared.keys.Occurrence.{Occurrence}
+use Rattle.zeb_keys.specs.declared.keys.Occurrence.{Occurrence}
 use Rattle.zeb_image.proofs.checking_records.occurrences_of.Goals as goal
 
 pub returns-clause-value : goal.returns-clause-value

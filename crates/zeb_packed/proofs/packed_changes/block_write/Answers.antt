@@ -2,7 +2,7 @@ use Rattle.std.proofs.Common.{◌∙◌, ◌++◌, [], ◌∷◌, arith, inl, in
 use Rattle.sqlite.specs.declared.types.Value.TheVariants.{Blob, Int}
 use Rattle.sqlite.specs.Held.{state}
 use Rattle.zeb_blocks.specs.Blocks.{BlockSpells}
-use Rattle.zeb_profile.specs.Indexes.{register_code}
+use Rattle.zeb_keys.specs.Registers.{register_code}
 use Rattle.zeb_register.specs.Calls.{Alters}
 use Rattle.zeb_register.specs.Hindrances.{Hinders, HindersNew, TakesRowids}
 use Rattle.zeb_register.specs.KeyColumns.{IsBlockOf}

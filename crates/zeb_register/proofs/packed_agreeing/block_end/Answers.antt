@@ -1,7 +1,7 @@
 use Rattle.std.proofs.Common.{◌≡◌, ◌∙◌, ◌+◌, ◌++◌, ℕ, List, length, map, drop, sym, ap, subst, arith}
 use Rattle.sqlite_value.specs.Value.{owned}
 use Rattle.zeb_blocks.specs.Blocks.{BlockSpells}
-use Rattle.zeb_extract.specs.declared.keys.Key.{Key}
+use Rattle.zeb_keys.specs.declared.keys.Key.{Key}
 use Rattle.zeb_register.specs.RowExpected.{IsBlockBefore, with_key}
 use Rattle.zeb_register.proofs.PackedBeside.{drop_got, drop_over, key_before, map_none, moved_on, none_before, rest_is, same_rest}
 use Rattle.zeb_register.proofs.Told.{match_so, some_so}

@@ -1,6 +1,6 @@
 use Rattle.std.proofs.Common.{rules, true, false, ◌≡◌, ◌↔◌, ◌∙◌, ◌++◌, ◌∷◌, [], ℕ, List, ap, refl, sym, subst, inl, inr}
 use Rattle.sqlite.specs.Held.{state}
-use Rattle.zeb_extract.specs.declared.keys.Key.{Key}
+use Rattle.zeb_keys.specs.declared.keys.Key.{Key}
 use Rattle.zeb_register.specs.Content.{posted}
 use Rattle.zeb_register.specs.Occurring.{key_in}
 use Rattle.zeb_search.specs.Counted.{NoRows}

@@ -1,5 +1,5 @@
 use Rattle.std.proofs.lemmas.Result.{IfErr-weaker}
-use Rattle.zeb_profile.specs.Indexes.{register_code}
+use Rattle.zeb_keys.specs.Registers.{register_code}
 use Rattle.zeb_register.proofs.Calls.{lists, nothing, quiet}
 use Rattle.zeb_packed.proofs.PackedStatements.{blocks_refused, lists_blocks, key_silent}
 use Rattle.std.proofs.Common.{rules, pos}

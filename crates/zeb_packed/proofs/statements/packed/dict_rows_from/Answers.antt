@@ -4,7 +4,7 @@ use Rattle.std.proofs.Common.{◌≡◌, rules, pos, List}
 use Rattle.sqlite.specs.declared.types.Value.TheVariants.{Int}
 use Rattle.sqlite.specs.Order.{Row}
 use Rattle.sqlite_sql.specs.Query.{as_count, limited}
-use Rattle.zeb_profile.specs.Indexes.{register_code}
+use Rattle.zeb_keys.specs.Registers.{register_code}
 use Rattle.zeb_register.specs.PackedBlocks.{IsRestFrom}
 use Rattle.zeb_register.specs.Sql.{IsListOf}
 use Rattle.zeb_register.specs.Store.{dict_tree}

@@ -1,6 +1,6 @@
 use Rattle.std.proofs.Common.{rules, pos}
 use Rattle.std.proofs.Math.Facts.{to_z-of_z}
-use Rattle.zeb_profile.specs.Indexes.{register_code}
+use Rattle.zeb_keys.specs.Registers.{register_code}
 use Rattle.zeb_register.proofs.Calls.{alters, refused_keeps}
 use Rattle.zeb_register.proofs.CallsInTurn.{violated}
 use Rattle.zeb_packed.proofs.PackedRowStatements.{add_block_refused, add_block_takes, add_block_unbroken, adds_block}

@@ -1,6 +1,6 @@
 use Rattle.std.proofs.Common.{rules, pos}
 use Rattle.std.proofs.Math.Facts.{to_z-of_z}
-use Rattle.zeb_profile.specs.Indexes.{register_code}
+use Rattle.zeb_keys.specs.Registers.{register_code}
 use Rattle.zeb_register.proofs.Calls.{alters, refused_keeps}
 use Rattle.zeb_packed.proofs.PackedRowStatements.{remove_block_refused, remove_block_takes, removes_block}
 use Rattle.zeb_register.proofs.Columns.{column_is}

@@ -1,7 +1,7 @@
 use Rattle.std.proofs.lemmas.Result.{IfErr-weaker}
 use Rattle.zeb_register.proofs.Refusals.{not_late}
 use Rattle.std.proofs.Common.{IsUtf8, rules, pos, subst}
-use Rattle.zeb_profile.specs.Indexes.{register_code}
+use Rattle.zeb_keys.specs.Registers.{register_code}
 use Rattle.zeb_register.specs.Store.{IsRest, dict_tree, key_of}
 use Rattle.zeb_register.proofs.Calls.{lists_inside, query_keeps}
 use Rattle.zeb_packed.proofs.PackedRowStatements.{lists_records, records_refused, records_silent}

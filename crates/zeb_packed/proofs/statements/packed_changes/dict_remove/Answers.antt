@@ -1,5 +1,5 @@
 use Rattle.std.proofs.Common.{rules, pos}
-use Rattle.zeb_profile.specs.Indexes.{register_code}
+use Rattle.zeb_keys.specs.Registers.{register_code}
 use Rattle.zeb_register.proofs.Calls.{alters, refused_keeps}
 use Rattle.zeb_packed.proofs.PackedRowStatements.{remove_dict_refused, remove_dict_takes, removes_dict}
 use Rattle.zeb_register.proofs.Columns.{column_is}

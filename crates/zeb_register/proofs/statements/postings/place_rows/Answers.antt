@@ -1,7 +1,7 @@
 use Rattle.std.proofs.lemmas.Result.{IfErr-weaker}
 use Rattle.zeb_register.proofs.Refusals.{not_late}
 use Rattle.std.proofs.Math.Facts.{to_z-of_z}
-use Rattle.zeb_profile.specs.Indexes.{register_code}
+use Rattle.zeb_keys.specs.Registers.{register_code}
 use Rattle.zeb_register.proofs.Calls.{lists_inside, query_keeps}
 use Rattle.zeb_register.proofs.PostingStatements.{lists_spots, spot_silent, spots_refused}
 use Rattle.std.proofs.Common.{IsUtf8, rules, pos, subst}

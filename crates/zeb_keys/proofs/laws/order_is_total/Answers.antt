@@ -1,5 +1,5 @@
-use Rattle.zeb_extract.proofs.Rising.{key_total, keys_apart, occurrence_total, occurrences_apart}
-use Rattle.zeb_extract.proofs.laws.order_is_total.Goals as goal
+use Rattle.zeb_keys.proofs.Rising.{key_total, keys_apart, occurrence_total, occurrences_apart}
+use Rattle.zeb_keys.proofs.laws.order_is_total.Goals as goal
 
 pub returns : goal.returns
 returns c = record {

@@ -9,7 +9,7 @@ use Rattle.std.specs.Ordering.{eq_by_cmp}
 use Rattle.std.proofs.lemmas.List.Filters.{dedup_is}
 use Rattle.std.proofs.lemmas.List.Kept.{IsStrictlySortedBy-dedup, Contains-dedup, Contains-from_dedup}
 use Rattle.std.proofs.lemmas.List.Sorted.{Contains-permutation, IsPermutation-sym}
-use Rattle.zeb_extract.specs.Order.{TellsApart}
+use Rattle.zeb_keys.specs.Order.{TellsApart}
 
 module _ {X : Type 0} {E : X → X → Bool} {R : X → X → Ordering} (o : IsTotalOrder R) (ties : (x y : X) → E x y ≡ eq_by_cmp R x y) where
   equivalent : IsEquivalence E

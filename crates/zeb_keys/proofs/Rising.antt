@@ -11,13 +11,13 @@ use Rattle.std.proofs.lemmas.Cmp.{ranked}
 use Rattle.std.proofs.lemmas.List.Elements.{All-contains}
 use Rattle.std.proofs.lemmas.Map.Keys.{sorted_tail}
 use Rattle.std.proofs.lemmas.Map.Views.{All-after_first}
-use Rattle.zeb_profile.specs.declared.registers.Register.{Register}
-use Rattle.zeb_profile.specs.declared.registers.Register.TheVariants.{Word, Phrase, Number}
-use Rattle.zeb_extract.specs.declared.keys.Key.{Key}
-use Rattle.zeb_extract.specs.declared.keys.Occurrence.{Occurrence}
-use Rattle.zeb_profile.specs.Indexes.{register_code}
-use Rattle.zeb_extract.specs.Order.{key_order, occurrence_order, TellsApart}
-use Rattle.zeb_extract.proofs.Members.{no_member, first_member, later_member, member_cases}
+use Rattle.zeb_keys.specs.declared.registers.Register.{Register}
+use Rattle.zeb_keys.specs.declared.registers.Register.TheVariants.{Word, Phrase, Number}
+use Rattle.zeb_keys.specs.declared.keys.Key.{Key}
+use Rattle.zeb_keys.specs.declared.keys.Occurrence.{Occurrence}
+use Rattle.zeb_keys.specs.Registers.{register_code}
+use Rattle.zeb_keys.specs.Order.{key_order, occurrence_order, TellsApart}
+use Rattle.zeb_keys.proofs.Members.{no_member, first_member, later_member, member_cases}
 
 module _ {K : Type 0} {R : K → K → Ordering} (o : IsTotalOrder R) (apart : TellsApart R) where
   not_both : (x y : K) → R x y ≡ Less → R y x ≡ Less → ⊥

@@ -1,0 +1,16 @@
+-- The number and the letter of a register (this project's own).
+use Rattle.std.specs.Prelude.{ℕ, List, codes}
+use Rattle.zeb_keys.specs.declared.registers.Register.{Register}
+use Rattle.zeb_keys.specs.declared.registers.Register.TheVariants.{Word, Phrase, Number}
+
+-- by it registers are ordered, and tables know them
+abbrev pub register_code : Register → ℕ
+register_code Word = 0
+register_code Phrase = 1
+register_code Number = 2
+
+-- as a profile spells a register
+abbrev pub register_text : Register → List ℕ
+register_text Word = codes "w"
+register_text Phrase = codes "p"
+register_text Number = codes "n"
