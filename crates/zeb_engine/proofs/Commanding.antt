@@ -131,3 +131,7 @@ pub scan_tables : (version : List ℕ) (profile : List Directive) (s : State) (r
 scan_tables version profile s result database query number position name asked many at is_name is_asked is_many is_at told =
     subst₂ (λ (n q : List ℕ). OverReady version profile (ScanOver profile n q number position) s result) is_name is_asked
     (subst₂ (λ (m p : ℕ). OverReady version profile (ScanOver profile name asked m p) s result) is_many is_at told)
+
+-- what is said of three things is said of those that they are
+pub each_so : {A B C : Type 0} (a a' : A) (b b' : B) (d d' : C) → a ≡ a' → b ≡ b' → d ≡ d' → (Says : A → B → C → Type 0) → Says a b d → Says a' b' d'
+each_so a a' b b' d d' one two three Says said = subst (λ x. Says a' b' x) three (subst₂ (λ x y. Says x y d) one two said)

@@ -1,4 +1,4 @@
-use Rattle.std.proofs.Common.{◌≡◌, ◌∙◌, [], ap, map, refl, rules, string_bytes, subst, subst₂}
+use Rattle.std.proofs.Common.{◌≡◌, ◌∙◌, [], ap, map, refl, rules, string_bytes, subst}
 use Rattle.sqlite.specs.Held.{state}
 use Rattle.sqlite.specs.State.{Survives}
 use Rattle.zeb_register.specs.Store.{IsStore}
@@ -13,7 +13,7 @@ use Rattle.zeb_engine.specs.Steps.{OnlyAsks, turned, TakesFiles, created, droppe
 use Rattle.zeb_engine.specs.PrivateChanging.{IsNoChange}
 use Rattle.zeb_engine.specs.Readiness.{LooksFirst}
 use Rattle.zeb_engine.specs.Works.{Always, Asks, Serves, ServesBy}
-use Rattle.zeb_engine.proofs.Commanding.{analysis_answers, analysis_serves, asks_serve, ends_serve, find_alone, find_serves, find_tables, scan_alone, scan_serves, scan_tables}
+use Rattle.zeb_engine.proofs.Commanding.{analysis_answers, analysis_serves, asks_serve, each_so, ends_serve, find_alone, find_serves, find_tables, scan_alone, scan_serves, scan_tables}
 use Rattle.zeb_engine.proofs.Crashing.{ends_commit, none_commits, survives_as}
 use Rattle.zeb_engine.proofs.AskedReads.{find_command_reads, scan_command_reads}
 use Rattle.zeb_engine.proofs.Serving.{on_ok}
@@ -24,10 +24,6 @@ use Rattle.zeb_engine.specs.Causes.{ChangesInRoom}
 use Rattle.zeb_engine.specs.Costs.{CostsAlone, no_work}
 use Rattle.zeb_engine.proofs.session.Session.carry_out.Goals as goal
 use Rattle.zeb_register.specs.Formats.{version_of}
-
--- what is said of three things is said of those that they are
-each_so : {A B C : Type 0} (a a' : A) (b b' : B) (d d' : C) → a ≡ a' → b ≡ b' → d ≡ d' → (Says : A → B → C → Type 0) → Says a b d → Says a' b' d'
-each_so a a' b b' d d' one two three Says said = subst (λ x. Says a' b' x) three (subst₂ (λ x y. Says x y d) one two said)
 
 pub returns-in-Init-clause-serves : goal.returns-in-Init-clause-serves
 returns-in-Init-clause-serves g c clean =
