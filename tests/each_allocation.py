@@ -79,7 +79,7 @@ ALL = {
         "refused_memory::memory_or_the_ordinary_answer_to_readers",
         "refused_lists::a_list_lacks_memory_or_one_command_does",
     ],
-    "scripts": ["tests::memory::memory_or_the_ordinary_answer"],
+    "hindered_runs": ["memory::memory_or_the_ordinary_answer"],
 }
 
 

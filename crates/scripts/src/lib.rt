@@ -1,6 +1,13 @@
-//! Tests of the whole program over its public names, and no product code: scripts, words, paths, lines as they come, and sources, writers and
-//! memory that fail.
+//! Tests of the whole program over its public names, and no product code: scripts and words, and what they answer.
 #![tactic(auto)]
 
 #[cfg(test)]
-mod tests;
+mod queries;
+#[cfg(test)]
+mod rows;
+#[cfg(test)]
+mod scans;
+#[cfg(test)]
+mod warnings;
+#[cfg(test)]
+mod words;

@@ -1,7 +1,7 @@
 //! A batch and a shell, over paths and a store in memory.
 
-use super::records::with_records;
-use super::words::{expect, loaded, run_words};
+use script_rows::records::with_records;
+use script_rows::words::{expect, loaded, run_words};
 use std::test::Fail;
 
 /// The words that run the lines of the input.
@@ -57,7 +57,7 @@ zebraidx: bad line 20
     for word in WORDS {
         let store = Some(loaded(rt.alloc())?);
         let outcome = run_words(rt.alloc(), &[word], store, lines.as_bytes())?;
-        expect(&rt, &[word], &outcome, (3, output, ""))?;
+        expect(&[word], &outcome, (3, output, ""))?;
     }
     Ok(())
 }
@@ -78,7 +78,7 @@ fn answers_the_greatest_status(rt: HostRuntime) -> Result<(), Fail> {
         for word in WORDS {
             let store = Some(loaded(rt.alloc())?);
             let outcome = run_words(rt.alloc(), &[word], store, lines.as_bytes())?;
-            expect(&rt, &[word], &outcome, (status, output, ""))?;
+            expect(&[word], &outcome, (status, output, ""))?;
         }
     }
     Ok(())
@@ -94,16 +94,11 @@ fn a_shell_goes_on_behind_a_line_that_is_no_text(rt: HostRuntime) -> Result<(), 
         b"# \xff\nfind Default moby\n",
     )?;
     let output = "zebraidx: bad line 1\nhits 1\n1 a1\n";
-    expect(&rt, &["shell"], &outcome, (2, output, ""))
+    expect(&["shell"], &outcome, (2, output, ""))
 }
 
 #[test]
 fn a_shell_opens_the_register_before_it_reads(rt: HostRuntime) -> Result<(), Fail> {
     let outcome = run_words(rt.alloc(), &["shell"], None, b"\xff")?;
-    expect(
-        &rt,
-        &["shell"],
-        &outcome,
-        (3, "", "zebraidx: store fault\n"),
-    )
+    expect(&["shell"], &outcome, (3, "", "zebraidx: store fault\n"))
 }

@@ -1,9 +1,9 @@
 //! The program while memory is refused. Whichever allocation is refused (tests/each_allocation.py of the repository refuses each in
 //! turn), a run writes its ordinary answer, or ends in status 3; and run again it writes its ordinary answer.
 
-use super::Outcome;
-use super::records::{Unmade, with_records};
-use super::words::{expect, loaded, run_words};
+use script_rows::records::{Unmade, with_records};
+use script_rows::runs::Outcome;
+use script_rows::words::{expect, loaded, run_words};
 use std::alloc::Global;
 use std::str;
 use std::test::Fail;
@@ -86,7 +86,7 @@ fn memory_or_the_ordinary_answer(rt: HostRuntime) -> Result<(), Fail> {
             assert!(rt; is_failure(&outcome, answer)?, "of {words:?}");
             outcome = made(rt.alloc(), given)?;
         }
-        expect(&rt, words, &outcome, (0, answer, ""))?;
+        expect(words, &outcome, (0, answer, ""))?;
     }
     Ok(())
 }

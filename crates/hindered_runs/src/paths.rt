@@ -1,8 +1,8 @@
 //! Scripts whose lines name files by their paths, over files in memory.
 
-use super::records::with_records;
-use super::words::{contents, shelved};
-use super::{TITLES, expect_batch, expect_outcome, run_on};
+use script_rows::records::with_records;
+use script_rows::runs::{TITLES, expect_batch, expect_outcome, run_on};
+use script_rows::words::{contents, shelved};
 use sqlite::MemStore;
 use std::process::Abort;
 use std::test::Fail;
@@ -23,7 +23,7 @@ fn expect_lines(
     let files = shelved(alloc, &contents)?;
     let mut shelf: Shelf<'_, MemStore> = Shelf::new(&files, None);
     let outcome = run_on(alloc, &[], &mut shelf, script.as_bytes());
-    expect_outcome(rt, script.as_str(), &outcome, output, status)
+    expect_outcome(script.as_str(), &outcome, output, status)
 }
 
 #[test]

@@ -3,10 +3,10 @@
 
 ghost use Rattle.std.specs.Prelude.{◌≡◌, false};
 
-use super::fakes::{Endless, Narrow, Torn};
-use super::records::{Unmade, with_records};
-use super::words::{contents, loaded, shelved};
-use super::{Outcome, run_script};
+use crate::fakes::{Endless, Narrow, Torn};
+use script_rows::records::{Unmade, with_records};
+use script_rows::runs::{Outcome, run_script};
+use script_rows::words::{contents, loaded, shelved};
 use std::alloc::{AllocError, AllocGlobal, Global};
 use std::io::BufWriter;
 use std::process::Abort;

@@ -1,8 +1,8 @@
 //! The program by words over the file system, one run after the other.
 
-use super::records::bytes_of_records;
-use super::words::expect;
-use super::{Outcome, run_on};
+use script_rows::records::bytes_of_records;
+use script_rows::runs::{Outcome, run_on};
+use script_rows::words::expect;
 use std::alloc::{AllocError, AllocGlobal, Global};
 use std::test::Fail;
 use std::{env, fs, process};
@@ -199,12 +199,7 @@ fn keeps_a_register_on_disk(rt: HostRuntime) -> Result<(), Fail> {
         let (words, _, status, output, fault_output) = *run;
         let outcome = outcome_of(&rt, folder.as_str(), run)?;
         let fault_output = placed(alloc, fault_output, folder.as_str())?;
-        expect(
-            &rt,
-            words,
-            &outcome,
-            (status, output, fault_output.as_str()),
-        )?;
+        expect(words, &outcome, (status, output, fault_output.as_str()))?;
     }
     fs::remove_dir_all(&rt, folder.as_str())?;
     Ok(())

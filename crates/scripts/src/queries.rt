@@ -1,6 +1,6 @@
 //! Finds by script: each attribute, each operator and each diagnostic, as lines.
 
-use super::expect_script;
+use script_rows::runs::expect_script;
 use std::test::Fail;
 use worked_samples::BOOKS;
 

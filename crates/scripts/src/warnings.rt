@@ -1,6 +1,6 @@
 //! What an analysis by words warns of.
 
-use super::words::{expect, loaded, run_words};
+use script_rows::words::{expect, loaded, run_words};
 use std::test::Fail;
 
 #[test]
@@ -54,7 +54,7 @@ fn warns_of_records_without_the_sign_of_unicode(rt: HostRuntime) -> Result<(), F
     ];
     for (words, status, output, fault) in rows {
         let outcome = run_words(rt.alloc(), words, Some(loaded(rt.alloc())?), b"")?;
-        expect(&rt, words, &outcome, (status, output, fault))?;
+        expect(words, &outcome, (status, output, fault))?;
     }
     Ok(())
 }

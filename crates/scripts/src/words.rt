@@ -1,139 +1,12 @@
-//! The program by words, over paths and a store in memory.
+//! A command by words, over paths in memory.
 
-use super::records::{Unmade, bytes_of_records};
-use super::{Outcome, run_on};
+use script_rows::runs::run_on;
+use script_rows::words::{expect, loaded, run_words};
 use sqlite::{Connection, MemStore};
-use std::alloc::{AllocGlobal, Global};
-use std::process::Abort;
 use std::str;
 use std::test::Fail;
-use worked_samples::{BOOKS, MOBY_LINES};
-use zeb_engine::{Command, DbName, Kind, Limits, Session};
-use zeb_packed::Blocks;
+use worked_samples::MOBY_LINES;
 use zeb_paths::{Shelf, Shelved};
-use zeb_profile::Profile;
-
-/// Files of text: the profile, another with one line more, and faulty ones.
-const TEXTS: [(&str, &str); 4] = [
-    ("zebra.cfg", BOOKS),
-    ("other.cfg", "store x\nidentifier 001\nmelm 245 Title\n"),
-    ("empty.cfg", ""),
-    ("foo.cfg", "store x\nfoo 1\n"),
-];
-
-/// A file that is no text.
-const BYTES: Shelved<'static> = Shelved {
-    path: "bytes.cfg",
-    bytes: Some(b"store \xff\n"),
-};
-
-/// Files of records, by names for their digits.
-const FILES: [(&str, &str); 10] = [
-    ("a.mrc", "<A>"),
-    ("b.mrc", "<B>"),
-    ("blank.mrc", "<B><BLANK>"),
-    ("blanks.mrc", "<BLANK>20<BLANK>"),
-    ("none.mrc", ""),
-    ("in/b.mrc", "<B>"),
-    ("in/a/dock.mrc", "<DOCK>"),
-    ("torn/1.mrc", "<B>"),
-    ("torn/2.mrc", "<A>1a"),
-    ("shut/x/", ""),
-];
-
-/// A file each read of which fails.
-const LOST: Shelved<'static> = Shelved {
-    path: "lost.mrc",
-    bytes: None,
-};
-
-/// The bytes of each of [`FILES`].
-pub fn contents(alloc: Global) -> Result<Vec<Vec<u8>>, Unmade> {
-    let mut contents = Vec::new(alloc);
-    for (_, records) in FILES {
-        contents.push(bytes_of_records(alloc, records)?)?;
-    }
-    Ok(contents)
-}
-
-/// The files of the shelf, those of records with these bytes.
-pub fn shelved<'a>(alloc: Global, contents: &'a [Vec<u8>]) -> Result<Vec<Shelved<'a>>, Unmade> {
-    let mut files = Vec::new(alloc);
-    files.push(BYTES)?;
-    files.push(LOST)?;
-    for (path, text) in TEXTS {
-        let bytes = Some(text.as_bytes());
-        files.push(Shelved { path, bytes })?;
-    }
-    for ((path, _), content) in FILES.iter().zip(contents.iter()) {
-        let bytes = Some(content.as_slice());
-        files.push(Shelved { path, bytes })?;
-    }
-    Ok(files)
-}
-
-/// Runs the program on words over this store, with these lines as the input.
-pub fn run_words(
-    alloc: Global,
-    words: &[&str],
-    store: Option<Connection<MemStore>>,
-    lines: &[u8],
-) -> Result<Outcome, Unmade> {
-    let mut given = Vec::new(alloc);
-    for word in words {
-        given.push(String::from_str(alloc, word)?)?;
-    }
-    let contents = contents(alloc)?;
-    let files = shelved(alloc, &contents)?;
-    let mut shelf = Shelf::new(&files, store);
-    Ok(run_on(alloc, &given, &mut shelf, lines))
-}
-
-/// A store in memory whose register holds Moby Dick in the database `Default`.
-pub fn loaded(alloc: Global) -> Result<Connection<MemStore>, Unmade> {
-    let (Ok(connection), Ok(profile), Some(database)) = (
-        Connection::open_in_memory(alloc),
-        Profile::read(alloc, BOOKS),
-        DbName::read("Default"),
-    ) else {
-        return Err(Unmade::Memory);
-    };
-    let Ok(mut session) = Session::<_, Blocks>::adopt(alloc, connection, profile, Limits::GREATEST)
-    else {
-        return Err(Unmade::Memory);
-    };
-    let change = Command::Change {
-        kind: Kind::Update,
-        database,
-        files: vec![in alloc; bytes_of_records(alloc, "<A>")?]?,
-    };
-    if session.command(&Command::Init).is_err() || session.command(&change).is_err() {
-        return Err(Unmade::Memory);
-    }
-    Ok(session.release())
-}
-
-/// Compares what was written, and the status.
-pub fn expect(
-    rt: &impl Abort,
-    words: &[&str],
-    outcome: &Outcome,
-    wanted: (u8, &str, &str),
-) -> Result<(), Fail> {
-    let (status, output, fault_output) = wanted;
-    assert_eq!(rt;
-        str::from_utf8(outcome.output.as_slice())?,
-        output,
-        "of {words:?}"
-    );
-    assert_eq!(rt;
-        str::from_utf8(outcome.fault_output.as_slice())?,
-        fault_output,
-        "of {words:?}"
-    );
-    assert_eq!(rt; outcome.status, status, "of {words:?}");
-    Ok(())
-}
 
 #[test]
 fn answers_words(rt: HostRuntime) -> Result<(), Fail> {
@@ -182,7 +55,7 @@ fn answers_words(rt: HostRuntime) -> Result<(), Fail> {
     ];
     for (words, output) in rows {
         let outcome = run_words(rt.alloc(), words, Some(loaded(rt.alloc())?), b"")?;
-        expect(&rt, words, &outcome, (0, output, ""))?;
+        expect(words, &outcome, (0, output, ""))?;
     }
     Ok(())
 }
@@ -251,7 +124,7 @@ fn refuses_to_the_fault_output(rt: HostRuntime) -> Result<(), Fail> {
     for (words, status, fault) in rows {
         let outcome = run_words(rt.alloc(), words, Some(loaded(rt.alloc())?), b"")?;
         let line = format!(in rt.alloc(); "zebraidx: {fault}\n")?;
-        expect(&rt, words, &outcome, (status, "", line.as_str()))?;
+        expect(words, &outcome, (status, "", line.as_str()))?;
     }
     Ok(())
 }
@@ -269,7 +142,7 @@ fn asks_in_order(rt: HostRuntime) -> Result<(), Fail> {
     for (words, status, fault) in rows {
         let outcome = run_words(rt.alloc(), words, None, b"\xff")?;
         let line = format!(in rt.alloc(); "zebraidx: {fault}\n")?;
-        expect(&rt, words, &outcome, (status, "", line.as_str()))?;
+        expect(words, &outcome, (status, "", line.as_str()))?;
     }
     // A store that is no register yet: paths come before that.
     for (words, status, fault) in [
@@ -280,7 +153,7 @@ fn asks_in_order(rt: HostRuntime) -> Result<(), Fail> {
         let store = Connection::open_in_memory(rt.alloc())?;
         let outcome = run_words(rt.alloc(), &words, Some(store), b"")?;
         let line = format!(in rt.alloc(); "zebraidx: {fault}\n")?;
-        expect(&rt, &words, &outcome, (status, "", line.as_str()))?;
+        expect(&words, &outcome, (status, "", line.as_str()))?;
     }
     Ok(())
 }
@@ -319,7 +192,7 @@ fn bounds_what_is_read_whole(rt: HostRuntime) -> Result<(), Fail> {
         }];
         let mut shelf = Shelf::<MemStore>::new(&files, None);
         let outcome = run_on(rt.alloc(), &words, &mut shelf, b"");
-        expect(&rt, &["init"], &outcome, (status, "", fault))?;
+        expect(&["init"], &outcome, (status, "", fault))?;
     }
     Ok(())
 }

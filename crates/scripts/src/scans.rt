@@ -1,6 +1,6 @@
 //! Lines that scan.
 
-use super::{expect_batch, expect_script};
+use script_rows::runs::{expect_batch, expect_script};
 use std::test::Fail;
 
 /// Titles by their words and whole, dates by their numbers, with a record in the database `Default`.
