@@ -12,13 +12,13 @@ use Rattle.zeb_change.specs.declared.settings.Limits.{Limits}
 use Rattle.zeb_image.specs.Holdings.{nothing_yet}
 use Rattle.zeb_image.specs.Image.{Keeps as Holding}
 use Rattle.zeb_change.specs.declared.refusals.Refusal.{Refusal}
-use Rattle.zeb_change.specs.declared.refusals.Refusal.TheVariants.{Store, Commit, Memory}
 use Rattle.zeb_engine.specs.Refusals.{refusal_text, status_of}
 use Rattle.zeb_profile.specs.declared.directives.Directive.{Directive}
 use Rattle.zeb_profile.specs.declared.faults.ProfileFault.{ProfileFault}
 use Rattle.zeb_profile.specs.Outcomes.{FailsPlaced}
 use Rattle.zeb_profile.specs.Profiles.{profile_of}
 use Rattle.zeb_program.specs.declared.script.Batch.{Batch}
+use Rattle.zeb_program.specs.Faults.{IsOpeningFailure}
 use Rattle.zeb_program.specs.Inputs.{IsInput}
 use Rattle.zeb_program.specs.PathChanges.{AreFilesTold}
 use Rattle.zeb_program.specs.Scripts.{DividesAt, HasNoDivider}
@@ -27,12 +27,12 @@ use Rattle.zeb_program.specs.Serving.{Leads, Stops}
 use Rattle.zeb_program.specs.ScriptAnswers.{AnswersScript, EndsEarly, EndsScript, unreadable, faulty, alone, ran, stopped, silent, AreScriptConditions, AnswersOpened, AnswersStopped, IsUnopened, IsProfileOf, unreadable_line, refusal_line, fault_line, fault_status}
 use Rattle.zeb_program.proofs.AnswerLemmas.{Appends-nil}
 
-unopened : (refusal : Refusal) (bytes : List ℕ) (status : ℕ) → (refusal ≡ Store) ⊎ ((refusal ≡ Commit) ⊎ (refusal ≡ Memory)) → (bytes ≡ refusal_line refusal) × (status ≡ status_of refusal) → IsUnopened bytes status
+unopened : (refusal : Refusal) (bytes : List ℕ) (status : ℕ) → IsOpeningFailure refusal → (bytes ≡ refusal_line refusal) × (status ≡ status_of refusal) → IsUnopened bytes status
 unopened refusal bytes status (inl is) said = (inl (said.0 ∙ ap refusal_line is), said.1 ∙ ap status_of is)
 unopened refusal bytes status (inr (inl is)) said = (inl (said.0 ∙ ap refusal_line is), said.1 ∙ ap status_of is)
 unopened refusal bytes status (inr (inr is)) said = (inr (said.0 ∙ ap refusal_line is), said.1 ∙ ap status_of is)
 
-pub refused_opening : (tells : List ℕ → Option (List ℕ)) (failed : Bool) (old new : Option (List ℕ)) (directives : List Directive) (n : ℕ) (batch : List ℕ) (refusal : Refusal) (r : Result ℕ AllocError) → (refusal ≡ Store) ⊎ ((refusal ≡ Commit) ⊎ (refusal ≡ Memory))
+pub refused_opening : (tells : List ℕ → Option (List ℕ)) (failed : Bool) (old new : Option (List ℕ)) (directives : List Directive) (n : ℕ) (batch : List ℕ) (refusal : Refusal) (r : Result ℕ AllocError) → IsOpeningFailure refusal
     → IfOk r (λ status. failed ≡ false → Writes old new (λ bytes. (bytes ≡ refusal_text refusal ++ 10 ∷ []) × (status ≡ status_of refusal)))
     → IfOk r (λ status. failed ≡ false → AreFilesTold tells batch → AnswersOpened tells directives n batch old new status)
 refused_opening tells failed old new directives n batch refusal (Err e) is h = h

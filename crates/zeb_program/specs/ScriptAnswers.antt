@@ -39,7 +39,7 @@ abbrev pub fault_status : ProfileFaultKind → ℕ
 fault_status Memory = 3
 fault_status _ = 1
 
--- what a register in memory works under, by the directives of a script's profile: the version is that of the layout with packed blocks, and the limits are the greatest that there are
+-- what a register works under that the program opens, by the directives of its profile: the version is that of the layout with packed blocks, and the limits are the greatest that there are
 pub record AreScriptConditions (directives : List Directive) (c : Conditions) : Type 0 where
   pub version : c.version ≡ codes "2"
   pub profile : c.profile ≡ directives

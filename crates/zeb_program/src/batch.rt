@@ -15,6 +15,7 @@ ghost use Rattle.zeb_program.specs.WordAnswers.{IsFaultStatus};
 
 use crate::lines::Line;
 use crate::memory::open_in_memory;
+use crate::opening::session_over;
 use crate::path_changes::run_path_change;
 use crate::program::{ANSWERED, FAILED, MISUSED};
 use crate::script::Batch;
@@ -23,8 +24,7 @@ use crate::words::cut_line;
 use sqlite::Alter;
 use std::alloc::{AllocError, Global};
 use std::io::Write;
-use zeb_engine::{Command, Limits, Refusal, Session, refusal_line, render, status};
-use zeb_packed::Blocks;
+use zeb_engine::{Command, Refusal, Session, refusal_line, render, status};
 use zeb_paths::Paths;
 use zeb_profile::Profile;
 use zeb_register::Layout;
@@ -46,12 +46,9 @@ pub fn run_batch<P: Paths, W: Write>(
         (W.contents output.new.writer)) }
     ensures range { IfOk result (λ status. status ≤ FAILED) }
 {
-    let Ok(connection) = open_in_memory(alloc) else {
-        return refuse(alloc, &Refusal::Store, output);
-    };
-    match Session::<_, Blocks>::adopt(alloc, connection, profile, Limits::GREATEST) {
+    match session_over(alloc, open_in_memory(alloc), profile) {
         Ok(mut session) => run_lines(alloc, &mut session, paths, batch, output),
-        Err((_, refusal)) => refuse(alloc, &refusal, output),
+        Err(refusal) => refuse(alloc, &refusal, output),
     }
 }
 

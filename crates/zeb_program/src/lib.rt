@@ -12,6 +12,7 @@ mod line_input;
 mod lines;
 mod memory;
 mod numbers;
+mod opening;
 mod outputs;
 mod path_changes;
 mod program;

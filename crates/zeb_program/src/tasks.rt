@@ -6,19 +6,21 @@ ghost use Rattle.sqlite.specs.Held.{state};
 ghost use Rattle.sqlite.specs.State.{HasCleanDisk};
 ghost use Rattle.zeb_change.specs.Conditions.{conditions};
 ghost use Rattle.zeb_image.specs.NameOf.{name_bytes};
-ghost use Rattle.zeb_register.specs.Formats.{version_of};
+ghost use Rattle.zeb_register.specs.Formats.{packed_blocks, version_of};
 ghost use Rattle.zeb_program.specs.Answers.{ChangesBy};
-ghost use Rattle.zeb_program.specs.Faults.{IsUnread, IsUnreadable};
+ghost use Rattle.zeb_program.specs.Faults.{IsOpeningFault, IsUnread, IsUnreadable};
+ghost use Rattle.zeb_program.specs.ScriptAnswers.{AreScriptConditions};
 ghost use Rattle.zeb_program.specs.Serving.{AnswersFrom, ServesTask, replied};
 ghost use Rattle.zeb_program.specs.TaskAnswers.{AnalysesFiles, AnswersCommand, AreTold, ReadsWhole, paths_of};
 ghost use Rattle.zeb_program.specs.Warnings as spec;
 
 use crate::faults::Fault;
 use crate::files::{contents_of, read_profile, readers_of};
+use crate::opening::session_over;
 use crate::warnings::{Place, unmarked_of, warning};
 use sqlite::Alter;
 use std::alloc::Global;
-use zeb_engine::{Command, DbName, Kind, Limits, Refusal, Reply, Session, render};
+use zeb_engine::{Command, DbName, Kind, Reply, Session, render};
 use zeb_packed::Blocks;
 use zeb_paths::Paths;
 use zeb_profile::Profile;
@@ -157,14 +159,13 @@ pub fn open_register<P: Paths>(
     alloc: Global,
     paths: &mut P,
     profile: Profile,
-) -> Result<Session<P::Store, Blocks>, Fault> {
-    let Ok(connection) = paths.store(profile.store_path()) else {
-        return Err(Fault::Refused(Refusal::Store));
-    };
-    match Session::adopt(alloc, connection, profile, Limits::GREATEST) {
-        Ok(session) => Ok(session),
-        Err((_, refusal)) => Err(Fault::Refused(refusal)),
-    }
+) -> Result<Session<P::Store, Blocks>, Fault>
+    ensures failed { IfErr result IsOpeningFault }
+    ensures under { IfOk result (λ session. AreScriptConditions profile
+        (conditions (version_of packed_blocks) session.profile session.limits)) }
+{
+    let opened = paths.store(profile.store_path());
+    Ok(session_over(alloc, opened, profile)?)
 }
 
 /// Carries a task out in a session.

@@ -1,0 +1,12 @@
+-- What adopting the store says, of what is given on.
+use Rattle.zeb_change.specs.declared.refusals.Refusal.TheVariants.{Store}
+use Rattle.zeb_program.proofs.Unwrapped.{holds_of, narrowed_err, narrowed_ok}
+use Rattle.zeb_program.proofs.opening.session_over.Goals as goal
+
+pub returns-in-Ok-clause-other : goal.returns-in-Ok-clause-other
+returns-in-Ok-clause-other g c =
+    holds_of c.args.opened c.in-Ok.connection _ c.in-Ok.is (λ others. narrowed_err c.adopt.result c.taken_over.result (λ back. back.1) _ Store (c.adopt.ensures.other others) c.taken_over.ensures)
+
+pub returns-in-Ok-clause-keeps : goal.returns-in-Ok-clause-keeps
+returns-in-Ok-clause-keeps g c =
+    holds_of c.args.opened c.in-Ok.connection _ c.in-Ok.is (narrowed_ok c.adopt.result c.taken_over.result (λ back. back.1) _ c.adopt.ensures.keeps c.taken_over.ensures)

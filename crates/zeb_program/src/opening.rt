@@ -1,0 +1,57 @@
+//! The session over a register's store, or the refusal by which there is none.
+
+ghost use Rattle.std.specs.Prelude.{◌≡◌, false, Ok, Err, IfErr, IfOk, MatchResult, OnErr};
+ghost use Rattle.sqlite.specs.Held.{state};
+ghost use Rattle.sqlite.specs.State.{HasCleanDisk};
+ghost use Rattle.zeb_change.specs.Conditions.{conditions};
+ghost use Rattle.zeb_engine.specs.Adopting.{HasOtherTables};
+ghost use Rattle.zeb_engine.specs.Crashes.{Bears};
+ghost use Rattle.zeb_image.specs.Holdings.{Holdings};
+ghost use Rattle.zeb_image.specs.Image.{Keeps};
+ghost use Rattle.zeb_register.specs.Formats.{packed_blocks, version_of};
+ghost use Rattle.zeb_program.specs.Faults.{IsOpeningFailure};
+ghost use Rattle.zeb_program.specs.ScriptAnswers.{AreScriptConditions};
+
+use sqlite::{Alter, Connection};
+use std::alloc::Global;
+use zeb_engine::{Limits, Refusal, Session};
+use zeb_packed::Blocks;
+use zeb_paths::OpenFailed;
+use zeb_profile::Profile;
+
+/// What a session that takes a store over answers: where it refuses, with the store.
+type Adopted<S> = Result<Session<S, Blocks>, (Connection<S>, Refusal)>;
+
+/// Takes over what was opened for a register, under the profile and the greatest limits. An open that failed is a failed
+/// store, and a store that isn't taken over is refused by what refused it.
+pub fn session_over<S: Alter + Drop>(
+    alloc: Global,
+    opened: Result<Connection<S>, OpenFailed>,
+    profile: Profile,
+) -> Result<Session<S, Blocks>, Refusal>
+    requires idle { IfOk opened (λ connection. connection.in_transaction ≡ false) }
+    ensures unopened { OnErr opened (result ≡ Err Refusal.Store) }
+    ensures other { IfOk opened (λ connection. HasOtherTables (state S.Store connection) → result ≡ Err Refusal.Store) }
+    ensures failed { IfErr result IsOpeningFailure }
+    ensures keeps { IfOk opened (λ connection. IfOk result (λ session. HasCleanDisk (state S.Store session.connection)
+        → (before : Holdings) → Bears (state S.Store connection) before → Keeps (state S.Store session.connection) before)) }
+    ensures under { IfOk result (λ session. AreScriptConditions profile
+        (conditions (version_of packed_blocks) session.profile session.limits)) }
+{
+    match opened {
+        Ok(connection) => {
+            taken_over(Session::adopt(alloc, connection, profile, Limits::GREATEST))
+        }
+        Err(OpenFailed) => Err(Refusal::Store),
+    }
+}
+
+/// The session that took a store over, or just the refusal by which none did.
+fn taken_over<S: Alter + Drop>(adopted: Adopted<S>) -> Result<Session<S, Blocks>, Refusal>
+    ensures { MatchResult adopted (λ session. result ≡ Ok session) (λ back. result ≡ Err back.1) }
+{
+    match adopted {
+        Ok(session) => Ok(session),
+        Err((_, refusal)) => Err(refusal),
+    }
+}
