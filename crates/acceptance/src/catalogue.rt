@@ -59,7 +59,7 @@ impl Fields {
 /// One to four words, each with a space behind it.
 fn title(alloc: Global, draw: &mut Draw) -> Result<String, AllocError> {
     let mut title = String::new(alloc);
-    for _ in 0..=draw.next() % 4 {
+    for _ in 0..=draw.below(4) {
         title.push_str(draw.one_of(&WORDS))?;
         title.push(' ')?;
     }
@@ -80,7 +80,7 @@ pub fn record(alloc: Global, draw: &mut Draw, ident: &str) -> Result<String, All
         "245",
         &format!(in alloc; "10\x1fa{head}\x1fb{rest}")?,
     )?;
-    if draw.next() % 6 > 0 {
+    if draw.below(6) > 0 {
         let date = draw.one_of(&DATES);
         fields.add(alloc, "260", &format!(in alloc; "  \x1fc{date}")?)?;
     }

@@ -18,7 +18,7 @@ use zeb_register::{Layout, Rows};
 
 /// What is asked of a register.
 #[derive(Drop)]
-enum Asked<'a> {
+enum Request<'a> {
     Command(&'a Command),
     /// A change of the database `Default` by records from readers of these bytes.
     Readers(Kind, [&'static [u8]; 2]),
@@ -184,13 +184,13 @@ fn asked<L: Layout>(
     alloc: Global,
     connection: Connection<MemStore>,
     profile: &str,
-    asked: &Asked<'_>,
+    asked: &Request<'_>,
 ) -> (Connection<MemStore>, Result<Reply, Refusal>) {
     match adopted::<MemStore, L>(alloc, connection, profile, Limits::GREATEST) {
         Ok(mut session) => {
             let given = match asked {
-                Asked::Command(command) => answer(&mut session, command),
-                Asked::Readers(kind, files) => read_change(&mut session, *kind, files),
+                Request::Command(command) => answer(&mut session, command),
+                Request::Readers(kind, files) => read_change(&mut session, *kind, files),
             };
             (session.release(), given)
         }
@@ -204,7 +204,7 @@ fn asked_in(
     connection: Connection<MemStore>,
     kept: Kept,
     profile: &str,
-    given: &Asked<'_>,
+    given: &Request<'_>,
 ) -> (Connection<MemStore>, Result<Reply, Refusal>) {
     match kept {
         Kept::Plain => asked::<Rows>(alloc, connection, profile, given),
@@ -217,7 +217,7 @@ fn answered(
     rt: &(impl Abort + AllocGlobal),
     connection: Connection<MemStore>,
     under: (Kept, &str),
-    given: &Asked<'_>,
+    given: &Request<'_>,
     wanted: &str,
 ) -> Result<Connection<MemStore>, Fail> {
     let (kept, profile) = under;
@@ -245,7 +245,7 @@ fn rows_answered(
     let mut connection = connection;
     for (step, wanted) in *rows {
         let command = made(rt.alloc(), step)?;
-        let given = Asked::Command(&command);
+        let given = Request::Command(&command);
         connection = answered(rt, connection, (*kept, profile), &given, wanted)?;
     }
     Ok(connection)
@@ -259,7 +259,7 @@ pub fn all_answered(
     let mut connection = opened(rt.alloc())?;
     // Whichever asks first makes the tables, the second where memory was refused for the first.
     for _ in 0..2 {
-        let check = Asked::Command(&Command::Check);
+        let check = Request::Command(&Command::Check);
         connection = asked::<Rows>(rt.alloc(), connection, BOOKS, &check).0;
     }
     for given in all {
@@ -278,7 +278,7 @@ fn memory_or_the_ordinary_answer(rt: HostRuntime) -> Result<(), Fail> {
 fn memory_or_the_ordinary_answer_to_readers(rt: HostRuntime) -> Result<(), Fail> {
     let mut connection = all_answered(&rt, &BEGUN)?;
     for (kind, files, wanted) in &READ {
-        let given = Asked::Readers(*kind, *files);
+        let given = Request::Readers(*kind, *files);
         connection = answered(&rt, connection, (Kept::Packed, BOOKS), &given, wanted)?;
     }
     Ok(())

@@ -1,6 +1,6 @@
 //! Registers that are checked, made anew under another profile, and turned into the packed layout.
 
-use command_rows::commands::{Row, Script, Step};
+use command_rows::commands::{Row, Script, Step, run_each};
 use command_rows::statements::Statement;
 use command_rows::stories::{Part, Story, told};
 use std::test::Fail;
