@@ -16,7 +16,11 @@ struct Failing<'a> {
 }
 
 impl<'a> Failing<'a> {
-    fn new(bytes: &'a [u8]) -> Failing<'a> {
+    ghost use Rattle.std.specs.Prelude.{◌≡◌, false};
+
+    fn new(bytes: &'a [u8]) -> Failing<'a>
+        ensures { result.failed ≡ false }
+    {
         Failing {
             bytes,
             failed: false,
@@ -411,6 +415,16 @@ fn a_fault_before_the_failure_is_answered(rt: HostRuntime) -> Result<(), Fail> {
     Ok(())
 }
 
+/// What the next record of these bytes is, and how often a source that gives one byte at a time was asked for it.
+fn read_and_count(
+    bytes: &[u8],
+    buffer: &mut RecordBuf,
+) -> (Result<Option<usize>, MarcFault>, usize) {
+    let mut source = Failing::new(bytes);
+    let answer = next_record(&mut source, buffer);
+    (answer, source.reads)
+}
+
 /// A source that gives one byte at a time is asked no more often than the answer needs bytes.
 #[test]
 fn few_reads_are_asked(rt: HostRuntime) -> Result<(), Fail> {
@@ -428,9 +442,9 @@ fn few_reads_are_asked(rt: HostRuntime) -> Result<(), Fail> {
     for (tail, answer, reads) in tails {
         let mut stream = separators.clone()?;
         stream.extend_from_slice(tail)?;
-        let mut source = Failing::new(&stream);
-        assert!(rt; next_record(&mut source, &mut buffer) == answer);
-        assert_eq!(rt; source.reads, reads);
+        let (found, asked) = read_and_count(&stream, &mut buffer);
+        assert!(rt; found == answer);
+        assert_eq!(rt; asked, reads);
     }
     Ok(())
 }
