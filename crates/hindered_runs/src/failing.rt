@@ -275,19 +275,29 @@ fn is_narrowed(
     Ok(status)
 }
 
+/// The lines that are read of a dialogue whose output takes so many bytes.
+fn lines_read<'a>(
+    alloc: Global,
+    lines: &'a [Line],
+    waits: bool,
+    room: usize,
+) -> Result<&'a [Line], AllocError> {
+    if waits {
+        lines_answered(alloc, lines, room)
+    } else {
+        Ok(lines)
+    }
+}
+
 /// The output fails behind each byte of the answers.
 fn writes_fail(rt: &(impl Abort + AllocGlobal), dialogue: &Dialogue) -> Result<(), Fail> {
-    let (words, lines, waits, status) = dialogue;
+    let (words, lines, waits, status) = *dialogue;
     let length = spelled(rt.alloc(), lines)?.1.len();
     for room in 0..=length {
-        let read = if *waits {
-            lines_answered(rt.alloc(), lines, room)?
-        } else {
-            lines
-        };
+        let read = lines_read(rt.alloc(), lines, waits, room)?;
         let mut output = Narrow::new(rt.alloc(), room, usize::MAX);
         let given = is_narrowed(rt, dialogue, &mut output, read, room)?;
-        let wanted = if room < length { FAILED } else { *status };
+        let wanted = if room < length { FAILED } else { status };
         assert_eq!(rt; given, wanted, "of {words:?} after {room} bytes");
     }
     Ok(())
