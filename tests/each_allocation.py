@@ -75,9 +75,7 @@ ALL = {
     "acceptance": ["words::each_line_is_read", "words::names_of_databases_are_read"],
     "endurance": [
         "refused_memory::memory_or_the_ordinary_answer",
-        "refusals::memory_or_the_ordinary_refusal",
-        "refused_memory::memory_or_the_ordinary_answer_to_readers",
-        "refused_lists::a_list_lacks_memory_or_one_command_does",
+        "refused_memory::a_refused_list_has_run_nothing",
     ],
     "hindered_runs": ["memory::memory_or_the_ordinary_answer"],
 }

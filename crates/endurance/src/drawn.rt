@@ -87,12 +87,12 @@ const ASKED: &[Step<'static>] = &[
     Step::Reindex,
 ];
 
-pub const SOUND: &str = "ok\n";
+const SOUND: &str = "ok\n";
 
 const DAMAGED: &str = "zebraidx: register damaged";
 
 /// What is printed for a command, over a connection that is given back. A refusal leaves all rows as they were.
-pub fn asked<L: Layout>(
+fn asked<L: Layout>(
     rt: &(impl Abort + AllocGlobal),
     connection: Connection<MemStore>,
     step: &Step<'_>,
@@ -163,37 +163,27 @@ fn prints<L: Layout>(
     Ok(connection)
 }
 
-/// Everything is asked of a register of which a check was asked, and what is printed is given. What is sound is sound later too, and so is
-/// what is begun anew.
-pub fn all_asked<L: Layout>(
+/// Everything is asked of a register, and what is printed is given. A check tells whether it was harmed; what wasn't is sound later too,
+/// and so is what is begun anew.
+fn all_asked<L: Layout>(
     rt: &(impl Abort + AllocGlobal),
     connection: Connection<MemStore>,
-    is_sound: bool,
+    is_harmed: bool,
 ) -> Result<String, Fail> {
-    let mut connection = connection;
+    let verdict = if is_harmed { DAMAGED } else { SOUND };
+    let mut connection = prints::<L>(rt, connection, &Step::Check, verdict)?;
     let mut printed = String::new(rt.alloc());
     for step in ASKED {
         let (left, text) = asked::<L>(rt, connection, step)?;
         printed.push_str(text.as_str())?;
         connection = left;
     }
-    if is_sound {
+    if !is_harmed {
         connection = prints::<L>(rt, connection, &Step::Check, SOUND)?;
     }
     let connection = prints::<L>(rt, connection, &Step::Init, SOUND)?;
     prints::<L>(rt, connection, &Step::Check, SOUND)?;
     Ok(printed)
-}
-
-/// A check tells whether a register was harmed, and everything is asked of it.
-fn told_apart<L: Layout>(
-    rt: &(impl Abort + AllocGlobal),
-    connection: Connection<MemStore>,
-    is_harmed: bool,
-) -> Result<String, Fail> {
-    let verdict = if is_harmed { DAMAGED } else { SOUND };
-    let connection = prints::<L>(rt, connection, &Step::Check, verdict)?;
-    all_asked::<L>(rt, connection, !is_harmed)
 }
 
 /// Makes a register in either layout by the same commands, changes their rows by the same statements, and asks everything of each. The
@@ -205,8 +195,8 @@ fn drawn(rt: &(impl Abort + AllocGlobal), draw: &mut Draw) -> Result<(), Fail> {
     is_text(&printed, &wanted, 0)?;
     let is_plain_harmed = is_harmed(&mut plain, draw);
     let is_packed_harmed = is_harmed(&mut packed, &mut again);
-    let printed = told_apart::<Rows>(rt, plain, is_plain_harmed)?;
-    let wanted = told_apart::<Blocks>(rt, packed, is_packed_harmed)?;
+    let printed = all_asked::<Rows>(rt, plain, is_plain_harmed)?;
+    let wanted = all_asked::<Blocks>(rt, packed, is_packed_harmed)?;
     if !is_plain_harmed && !is_packed_harmed {
         is_text(&printed, &wanted, 0)?;
     }

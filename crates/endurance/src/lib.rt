@@ -11,15 +11,9 @@ mod damages;
 #[cfg(test)]
 mod drawn;
 #[cfg(test)]
-mod drawn_rows;
-#[cfg(test)]
 mod other_stores;
 #[cfg(test)]
 mod packed;
-#[cfg(test)]
-mod refusals;
-#[cfg(test)]
-mod refused_lists;
 #[cfg(test)]
 mod refused_memory;
 #[cfg(test)]
