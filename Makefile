@@ -6,7 +6,7 @@
 # make session    runs the session of README.md as it stands there; installs Debian's yaz and idzebra-2.0-examples where they aren't there
 # make real       takes in real records and compares what is found in them with another count; installs the same packages
 # make examples   proves and builds a small caller of the engine as a library
-# make hostile    runs the built program on the greatest inputs, with each call failing in turn, and on scripts drawn by lot: SECONDS=3600 for more than a minute
+# make hostile    runs the built program on the greatest inputs, with each call failing in turn, and on scripts and tables drawn by lot: SECONDS=3600 for longer runs
 # make allocations  refuses each allocation of the tests that are made for it, one a run; proves and links those tests where they aren't there
 # make edits      tries the wrong bodies of edits/ too: CRATE=zeb_marc for one crate, EDIT=crates/zeb_marc/edits/no_units.edit for one
 # make cost       the gate, with the processor minutes of each crate written into docs/TESTING.md
@@ -63,6 +63,7 @@ hostile: bin/zebraidx
 	@tests/hostile/greatest
 	@tests/hostile/failing_calls
 	@tests/hostile/drawn --seconds $(or $(SECONDS),60)
+	@tests/hostile/drawn_tables $(if $(SECONDS),--seconds $(SECONDS))
 
 allocations:
 	@tests/each_allocation.py

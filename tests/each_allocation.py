@@ -68,6 +68,8 @@ ALL = {
         "profiles::lookups::printed_faults",
         "profiles::lookups::patterns_and_registers",
         "queries::memory::requests_for_memory_may_be_refused",
+        "queries::memory::requests_of_plans_may_be_refused",
+        "queries::memory::requests_of_attributes_may_be_refused",
         "extraction::memory_or_the_ordinary_answer",
         "analyses::memory_or_the_ordinary_answer",
     ],

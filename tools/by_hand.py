@@ -2,10 +2,13 @@
 
 Contracts allow such a failure wherever a call takes memory or reaches the store, so a body that answers one for no reason meets any of
 them. It has to come from a call that failed: by `?`, by a conversion of what only such a call gives, or by an arm that passes it on.
-The program's status of a failure is one too, and a growth that asks for more than any memory has. What isn't seen: a call that is made so
-that it fails, as a statement without a sense.
+The program's status of a failure is one too, by its name or as a number, and a growth that asks for more than any memory has: of a growth
+by a count that isn't the length of something this can't tell, so it is named here too. A function that is named here is known by its text,
+so that neither what it asks before it fails nor how often it does may change unseen. What isn't seen: a call that is made so that it fails,
+as a statement without a sense.
 """
 import collections
+import hashlib
 import re
 
 # What a failure is called, and of what it is one: variants of the crates' and the kit's faults, and the values without a path.
@@ -15,29 +18,31 @@ VALUES = {"AllocError": "memory", "AllocFailed": "memory", "OpenFailed": "store"
 OF_CALLS = {"AllocError": "memory", "AllocFailed<T>": "memory", "Error": "store", "sqlite::Error": "store"}
 # What is called so and is no failure: a line of a profile.
 NO_FAILURE = "Directive::Store"
-# Where one is made by hand, by file: in which functions and constants, each once for each time, and why.
+# Where one is made by hand, by file: in which functions and constants, each once for each time, and why. Behind each name stands what its
+# text without clauses and spaces adds up to. Where that differs, look again at what it fails for, and write the new sum.
 MADE_BY_HAND = {
-    "crates/zeb_profile/src/faults.rt": (["MEMORY"], "the one value that all conversions give"),
-    "crates/zeb_query/src/faults.rt": (["about"], "an addinfo that there is no memory for"),
-    "crates/zeb_register/src/values.rt": (["stored"], "a number that no column stores"),
-    "crates/zeb_packed/src/packed_parts.rt": (["check_numbers", "check_place"], "a number or a place that no row has"),
-    "crates/zeb_change/src/key_notes.rt": (["note"], "more changes of a key than a number counts"),
-    "crates/zeb_image/src/rebuilding.rt": (["database_post"], "more turns than there are numbers"),
-    "crates/zeb_engine/src/session.rt": (["run_all"], "no room for the answers"),
-    "crates/zeb_engine/src/tables.rt": (["check_tables"], "a store with other tables, and no other store, as a clause says"),
-    "crates/zeb_words/src/words.rt": (["usage_of", "usage_of"], "the want of memory that the parser names, and of its text"),
-    "crates/zeb_paths/src/walk.rt": (["next_file"], "more folders than could be held"),
-    "crates/zeb_paths/src/disk.rt": (["store"], "whatever fails as a store is opened"),
-    "crates/zeb_paths/src/shelf.rt": (["store", "store"], "a shelf without a store under the path, or one that fails"),
-    "crates/zeb_program/src/command_line.rt": (["refuse_words"], "the status of words that memory ran out for"),
-    "crates/zeb_program/src/faults.rt": (["tell"], "the status of a path that can't be read, as a clause says"),
-    "crates/zeb_program/src/files.rt": (["readers_of", "contents_of"], "more files than could be held"),
-    "crates/zeb_program/src/memory.rt": (["open_in_memory"], "whatever fails as a store is opened"),
-    "crates/zeb_program/src/opening.rt": (["session_over"], "an open that failed, as a clause says"),
-    "crates/zeb_program/src/program.rt": (["run", "run", "finish", "run_script", "profile_status"], "the status of want of memory, of a failed write, of an input that is no text"),
-    "crates/zeb_program/src/shell.rt": (["serve_lines", "run_shell_lines"], "the status of a failed read and of a failed write, as clauses say"),
-    "crates/zebraidx/src/main.rt": (["main"], "an outside that failed"),
-    "crates/small_catalogue/src/lib.rt": (["open"], "an open that failed"),
+    "crates/zeb_marc/src/stream.rt": (["make_room 044e00c2"], "no failure: as many bytes as the longest record has"),
+    "crates/zeb_profile/src/faults.rt": (["MEMORY 1437066d"], "the one value that all conversions give"),
+    "crates/zeb_query/src/faults.rt": (["about 0d9868b6"], "an addinfo that there is no memory for"),
+    "crates/zeb_register/src/values.rt": (["stored aaab8d06"], "a number that no column stores"),
+    "crates/zeb_packed/src/packed_parts.rt": (["check_numbers a6317af7", "check_place 773bf948"], "a number or a place that no row has"),
+    "crates/zeb_change/src/key_notes.rt": (["note 96b8ec5b"], "more changes of a key than a number counts"),
+    "crates/zeb_image/src/rebuilding.rt": (["database_post 34e78b1f"], "more turns than there are numbers"),
+    "crates/zeb_engine/src/session.rt": (["run_all 8bd74e81"], "no room for the answers"),
+    "crates/zeb_engine/src/tables.rt": (["check_tables 9fb18e69"], "a store with other tables, and no other store, as a clause says"),
+    "crates/zeb_words/src/words.rt": (["usage_of c0e9217c", "usage_of c0e9217c"], "the want of memory that the parser names, and of its text"),
+    "crates/zeb_paths/src/walk.rt": (["next_file e0a517fc"], "more folders than could be held"),
+    "crates/zeb_paths/src/disk.rt": (["store 4b5e5bda"], "whatever fails as a store is opened"),
+    "crates/zeb_paths/src/shelf.rt": (["store ad5a252e", "store ad5a252e"], "a shelf without a store under the path, or one that fails"),
+    "crates/zeb_program/src/command_line.rt": (["refuse_words 14383364"], "the status of words that memory ran out for"),
+    "crates/zeb_program/src/faults.rt": (["tell 1777e2de"], "the status of a path that can't be read, as a clause says"),
+    "crates/zeb_program/src/files.rt": (["readers_of 4729b173", "contents_of 89790e8e"], "more files than could be held"),
+    "crates/zeb_program/src/memory.rt": (["open_in_memory 2bd5a522"], "whatever fails as a store is opened"),
+    "crates/zeb_program/src/opening.rt": (["session_over 4093001b"], "an open that failed, as a clause says"),
+    "crates/zeb_program/src/program.rt": (["run fbf1216e", "run fbf1216e", "finish 3c11e3e9", "run_script ec467c47", "profile_status 103311da"], "the status of want of memory, of a failed write, of an input that is no text"),
+    "crates/zeb_program/src/shell.rt": (["serve_lines 58d0081f", "run_shell_lines 2ed6cca4"], "the status of a failed read and of a failed write, as clauses say"),
+    "crates/zebraidx/src/main.rt": (["main c9ec8a38"], "an outside that failed"),
+    "crates/small_catalogue/src/lib.rt": (["open cb1c9c16"], "an open that failed"),
 }
 
 GHOST = re.compile(r"\bghost\s+use\b[^;]*;|\b(?:requires|ensures)\b\*?\s*(?:\w+\s*)?(?=\{)|\bghost\s+\w+\s*[:=]\s*(?=\{)")
@@ -54,9 +59,14 @@ PATTERN_ENDS = re.compile(r"\s*(?:\([\w\s,:.]*\)|\{[\w\s,:.]*\})?[\s)]*(?:\||=|i
 TYPE_ENDS = re.compile(r"\s*,?\s*>")
 # An arm that has only one failure, up to the failure that it gives.
 PASSES = re.compile(r"[{,}]\s*(?:[\w:]+\(\s*)*(?:(?:\w+::)+|(?=AllocError))(\w+)[\s)]*=>\s*\{?\s*(?:return\s+)?(?:[\w:]+\(\s*)*&?$")
-# As much memory as no call gives, or as a constant hides: of a growth, and of a list that is written with its length.
-GREAT = r"(?:\b[A-Z][A-Z\d_]+\b|<<|\b\d[\d_]{7,})"
-TOO_MUCH = re.compile(rf"\b(?:with_capacity|reserve|resize)\w*\([^;{{}}]*?{GREAT}|\bvec!\[in\b[^;{{}}]*;[^;{{}}]*;[^;{{}}]*?{GREAT}")
+# A growth, and a list that is written with its length; and a count that is the length of something, or a small number.
+GROWTH = re.compile(r"\b(?:try_)?(?:with_capacity|reserve|resize)(?:_\w+)?(?=\()|\bvec!(?=\[in\b[^;{}\]]*;[^;{}\]]*;)")
+SMALL = re.compile(r"(?:\w+\.)*\w+\.len\(\)|\d{1,7}")
+# A type of so many elements that one of it is such a growth.
+GREAT_ARRAY = re.compile(r";\s*(?:\d[\d_]{7,}|0x[\da-fA-F_]+|[^;\[\]{}()]*(?:<<|MAX)[^;\[\]{}()]*)\]")
+# The status of a failure, as a number: of the program's crates.
+NUMERAL = re.compile(r"(?<![\w.])3(?![\w.])")
+STATUS_CRATES = ("crates/zeb_program/", "crates/zebraidx/")
 
 
 def closed(text, at, opening="{", closing="}"):
@@ -98,6 +108,11 @@ def constants_of(text):
                 break
 
 
+def sum_of(text):
+    """What a text without its spaces adds up to, in eight letters and digits."""
+    return hashlib.sha256("".join(text.split()).encode()).hexdigest()[:8]
+
+
 class Reader:
     """Finds the failures that are made by hand, where these constants are failures too."""
 
@@ -114,21 +129,25 @@ class Reader:
         """Of what it is a failure; sqlite's errors become failures of the store."""
         return self.kinds.get(found[found.lastindex], "store") if found.lastindex else "memory"
 
-    def made_in(self, text):
-        """Each failure that the code makes: in which function or constant, and the words."""
+    def made_in(self, text, is_program=False):
+        """Each failure that the code makes: in which function or constant, with what its text adds up to, and the words."""
         hidden = [it[0] for it in USE.finditer(text) if HIDING_USE.search(it[0])]
         hidden += [it[0] for it in HIDING.finditer(text) if not it[0].startswith("#[cfg")]
         yield from [("another name", " ".join(it.split())) for it in hidden]
         text = without_patterns(USE.sub("", text))
-        conversions = [(it.start(), it.end(), OF_CALLS.get(it[1].strip())) for it in CONVERSION.finditer(text)]
         constants = list(constants_of(text))
-        for found in [*self.failure.finditer(text), *TOO_MUCH.finditer(text)]:
+        for start, end in sorted([*self.named_in(text), *growths_in(text), *(numerals_in(text) if is_program else [])]):
+            yield place_of(text, start, constants), " ".join(text[start:end].split())
+
+    def named_in(self, text):
+        """Where a failure is made by its name."""
+        conversions = [(it.start(), it.end(), OF_CALLS.get(it[1].strip())) for it in CONVERSION.finditer(text)]
+        for found in self.failure.finditer(text):
             kind = self.kind_of(found)
             start = found.start() - len(re.search(r"(?:\w+\s*::\s*)*\w*$", text[max(found.start() - 200, 0) : found.start()])[0])
-            inside = [name for name, begin, end in constants if begin <= start < end]
             is_converted = any(begin <= start < end and of == kind for begin, end, of in conversions)
-            if not is_converted and not (found.lastindex and self.is_no_value(text, start, found.end(), kind)):
-                yield (inside or FUNCTION.findall(text, 0, start) or ["no function"])[-1], " ".join(text[start : found.end()].split())
+            if not is_converted and not self.is_no_value(text, start, found.end(), kind):
+                yield start, found.end()
 
     def is_no_value(self, text, start, end, kind):
         """Whether the words are a pattern, a type, a side of a comparison, or what an arm passes on; or declare their name."""
@@ -147,6 +166,35 @@ class Reader:
         )
 
 
+def growths_in(text):
+    """Where memory is asked for by a count that isn't the length of something."""
+    for found in GROWTH.finditer(text):
+        end = closed(text, found.end(), "(", ")") if found[0] != "vec!" else closed(text, found.end(), "[", "]")
+        count = text[found.end() + 1 : end - 1].strip().rstrip(",")
+        counted = count.rpartition(";")[2] if found[0] == "vec!" else count.rpartition(",")[2]
+        if not SMALL.fullmatch(counted.strip()):
+            yield found.start(), end
+    yield from [(it.start(), it.end()) for it in GREAT_ARRAY.finditer(text)]
+
+
+def numerals_in(text):
+    """Where the program's status of a failure stands as a number."""
+    constants = [(begin, end) for _, begin, end in constants_of(text)]
+    return [(it.start(), it.end()) for it in NUMERAL.finditer(text) if not any(begin <= it.start() < end for begin, end in constants)]
+
+
+def place_of(text, start, constants):
+    """The innermost constant or function around this place, with what its text adds up to."""
+    for name, begin, end in constants:
+        if begin <= start < end:
+            return f"{name} {sum_of(text[begin:end])}"
+    for found in reversed([*FUNCTION.finditer(text, 0, start)]):
+        end = closed(text, text.index("{", found.start()))
+        if start < end:
+            return f"{found[1]} {sum_of(text[found.start():end])}"
+    return "no function"
+
+
 def made_by_hand(texts):
     """What is made by hand and not named above, or the other way round; of files' texts without comments and strings, by their names."""
     codes = {name: run_of(text) for name, text in texts.items()}
@@ -155,7 +203,7 @@ def made_by_hand(texts):
         constants |= plain.constants_in(code)
     reader = Reader(constants)
     for name, code in codes.items():
-        made = list(reader.made_in(code))
+        made = list(reader.made_in(code, name.startswith(STATUS_CRATES)))
         allowed = collections.Counter(MADE_BY_HAND.get(name, ([], ""))[0])
         have = collections.Counter(place for place, _ in made)
         yield from [f"{name}: {words} in {place}" for place, words in made if have[place] > allowed[place]]

@@ -54,6 +54,13 @@ MADE = [
     ("by asking for a great number", "fn f(list: &mut Vec<u8>) -> Result<(), RegFault> { list.reserve(9_000_000_000_000)?; Ok(()) }"),
     ("by asking for a constant", "const MOST: usize = 1 << 62;\nfn f(list: &mut Vec<u8>) -> Result<(), RegFault> { list.reserve(MOST)?; Ok(()) }"),
     ("by a list that is too long", "fn f(alloc: Global) -> Result<(), RegFault> { vec![in alloc; 0u8; usize::MAX]?; Ok(()) }"),
+    ("by asking for a number of base sixteen", "fn f(list: &mut Vec<u8>) -> Result<(), RegFault> { list.reserve(0x7fff_ffff_ffff_ffff)?; Ok(()) }"),
+    ("by asking for all bits", "fn f(list: &mut Vec<u8>) -> Result<(), RegFault> { list.reserve(!0)?; Ok(()) }"),
+    ("by asking for a power", "fn f(list: &mut Vec<u8>) -> Result<(), RegFault> { list.reserve(2usize.pow(62))?; Ok(()) }"),
+    ("by asking for what has a name", "fn f(list: &mut Vec<u8>) -> Result<(), RegFault> { let most = usize::MAX; list.reserve(most)?; Ok(()) }"),
+    ("by asking for what a function says", "fn f(list: &mut Vec<u8>) -> Result<(), RegFault> { list.try_reserve_exact(most())?; Ok(()) }"),
+    ("by asking for more than a length", "fn f(list: &mut Vec<u8>) -> Result<(), RegFault> { list.reserve(list.len() * 99_999)?; Ok(()) }"),
+    ("by asking for one that is too great", "fn f(alloc: Global) -> Result<(), RegFault> { Vec::<[u8; 99_999_999_999]>::with_capacity(alloc, 1)?; Ok(()) }"),
     ("by the program's status", "fn f() -> Result<u8, AllocError> { if late() { return Ok(FAILED); } Ok(ANSWERED) }"),
     ("in what isn't read", "mod tests;"),
     ("behind a clause that has it", "fn f() -> R\n    ensures kept { result ≡ Err RegFault.Store }\n{\n    Err(RegFault::Store)\n}"),
@@ -86,16 +93,34 @@ PLAIN = [
     ("an import", "use std::alloc::{AllocError, Global};\nuse zeb_engine::DbName as Name;"),
     ("tests", "#[cfg(test)]\nmod tests;"),
 ]
-NUMBER = len(MADE) + len(PLAIN)
+
+# What changes in a function that may make one, and the function before and after.
+ALLOWED = "fn f(n: u64) -> Result<(), AllocError> {\n    for _ in 0..u64::MAX {\n        if n == u64::MAX {\n            return Err(AllocError);\n        }\n    }\n    Ok(())\n}"
+CHANGED = [
+    ("what it asks before", ALLOWED, ALLOWED.replace("n == u64::MAX", "n >= 1_000")),
+    ("how often it asks", ALLOWED, ALLOWED.replace("0..u64::MAX", "0..1_000")),
+    ("its constant", "const LATE: [Refusal; 1] = [Refusal::Store; 1];", "const LATE: [Refusal; 2] = [Refusal::Store; 2];"),
+]
+SAME = [
+    ("its layout", ALLOWED, ALLOWED.replace("\n", "\n    ")),
+    ("a clause", ALLOWED, ALLOWED.replace(" {\n    for", "\n    ensures few { IfErr result Late }\n{\n    for")),
+    ("what stands beside it", ALLOWED, ALLOWED + "\nfn g() -> u8 { 3 }"),
+]
+# The program's status of a failure as a number, and other numbers.
+STATUSES = [("fn f() -> u8 { finish(3, output) }", 1), ("const FAILED: u8 = 3;\nfn f(x: [u8; 33]) -> u8 { x[30] + 2 }", 0)]
+NUMBER = len(MADE) + len(PLAIN) + len(CHANGED) + len(SAME) + len(STATUSES)
 
 
-def count(code):
-    """How many failures the code makes by hand."""
+def made(code, is_program=False):
+    """The places where the code makes failures by hand, each with what its text adds up to."""
     run = by_hand.run_of(code)
-    return len([*by_hand.Reader(by_hand.Reader().constants_in(run)).made_in(run)])
+    return [place for place, _ in by_hand.Reader(by_hand.Reader().constants_in(run)).made_in(run, is_program)]
 
 
 def failed():
     """The trials that come out wrong."""
-    yield from [f"not found: a failure that is made {how}" for how, code in MADE if count(code) == 0]
-    yield from [f"found where none is made: {what}" for what, code in PLAIN if count(code) > 0]
+    yield from [f"not found: a failure that is made {how}" for how, code in MADE if not made(code)]
+    yield from [f"found where none is made: {what}" for what, code in PLAIN if made(code)]
+    yield from [f"not seen: a change of {what}" for what, before, after in CHANGED if made(before) == made(after)]
+    yield from [f"seen as a change: {what}" for what, before, after in SAME if made(before) != made(after)]
+    yield from [f"{len(made(code, True))} statuses of a failure, not {number}, in {code}" for code, number in STATUSES if len(made(code, True)) != number]

@@ -16,7 +16,8 @@ use Rattle.zeb_profile.specs.declared.directives.Directive.{Directive}
 use Rattle.std.specs.List.Sorted.{IsStrictlySortedBy}
 use Rattle.zeb_register.specs.declared.kept.Elder.{Elder}
 use Rattle.zeb_change.specs.Base.{Base, kept_as}
-use Rattle.zeb_change.specs.PrivateRecords.{AreOccurrencesOf, IsElderAs, elder_bytes}
+use Rattle.zeb_change.specs.PrivateRecords.{IsElderAs, elder_bytes}
+use Rattle.zeb_change.specs.Occurs.{AreOccurrencesOf}
 use Rattle.zeb_change.specs.Costs.{IsRecordCost, IsWorkFor, bytes_of, newer_of, occurs_by, IsCostIn}
 use Rattle.zeb_change.specs.declared.settings.Kind.{Kind}
 use Rattle.zeb_change.specs.Folding.{ident_in}

@@ -22,7 +22,8 @@ use Rattle.zeb_change.specs.Conditions.{Conditions}
 use Rattle.zeb_change.specs.Folding.{ident_in, updated}
 use Rattle.zeb_change.specs.Base.{Base, Kept, kept_as, has_ident}
 use Rattle.zeb_change.specs.Stored.{IsBase}
-use Rattle.zeb_change.specs.PrivateRecords.{AreOccurrencesOf, IsElderAs, IsIdle, elder_bytes}
+use Rattle.zeb_change.specs.PrivateRecords.{IsElderAs, IsIdle, elder_bytes}
+use Rattle.zeb_change.specs.Occurs.{AreOccurrencesOf}
 use Rattle.zeb_change.proofs.BaseLemmas.{one_ident}
 use Rattle.zeb_change.proofs.KeptLemmas.{has_same, kept_found, one_found, tests}
 

@@ -16,6 +16,7 @@ pub mod UnderWay
 pub mod TakenLemmas
 pub mod TurnLemmas
 pub mod FoldLemmas
+pub mod Elders
 pub mod KeyEquality
 pub mod KeyChanges
 pub mod ChangeKeysContent
@@ -25,6 +26,7 @@ pub mod Settling
 pub mod FoldsOn
 pub mod FoldFiles
 pub mod FoldAll
+pub mod ElderSteps
 pub mod NoDamage
 pub mod FoldCosts
 pub mod ReadFaults

@@ -10,10 +10,9 @@ use Rattle.zeb_keys.specs.declared.keys.Occurrence.{Occurrence}
 use Rattle.zeb_register.specs.declared.registers.Place.{Place}
 use Rattle.zeb_register.specs.Content.{Content, posting_at, Posting}
 use Rattle.zeb_change.specs.Reposted.{occurrence_at, ArePostingsOf, IsReposted}
-use Rattle.zeb_change.specs.Occurs.{OccursIn, occurs}
+use Rattle.zeb_change.specs.Occurs.{AreOccurrencesOf, OccursIn, occurs}
 use Rattle.zeb_change.specs.Base.{Kept}
 use Rattle.zeb_change.specs.Stored.{ArePosted}
-use Rattle.zeb_change.specs.PrivateRecords.{AreOccurrencesOf}
 use Rattle.zeb_change.specs.UnderWay.{with_records}
 use Rattle.zeb_change.proofs.KeptLemmas.{AreRisingKept, one_number}
 use Rattle.zeb_change.proofs.KeptChanges.{IsPutIn}

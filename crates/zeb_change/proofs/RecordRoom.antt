@@ -41,7 +41,8 @@ use Rattle.zeb_change.specs.NoteWords.{KeyChange}
 use Rattle.zeb_change.specs.Noted.{AreTurns, LeadsList, WillHold, notes_at}
 use Rattle.zeb_change.specs.Outcomes.{register_refusal}
 use Rattle.zeb_change.specs.PrivateAsked.{HasRoomAt, KeepsRoom}
-use Rattle.zeb_change.specs.PrivateRecords.{AreOccurrencesOf, IsElderAs}
+use Rattle.zeb_change.specs.PrivateRecords.{IsElderAs}
+use Rattle.zeb_change.specs.Occurs.{AreOccurrencesOf}
 use Rattle.zeb_change.specs.PrivateStanding.{Standing, WillBe, standing}
 use Rattle.zeb_change.specs.Stored.{IsBase}
 use Rattle.zeb_change.proofs.BaseLemmas.{base_numbered}

@@ -12,7 +12,8 @@ use Rattle.zeb_change.specs.declared.pending.Pending.{Pending}
 use Rattle.zeb_change.specs.PrivateStanding.{WillBe, WillBeTaken, standing}
 use Rattle.zeb_change.specs.Base.{Base, Kept, kept_as, with_new, with_bytes, without_ident}
 use Rattle.zeb_change.specs.Stored.{IsKept}
-use Rattle.zeb_change.specs.PrivateRecords.{AreOccurrencesOf, IsNewer}
+use Rattle.zeb_change.specs.PrivateRecords.{IsNewer}
+use Rattle.zeb_change.specs.Occurs.{AreOccurrencesOf}
 use Rattle.zeb_change.proofs.BaseLemmas.{one_ident, within_last, new_base, bytes_base, ident_base}
 use Rattle.zeb_change.proofs.StoredLemmas.{put_kept, take_kept}
 use Rattle.zeb_change.proofs.KeptLemmas.{kept_found}

@@ -21,7 +21,8 @@ use Rattle.zeb_change.specs.Conditions.{Conditions}
 use Rattle.zeb_change.specs.Folding.{Changed, updated, deleted, ident_in}
 use Rattle.zeb_change.specs.Base.{Base, Kept, kept_as, with_new, with_bytes, without_ident}
 use Rattle.zeb_change.specs.Stored.{IsBase, IsKept}
-use Rattle.zeb_change.specs.PrivateRecords.{AreOccurrencesOf, IsNewer, IsElderAs}
+use Rattle.zeb_change.specs.PrivateRecords.{IsNewer, IsElderAs}
+use Rattle.zeb_change.specs.Occurs.{AreOccurrencesOf}
 use Rattle.zeb_change.specs.declared.pending.Pending.{Pending}
 use Rattle.zeb_change.specs.PrivateStanding.{Standing, WillBe, WillBeTaken, standing}
 use Rattle.zeb_change.proofs.KeptLemmas.{kept_found}

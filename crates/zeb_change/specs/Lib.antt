@@ -11,6 +11,7 @@ pub mod Inside
 pub mod Reading
 pub mod UnderWay
 pub mod Holding
+pub mod Elders
 pub mod Reposted
 pub mod NoteWords
 pub mod Noted

@@ -1,19 +1,15 @@
 -- What only the contracts of private functions speak of; no public clause reaches it.
 -- One record of a change, beside what a database keeps.
-use Rattle.std.specs.Prelude.{◌≡◌, ◌↔◌, ◌+◌, ℕ, ℤ, List, Option, Some, None, Result, Ok, IsUtf8, OnOk}
-use Rattle.std.specs.List.{Contains}
+use Rattle.std.specs.Prelude.{◌≡◌, ◌+◌, ℕ, ℤ, List, Option, Some, None, Result, Ok, Err, IsUtf8, OnOk}
 use Rattle.sqlite.specs.State.{State}
-use Rattle.zeb_marc.specs.Records.{first_fault, fields_of}
-use Rattle.zeb_marc.specs.Contents.{units_of}
+use Rattle.zeb_marc.specs.Records.{first_fault}
 use Rattle.zeb_profile.specs.declared.directives.Directive.{Directive}
-use Rattle.zeb_profile.specs.Indexes.{unit_targets}
 use Rattle.zeb_keys.specs.declared.keys.Occurrence.{Occurrence}
-use Rattle.zeb_extract.specs.Occurrences.{IsOccurrence}
-use Rattle.zeb_keys.specs.Order.{IsRising}
 use Rattle.zeb_register.specs.declared.kept.Elder.{Elder}
 use Rattle.zeb_register.specs.Store.{KeepsRegisters}
 use Rattle.zeb_change.specs.declared.records.Newer.{Newer}
 use Rattle.zeb_change.specs.declared.refusals.Refusal.{Refusal}
+use Rattle.zeb_change.specs.declared.refusals.Refusal.TheVariants.{Damaged}
 use Rattle.zeb_change.specs.declared.settings.Setting.{Setting}
 use Rattle.zeb_change.specs.declared.tally.Fate.{Fate}
 use Rattle.zeb_change.specs.declared.tally.Fate.TheVariants.{Updated}
@@ -24,13 +20,11 @@ use Rattle.zeb_register.specs.Formats.{Format}
 use Rattle.zeb_change.specs.declared.pending.Pending.{Pending}
 use Rattle.zeb_change.specs.Costs.{IsRecordCost, occurs_by}
 use Rattle.zeb_change.specs.Noted.{noted_count}
+use Rattle.zeb_change.specs.Elders.{IsSoOrDamaged}
+use Rattle.zeb_change.specs.Occurs.{AreOccurrencesOf}
 use Rattle.zeb_change.specs.PrivateStanding.{Standing, WillBe, WillBeTaken}
+use Rattle.zeb_change.specs.Stored.{IsKept}
 use Rattle.zeb_change.specs.UnderWay.{conditions_of}
-
--- the occurrences of the record with these bytes, rising
-pub record AreOccurrencesOf (profile : List Directive) (bytes : List ℕ) (occurrences : List Occurrence) : Type 0 where
-  pub rising : IsRising occurrences
-  pub each : (o : Occurrence) → Contains occurrences o ↔ IsOccurrence (unit_targets profile) (units_of (fields_of bytes)) o
 
 -- a record of ISO 2709 with its identifier and its occurrences
 pub record IsNewer (profile : List Directive) (ident bytes : List ℕ) (occurrences : List Occurrence) : Type 0 where
@@ -64,6 +58,17 @@ elder_bytes (Some elder) = Some elder.bytes.items
 abbrev pub NotesAs : List Directive → (elder newer : Option (List ℕ)) → Pending → Pending → Type 0
 NotesAs profile elder newer old new =
     (n : ℕ) × IsRecordCost (occurs_by profile elder) (occurs_by profile newer) n × (noted_count new ≡ noted_count old + n)
+
+-- ---- an elder, whatever its bytes are
+
+-- the elder, if there is one, is a record of ISO 2709 with this identifier
+abbrev pub IsWholeElder : List Directive → List ℕ → Option Elder → Type 0
+IsWholeElder profile ident None = Unit {0}
+IsWholeElder profile ident (Some elder) = IsKept profile (record { sysno = 0; ident = ident; bytes = elder.bytes.items })
+
+-- this is so, or the call is refused as damage or by a failure; and damage is told only where it isn't so
+abbrev pub GoesBy : {T : Type 0} → Type 0 → Result T Refusal → Type 0
+GoesBy Said result = IsSoOrDamaged Said result × (result ≡ Err Damaged → ¬ Said)
 
 -- ---- a record that is to be kept
 

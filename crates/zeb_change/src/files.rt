@@ -5,6 +5,7 @@ ghost use Rattle.sqlite.specs.Held.{state};
 ghost use Rattle.sqlite.specs.State.{HasCleanDisk, Survives};
 ghost use Rattle.zeb_marc.specs.Splits.{next_of, split_of};
 ghost use Rattle.zeb_register.specs.Calls.{MayRefuse};
+ghost use Rattle.zeb_register.specs.Clauses.{InStore};
 ghost use Rattle.zeb_register.specs.Formats.{Format};
 ghost use Rattle.zeb_register.specs.Hindrances.{HasRowids};
 ghost use Rattle.zeb_register.specs.Room.{HasRoom};
@@ -12,6 +13,7 @@ ghost use Rattle.zeb_register.specs.Store.{records_tree};
 ghost use Rattle.zeb_change.specs.Asked.{AskFiles, AskSlices, AsksRecord};
 ghost use Rattle.zeb_change.specs.Folding.{Progress as FoldProgress, folded, file_folded, files_folded, splits_of};
 ghost use Rattle.zeb_change.specs.Base.{Base, Kept};
+ghost use Rattle.zeb_change.specs.Elders.{FindsWhole, FirstFindsWhole, OfFirst};
 ghost use Rattle.zeb_change.specs.Costs.{IsCostIn, IsFilesCost, IsSlicesCost, IsWorkFor, newer_of};
 ghost use Rattle.zeb_change.specs.Refused.{NeverUnready, Meets};
 ghost use Rattle.zeb_change.specs.Reading.{NamesFailed, NoneFailed, NoReadFault, ReadsNext, TellsFailed, BlamesFailed};
@@ -114,6 +116,9 @@ fn note_record<S: Alter>(
         → (format : Format) → FoldsInRoom format setting.now.profile.now fold.old (standing (state S.Store tx.old.conn.now) pending.old)
         (standing (state S.Store tx.new.conn.now) pending.new)
         (λ most. AsksRecord setting.now.profile.now most (newer_of setting.now.kind incoming.entry.bytes.now)) result }
+    ensures elder { InStore (state S.Store tx.old.conn.now) (state S.Store tx.new.conn.now) (λ trees.
+        fold.old.tally.records < setting.now.limits.records
+        → FindsWhole setting.now.profile.now trees fold.old.progress.database.0 incoming.entry.bytes.now result) }
 {
     if fold.tally.records >= setting.limits.records {
         return Err(Refusal::TooManyRecords);
@@ -148,10 +153,14 @@ fn take_record<S: Alter, L: Layout>(
         → Spends L.format L.row_work setting.now fold.old fold.new (standing (state S.Store tx.old.conn.now) pending.old)
         (standing (state S.Store tx.new.conn.now) pending.new)
         (λ c p. IsCostIn c.profile setting.now.kind incoming.entry.bytes.now p.base) result }
+    ensures no_work { L.row_work ≡ 0 → fold.new.progress.work ≡ fold.old.progress.work }
     ensures room { HasCleanDisk (state S.Store tx.new.conn.now) → IsTrue (state S.Store tx.old.conn.now).in_transaction
         → FoldsInRoom L.format setting.now.profile.now fold.old (standing (state S.Store tx.old.conn.now) pending.old)
         (standing (state S.Store tx.new.conn.now) pending.new)
         (λ most. AsksRecord setting.now.profile.now most (newer_of setting.now.kind incoming.entry.bytes.now)) result }
+    ensures elder { InStore (state S.Store tx.old.conn.now) (state S.Store tx.new.conn.now) (λ trees.
+        fold.old.tally.records < setting.now.limits.records
+        → FindsWhole setting.now.profile.now trees fold.old.progress.database.0 incoming.entry.bytes.now result) }
 {
     note_record(tx, setting, fold, pending, incoming)?;
     let database = fold.progress.database;
@@ -194,11 +203,16 @@ fn fold_file<S: Alter, L: Layout, R: Source>(
         → Spends L.format L.row_work setting.now fold.old fold.new (standing (state S.Store tx.old.conn.now) pending.old)
         (standing (state S.Store tx.new.conn.now) pending.new)
         (λ c p. IsSlicesCost c setting.now.kind file 1 (split_of text).slices p) result }
+    ensures no_work { L.row_work ≡ 0 → fold.new.progress.work ≡ fold.old.progress.work }
     ensures room { HasCleanDisk (state S.Store tx.new.conn.now) → IsTrue (state S.Store tx.old.conn.now).in_transaction
         → (text : List ℕ) → R.remaining reader.old ≡ Some text
         → FoldsInRoom L.format setting.now.profile.now fold.old (standing (state S.Store tx.old.conn.now) pending.old)
         (standing (state S.Store tx.new.conn.now) pending.new)
         (λ most. AskSlices setting.now.profile.now setting.now.kind most (split_of text).slices) result }
+    ensures elder { InStore (state S.Store tx.old.conn.now) (state S.Store tx.new.conn.now) (λ trees.
+        fold.old.tally.records < setting.now.limits.records
+        → (text : List ℕ) → R.remaining reader.old ≡ Some text → R.has_failed reader.new ≡ false
+        → OfFirst (λ slice. FindsWhole setting.now.profile.now trees fold.old.progress.database.0 slice result) (split_of text).slices) }
 {
     for nth in 1..u64::MAX {
         if !read_record(reader, buffer, file, nth)? {
@@ -243,11 +257,16 @@ fn fold_readers<S: Alter, L: Layout, R: Source>(
         → Spends L.format L.row_work setting.now fold.old fold.new (standing (state S.Store tx.old.conn.now) pending.old)
         (standing (state S.Store tx.new.conn.now) pending.new)
         (λ c p. IsFilesCost c setting.now.kind 1 (splits_of texts) p) result }
+    ensures no_work { L.row_work ≡ 0 → fold.new.progress.work ≡ fold.old.progress.work }
     ensures room { HasCleanDisk (state S.Store tx.new.conn.now) → IsTrue (state S.Store tx.old.conn.now).in_transaction
         → (texts : List (List ℕ)) → map R.remaining readers.old ≡ map Some texts
         → FoldsInRoom L.format setting.now.profile.now fold.old (standing (state S.Store tx.old.conn.now) pending.old)
         (standing (state S.Store tx.new.conn.now) pending.new)
         (λ most. AskFiles setting.now.profile.now setting.now.kind most (splits_of texts)) result }
+    ensures elder { InStore (state S.Store tx.old.conn.now) (state S.Store tx.new.conn.now) (λ trees.
+        fold.old.tally.records < setting.now.limits.records
+        → (texts : List (List ℕ)) → map R.remaining readers.old ≡ map Some texts → NoneFailed R.has_failed readers.new
+        → FirstFindsWhole setting.now.profile.now trees fold.old.progress.database.0 (splits_of texts) result) }
 {
     for (index, reader) in readers.iter_mut().enumerate() {
         let file = index as u64 + 1;
@@ -298,6 +317,8 @@ pub fn fold_files<S: Alter, L: Layout, R: Source>(
         → IsUnderWay L.format setting.now.profile.now fold.old.progress.database.0 records_of (state S.Store tx.old.conn.now) p.base
         → OnOk result ((n : ℕ) × IsFilesCost (conditions_of version setting.now) setting.now.kind 1 (splits_of texts) p n
         × IsWorkFor L.row_work n fold.old.progress.work fold.new.progress.work) }
+    // Over a layout whose rows count nothing the counts stay, whatever is answered, and whatever the tables and the readers are.
+    ensures no_work { L.row_work ≡ 0 → fold.new.progress.work ≡ fold.old.progress.work }
     // Where the tables have room for what the files ask for, a failed store has a cause.
     ensures room { HasCleanDisk (state S.Store tx.new.conn.now) → IsTrue (state S.Store tx.old.conn.now).in_transaction
         → (texts : List (List ℕ)) → map R.remaining readers.old ≡ map Some texts
@@ -308,6 +329,11 @@ pub fn fold_files<S: Alter, L: Layout, R: Source>(
         → HasRoom L.format places (state S.Store tx.old.conn.now).now.trees
         → HasRowids rowids records_tree (state S.Store tx.old.conn.now).now.trees → rowids < 2 ^ 63
         → result ≡ Err Refusal.Store → MayRefuse (state S.Store tx.old.conn.now) (state S.Store tx.new.conn.now) }
+    // Whatever rows the tables have: what is kept under the first record's identifier is whole, or the fold is refused as damage or by a failure.
+    ensures elder { InStore (state S.Store tx.old.conn.now) (state S.Store tx.new.conn.now) (λ trees.
+        fold.old.tally.records < setting.now.limits.records
+        → (texts : List (List ℕ)) → map R.remaining readers.old ≡ map Some texts → NoneFailed R.has_failed readers.new
+        → FirstFindsWhole setting.now.profile.now trees fold.old.progress.database.0 (splits_of texts) result) }
 {
     let mut pending = Pending::new(setting.alloc, MOST_NOTED);
     fold_readers::<S, L, R>(tx, setting, fold, &mut pending, buffer, readers)?;

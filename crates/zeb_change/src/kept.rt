@@ -1,7 +1,7 @@
 //! A kept record, read again.
 
 ghost use Rattle.std.specs.Prelude.{◌≡◌, ◌⊎◌, Err, IfOk, IfErr};
-ghost use Rattle.zeb_change.specs.PrivateRecords.{AreOccurrencesOf};
+ghost use Rattle.zeb_change.specs.Occurs.{AreOccurrencesOf};
 ghost use Rattle.zeb_change.specs.Stored.{IsKept};
 
 use std::alloc::Global;

@@ -4,15 +4,18 @@ ghost use Rattle.std.specs.Prelude.{◌≡◌, ◌≢◌, ◌⊎◌, ◌↔◌, 
 ghost use Rattle.std.specs.List.{Contains};
 ghost use Rattle.sqlite.specs.Held.{state};
 ghost use Rattle.sqlite.specs.State.{HasCleanDisk};
-ghost use Rattle.zeb_marc.specs.Records.{IsRecord};
+ghost use Rattle.zeb_marc.specs.Records.{IsRecord, first_fault};
+ghost use Rattle.zeb_register.specs.Clauses.{InStore};
 ghost use Rattle.zeb_register.specs.Formats.{Format};
 ghost use Rattle.zeb_change.specs.Noted.{noted_count};
 ghost use Rattle.zeb_change.specs.PrivateStanding.{WillBe, WillBeTaken, standing};
 ghost use Rattle.zeb_change.specs.Refused.{Why, why_of, IsFailing, NeverUnready, Meets};
 ghost use Rattle.zeb_change.specs.Folding.{Changed, changed_record, deleted, ident_in};
 ghost use Rattle.zeb_change.specs.Base.{Base, Kept, kept_as};
+ghost use Rattle.zeb_change.specs.Elders.{KeepsWhole};
 ghost use Rattle.zeb_change.specs.Reading.{NoReadFault};
-ghost use Rattle.zeb_change.specs.PrivateRecords.{AreOccurrencesOf, IsElderAs, IsIdle, KeepsNewer, NotesAs, NotesNewer, Takes, elder_bytes};
+ghost use Rattle.zeb_change.specs.Occurs.{AreOccurrencesOf};
+ghost use Rattle.zeb_change.specs.PrivateRecords.{GoesBy, IsElderAs, IsIdle, IsWholeElder, KeepsNewer, NotesAs, NotesNewer, Takes, elder_bytes};
 ghost use Rattle.zeb_change.specs.Costs.{IsCostIn, newer_of};
 ghost use Rattle.zeb_change.specs.PrivateAsked.{KeepsInRoom, TakesRoom};
 ghost use Rattle.zeb_change.specs.Inside.{WorksInside};
@@ -64,8 +67,7 @@ fn elder_occurrences(
     elder: &Elder,
 ) -> Result<Vec<Occurrence>, Refusal>
     ensures found { IfOk result (λ found. AreOccurrencesOf setting.now.profile.now elder.now.bytes.items found.items) }
-    ensures sound { IfOk result (λ _. IsKept setting.now.profile.now
-        (record { sysno = 0; ident = ident.now; bytes = elder.now.bytes.items })) }
+    ensures elder { GoesBy (IsWholeElder setting.now.profile.now ident.now (Some elder.now)) result }
     ensures fails { IfErr result (λ refusal. IsKept setting.now.profile.now
         (record { sysno = 0; ident = ident.now; bytes = elder.now.bytes.items }) → refusal ≡ Refusal.Memory) }
     ensures unread { NoReadFault result }
@@ -94,6 +96,7 @@ fn insert<S: Alter>(
     ensures room { HasCleanDisk (state S.Store tx.new.conn.now) → IsTrue (state S.Store tx.old.conn.now).in_transaction
         → KeepsInRoom setting.now progress.old.database.0 None newer.now (standing (state S.Store tx.old.conn.now) pending.old)
         (standing (state S.Store tx.new.conn.now) pending.new) result }
+    ensures honest { result ≢ Err Refusal.Damaged }
 {
     if progress.last >= setting.limits.numbers {
         return Err(Refusal::DatabaseFull);
@@ -125,6 +128,7 @@ fn replace<S: Alter>(
     ensures room { HasCleanDisk (state S.Store tx.new.conn.now) → IsTrue (state S.Store tx.old.conn.now).in_transaction
         → KeepsInRoom setting.now progress.now.database.0 (Some elder.now) newer.now (standing (state S.Store tx.old.conn.now) pending.old)
         (standing (state S.Store tx.new.conn.now) pending.new) result }
+    ensures elder { GoesBy (IsWholeElder setting.now.profile.now newer.now.ident.now (Some elder.now)) result }
 {
     let old = elder_occurrences(setting, newer.ident, elder)?;
     let sysno = elder.sysno;
@@ -156,6 +160,7 @@ fn withdraw<S: Alter>(
         → TakesRoom setting.now.profile.now progress.now.database.0 (standing (state S.Store tx.old.conn.now) pending.old)
         (standing (state S.Store tx.new.conn.now) pending.new)
         (λ base. IsElderAs ident.now base (Some elder.now)) None result }
+    ensures elder { GoesBy (IsWholeElder setting.now.profile.now ident.now (Some elder.now)) result }
 {
     let old = elder_occurrences(setting, ident, elder)?;
     let sysno = elder.sysno;
@@ -195,6 +200,7 @@ fn keep<S: Alter>(
     ensures room { HasCleanDisk (state S.Store tx.new.conn.now) → IsTrue (state S.Store tx.old.conn.now).in_transaction
         → KeepsInRoom setting.now progress.old.database.0 elder newer.now (standing (state S.Store tx.old.conn.now) pending.old)
         (standing (state S.Store tx.new.conn.now) pending.new) result }
+    ensures elder { GoesBy (IsWholeElder setting.now.profile.now newer.now.ident.now elder) result }
 {
     match elder {
         Some(elder) => replace(tx, setting, progress, pending, &elder, newer),
@@ -267,6 +273,10 @@ pub(crate) fn change_record<S: Alter>(
         → TakesRoom setting.now.profile.now progress.old.database.0 (standing (state S.Store tx.old.conn.now) pending.old)
         (standing (state S.Store tx.new.conn.now) pending.new) (λ _. Unit {0})
         (newer_of setting.now.kind incoming.entry.bytes.now) result }
+    // Whatever rows the tables have.
+    ensures elder { InStore (state S.Store tx.old.conn.now) (state S.Store tx.new.conn.now) (λ trees. (ident : List ℕ)
+        → first_fault incoming.entry.bytes.now ≡ None → ident_in setting.now.profile.now incoming.entry.bytes.now ≡ Ok ident
+        → GoesBy (KeepsWhole setting.now.profile.now trees progress.old.database.0 ident) result) }
 {
     let Incoming { bytes, file, nth } = incoming;
     let (record, named) = sound_record(setting, incoming)?;

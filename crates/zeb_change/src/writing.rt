@@ -84,6 +84,7 @@ fn write_key<S: Alter, L: Layout>(
         → IsStore (state S.Store tx.old.conn.now)
         → OnOk result ((content : Content) → holds_in L.format (state S.Store tx.old.conn.now).now.trees content
         → IsWorkFor L.row_work notes.now.count work.old work.new) }
+    ensures no_work { L.row_work ≡ 0 → work.new ≡ work.old }
     ensures room { (content : Content) (n left : ℕ) → PutsPlaces notes.now n → FitInRow (n + left) key.now
         → InStore (state S.Store tx.old.conn.now) (state S.Store tx.new.conn.now) (λ trees. holds_in L.format trees content
         → HasRoom L.format (n + left) trees
@@ -114,6 +115,8 @@ pub fn write_pending<S: Alter, L: Layout>(
     ensures all { OnOk result (IsNothingNoted pending.new) }
     ensures room { WritesInRoom L.format db.0 (state S.Store tx.old.conn.now) (state S.Store tx.new.conn.now) pending.old pending.new
         result }
+    // Over a layout whose rows count nothing the counts stay, also where it is refused.
+    ensures no_work { L.row_work ≡ 0 → work.new ≡ work.old }
 {
     while let Some((key, notes)) = pending.take_first() {
         write_key::<S, L>(tx, alloc, work, db, &key, &notes)?;
@@ -135,6 +138,7 @@ pub fn write_where_full<S: Alter, L: Layout>(
         work.old work.new result }
     ensures room { WritesInRoom L.format db.0 (state S.Store tx.old.conn.now) (state S.Store tx.new.conn.now) pending.old pending.new
         result }
+    ensures no_work { L.row_work ≡ 0 → work.new ≡ work.old }
 {
     if pending.is_full() {
         return write_pending::<S, L>(tx, alloc, work, db, pending);

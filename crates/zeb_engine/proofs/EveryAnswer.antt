@@ -38,7 +38,7 @@ use Rattle.zeb_change.specs.Base.{Base, Kept}
 use Rattle.zeb_image.specs.Holdings.{Holdings, base_named}
 use Rattle.zeb_image.specs.NameOf.{name_bytes}
 use Rattle.zeb_engine.specs.Scanning.{IsScanned, IsScanPlanned, around}
-use Rattle.zeb_engine.specs.Steps.{AskedAmong, AskedFrom, AskedIn, CountedFrom, FindAnswers, ScanAnswers, StatAnswers, Step, changed_by_files, created, dropped, dumped_by, initialised, no_database, ready, turned, checked, reindexed, upgraded}
+use Rattle.zeb_engine.specs.Steps.{AskedFrom, AskedIn, CountedFrom, FindAnswers, ScanAnswers, StatAnswers, Step, changed_by_files, created, dropped, dumped_by, initialised, no_database, ready, turned, checked, reindexed, upgraded}
 use Rattle.zeb_change.specs.Folding.{splits_of}
 use Rattle.zeb_engine.proofs.EveryAnswerAnalyses.{analyses_there}
 use Rattle.zeb_engine.proofs.EveryAnswerHolds.{IsSetOf}

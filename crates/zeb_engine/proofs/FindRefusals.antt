@@ -1,5 +1,5 @@
 -- Why a find is refused that goes by the registers alone, step by step.
-use Rattle.std.proofs.Common.{◌≡◌, ◌⊎◌, ◌<◌, ◌≤◌, ◌^◌, ℕ, ℤ, List, Option, Some, None, Result, Ok, Err, string_bytes, refl, sym, ap, subst, inl, inr, arith}
+use Rattle.std.proofs.Common.{◌≡◌, ◌⊎◌, ◌<◌, ◌^◌, ℕ, ℤ, List, Some, None, Result, Ok, Err, string_bytes, refl, sym, ap, subst, inl, inr, arith}
 use Rattle.sqlite.specs.Tree.{Trees}
 use Rattle.sqlite_rules.specs.Lists.{Has}
 use Rattle.zeb_profile.specs.declared.directives.Directive.{Directive}

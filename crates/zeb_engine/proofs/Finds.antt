@@ -1,5 +1,5 @@
 -- A find, step by step: what a plan holds of by the postings of its key, and that sets of the same occurrences have the same answers.
-use Rattle.std.proofs.Common.{◌≡◌, ◌↔◌, ◌-◌, ◌&&◌, ℕ, ℤ, zero, suc, pos, Bool, true, false, if◌then◌else◌, List, [], ◌∷◌, length, take, drop, nat_lt, Some, None, Result, Ok, Err, refl, sym, ap, subst, inl, inr, arith, IsUtf8, string_bytes}
+use Rattle.std.proofs.Common.{◌≡◌, ◌↔◌, ◌-◌, ◌&&◌, ℕ, ℤ, zero, suc, pos, Bool, true, false, if◌then◌else◌, List, [], ◌∷◌, length, take, drop, nat_lt, Some, Result, Ok, Err, refl, sym, ap, subst, inl, inr, arith, IsUtf8, string_bytes}
 use Rattle.std.specs.List.{Contains}
 use Rattle.std.specs.Fmt.{decimal}
 use Rattle.sqlite.specs.Tree.{Trees}

@@ -73,5 +73,4 @@ pub mod EveryAnswerAnalyses
 pub mod EveryAnswer
 pub mod CheckFollows
 pub mod AskedReads
-pub mod NoWork
 pub mod ChangeRoom

@@ -1,5 +1,5 @@
 -- A scan, step by step: the terms around a start, and that the postings have the terms that the kept records have.
-use Rattle.std.proofs.Common.{◌≡◌, ◌↔◌, ◌∙◌, ℕ, ℤ, ◌+◌, ◌-◌, List, ◌++◌, map, filter, take, None, Some, Result, Ok, Err, refl, sym, ap, ap₂, subst, inr, string_bytes}
+use Rattle.std.proofs.Common.{◌≡◌, ◌↔◌, ◌∙◌, ℕ, ℤ, ◌+◌, ◌-◌, List, ◌++◌, map, filter, take, Some, Result, Ok, Err, refl, sym, ap, ap₂, subst, inr, string_bytes}
 use Rattle.sqlite.specs.Tree.{Trees}
 use Rattle.zeb_profile.specs.declared.directives.Directive.{Directive}
 use Rattle.zeb_query.specs.declared.faults.QueryFault.{QueryFault}

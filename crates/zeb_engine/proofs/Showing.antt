@@ -1,5 +1,5 @@
 -- The hits that are shown: their records by number, and what stays known of the tables while they are read.
-use Rattle.std.proofs.Common.{◌≡◌, ◌≢◌, ◌⊎◌, ◌∙◌, ◌<◌, ◌≤◌, ◌^◌, nat_lt, arith, ℕ, ℤ, pos, ◌+◌, List, [], ◌∷◌, ◌++◌, length, get_or, take, String, string_bytes, Option, Some, None, refl, sym, ap, ap₂, subst, inl, inr}
+use Rattle.std.proofs.Common.{◌≡◌, ◌⊎◌, ◌∙◌, ◌<◌, ◌≤◌, ◌^◌, nat_lt, arith, ℕ, ℤ, pos, ◌+◌, List, [], ◌∷◌, ◌++◌, length, get_or, take, String, string_bytes, Option, Some, None, refl, sym, ap, ap₂, subst, inl, inr}
 use Rattle.std.specs.declared.alloc.Global.{Global}
 use Rattle.std.proofs.lemmas.List.{take_more, map-append, get_or_default}
 use Rattle.std.proofs.lemmas.Bool.{cases_Bool}

@@ -98,3 +98,7 @@ pub look_caused : {T : Type 0} (old mid new : State) → Survives mid new (λ _.
     → (why : Refusal) (result : Result T Refusal) → result ≡ Err why → HasCauseFor mid new why → HasStoreCause old new result
 look_caused old mid new late clean survives stays nothing why result is caused =
     passed_cause old new why result is (refusal_after old mid new (look_leaves old mid new late clean survives stays nothing) why caused)
+
+-- a refusal that tells a failed store has the cause
+pub store_told : {T : Type 0} (old new : State) (result : Result T Refusal) → HasStoreCause old new result → IsStore old → result ≡ Err refusal.Store → MayRefuse old new
+store_told {T} old new result caused store is = subst (λ (r : Result T Refusal). HasStoreCause old new r) is caused store refl

@@ -1,23 +1,25 @@
 -- Why the store may have failed in a command that writes.
-use Rattle.std.proofs.Common.{◌≡◌, ◌⊎◌, ◌≤◌, ℕ, ℤ, List, length, true, false, IsTrue, Result, Ok, Err, IfErr, ap, arith, inl, inr, refl, subst, sym}
+use Rattle.std.proofs.Common.{◌≡◌, ◌⊎◌, ◌≤◌, ℕ, ℤ, List, length, true, Result, Ok, Err, IfErr, ap, arith, inl, inr, refl, subst}
 use Rattle.std.proofs.lemmas.Bool.{cases_Bool}
 use Rattle.sqlite.specs.Held.{Held, state}
 use Rattle.sqlite.specs.State.{State, HasCleanDisk}
 use Rattle.sqlite.specs.Store.{Ghosts}
 use Rattle.sqlite.specs.Tree.{Trees}
 use Rattle.zeb_register.specs.Calls.{MayRefuse}
-use Rattle.zeb_register.specs.Clauses.{IsHinderedInside}
+use Rattle.zeb_register.specs.Clauses.{InStore, IsHinderedInside}
 use Rattle.zeb_register.specs.Hindrances.{IsTooLarge}
 use Rattle.zeb_register.specs.Store.{IsStore, database_columns}
 use Rattle.zeb_register.specs.declared.RegFault.{RegFault}
+use Rattle.zeb_register.specs.declared.RegFault.TheVariants as register
 use Rattle.zeb_register.proofs.Calls.{store_same}
 use Rattle.zeb_register.proofs.Causes.{may_after}
 use Rattle.zeb_change.specs.declared.refusals.Refusal.{Refusal}
 use Rattle.zeb_change.specs.declared.refusals.Refusal.TheVariants.{Store}
 use Rattle.zeb_change.specs.Outcomes.{register_refusal}
 use Rattle.zeb_change.specs.Refused.{store_failed, why_of}
+use Rattle.zeb_change.proofs.RecordRoom.{only_store}
 use Rattle.zeb_engine.specs.Causes.{HasCauseOver, HasStoreCause}
-use Rattle.zeb_engine.specs.PrivateWriting.{HindersWrite}
+use Rattle.zeb_engine.specs.PrivateWriting.{HasRoomToWrite, HindersWrite}
 use Rattle.zeb_engine.specs.declared.writes.Write.{Write}
 use Rattle.zeb_engine.proofs.StoreCauses.{LeavesAll, fault_caused}
 
@@ -70,3 +72,12 @@ write_caused T A g w old inside mid new fault begins clean counts caused store =
       | inl cause ↦ inl (may_later (state g old) mid new counts cause)
       | inr hinders ↦ inr hinders
     ]) (ap why_of said)
+
+-- the same where there is room for it
+pub write_room : {S : Type 0} (A : Type 0) (g : Ghosts S) (w : Write) (old inside : Held S) (mid new : State) (fault : RegFault) → inside ≡ record old { in_transaction = true }
+    → HasCleanDisk mid → mid.faults ≤ new.faults
+    → InStore (state g inside) mid (λ trees. HasRoomToWrite w trees → ◌≡◌ {A = Result A RegFault} (Err fault) (Err register.Store) → MayRefuse (state g inside) mid)
+    → IsStore (state g old) → HasRoomToWrite w (state g old).now.trees → register_refusal fault ≡ Store → MayRefuse (state g old) new
+write_room A g w old inside mid new fault begins clean counts caused store room said =
+    let begun = subst (λ (held : Held _). InStore (state g held) mid (λ trees. HasRoomToWrite w trees → ◌≡◌ {A = Result A RegFault} (Err fault) (Err register.Store) → MayRefuse (state g held) mid)) begins caused in
+    may_later (state g old) mid new counts (begun clean refl (record { is = store.is; sound = store.sound; keyed = store.keyed }) room (ap Err (only_store fault said)))

@@ -8,15 +8,17 @@ use Rattle.zeb_register.specs.Calls.{MayRefuse}
 use Rattle.zeb_register.specs.Formats.{Format}
 use Rattle.zeb_register.specs.Hindrances.{HasRowids, IsTooLarge, LacksRowids}
 use Rattle.zeb_register.specs.Room.{HasRoom}
-use Rattle.zeb_register.specs.Store.{IsStore, databases_tree, entry, records_tree}
+use Rattle.zeb_register.specs.Store.{IsStore, databases_tree, entry, meta_tree, records_tree}
 use Rattle.zeb_change.specs.Asked.{AskFiles}
+use Rattle.zeb_change.specs.Base.{Base}
 use Rattle.zeb_change.specs.Folding.{splits_of}
 use Rattle.zeb_change.specs.declared.settings.Kind.{Kind}
 use Rattle.zeb_change.specs.declared.refusals.Refusal.{Refusal}
 use Rattle.zeb_change.specs.Refused.{store_failed, why_of}
 use Rattle.zeb_change.specs.declared.refusals.Refusal.TheVariants.{Store}
 use Rattle.zeb_image.specs.Holdings.{Holdings}
-use Rattle.zeb_image.specs.Image.{Keeps}
+use Rattle.zeb_image.specs.Image.{AreListsOf, Keeps}
+use Rattle.zeb_image.specs.Rebuilding.{AskBases}
 use Rattle.zeb_engine.specs.declared.commands.Command.{Command}
 use Rattle.zeb_engine.specs.Works.{Always}
 use Rattle.zeb_engine.specs.declared.commands.Command.TheVariants.{Init, Create, Drop, Change, Reindex, Upgrade}
@@ -28,7 +30,7 @@ HasStoreCause old new result = IsStore old → IfErr result (λ refusal. why_of 
 
 -- What may hinder a command of a session under this profile, beside such a cause. An init empties the tables first, so it is hindered only
 -- where the profile's text is too large for a row; a new database needs a rowid above the last. A drop and the commands that only ask are
--- hindered by nothing. Of the others, which put records or rows of the registers, nothing is said.
+-- hindered by nothing. Of the others, which put records or rows of the registers, this says nothing: `CommandInRoom` does, where there is room.
 abbrev pub MayHinder : List Directive → Command → Trees → Type 0
 MayHinder profile Init trees = IsTooLarge (entry (codes "profile") (canonical_text profile))
 MayHinder profile (Create name) trees = LacksRowids 1 databases_tree trees
@@ -77,8 +79,28 @@ ChangesInRoom format profile kind texts Fits old new result =
     (before : Holdings) → Fits old.now.trees before → Keeps old before → HasRoomToChange format profile kind texts old.now.trees
     → result ≡ Err Store → MayRefuse old new
 
--- the same of a command that is a change
+-- ---- a renewal that has room
+
+-- The tables have room for registers that are made anew from the kept records. The lists are those of databases, a row of each key of their records
+-- holds all the places that these have under the profile, and a rowid is left for a text. Of the registers that were there nothing is asked.
+pub record HasRoomToRenew (profile : List Directive) (trees : Trees) : Type 0 where
+  pub bases : List Base
+  pub lists : AreListsOf trees bases
+  pub places : ℕ
+  pub rowids : ℕ
+  pub asks : AskBases profile places bases places rowids
+  pub texts : HasRowids 1 meta_tree trees
+
+-- Of the tables of a store: where they have such room, the store fails for a cause alone.
+abbrev pub RenewsInRoom : {T : Type 0} → List Directive → State → State → Result T Refusal → Type 0
+RenewsInRoom profile old new result = IsStore old → HasRoomToRenew profile old.now.trees → result ≡ Err Store → MayRefuse old new
+
+-- ---- commands that have room
+
+-- one of these of a command that is a change or a renewal; a reindex puts the profile's text too, which a row has to hold
 abbrev pub CommandInRoom : {T : Type 0} → Format → List Directive → Command → State → State → Result T Refusal → Type 0
 CommandInRoom format profile (Change kind name files) old new result =
     ChangesInRoom format profile kind (map (λ file. file.items) files.items) Always old new result
+CommandInRoom format profile Reindex old new result = ¬ IsTooLarge (entry (codes "profile") (canonical_text profile)) → RenewsInRoom profile old new result
+CommandInRoom format profile Upgrade old new result = RenewsInRoom profile old new result
 CommandInRoom format profile other old new result = Unit {0}

@@ -1,4 +1,4 @@
--- What an accepted update or delete counts of the rows of the packed tables, and what is counted where rows count nothing.
+-- What an accepted update or delete counts of the rows of the packed tables.
 use Rattle.std.specs.Prelude.{◌≡◌, ℕ, List, map, Result, Ok, OnOk}
 use Rattle.sqlite.specs.State.{State}
 use Rattle.zeb_register.specs.declared.registers.Work.{Work}
@@ -41,8 +41,3 @@ CostsAlone row_work c kind name texts old result work =
 abbrev pub CommandCosts : ℕ → Conditions → Command → State → Result Reply Refusal → Work → Type 0
 CommandCosts row_work c (Change kind name files) old result work = CostsAlone row_work c kind (name_bytes name) (map (λ file. file.items) files.items) old result work
 CommandCosts row_work c other old result work = Unit {0}
-
--- Nothing was counted: by a change that was accepted, and by any other command, whatever it was answered.
-abbrev pub CountsNothing : Command → State → Result Reply Refusal → Work → Type 0
-CountsNothing (Change kind name files) old result work = OnOk result ((before : Holdings) → Keeps old before → work ≡ no_work)
-CountsNothing other old result work = work ≡ no_work

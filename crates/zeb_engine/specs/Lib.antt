@@ -15,6 +15,7 @@ pub mod Works
 pub mod Costs
 pub mod Readiness
 pub mod Checking
+pub mod AnyAnswers
 pub mod PrivateLooking
 pub mod PrivateWriting
 pub mod PrivateChanging

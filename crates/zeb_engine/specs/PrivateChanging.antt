@@ -12,8 +12,6 @@ use Rattle.zeb_change.specs.Folding.{splits_of}
 use Rattle.zeb_change.specs.UnderWay.{conditions_of}
 use Rattle.zeb_image.specs.Holdings.{Holdings, base_named}
 use Rattle.zeb_change.specs.Base.{Base}
-use Rattle.zeb_engine.specs.declared.commands.Command.{Command}
-use Rattle.zeb_engine.specs.declared.commands.Command.TheVariants.{Change}
 use Rattle.zeb_engine.specs.Steps.{Outcome, changed_by_files, ready, turned}
 
 -- the register is ready, and this is what the tables know of the name: a database, or none, with which only an update begins
@@ -34,8 +32,3 @@ comes_to version setting name texts = turned (conditions_of version setting) (ch
 abbrev pub last_of : Option Database → ℕ
 last_of None = 0
 last_of (Some found) = found.last
-
--- the command is no update or delete
-abbrev pub IsNoChange : Command → Type 0
-IsNoChange (Change kind name files) = ⊥
-IsNoChange other = Unit {0}

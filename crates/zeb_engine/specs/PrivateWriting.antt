@@ -18,6 +18,7 @@ use Rattle.zeb_change.specs.declared.refusals.Refusal.{Refusal}
 use Rattle.zeb_engine.specs.declared.replies.Reply.{Reply}
 use Rattle.zeb_engine.specs.declared.replies.Reply.TheVariants.{Done}
 use Rattle.zeb_engine.specs.Answers.{IsFailure, refused}
+use Rattle.zeb_engine.specs.Causes.{HasRoomToRenew}
 use Rattle.zeb_change.specs.Refused.{why_of}
 use Rattle.zeb_change.specs.Conditions.{Conditions}
 use Rattle.zeb_change.specs.Outcomes.{register_refusal}
@@ -123,6 +124,14 @@ HindersWrite (write.Create name) trees = LacksRowids 1 databases_tree trees
 HindersWrite (write.Drop name id) trees = ⊥
 HindersWrite (write.Reindex alloc profile) trees = Unit {0}
 HindersWrite (write.Upgrade alloc profile) trees = Unit {0}
+
+-- there is room for what a renewal puts; of the other writes it is said what hinders them
+abbrev pub HasRoomToWrite : Write → Trees → Type 0
+HasRoomToWrite (write.Init profile pattern) trees = ⊥
+HasRoomToWrite (write.Create name) trees = ⊥
+HasRoomToWrite (write.Drop name id) trees = ⊥
+HasRoomToWrite (write.Reindex alloc profile) trees = HasRoomToRenew profile.now trees × ¬ IsTooLarge (entry (codes "profile") (canonical_text profile.now))
+HasRoomToWrite (write.Upgrade alloc profile) trees = HasRoomToRenew profile.now trees
 
 -- a reindex goes by the kept records
 abbrev pub ReadsSound : Write → State → Result Reply Refusal → Type 0

@@ -1,8 +1,10 @@
 -- Whether a register is ready for a session, by the texts that the store keeps of it, whatever its other tables hold.
 use Rattle.std.specs.Prelude.{◌≡◌, ◌⊎◌, ℕ, List, MatchResult, Result, Some, codes}
 use Rattle.std.specs.Option.{option_map}
+use Rattle.sqlite.specs.Held.{Held, state}
+use Rattle.sqlite.specs.Store.{Ghosts}
 use Rattle.sqlite.specs.Tree.{Trees}
-use Rattle.sqlite.specs.State.{State}
+use Rattle.sqlite.specs.State.{HasCleanDisk, State}
 use Rattle.zeb_profile.specs.declared.directives.Directive.{Directive}
 use Rattle.zeb_profile.specs.Canonical.{canonical_text, pattern_text}
 use Rattle.zeb_profile.specs.Indexes.{identifier_pattern}
@@ -49,6 +51,10 @@ IsRefusedOver version profile trees other = IsReadyFor version profile trees
 abbrev pub GoesByTexts : {T : Type 0} → List ℕ → List Directive → State → Result T Refusal → Type 0
 GoesByTexts version profile s result =
     IsStore s → MatchResult result (λ _. IsReadyFor version profile s.now.trees) (IsRefusedOver version profile s.now.trees)
+
+-- the texts of the store tell whether the register was ready
+abbrev pub TellsReady : {S T : Type 0} → Ghosts S → (version : List ℕ) → List Directive → Held S → Held S → Result T Refusal → Type 0
+TellsReady g version profile old new result = HasCleanDisk (state g new) → GoesByTexts version profile (state g old) result
 
 -- the commands that look first whether the register is ready; a reindex and an upgrade ask less
 abbrev pub LooksFirst : Command → Type 0

@@ -94,6 +94,7 @@ fn apply<S: Alter, L: Layout, R: Source>(
         → IsStore (state S.Store tx.old.conn.now) → IsImage (state S.Store tx.old.conn.now).now.trees before
         → Costs L.row_work (conditions_of (version_of L.format) change.now.setting) change.now.setting.kind
         (name_bytes change.now.name.now) texts work.old work.new before) }
+    ensures no_work { L.row_work ≡ 0 → work.new ≡ work.old }
     ensures room { HasCleanDisk (state S.Store tx.new.conn.now) → IsTrue (state S.Store tx.old.conn.now).in_transaction
         → (texts : List (List ℕ)) → map R.remaining readers.old ≡ map Some texts → NoneFailed R.has_failed readers.new
         → (before : Holdings) → MayBegin (version_of L.format) change.now.setting (name_bytes change.now.name.now) change.now.found
@@ -158,6 +159,7 @@ fn transact<S: Alter, L: Layout, R: Source>(
         → Keeps (state S.Store connection.old) before
         → Costs L.row_work (conditions_of (version_of L.format) change.now.setting) change.now.setting.kind
         (name_bytes change.now.name.now) texts work.old work.new before) }
+    ensures no_work { L.row_work ≡ 0 → work.new ≡ work.old }
     ensures room { HasCleanDisk (state S.Store connection.new)
         → (texts : List (List ℕ)) → map R.remaining readers.old ≡ map Some texts → NoneFailed R.has_failed readers.new
         → ChangesInRoom L.format change.now.setting.profile.now change.now.setting.kind texts
@@ -236,6 +238,7 @@ pub(crate) fn change_database<S: Alter, L: Layout, R: Source>(
         → Keeps (state S.Store connection.old) before
         → Costs L.row_work (conditions_of (version_of L.format) setting.entry) setting.entry.kind
         (name_bytes name.now) texts work.old work.new before) }
+    ensures no_work { L.row_work ≡ 0 → work.new ≡ work.old }
     ensures room { HasCleanDisk (state S.Store connection.new)
         → (texts : List (List ℕ)) → map R.remaining readers.old ≡ map Some texts → NoneFailed R.has_failed readers.new
         → ChangesInRoom L.format setting.entry.profile.now setting.entry.kind texts

@@ -18,7 +18,8 @@ ghost use Rattle.zeb_change.specs.Refused.{NeverUnready};
 ghost use Rattle.zeb_change.specs.Reading.{NoReadFault};
 ghost use Rattle.zeb_engine.specs.Steps.{dumped_by};
 ghost use Rattle.zeb_engine.specs.Works.{Always, Serves, ShowsStore};
-ghost use Rattle.zeb_engine.specs.PrivateConnections.{CommitsNothing, FailsForCause, FindsOpen, LeavesAsIs, LeavesOpen, TellsReady};
+ghost use Rattle.zeb_engine.specs.PrivateConnections.{CommitsNothing, FailsForCause, FindsOpen, LeavesAsIs, LeavesOpen};
+ghost use Rattle.zeb_engine.specs.Readiness.{TellsReady};
 
 use crate::readiness::{check_ready, existing_database};
 use crate::replies::Reply;

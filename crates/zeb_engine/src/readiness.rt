@@ -1,6 +1,6 @@
 //! Whether a register may be used by a session, and which of its databases is meant.
 
-ghost use Rattle.std.specs.Prelude.{◌≡◌, ◌≢◌, ◌⊎◌, ℕ, List, false, pos, Ok, Err, IsTrue, IfOk, IfErr};
+ghost use Rattle.std.specs.Prelude.{◌≡◌, ◌≢◌, ◌⊎◌, List, false, pos, Ok, Err, IsTrue, IfOk, IfErr};
 ghost use Rattle.sqlite.specs.Held.{state};
 ghost use Rattle.sqlite.specs.State.{HasCleanDisk};
 ghost use Rattle.zeb_register.specs.Formats.{version_of};
@@ -14,10 +14,10 @@ ghost use Rattle.zeb_change.specs.Base.{Base};
 ghost use Rattle.zeb_image.specs.Image.{Keeps};
 ghost use Rattle.zeb_image.specs.NameOf.{name_bytes};
 ghost use Rattle.zeb_engine.specs.PrivateLooking.{IsUnready, MissesDatabase};
-ghost use Rattle.zeb_engine.specs.Readiness.{IsReadyFor};
+ghost use Rattle.zeb_engine.specs.Readiness.{IsReadyFor, TellsReady};
 ghost use Rattle.zeb_change.specs.Reading.{NoReadFault};
 ghost use Rattle.zeb_engine.specs.Steps.{ready, existing};
-ghost use Rattle.zeb_engine.specs.PrivateConnections.{CommitsNothing, FailsForCause, FindsOpen, LeavesAsIs, TellsReady};
+ghost use Rattle.zeb_engine.specs.PrivateConnections.{CommitsNothing, FailsForCause, FindsOpen, LeavesAsIs};
 
 use sqlite::{Alter, Connection};
 use std::alloc::Global;

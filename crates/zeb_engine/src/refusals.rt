@@ -1,6 +1,6 @@
 //! What is printed for a refusal, and the status that goes with it.
 
-ghost use Rattle.std.specs.Prelude.{◌≡◌, ◌++◌, IfOk, codes, string_bytes};
+ghost use Rattle.std.specs.Prelude.{◌≡◌, IfOk, string_bytes};
 ghost use Rattle.zeb_engine.specs.Refusals.{refusal_text, diagnostic_at, diagnostic_text, record_text, unknown_text, read_text, status_of};
 
 use std::alloc::{AllocError, Global};

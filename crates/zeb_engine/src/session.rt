@@ -5,9 +5,10 @@ ghost use Rattle.std.specs.List.{AllByRecursion};
 ghost use Rattle.std.specs.Result.{IsErr};
 ghost use Rattle.sqlite.specs.Held.{state};
 ghost use Rattle.sqlite.specs.State.{HasCleanDisk, IsLive, Opens, Survives};
-ghost use Rattle.zeb_engine.specs.Costs.{CommandCosts, CountsNothing, no_work};
+ghost use Rattle.zeb_engine.specs.Costs.{CommandCosts, no_work};
 ghost use Rattle.zeb_engine.specs.Reads.{CommandReads};
 ghost use Rattle.zeb_engine.specs.Alone.{AnswersAlone};
+ghost use Rattle.zeb_engine.specs.AnyAnswers.{IsAnswerOver};
 ghost use Rattle.zeb_engine.specs.AnyTables.{AnswersTables};
 ghost use Rattle.zeb_engine.specs.Analysed.{AnswersAnalysis};
 ghost use Rattle.zeb_engine.specs.Answers.{IsFailure, answer_of, refused};
@@ -72,7 +73,6 @@ impl<S: Alter, L: Layout> Session<S, L> {
     ghost use Rattle.zeb_engine.specs.Works.{FindOpen, ServesCommand};
     ghost use Rattle.zeb_engine.specs.Crashes.{Bears, CommitsCommand, CommitsAdopted, CommitsOne, CommitsReindex, Endures, EnduresRun, KeepsDisk, Stands};
     ghost use Rattle.zeb_engine.specs.Headline.{Headline};
-    ghost use Rattle.zeb_engine.specs.PrivateChanging.{IsNoChange};
     ghost use Rattle.zeb_engine.specs.PrivateWriting.{HoldsRemade};
     ghost use Rattle.zeb_engine.specs.Adopting.{HasOtherTables, HasOwnTables, StaysOpen};
     ghost use Rattle.zeb_image.specs.Holdings.{Holdings};
@@ -227,6 +227,9 @@ impl<S: Alter, L: Layout> Session<S, L> {
         // as damage or by a failure. Answered, a find shows each hit that is asked for as a record that is kept under it.
         ensures tables { HasCleanDisk (state S.Store self.new.connection)
             → AnswersTables (version_of L.format) self.old.profile command.now (state S.Store self.old.connection) result }
+        // All that is said of an answer on any tables, as the program passes it on.
+        ensures over { HasCleanDisk (state S.Store self.new.connection)
+            → IsAnswerOver L.format self.old.profile command.now (state S.Store self.old.connection) result }
         // An analysis is answered by its files, whatever the tables hold, and also where the connection is shut.
         ensures analysed { AnswersAnalysis self.old.profile self.old.limits.records command.now result }
         // Damage is answered only where the tables are the image of nothing that can be held.
@@ -248,12 +251,12 @@ impl<S: Alter, L: Layout> Session<S, L> {
         // A command that only asks finds the store failed only for a cause; so do an init, a create and a drop, but for their commit.
         ensures caused { HasCleanDisk (state S.Store self.new.connection)
             → HasCommandCause self.old.profile command.now (state S.Store self.old.connection) (state S.Store self.new.connection) result }
-        // Over a layout whose rows count nothing no work is counted.
-        ensures no_work { HasCleanDisk (state S.Store self.new.connection) → L.row_work ≡ 0
-            → CountsNothing command.now (state S.Store self.old.connection) result self.new.work }
-        // So does a change, but for its commit, where the tables have room for what its files ask for.
+        // So does a change, but for its commit, where the tables have room for what its files ask for, and a reindex and an upgrade, where
+        // they have room for what the kept records ask for.
         ensures room { HasCleanDisk (state S.Store self.new.connection) → CommandInRoom L.format self.old.profile command.now
             (state S.Store self.old.connection) (state S.Store self.new.connection) result }
+        // Over a layout whose rows count nothing no work is counted, whatever is answered and whatever the tables hold.
+        ensures no_work { L.row_work ≡ 0 → self.new.work ≡ no_work }
     {
         let answer = self.carry_out(command);
         // What is shown is what was committed.
@@ -308,7 +311,7 @@ impl<S: Alter, L: Layout> Session<S, L> {
             (state S.Store self.old.connection) result self.new.work }
         ensures caused { HasCleanDisk (state S.Store self.new.connection)
             → HasCommandCause self.old.profile command.now (state S.Store self.old.connection) (state S.Store self.new.connection) result }
-        ensures no_work { L.row_work ≡ 0 → IsNoChange command.now → self.new.work ≡ no_work }
+        ensures no_work { L.row_work ≡ 0 → self.new.work ≡ no_work }
         ensures room { HasCleanDisk (state S.Store self.new.connection) → CommandInRoom L.format self.old.profile command.now
             (state S.Store self.old.connection) (state S.Store self.new.connection) result }
     {

@@ -1,6 +1,6 @@
 //! How much a database holds.
 
-ghost use Rattle.std.specs.Prelude.{◌≡◌, ◌⊎◌, ◌++◌, List, false, IsTrue, IfErr, IfOk, OnOk, string_bytes};
+ghost use Rattle.std.specs.Prelude.{◌≡◌, ◌⊎◌, ◌++◌, false, IsTrue, IfErr, IfOk, OnOk, string_bytes};
 ghost use Rattle.sqlite.specs.Held.{state};
 ghost use Rattle.sqlite.specs.State.{HasCleanDisk};
 ghost use Rattle.sqlite.specs.Tree.{Trees};
@@ -13,12 +13,12 @@ ghost use Rattle.zeb_change.specs.Refused.{why_of, NeverUnready};
 ghost use Rattle.zeb_change.specs.Conditions.{conditions};
 ghost use Rattle.zeb_engine.specs.Counting.{IsExtent, IsUnder, Paired, name_of_index, target_in, target_list};
 ghost use Rattle.zeb_change.specs.declared.settings.Limits.{Limits};
-ghost use Rattle.zeb_image.specs.Holdings.{Holdings};
 ghost use Rattle.zeb_image.specs.NameOf.{name_bytes};
 ghost use Rattle.zeb_change.specs.Reading.{NoReadFault};
 ghost use Rattle.zeb_engine.specs.Steps.{CountedFrom, ready};
 ghost use Rattle.zeb_engine.specs.Works.{Asks, ShowsStore};
-ghost use Rattle.zeb_engine.specs.PrivateConnections.{CommitsNothing, FailsForCause, FindsOpen, LeavesAsIs, LeavesOpen, TellsReady};
+ghost use Rattle.zeb_engine.specs.PrivateConnections.{CommitsNothing, FailsForCause, FindsOpen, LeavesAsIs, LeavesOpen};
+ghost use Rattle.zeb_engine.specs.Readiness.{TellsReady};
 
 use crate::readiness::{check_ready, existing_database};
 use crate::replies::{Holding, Reply};

@@ -3,8 +3,8 @@
 ghost use Rattle.std.specs.Prelude.{◌≡◌, ◌⊎◌, false, [], IsTrue, OnOk, OnErr, IfErr, codes};
 ghost use Rattle.sqlite.specs.Held.{state};
 ghost use Rattle.sqlite.specs.State.{HasCleanDisk, KeepsCommit, Survives};
-ghost use Rattle.zeb_register.specs.Calls.{GoesOn};
-ghost use Rattle.zeb_register.specs.Clauses.{IsHinderedInside, IsReasonedInside};
+ghost use Rattle.zeb_register.specs.Calls.{GoesOn, MayRefuse};
+ghost use Rattle.zeb_register.specs.Clauses.{InStore, IsHinderedInside, IsReasonedInside};
 ghost use Rattle.zeb_register.specs.Formats.{version_of};
 ghost use Rattle.zeb_register.specs.Hindrances.{IsTooLarge, LacksRowids};
 ghost use Rattle.zeb_register.specs.Store.{IsStore, databases_tree, entry, meta_tree};
@@ -13,7 +13,7 @@ ghost use Rattle.zeb_change.specs.declared.settings.Limits.{Limits};
 ghost use Rattle.zeb_engine.specs.Answers.{IsFailure, refused};
 ghost use Rattle.zeb_change.specs.Refused.{why_of, NeverUnready};
 ghost use Rattle.zeb_change.specs.Conditions.{Conditions, conditions};
-ghost use Rattle.zeb_engine.specs.Causes.{HasCauseOver};
+ghost use Rattle.zeb_engine.specs.Causes.{HasCauseOver, HasRoomToRenew};
 ghost use Rattle.zeb_engine.specs.Checking.{IsRemade, TellsSound};
 ghost use Rattle.zeb_engine.specs.Crashes.{Commits};
 ghost use Rattle.zeb_image.specs.Image.{IsImage};
@@ -23,7 +23,7 @@ ghost use Rattle.zeb_engine.specs.Steps.{holding, initialised, turned, created, 
 ghost use Rattle.zeb_engine.specs.Transactions.{Commanded};
 ghost use Rattle.zeb_change.specs.Inside.{Stays};
 ghost use Rattle.zeb_engine.specs.Works.{IsReady, Serves, Works};
-ghost use Rattle.zeb_engine.specs.PrivateWriting.{AreOf, Begins, CommitsRemade, IsFree, IsKnown, FailsAlone, Fits, HasLargeText, HindersWrite};
+ghost use Rattle.zeb_engine.specs.PrivateWriting.{AreOf, Begins, CommitsRemade, IsFree, IsKnown, FailsAlone, Fits, HasLargeText, HasRoomToWrite, HindersWrite};
 ghost use Rattle.zeb_engine.specs.PrivateWriting.{IsReached, IsRuled, IsUpgradable, PutsTexts, ReadsSound, Remakes, answered, written};
 ghost use Rattle.zeb_engine.specs.PrivateConnections.{CommitsNothing, CommitsUnder, ServesUnder};
 
@@ -171,6 +171,9 @@ fn reindex<S: Alter, L: Layout>(
     ensures stays { HasCleanDisk (state S.Store tx.new.conn.now) → IsTrue (state S.Store tx.old.conn.now).in_transaction
         → Stays (state S.Store tx.old.conn.now) (state S.Store tx.new.conn.now) result }
     ensures crash { CommitsNothing S.Store tx.old.conn.now tx.new.conn.now }
+    ensures room { ¬ IsTooLarge (entry (codes "profile") (canonical_text profile.now))
+        → InStore (state S.Store tx.old.conn.now) (state S.Store tx.new.conn.now) (λ trees. HasRoomToRenew profile.now trees
+        → result ≡ Err RegFault.Store → MayRefuse (state S.Store tx.old.conn.now) (state S.Store tx.new.conn.now)) }
 {
     rebuild::<S, L>(alloc, tx, profile)?;
     meta_put(tx, PROFILE, profile.text())?;
@@ -191,6 +194,8 @@ fn upgrade<S: Alter, L: Layout>(
     ensures same { tx.new.conn.ghost_name ≡ tx.old.conn.ghost_name }
     ensures stays { HasCleanDisk (state S.Store tx.new.conn.now) → IsTrue (state S.Store tx.old.conn.now).in_transaction
         → Stays (state S.Store tx.old.conn.now) (state S.Store tx.new.conn.now) result }
+    ensures room { InStore (state S.Store tx.old.conn.now) (state S.Store tx.new.conn.now) (λ trees. HasRoomToRenew profile.now trees
+        → result ≡ Err RegFault.Store → MayRefuse (state S.Store tx.old.conn.now) (state S.Store tx.new.conn.now)) }
 {
     rebuild::<S, L>(alloc, tx, profile)?;
     meta_put(tx, VERSION, L::version())?;
@@ -217,6 +222,8 @@ fn apply<S: Alter, L: Layout>(
         → ReadsSound write.now (state S.Store tx.old.conn.now) (answered result) }
     ensures remade { HasCleanDisk (state S.Store tx.new.conn.now) → IsTrue (state S.Store tx.old.conn.now).in_transaction
         → OnOk result (Remakes L.format write.now (state S.Store tx.old.conn.now) (state S.Store tx.new.conn.now)) }
+    ensures room { InStore (state S.Store tx.old.conn.now) (state S.Store tx.new.conn.now) (λ trees. HasRoomToWrite write.now trees
+        → result ≡ Err RegFault.Store → MayRefuse (state S.Store tx.old.conn.now) (state S.Store tx.new.conn.now)) }
 {
     match write {
         Write::Init { profile, pattern } => init::<S, L>(tx, profile, pattern),
@@ -243,6 +250,9 @@ pub(crate) fn transact<S: Alter, L: Layout>(
     ensures failed { FailsAlone write.now result }
     ensures caused { HasCleanDisk (state S.Store connection.new)
         → HasCauseOver (HindersWrite write.now) (state S.Store connection.old) (state S.Store connection.new) result }
+    ensures room { HasCleanDisk (state S.Store connection.new) → IsStore (state S.Store connection.old)
+        → HasRoomToWrite write.now (state S.Store connection.old).now.trees
+        → result ≡ Err Refusal.Store → MayRefuse (state S.Store connection.old) (state S.Store connection.new) }
     ensures serves { HasCleanDisk (state S.Store connection.new) → (c : Conditions) → IsReached write.now (state S.Store connection.old)
         → Serves (Fits (version_of L.format) c write.now) (written c write.now) (state S.Store connection.old)
         (state S.Store connection.new) result }

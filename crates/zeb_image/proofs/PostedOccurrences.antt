@@ -17,9 +17,8 @@ use Rattle.zeb_register.proofs.ContentChanges.{numbers_apart}
 use Rattle.zeb_register.proofs.RisingLists.{told_by}
 use Rattle.zeb_change.specs.declared.pending.Pending.{Pending}
 use Rattle.zeb_change.specs.Noted.{LeadsTo, WillHold}
-use Rattle.zeb_change.specs.Occurs.{OccursIn}
+use Rattle.zeb_change.specs.Occurs.{AreOccurrencesOf, OccursIn}
 use Rattle.zeb_change.specs.PrivateChangedKeys.{place_in}
-use Rattle.zeb_change.specs.PrivateRecords.{AreOccurrencesOf}
 use Rattle.zeb_change.specs.Reposted.{ArePostingsOf, IsReposted, occurrence_at}
 use Rattle.zeb_change.proofs.Leading.{will_rise}
 use Rattle.zeb_change.proofs.Reposted.{reposted, reposted_is}

@@ -10,3 +10,4 @@ pub mod PackedTotals
 pub mod PackedChanges
 pub mod PackedHindrances
 pub mod PackedCauses
+pub mod PackedSound

@@ -1,3 +1,4 @@
 pub mod PackedRows
 pub mod PackedChanges
 pub mod PackedHindrances
+pub mod PackedSound

@@ -1,8 +1,9 @@
 -- Steps of private functions, which no public clause speaks of: why rows of a key can't be put into packed tables, and what they spell then.
-use Rattle.std.specs.Prelude.{◌≡◌, ◌⊎◌, ◌+◌, ◌<◌, ◌≤◌, ◌^◌, ℕ, zero, suc, ℤ, Bool, true, false, List, length, map, Result, OnOk}
+use Rattle.std.specs.Prelude.{◌≡◌, ◌⊎◌, ◌+◌, ◌/◌, ◌<◌, ◌≤◌, ◌^◌, ℕ, zero, suc, ℤ, Bool, true, false, List, length, map, Result, OnOk}
 use Rattle.sqlite.specs.Order.{Row}
 use Rattle.sqlite.specs.State.{State}
 use Rattle.sqlite.specs.Tree.{Trees}
+use Rattle.sqlite_rules.specs.Lists.{Has}
 use Rattle.zeb_blocks.specs.declared.postings.Posting.{Posting}
 use Rattle.zeb_blocks.specs.Blocks.{BlockSpells}
 use Rattle.zeb_keys.specs.declared.keys.Key.{Key}
@@ -11,6 +12,7 @@ use Rattle.zeb_register.specs.declared.faults.RegFault.{RegFault}
 use Rattle.zeb_register.specs.Clauses.{InStore, IsHinderedInside}
 use Rattle.zeb_register.specs.Hindrances.{HasLargeRow, IsPlacedAt, IsSpelledAt, LacksRowids, placed, rows_of}
 use Rattle.zeb_register.specs.KeyColumns.{IsDictIn}
+use Rattle.zeb_packed.specs.PackedSound.{IsBlockSpelled}
 use Rattle.zeb_register.specs.Sql.{HasRow}
 use Rattle.zeb_register.specs.Store.{blocks_tree, dict_tree}
 
@@ -64,3 +66,17 @@ IsHinderedRun db key run records old new result = IsHinderedInside old new resul
 -- where they are accepted, the key's rows spell what they did, and the places that are put
 abbrev pub SpellsRun : ℤ → Key → List RecordChange → State → State → Result ℕ RegFault → Type 0
 SpellsRun db key run old new result = InStore old new (λ trees. OnOk result (SpellsMore db key (IsPut run) trees new.now.trees))
+
+-- ---- what the rows of a key spelled before
+
+-- where the rows of the key spell some postings in a block then, they did so before
+abbrev pub WereSpelled : ℤ → Key → Trees → Trees → Type 0
+WereSpelled db key old new = (block : ℕ) → IsBlockSpelled new db key block → IsBlockSpelled old db key block
+
+-- a call on the row of this block is accepted only where it spelled some postings, and leaves the rows of the other blocks
+abbrev pub FindsSpelled : {A : Type 0} → ℤ → Key → ℕ → State → State → Result A RegFault → Type 0
+FindsSpelled db key block old new result = InStore old new (λ trees. OnOk result (IsBlockSpelled trees db key block × WereSpelled db key trees new.now.trees))
+
+-- the rows of each block in which a changed record lies spell some postings
+abbrev pub AreRunsSpelled : ℤ → Key → List RecordChange → Trees → Type 0
+AreRunsSpelled db key changes trees = (change : RecordChange) → Has changes change → IsBlockSpelled trees db key (change.sysno / 256)

@@ -1,12 +1,20 @@
 //! The layout of packed blocks.
 
-ghost use Rattle.std.specs.Prelude.{◌≡◌, ◌*◌, List, length, sum_by, IfOk, OnOk};
+ghost use Rattle.std.specs.Prelude.{IsUtf8, ◌≡◌, ◌≢◌, ◌↔◌, ◌*◌, ◌∷◌, [], List, length, map, sum_by, IfOk, OnOk};
+ghost use Rattle.std.specs.List.Sorted.{IsStrictlySortedBy};
 ghost use Rattle.sqlite.specs.Held.{state};
 ghost use Rattle.sqlite.specs.Order.{Row as Columns};
 ghost use Rattle.sqlite.specs.State.{IsUnchanged};
-ghost use Rattle.zeb_register.specs.Calls.{Reading};
-ghost use Rattle.zeb_register.specs.Clauses.{IsHonest, IsHonestStorable, IsReasoned, OnStore, Tells, TellsHeld};
-ghost use Rattle.zeb_register.specs.Content.{posted};
+ghost use Rattle.sqlite_rules.specs.Lists.{Has};
+ghost use Rattle.zeb_blocks.specs.declared.postings.Posting.{Posting};
+ghost use Rattle.zeb_keys.specs.declared.keys.Key.{Key};
+ghost use Rattle.zeb_packed.specs.PackedSound.{AreBetweenSpelled, AreKeyRowsSound};
+ghost use Rattle.zeb_register.specs.Between.{AreKeysBetween, IsPostingBetween};
+ghost use Rattle.zeb_register.specs.Calls.{GoesOn, Inside, Reading};
+ghost use Rattle.zeb_register.specs.Clauses.{ChangesHeld, DamagedHeld, FindsHeld, InStore, IsHinderedInside, IsHonest};
+ghost use Rattle.zeb_register.specs.Clauses.{IsHonestStorable, IsReasoned, OnStore, TakesRegistersInside, Tells, TellsHeld};
+ghost use Rattle.zeb_register.specs.Content.{AreChangedAt, ArePlacesOf, Content, IsChangedAt, OldsRise, place_cmp, posted};
+ghost use Rattle.zeb_register.specs.Hindrances.{HindersPlaces, placed, rows_of};
 ghost use Rattle.zeb_register.specs.Occurring.{AreTermsBefore, AreTermsFrom, AreTermsOf, AreTotals, key_in};
 ghost use Rattle.zeb_register.specs.PackedBlocks.{AreAllCounted, AreAllSpelled, AreBeforeCounted, AreFromCounted, AreShown};
 ghost use Rattle.zeb_register.specs.PackedBlocks.{CountsRegister, HoldsBlocks, IsRegisterSound, blocks_of};
@@ -63,20 +71,58 @@ impl Layout for Blocks {
         sysno: u64,
         old: &[Place],
         new: &[Place],
-    ) -> Result<(), RegFault> {
+    ) -> Result<(), RegFault>
+        ensures same { tx.new.conn.ghost_name ≡ tx.old.conn.ghost_name }
+        ensures call { Inside (state S.Store tx.old.conn.now) (state S.Store tx.new.conn.now) result (λ _. GoesOn) }
+        ensures change { ChangesHeld HoldsBlocks (state S.Store tx.old.conn.now) (state S.Store tx.new.conn.now) result
+            (IsChangedAt db.0 key.now sysno new.now) }
+        ensures found { FindsHeld HoldsBlocks (state S.Store tx.old.conn.now) (state S.Store tx.new.conn.now) result
+            (λ content. ArePlacesOf sysno old.now (content db.0 key.now)) }
+        ensures damaged { DamagedHeld HoldsBlocks (state S.Store tx.old.conn.now) (state S.Store tx.new.conn.now) result
+            (IsStrictlySortedBy place_cmp old.now) (λ content. ¬ ArePlacesOf sysno old.now (content db.0 key.now)) }
+        ensures sound { InStore (state S.Store tx.old.conn.now) (state S.Store tx.new.conn.now) (λ trees. OnOk result
+            (AreKeyRowsSound trees db.0 key.now (sysno ∷ []))) }
+        ensures text { OnOk result (IsUtf8 key.now.term) }
+        ensures refused { IsHinderedInside (state S.Store tx.old.conn.now) (state S.Store tx.new.conn.now) result
+            (HindersPlaces db.0 key.now ((sysno, new.now) ∷ [])) }
+        ensures rowids { TakesRegistersInside (state S.Store tx.old.conn.now) (state S.Store tx.new.conn.now) result
+            (rows_of ((sysno, new.now) ∷ [])) }
+        ensures work { FindsHeld HoldsBlocks (state S.Store tx.old.conn.now) (state S.Store tx.new.conn.now) result
+            (λ _. Works 1 1 1 1 work.old work.new) }
+    {
         let change = RecordChange { sysno, old, new };
         Self::key_changes(tx, work, db, key, &[change])
     }
 
     /// `Damaged` also where the rows that are read can't be those of a content that every layout can store; `Store` also where one of the
-    /// places `new` is 0, or these don't rise.
+    /// places `new` is 0, or these don't rise. So no change is accepted where the row of the key in `dict` doesn't say 1 to 999,999,999, or
+    /// where the row of a changed record's block spells no postings.
     fn key_changes<S: Alter>(
         tx: &mut Transaction<'_, S>,
         work: &mut Work,
         db: DatabaseId,
         key: &Key,
         changes: &[RecordChange<'_>],
-    ) -> Result<(), RegFault> {
+    ) -> Result<(), RegFault>
+        ensures same { tx.new.conn.ghost_name ≡ tx.old.conn.ghost_name }
+        ensures call { Inside (state S.Store tx.old.conn.now) (state S.Store tx.new.conn.now) result (λ _. GoesOn) }
+        ensures change { ChangesHeld HoldsBlocks (state S.Store tx.old.conn.now) (state S.Store tx.new.conn.now) result
+            (AreChangedAt db.0 key.now changes.now) }
+        ensures found { FindsHeld HoldsBlocks (state S.Store tx.old.conn.now) (state S.Store tx.new.conn.now) result
+            (λ content. (after : Content) × AreChangedAt db.0 key.now changes.now content after) }
+        ensures damaged { DamagedHeld HoldsBlocks (state S.Store tx.old.conn.now) (state S.Store tx.new.conn.now) result
+            (OldsRise changes.now) (λ content. (after : Content) → ¬ AreChangedAt db.0 key.now changes.now content after) }
+        ensures sound { InStore (state S.Store tx.old.conn.now) (state S.Store tx.new.conn.now) (λ trees. OnOk result
+            (changes.now ≢ [] → AreKeyRowsSound trees db.0 key.now (map (λ change. change.sysno) changes.now))) }
+        ensures text { OnOk result (changes.now ≢ [] → IsUtf8 key.now.term) }
+        ensures refused { IsHinderedInside (state S.Store tx.old.conn.now) (state S.Store tx.new.conn.now) result
+            (HindersPlaces db.0 key.now (map placed changes.now)) }
+        ensures rowids { TakesRegistersInside (state S.Store tx.old.conn.now) (state S.Store tx.new.conn.now) result
+            (rows_of (map placed changes.now)) }
+        ensures work { FindsHeld HoldsBlocks (state S.Store tx.old.conn.now) (state S.Store tx.new.conn.now) result
+            (λ _. Works (1 * length changes.now) (1 * length changes.now) (1 * length changes.now) (1 * length changes.now)
+            work.old work.new) }
+    {
         check_changes(changes)?;
         if changes.is_empty() {
             // A closed connection is refused also where there is no change.
@@ -126,6 +172,7 @@ impl Layout for Blocks {
         Ok(list)
     }
 
+    /// The postings of the terms from `first` to `last`. `Damaged` exactly where a row of their blocks spells none.
     fn postings_between<S: Alter>(
         alloc: Global,
         conn: &mut Connection<S>,
@@ -133,7 +180,20 @@ impl Layout for Blocks {
         at: RegisterOf,
         first: &str,
         last: &str,
-    ) -> Result<Vec<Posting>, RegFault> {
+    ) -> Result<Vec<Posting>, RegFault>
+        ensures call { Reading (state S.Store conn.old) (state S.Store conn.new) result (λ _. IsUnchanged) }
+        ensures value { TellsHeld HoldsBlocks (state S.Store conn.old) (state S.Store conn.new) result
+            (λ content list. (p : Posting) → Has list.items p ↔ IsPostingBetween content at first.now last.now p) }
+        ensures honest { IsHonestStorable HoldsBlocks (state S.Store conn.old) (state S.Store conn.new) result }
+        ensures refused { IsReasoned (state S.Store conn.old) (state S.Store conn.new) result }
+        ensures spelled { OnStore (state S.Store conn.old) (state S.Store conn.new) (λ trees. OnOk result
+            (AreBetweenSpelled trees at first.now last.now)) }
+        ensures damaged { IsHonest (state S.Store conn.old) (state S.Store conn.new) result
+            (λ trees. AreBetweenSpelled trees at first.now last.now) }
+        ensures work { TellsHeld HoldsBlocks (state S.Store conn.old) (state S.Store conn.new) result
+            (λ content _. (keys : List Key) → AreKeysBetween content at first.now last.now keys → Works 0 0
+            (sum_by (λ key. blocks_of (content at.db.0 key)) keys) 0 work.old work.new) }
+    {
         blocks_between(alloc, conn, work, at, first, last)
     }
 

@@ -7,9 +7,10 @@ ghost use Rattle.sqlite_rules.specs.Lists.{Has};
 ghost use Rattle.zeb_register.specs.Between.{AreKeysBetween, IsPostingBetween};
 ghost use Rattle.zeb_register.specs.BetweenRows.{two_behind};
 ghost use Rattle.zeb_register.specs.Calls.{Reading};
-ghost use Rattle.zeb_register.specs.Clauses.{IsHonestOfHeld, IsReasoned, TellsHeld};
+ghost use Rattle.zeb_register.specs.Clauses.{IsHonest, IsHonestOfHeld, IsReasoned, OnStore, TellsHeld};
 ghost use Rattle.zeb_register.specs.PackedBlocks.{HoldsBlocks, SpellsPart, blocks_of};
 ghost use Rattle.zeb_register.specs.PackedRows.{AreSpelled};
+ghost use Rattle.zeb_packed.specs.PackedSound.{AreBetweenSpelled};
 ghost use Rattle.zeb_register.specs.Tallies.{Works};
 
 use crate::packed::{add_spelled, counted};
@@ -20,7 +21,7 @@ use zeb_blocks::Posting;
 use zeb_register::for_layouts::{read, read_bytes, text_above};
 use zeb_register::{RegFault, RegisterOf, Work};
 
-/// The postings of the terms from `first` to `last`. `work` counts the rows of their blocks.
+/// The postings of the terms from `first` to `last`. `Damaged` exactly where a row of their blocks spells none. `work` counts these rows.
 pub(crate) fn blocks_between<S: Alter>(
     alloc: Global,
     conn: &mut Connection<S>,
@@ -34,6 +35,10 @@ pub(crate) fn blocks_between<S: Alter>(
         (λ content list. (p : _) → Has list.items p ↔ IsPostingBetween content at first.now last.now p) }
     ensures honest { IsHonestOfHeld HoldsBlocks (state S.Store conn.old) (state S.Store conn.new) result }
     ensures refused { IsReasoned (state S.Store conn.old) (state S.Store conn.new) result }
+    ensures spelled { OnStore (state S.Store conn.old) (state S.Store conn.new) (λ trees. OnOk result
+        (AreBetweenSpelled trees at first.now last.now)) }
+    ensures damaged { IsHonest (state S.Store conn.old) (state S.Store conn.new) result
+        (λ trees. AreBetweenSpelled trees at first.now last.now) }
     ensures work { TellsHeld HoldsBlocks (state S.Store conn.old) (state S.Store conn.new) result
         (λ content _. (keys : List _) → AreKeysBetween content at first.now last.now keys
         → Works 0 0 (sum_by (λ key. blocks_of (content at.db.0 key)) keys) 0 work.old work.new) }

@@ -21,7 +21,8 @@ ghost use Rattle.zeb_packed.specs.PackedChanges.{IfTold, IsBlockIn, IsKnown, IsT
 ghost use Rattle.zeb_register.specs.KeyColumns.{IsDictIn};
 ghost use Rattle.zeb_register.specs.PackedRows.{HoldsBlockRows};
 ghost use Rattle.zeb_packed.specs.PackedChanges.{PutsBlock, PutsCount, SpellsIn};
-ghost use Rattle.zeb_packed.specs.PackedHindrances.{HindersBlock, HindersCount, IsMistold, SpellsMore, new_rows};
+ghost use Rattle.zeb_packed.specs.PackedHindrances.{FindsSpelled, HindersBlock, HindersCount, IsMistold, SpellsMore, new_rows};
+ghost use Rattle.zeb_packed.specs.PackedSound.{IsBlockSpelled, IsKeyCounted};
 ghost use Rattle.zeb_register.specs.Store.{blocks_tree, dict_tree};
 
 use crate::packed::{add_spelled, records_at};
@@ -54,6 +55,8 @@ pub(crate) fn block_list<S: Alter>(
         (λ trees list. IsTold (not (length list.items == 0)) (IsBlockIn db.0 key.now block) blocks_tree trees) }
     ensures spelled { TellsInside (state S.Store tx.old.conn.now) (state S.Store tx.new.conn.now) result
         (λ trees list. (p : Posting) → Has list.items p → IsSpelledAt db.0 key.now trees p) }
+    ensures sound { InStore (state S.Store tx.old.conn.now) (state S.Store tx.new.conn.now) (λ trees. OnOk result
+        (IsBlockSpelled trees db.0 key.now block)) }
     ensures refused { IsReasonedInside (state S.Store tx.old.conn.now) (state S.Store tx.new.conn.now) result }
 {
     let number = stored(block)?;
@@ -121,6 +124,8 @@ pub(crate) fn key_known<S: Alter>(
     ensures told { TellsInside (state S.Store tx.old.conn.now) (state S.Store tx.new.conn.now) result
         (λ trees known. IsTold (not (known.records == 0)) (IsDictIn db.0 key.now) dict_tree trees) }
     ensures few { IfOk result (λ known. known.records ≤ 999999999) }
+    ensures sound { InStore (state S.Store tx.old.conn.now) (state S.Store tx.new.conn.now) (λ trees. OnOk result
+        (IsKeyCounted trees db.0 key.now)) }
     ensures refused { IsReasonedInside (state S.Store tx.old.conn.now) (state S.Store tx.new.conn.now) result }
 {
     let rows = dict_records(tx, KeyOf { db, key })?;
@@ -139,6 +144,7 @@ pub(crate) fn key_known<S: Alter>(
 fn known_at(alloc: Global, row: &Row) -> Result<Known, RegFault>
     ensures ok { IfOk result (λ known. (column row.now 0 ≡ Int (pos known.records)) × (2 ^ 56 ≤ known.clear_from)) }
     ensures number { IfOk result (λ known. (1 ≤ known.records) × (known.records ≤ 999999999)) }
+    ensures sound { OnOk result (IsRecordNumber (column row.now 0)) }
     ensures honest { result ≡ Err RegFault.Damaged → 0 < length row.now → ¬ IsRecordNumber (column row.now 0) }
     ensures unstored { result ≢ Err RegFault.Store }
 {
@@ -205,6 +211,7 @@ pub(crate) fn block_begin<S: Alter>(
         → ¬ IsTold false (IsBlockIn db.0 key.now block) blocks_tree trees) }
     ensures spelled { InStore (state S.Store tx.old.conn.now) (state S.Store tx.new.conn.now) (λ trees. OnOk result
         (SpellsMore db.0 key.now (Has list.now) trees (state S.Store tx.new.conn.now).now.trees)) }
+    ensures sound { FindsSpelled db.0 key.now block (state S.Store tx.old.conn.now) (state S.Store tx.new.conn.now) result }
     ensures refused { IsHinderedInside (state S.Store tx.old.conn.now) (state S.Store tx.new.conn.now) result
         (HindersBlock false key.now block list.now) }
     ensures rowids { TakesInside (state S.Store tx.old.conn.now) (state S.Store tx.new.conn.now) result

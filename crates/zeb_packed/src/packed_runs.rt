@@ -13,7 +13,8 @@ ghost use Rattle.zeb_register.specs.PackedBlocks.{HoldsBlocks};
 ghost use Rattle.zeb_packed.specs.PackedChanges.{IsClear, IsCounted, IsHonestRun, IsKnown, IsStorableChange};
 ghost use Rattle.zeb_register.specs.PackedRows.{IsInBlock};
 ghost use Rattle.zeb_packed.specs.PackedChanges.{PutsChanges, PutsRun};
-ghost use Rattle.zeb_packed.specs.PackedHindrances.{HindersChanges, IsHinderedRun, SpellsRun};
+ghost use Rattle.zeb_packed.specs.PackedHindrances.{AreRunsSpelled, FindsSpelled, HindersChanges, IsHinderedRun, SpellsRun};
+ghost use Rattle.zeb_packed.specs.PackedSound.{AreKeyRowsSound};
 ghost use Rattle.zeb_register.specs.Store.{IsStore, KeepsLists, blocks_tree};
 ghost use Rattle.zeb_register.specs.Tallies.{Works};
 
@@ -55,6 +56,8 @@ pub(crate) fn changes_put<S: Alter>(
     ensures damaged { DamagedHeld HoldsBlocks (state S.Store tx.old.conn.now) (state S.Store tx.new.conn.now) result
         (OldsRise changes.now) (λ content. (new : List Posting) → ¬ AreListChanges changes.now (content db.0 key.now) new) }
     ensures text { OnOk result (IsUtf8 key.now.term) }
+    ensures sound { InStore (state S.Store tx.old.conn.now) (state S.Store tx.new.conn.now) (λ trees. OnOk result
+        (AreKeyRowsSound trees db.0 key.now (map (λ change. change.sysno) changes.now))) }
     ensures refused { IsHinderedInside (state S.Store tx.old.conn.now) (state S.Store tx.new.conn.now) result
         (HindersPlaces db.0 key.now (map placed changes.now)) }
     ensures rowids { TakesRegistersInside (state S.Store tx.old.conn.now) (state S.Store tx.new.conn.now) result
@@ -81,6 +84,8 @@ fn runs_put<S: Alter>(
     ensures damaged { IsHonestRun db.0 key.now changes.now (IsKnown known)
         (state S.Store tx.old.conn.now) (state S.Store tx.new.conn.now) result }
     ensures grows { IfOk result (λ after. after ≤ known.records + rows_of (map placed changes.now)) }
+    ensures sound { InStore (state S.Store tx.old.conn.now) (state S.Store tx.new.conn.now) (λ trees. OnOk result
+        (AreRunsSpelled db.0 key.now changes.now trees)) }
     ensures refused { IsHinderedInside (state S.Store tx.old.conn.now) (state S.Store tx.new.conn.now) result
         (HindersChanges db.0 key.now known.records changes.now) }
     ensures rowids { TakesInside (state S.Store tx.old.conn.now) (state S.Store tx.new.conn.now) result
@@ -136,6 +141,7 @@ fn run_put<S: Alter>(
     ensures rowids { TakesInside (state S.Store tx.old.conn.now) (state S.Store tx.new.conn.now) result
         (rows_of (map placed run.now)) blocks_tree }
     ensures spelled { SpellsRun db.0 key.now run.now (state S.Store tx.old.conn.now) (state S.Store tx.new.conn.now) result }
+    ensures sound { FindsSpelled db.0 key.now block (state S.Store tx.old.conn.now) (state S.Store tx.new.conn.now) result }
 {
     if block < known.clear_from {
         return row_renew(tx, db, key, block, known.records, run);
@@ -166,6 +172,7 @@ fn row_renew<S: Alter>(
     ensures rowids { TakesInside (state S.Store tx.old.conn.now) (state S.Store tx.new.conn.now) result
         (rows_of (map placed run.now)) blocks_tree }
     ensures spelled { SpellsRun db.0 key.now run.now (state S.Store tx.old.conn.now) (state S.Store tx.new.conn.now) result }
+    ensures sound { FindsSpelled db.0 key.now block (state S.Store tx.old.conn.now) (state S.Store tx.new.conn.now) result }
 {
     let list = block_list(tx, db, key, block)?;
     let is_there = !list.is_empty();
@@ -204,6 +211,7 @@ fn row_begin<S: Alter>(
     ensures rowids { TakesInside (state S.Store tx.old.conn.now) (state S.Store tx.new.conn.now) result
         (rows_of (map placed run.now)) blocks_tree }
     ensures spelled { SpellsRun db.0 key.now run.now (state S.Store tx.old.conn.now) (state S.Store tx.new.conn.now) result }
+    ensures sound { FindsSpelled db.0 key.now block (state S.Store tx.old.conn.now) (state S.Store tx.new.conn.now) result }
 {
     let held = Held {
         block,

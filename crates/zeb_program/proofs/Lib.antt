@@ -4,6 +4,7 @@ pub mod LineInputLemmas
 pub mod LineLemmas
 pub mod MemoryLemmas
 pub mod NumberLemmas
+pub mod OverLemmas
 pub mod PathLemmas
 pub mod ReaderLemmas
 pub mod RunLemmas

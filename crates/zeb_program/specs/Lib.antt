@@ -1,5 +1,6 @@
 pub mod Answers
 pub mod Numbers
+pub mod OverTables
 pub mod Batches
 pub mod BatchRuns
 pub mod Errands

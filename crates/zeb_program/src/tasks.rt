@@ -8,8 +8,10 @@ ghost use Rattle.zeb_change.specs.Conditions.{conditions};
 ghost use Rattle.zeb_image.specs.NameOf.{name_bytes};
 ghost use Rattle.zeb_register.specs.Formats.{packed_blocks, version_of};
 ghost use Rattle.zeb_program.specs.Answers.{ChangesBy};
-ghost use Rattle.zeb_program.specs.Faults.{IsOpeningFault, IsUnread, IsUnreadable};
+ghost use Rattle.zeb_engine.specs.AnyAnswers.{IsAnswerOver};
+ghost use Rattle.zeb_program.specs.Faults.{GivesAnswer, IsOpeningFault, IsUnread, IsUnreadable};
 ghost use Rattle.zeb_program.specs.ScriptAnswers.{AreScriptConditions};
+ghost use Rattle.zeb_program.specs.OverTables.{TaskOver};
 ghost use Rattle.zeb_program.specs.Serving.{AnswersFrom, ServesTask, replied};
 ghost use Rattle.zeb_program.specs.TaskAnswers.{AnalysesFiles, AnswersCommand, AreTold, ReadsWhole, paths_of};
 ghost use Rattle.zeb_program.specs.Warnings as spec;
@@ -178,6 +180,9 @@ pub fn carry_out<S: Alter, L: Layout, P: Paths>(
     ensures answer { HasCleanDisk (state S.Store session.new.connection)
         → ServesTask (P.tells paths.now) (conditions (version_of L.format) session.old.profile session.old.limits) task.now
         (state S.Store session.old.connection) (state S.Store session.new.connection) (replied result) }
+    // One command is answered as the engine says of it on any tables.
+    ensures over { HasCleanDisk (state S.Store session.new.connection)
+        → TaskOver L.format session.old.profile task.now (state S.Store session.old.connection) (replied result) }
     // Where something couldn't be read, the register was asked for nothing.
     ensures unread { IfErr result (λ fault. IsUnread fault → session.new ≡ session.old) }
     // Where the bytes of a file at each path are told; and of another task than an analysis nothing is to be warned of.
@@ -215,6 +220,8 @@ fn ask<S: Alter, L: Layout>(session: &mut Session<S, L>, command: &Command) -> R
     ensures answer { HasCleanDisk (state S.Store session.new.connection)
         → AnswersFrom (state S.Store session.old.connection) (state S.Store session.new.connection) result
         (AnswersCommand (conditions (version_of L.format) session.old.profile session.old.limits) command.now) }
+    ensures over { HasCleanDisk (state S.Store session.new.connection)
+        → GivesAnswer (IsAnswerOver L.format session.old.profile command.now (state S.Store session.old.connection)) result }
     ensures read { IfErr result (λ fault. ¬ IsUnread fault) }
 {
     match session.command(command) {

@@ -4,7 +4,7 @@ use super::{Asked, Table, WHOLE, tables_hold};
 use std::test::Fail;
 
 /// Values that are kept, and others, of which each type has its diagnostic.
-const VALUES: &Table = &Table {
+pub(super) const VALUES: &Table = &Table {
     asked: Asked::Finding,
     profile: WHOLE,
     separator: '\n',
@@ -75,7 +75,7 @@ const VALUES: &Table = &Table {
 };
 
 /// Each two values that are kept, of two types, once: those that aren't kept together have 123.
-const PAIRS: &Table = &Table {
+pub(super) const PAIRS: &Table = &Table {
     asked: Asked::Finding,
     profile: WHOLE,
     separator: '\n',
@@ -291,7 +291,7 @@ const PAIRS: &Table = &Table {
 
 /// The attributes that a scan takes, with the register and the start of a scan that begins at `7`, and those that it
 /// doesn't.
-const SCANNED: &Table = &Table {
+pub(super) const SCANNED: &Table = &Table {
     asked: Asked::Scanning,
     profile: WHOLE,
     separator: '\n',

@@ -1,9 +1,11 @@
 //! Requests for memory that are refused: to be run with each refused in turn.
 
+use super::combinations::{PAIRS, SCANNED, VALUES};
 use super::diagnostics::{FAULTS, OVER, PLACES, PLANS, PROXIMITY, UNTIED};
-use super::order::{NEIGHBOURS, UNTIED_NEIGHBOURS};
-use super::scans::{FROM_NO_WORD, SCANS};
-use super::texts::{BLANKS, KEYWORDS_USED, WORDS};
+use super::order::{ALONE, NEIGHBOURS, SIDES, UNTIED_NEIGHBOURS};
+use super::plans::{PLANS as PLANNED, STARS};
+use super::scans::{FROM_NO_WORD, SCANS, UNTIED as UNTIED_SCANS};
+use super::texts::{BLANKS, KEYWORDS, KEYWORDS_USED, WORDS};
 use super::{Asked, Table, halves_of, line};
 use std::alloc::Global;
 use std::test::Fail;
@@ -24,6 +26,12 @@ static TABLES: &[&Table] = &[
     UNTIED,
     UNTIED_NEIGHBOURS,
 ];
+
+/// What plans are, and where their patterns match.
+static PLANS_AND_PATTERNS: &[&Table] = &[KEYWORDS, PLANNED, STARS, UNTIED_SCANS];
+
+/// The values of attributes, and faults on both sides of an operator.
+static ATTRIBUTES: &[&Table] = &[VALUES, PAIRS, SCANNED, ALONE, SIDES];
 
 /// The answer is the one of the row, or want of memory; where the line itself can't be made nothing is asked.
 fn is_ordinary_or_memory(alloc: Global, asked: Asked, profile: &Profile, row: &str) -> bool {
@@ -47,11 +55,27 @@ fn ordinary_or_memory(alloc: Global, table: &Table) -> Result<(), Fail> {
     Ok(())
 }
 
-/// Holds whatever request for memory is refused.
-#[test]
-fn requests_for_memory_may_be_refused(rt: HostRuntime) -> Result<(), Fail> {
-    for table in TABLES {
-        ordinary_or_memory(rt.alloc(), table)?;
+/// The same of each table.
+fn all_ordinary_or_memory(alloc: Global, tables: &[&Table]) -> Result<(), Fail> {
+    for table in tables {
+        ordinary_or_memory(alloc, table)?;
     }
     Ok(())
+}
+
+// Each holds whatever request for memory is refused.
+
+#[test]
+fn requests_for_memory_may_be_refused(rt: HostRuntime) -> Result<(), Fail> {
+    all_ordinary_or_memory(rt.alloc(), TABLES)
+}
+
+#[test]
+fn requests_of_plans_may_be_refused(rt: HostRuntime) -> Result<(), Fail> {
+    all_ordinary_or_memory(rt.alloc(), PLANS_AND_PATTERNS)
+}
+
+#[test]
+fn requests_of_attributes_may_be_refused(rt: HostRuntime) -> Result<(), Fail> {
+    all_ordinary_or_memory(rt.alloc(), ATTRIBUTES)
 }

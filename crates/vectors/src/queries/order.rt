@@ -55,7 +55,7 @@ pub(super) const UNTIED_NEIGHBOURS: &Table = &Table {
 
 /// A structure with each diagnostic but 116, which another profile gives, and 5, whose term is long: alone, and on the
 /// right, where nothing on the left has a diagnostic.
-const ALONE: &Table = &Table {
+pub(super) const ALONE: &Table = &Table {
     asked: Asked::Finding,
     profile: BOOKS,
     separator: '\n',
@@ -89,7 +89,7 @@ const ALONE: &Table = &Table {
 };
 
 /// Each two of these, where the left one is told.
-const SIDES: &Table = &Table {
+pub(super) const SIDES: &Table = &Table {
     asked: Asked::Finding,
     profile: BOOKS,
     separator: '\n',

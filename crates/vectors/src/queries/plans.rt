@@ -113,7 +113,7 @@ fn plan_text(alloc: Global, plan: &Plan) -> Result<String, AllocError> {
 }
 
 /// Queries and their plans; the indexes are Title 0, Date 1, Any 2.
-const PLANS: &Table = &Table {
+pub(super) const PLANS: &Table = &Table {
     asked: Asked::Planning,
     profile: BOOKS,
     separator: '\n',
@@ -176,7 +176,7 @@ pub(super) fn plan_line(
 }
 
 /// A query of one pattern, then an entry, and whether the pattern matches it.
-const STARS: &Table = &Table {
+pub(super) const STARS: &Table = &Table {
     asked: Asked::Matching,
     profile: BOOKS,
     separator: '\n',

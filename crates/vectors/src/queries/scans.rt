@@ -49,7 +49,7 @@ pub(super) const FROM_NO_WORD: &Table = &Table {
 };
 
 /// A scan over the profile without an index for the use attribute that holds where none is given.
-const UNTIED: &Table = &Table {
+pub(super) const UNTIED: &Table = &Table {
     asked: Asked::Scanning,
     profile: WITHOUT_ANY,
     separator: '\n',

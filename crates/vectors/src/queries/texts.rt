@@ -137,7 +137,7 @@ x @attrset -> 108 at 2
 };
 
 /// Each keyword alone, which has its fault at its end, and quoted and in upper case, where it is a term.
-const KEYWORDS: &Table = &Table {
+pub(super) const KEYWORDS: &Table = &Table {
     asked: Asked::Reading,
     profile: BOOKS,
     separator: '\n',

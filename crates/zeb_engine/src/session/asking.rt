@@ -9,13 +9,13 @@ ghost use Rattle.zeb_engine.specs.AnyTables.{FindOver, OverReady, ScanOver};
 ghost use Rattle.zeb_change.specs.Conditions.{conditions};
 ghost use Rattle.zeb_image.specs.NameOf.{name_bytes};
 ghost use Rattle.zeb_engine.specs.Checking.{ChecksTables};
-ghost use Rattle.zeb_engine.specs.Readiness.{IsReadyFor};
+ghost use Rattle.zeb_engine.specs.Readiness.{IsReadyFor, TellsReady};
 ghost use Rattle.zeb_engine.specs.Reads.{FindReads, ScanReads};
 ghost use Rattle.zeb_change.specs.Reading.{NoReadFault};
 ghost use Rattle.zeb_engine.specs.Transactions.{Commanded};
 ghost use Rattle.zeb_engine.specs.Steps.{checked};
 ghost use Rattle.zeb_engine.specs.Works.{Always, Finds, ScansFrom, Serves};
-ghost use Rattle.zeb_engine.specs.PrivateConnections.{CommitsNothing, FailsForCause, LeavesAsIs, TellsReady};
+ghost use Rattle.zeb_engine.specs.PrivateConnections.{CommitsNothing, FailsForCause, LeavesAsIs};
 
 use crate::find::{Question, find};
 use crate::readiness::check_ready;

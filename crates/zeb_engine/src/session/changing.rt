@@ -10,12 +10,12 @@ ghost use Rattle.zeb_image.specs.Holdings.{Holdings};
 ghost use Rattle.zeb_image.specs.Image.{Keeps};
 ghost use Rattle.zeb_image.specs.NameOf.{name_bytes};
 ghost use Rattle.zeb_engine.specs.Causes.{ChangesInRoom};
-ghost use Rattle.zeb_engine.specs.Costs.{CostsAlone};
+ghost use Rattle.zeb_engine.specs.Costs.{CostsAlone, no_work};
 ghost use Rattle.zeb_engine.specs.Crashes.{CommitsBy, Endures};
 ghost use Rattle.zeb_engine.specs.Steps.{TakesFiles};
 ghost use Rattle.zeb_engine.specs.Transactions.{Commanded, IsDurable};
 ghost use Rattle.zeb_engine.specs.Works.{Always, ServesBy};
-ghost use Rattle.zeb_engine.specs.PrivateConnections.{TellsReady};
+ghost use Rattle.zeb_engine.specs.Readiness.{TellsReady};
 
 use crate::changes::change_database;
 use crate::readiness::check_ready;
@@ -48,6 +48,7 @@ impl<S: Alter, L: Layout> Session<S, L> {
         ensures work { HasCleanDisk (state S.Store self.new.connection)
             → CostsAlone L.row_work (conditions (version_of L.format) self.old.profile self.old.limits) kind (name_bytes database.now)
             (map (λ file. file.items) files.now) (state S.Store self.old.connection) result self.new.work }
+        ensures no_work { L.row_work ≡ 0 → self.old.work ≡ no_work → self.new.work ≡ no_work }
         ensures room { HasCleanDisk (state S.Store self.new.connection)
             → ChangesInRoom L.format self.old.profile kind (map (λ file. file.items) files.now) Always
             (state S.Store self.old.connection) (state S.Store self.new.connection) result }
@@ -96,6 +97,8 @@ impl<S: Alter, L: Layout> Session<S, L> {
             → map R.remaining readers.old ≡ map Some texts
             → CostsAlone L.row_work (conditions (version_of L.format) self.old.profile self.old.limits) kind
             (name_bytes database.now) texts (state S.Store self.old.connection) result self.new.work }
+        // Over a layout whose rows count nothing no work is counted, whatever is answered, and whatever the tables and the readers are.
+        ensures no_work { L.row_work ≡ 0 → self.new.work ≡ no_work }
         // Where the tables have room for what the files ask for, a failed store has a cause, but for the commit.
         ensures room { HasCleanDisk (state S.Store self.new.connection) → (texts : List (List ℕ))
             → map R.remaining readers.old ≡ map Some texts → NoneFailed R.has_failed readers.new
@@ -133,6 +136,7 @@ impl<S: Alter, L: Layout> Session<S, L> {
             → map R.remaining readers.old ≡ map Some texts
             → CostsAlone L.row_work (conditions (version_of L.format) self.old.profile self.old.limits) kind
             (name_bytes database.now) texts (state S.Store self.old.connection) result self.new.work }
+        ensures no_work { L.row_work ≡ 0 → self.new.work ≡ no_work }
         ensures room { HasCleanDisk (state S.Store self.new.connection) → (texts : List (List ℕ))
             → map R.remaining readers.old ≡ map Some texts → NoneFailed R.has_failed readers.new
             → ChangesInRoom L.format self.old.profile kind texts Always

@@ -14,7 +14,7 @@ ghost use Rattle.zeb_engine.specs.Crashes.{Commits};
 ghost use Rattle.zeb_engine.specs.Steps.{created, dropped, turned};
 ghost use Rattle.zeb_engine.specs.Transactions.{Commanded};
 ghost use Rattle.zeb_engine.specs.Works.{Always, Serves};
-ghost use Rattle.zeb_engine.specs.PrivateConnections.{TellsReady};
+ghost use Rattle.zeb_engine.specs.Readiness.{TellsReady};
 
 use crate::readiness::check_ready;
 use crate::replies::Reply;

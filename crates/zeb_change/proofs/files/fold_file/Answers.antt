@@ -1,4 +1,4 @@
-use Rattle.std.proofs.Common.{rules, arith, ◌≡◌, ◌∙◌, ◌+◌, ℕ, ℤ, IsTrue, List, true, false, inl, inr, refl, sym, Some, Result, Ok, Err, OnOk, ap, subst, subst₂}
+use Rattle.std.proofs.Common.{rules, arith, ◌≡◌, ◌∙◌, ◌+◌, ◌<◌, ℕ, ℤ, IsTrue, List, true, false, inl, inr, refl, sym, Some, Result, Ok, Err, OnOk, ap, subst, subst₂}
 use Rattle.sqlite.specs.Held.{state}
 use Rattle.sqlite.specs.State.{HasCleanDisk}
 use Rattle.zeb_marc.specs.Splits.{next_of, split_of}
@@ -20,6 +20,10 @@ use Rattle.zeb_change.specs.Base.{Kept}
 use Rattle.zeb_change.specs.PrivateAsked.{HasRoomAt}
 use Rattle.zeb_change.proofs.FoldRoom.{NextRoom, next_room}
 use Rattle.zeb_change.proofs.RecordRoom.{not_refused, refused_for, room_enough}
+use Rattle.zeb_register.specs.Store.{IsStore}
+use Rattle.zeb_change.specs.declared.files.Fold.{Fold}
+use Rattle.zeb_change.specs.Elders.{FindsWhole}
+use Rattle.zeb_change.proofs.ElderSteps.{fault_read, file_finds, first_read, found_same, none_read}
 use Rattle.zeb_change.proofs.files.fold_file.Given as given
 use Rattle.zeb_change.proofs.files.fold_file.Goals.{After-take_record}
 use Rattle.zeb_change.proofs.files.fold_file.Goals as goal
@@ -30,7 +34,9 @@ loop-nth-init g c = record {
   same = refl;
   on = record { crash = search rules; stays = search rules; database = refl; honest = λ clean mode records_of some. some };
   counted = refl;
+  no_work = λ none. refl;
   room = λ clean mode text told records_of some most places rowids asks spare more has. record { left = text; remains = told; places = places; rowids = rowids; asks = asks; room = has };
+  elder = λ clean mode store below text told. inl (store, refl, refl, told);
   under = λ clean mode text told version records_of p stands under_way. (
     at_first g.L.Layout.format (conditions_of version c.args.setting.now) c.args.setting.now.kind c.args.file c.args.fold.now.progress.database.0 records_of text
         (g.R.Source.remaining c.args.reader.now) (standing (state g.S.Store c.args.tx.now.conn.now) c.args.pending.now) c.args.fold.now p told stands under_way,
@@ -145,6 +151,31 @@ returns-in_err-take_record-clause-room g c clean mode text told records_of some 
     refused_for _ _ c.from_residual-in_err-take_record.result c.in_err-take_record.field-0.0 result (λ store.
     may_after old now next on.crash (on.stays was mode).stays_open (λ _. took.0 (c.in_err-take_record.was ∙ ap Err store)))
 
+-- ---- the first record
+
+-- it is read
+record_read : (g : given.Over) (c : After-take_record g) (text : List ℕ) → g.R.Source.remaining c.loop-nth.reader ≡ Some text
+    → ReadsNext c.args.file c.loop-nth.nth (next_of text) (Ok true) c.read_record.new.buffer (g.R.Source.remaining c.read_record.new.reader)
+record_read g c text remains =
+    let found : c.in_ok-read_record.field-0 ≡ true = search rules in
+    let fine : g.R.Source.has_failed c.read_record.new.reader ≡ false = sound (g.R.Source.has_failed c.read_record.new.reader) (λ failed. let no = c.in_ok-read_record.ensures.failed failed in absurd (cc)) in
+    subst (λ b. ReadsNext c.args.file c.loop-nth.nth (next_of text) (Ok b) c.read_record.new.buffer (g.R.Source.remaining c.read_record.new.reader)) found (c.in_ok-read_record.ensures.told text remains fine)
+
+-- it is taken on the tables as they were at first
+first_found : (g : given.Over) (c : After-take_record g) → HasCleanDisk (state g.S.Store c.take_record.new.tx.conn.now) → IsTrue (state g.S.Store c.args.tx.now.conn.now).in_transaction
+    → c.args.fold.now.tally.records < c.args.setting.now.limits.records
+    → (text : List ℕ)
+    → (begun : IsStore (state g.S.Store c.loop-nth.tx.conn.now) × ((state g.S.Store c.loop-nth.tx.conn.now).now ≡ (state g.S.Store c.args.tx.now.conn.now).now) × (c.loop-nth.fold ≡ c.args.fold.now)
+    × (g.R.Source.remaining c.loop-nth.reader ≡ Some text))
+    → FindsWhole c.args.setting.now.profile.now (state g.S.Store c.args.tx.now.conn.now).now.trees c.args.fold.now.progress.database.0 c.read_record.new.buffer c.take_record.result
+first_found g c clean mode below text begun =
+    let old = state g.S.Store c.args.tx.now.conn.now in
+    let now = state g.S.Store c.loop-nth.tx.conn.now in
+    let was : HasCleanDisk now = omega (arith, c.take_record.ensures.inside.crash.clean) in
+    let few = subst (λ (f : Fold). f.tally.records < c.args.setting.now.limits.records) (sym begun.2) below in
+    found_same c.args.setting.now.profile.now old now c.args.fold.now c.loop-nth.fold c.bytes.result.now c.read_record.new.buffer c.take_record.result begun.1 begun.2 c.bytes.ensures
+    (c.take_record.ensures.elder clean (c.loop-nth.invariant.on.stays was mode).mode begun.0 few)
+
 pub loop-nth-preserved : goal.loop-nth-preserved
 loop-nth-preserved g c =
     let old = standing (state g.S.Store c.args.tx.now.conn.now) c.args.pending.now in
@@ -156,6 +187,7 @@ loop-nth-preserved g c =
       same = search rules;
       on = folds_on c.loop-nth.invariant.on next c.take_record.new.fold c.in_ok-take_record.ensures.inside c.in_ok-take_record.ensures.database c.in_ok-take_record.ensures.honest;
       counted = omega (arith, c.loop-nth.invariant.counted, c.in_ok-take_record.ensures.counted);
+      no_work = λ none. c.take_record.ensures.no_work none ∙ c.loop-nth.invariant.no_work none;
       room = λ clean mode text told records_of some most places rowids asks spare more has.
           let next_up = (goal.at.loop-nth-preserved g c).After-take_record in
           let was : HasCleanDisk now.tables = omega (arith, c.take_record.ensures.inside.crash.clean) in
@@ -175,7 +207,7 @@ loop-nth-preserved g c =
           let said = file_folded conditions setting.kind c.args.file (split_of text) p in
           let further = record_taken g.L.Layout.format conditions setting.kind c.args.file c.loop-nth.nth id records_of said (g.R.Source.remaining c.loop-nth.reader) old now c.loop-nth.fold under
           c.read_record.new.buffer (g.R.Source.remaining c.read_record.new.reader) read next c.take_record.new.fold
-          (subst₂ (λ i bytes. Meets {A = Progress} {X = Unit {0}} (λ q _. WillBeFolded g.L.Layout.format setting.profile.now i records_of now next c.take_record.new.fold q) (folded conditions setting.kind c.args.file c.loop-nth.nth bytes under.progress) (Ok tt))
+          (subst₂ (λ i bytes. Meets {A = Progress} {X = Unit {0}} (λ q _. WillBeFolded g.L.Layout.format setting.profile.now i records_of now next c.take_record.new.fold q) (folded conditions setting.kind c.args.file c.loop-nth.nth bytes under.progress) (Ok (tt {0})))
           (same_id c.loop-nth.invariant.on) c.bytes.ensures took) in
           let worked = c.in_ok-take_record.ensures.work clean (c.loop-nth.invariant.on.stays was mode).mode version records_of under.progress under.is_folded.stands way in
           let cost = subst (λ (bytes : List ℕ). IsCostIn setting.profile.now setting.kind bytes under.progress.base worked.0) c.bytes.ensures worked.1 in (
@@ -184,6 +216,15 @@ loop-nth-preserved g c =
                 c.args.fold.now.progress.work c.loop-nth.fold.progress.work c.take_record.new.fold.progress.work c.args.pending.now c.loop-nth.pending c.take_record.new.pending c.counts_are_numbers.ensures so_far.1 worked.2
                 (λ m more. slice_cost conditions setting.kind c.args.file c.loop-nth.nth under.left under.progress c.read_record.new.buffer further.0.left further.0.progress worked.0 m further.2 cost further.1 more),
           );
+      elder = λ clean mode store below text told.
+          let was : HasCleanDisk now.tables = omega (arith, c.take_record.ensures.inside.crash.clean) in
+          inr (elim (c.loop-nth.invariant.elder was mode store below text told) [
+            | inl begun ↦ (let took = subst (λ (r : Result (Unit {0}) Refusal). FindsWhole setting.profile.now old.tables.now.trees id c.read_record.new.buffer r) c.in_ok-take_record.was
+                (first_found g (goal.at.loop-nth-preserved g c).After-take_record clean mode below text begun) in
+                first_read _ text c.args.file c.loop-nth.nth c.read_record.new.buffer (g.R.Source.remaining c.read_record.new.reader)
+                (record_read g (goal.at.loop-nth-preserved g c).After-take_record text begun.3) took)
+            | inr found ↦ found
+          ]);
     }
 
 pub returns-then-not-branch-clause-work : goal.returns-then-not-branch-clause-work
@@ -214,3 +255,39 @@ returns-in_err-take_record-clause-honest g c clean mode records_of some =
     let sound = (c.in_err-take_record.ensures.honest clean (on.stays was mode).mode records_of (still_some on was mode records_of some)).0 in
     let result : c.from_residual-in_err-take_record.result ≡ Err c.in_err-take_record.field-0.0 = search rules in
     rw result (λ is. sound cc, tt)
+
+-- ---- what the first record finds kept under its identifier
+
+pub returns-in_err-read_record-clause-elder : goal.returns-in_err-read_record-clause-elder
+returns-in_err-read_record-clause-elder g c clean mode store below text told fine =
+    let trees = (state g.S.Store c.args.tx.now.conn.now).now.trees in
+    elim (c.loop-nth.invariant.elder clean mode store below text told) [
+      | inl begun ↦ fault_read _ text c.args.file c.loop-nth.nth c.read_record.new.buffer (g.R.Source.remaining c.read_record.new.reader) c.in_err-read_record.field-0.0
+          (c.in_err-read_record.ensures.told text begun.3 fine)
+      | inr found ↦ file_finds c.args.setting.now.profile.now trees c.args.fold.now.progress.database.0 c.from_residual.result (split_of text).slices found
+    ]
+
+pub returns-then-not-branch-clause-elder : goal.returns-then-not-branch-clause-elder
+returns-then-not-branch-clause-elder g c clean mode store below text told fine =
+    let trees = (state g.S.Store c.args.tx.now.conn.now).now.trees in
+    let none : c.in_ok-read_record.field-0 ≡ false = search rules in
+    elim (c.loop-nth.invariant.elder clean mode store below text told) [
+      | inl begun ↦ none_read _ text c.args.file c.loop-nth.nth c.read_record.new.buffer (g.R.Source.remaining c.read_record.new.reader)
+          (subst (λ b. ReadsNext c.args.file c.loop-nth.nth (next_of text) (Ok b) c.read_record.new.buffer (g.R.Source.remaining c.read_record.new.reader)) none (c.in_ok-read_record.ensures.told text begun.3 fine))
+      | inr found ↦ file_finds c.args.setting.now.profile.now trees c.args.fold.now.progress.database.0 (Ok (tt {0})) (split_of text).slices found
+    ]
+
+pub returns-in_err-take_record-clause-elder : goal.returns-in_err-take_record-clause-elder
+returns-in_err-take_record-clause-elder g c clean mode store below text told fine =
+    let profile = c.args.setting.now.profile.now in
+    let trees = (state g.S.Store c.args.tx.now.conn.now).now.trees in
+    let id = c.args.fold.now.progress.database.0 in
+    let at = (goal.at.returns-in_err-take_record-clause-elder g c).After-take_record in
+    let was : HasCleanDisk (state g.S.Store c.loop-nth.tx.conn.now) = omega (arith, c.take_record.ensures.inside.crash.clean) in
+    let result : c.from_residual-in_err-take_record.result ≡ Err c.in_err-take_record.field-0.0 = search rules in
+    let same : c.take_record.result ≡ c.from_residual-in_err-take_record.result = c.in_err-take_record.was ∙ sym result in
+    elim (c.loop-nth.invariant.elder was mode store below text told) [
+      | inl begun ↦ first_read _ text c.args.file c.loop-nth.nth c.read_record.new.buffer (g.R.Source.remaining c.read_record.new.reader) (record_read g at text begun.3)
+          (subst (λ (r : Result (Unit {0}) Refusal). FindsWhole profile trees id c.read_record.new.buffer r) same (first_found g at clean mode below text begun))
+      | inr found ↦ file_finds profile trees id c.from_residual-in_err-take_record.result (split_of text).slices found
+    ]

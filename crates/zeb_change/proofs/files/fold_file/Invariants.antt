@@ -1,4 +1,4 @@
-use Rattle.std.proofs.Common.{◌≡◌, ◌+◌, ℕ, ℤ, List, Some, IsTrue}
+use Rattle.std.proofs.Common.{◌≡◌, ◌+◌, ◌<◌, ℕ, ℤ, List, Some, IsTrue}
 use Rattle.sqlite.specs.Held.{state}
 use Rattle.sqlite.specs.State.{HasCleanDisk}
 use Rattle.zeb_marc.specs.Splits.{split_of}
@@ -10,6 +10,8 @@ use Rattle.zeb_change.specs.Costs.{IsSlicesCost}
 use Rattle.zeb_change.proofs.FoldsOn.{FoldsOn}
 use Rattle.zeb_change.proofs.FoldCosts.{Spent}
 use Rattle.zeb_change.specs.Asked.{AskSlices}
+use Rattle.zeb_register.specs.Store.{IsStore}
+use Rattle.zeb_change.proofs.ElderSteps.{FileBegun}
 use Rattle.zeb_change.proofs.FoldFiles.{Under}
 use Rattle.zeb_change.proofs.FoldRoom.{FileRoom, LeavesRoom}
 use Rattle.zeb_change.proofs.files.fold_file.Given as goal
@@ -28,7 +30,11 @@ invariant-loop-nth g l =
           (g.R.Source.remaining l.reader) old now l.fold)
           × Spent g.L.Layout.row_work (IsSlicesCost (conditions_of version l.setting) l.setting.kind l.file l.nth (split_of under.left).slices under.progress)
           (IsSlicesCost (conditions_of version l.setting) l.setting.kind l.file 1 (split_of text).slices p) l.fn.fold.progress.work l.fold.progress.work l.fn.pending l.pending;
+      no_work : g.L.Layout.row_work ≡ 0 → l.fold.progress.work ≡ l.fn.fold.progress.work;
       room : HasCleanDisk now.tables → IsTrue old.tables.in_transaction → (text : List ℕ) → g.R.Source.remaining l.fn.reader ≡ Some text
           → LeavesRoom g.L.Layout.format l.setting.profile.now l.fn.fold old (λ most. AskSlices l.setting.profile.now l.setting.kind most (split_of text).slices)
           (FileRoom g.L.Layout.format l.setting.profile.now l.setting.kind (g.R.Source.remaining l.reader) now);
+      elder : HasCleanDisk now.tables → IsTrue old.tables.in_transaction → IsStore old.tables → l.fn.fold.tally.records < l.setting.limits.records
+          → (text : List ℕ) → g.R.Source.remaining l.fn.reader ≡ Some text
+          → FileBegun l.setting.profile.now old.tables now.tables l.fn.fold l.fold (g.R.Source.remaining l.reader) text;
     }

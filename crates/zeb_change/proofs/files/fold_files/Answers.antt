@@ -22,6 +22,8 @@ use Rattle.zeb_change.proofs.NotedChanges.{nothing_count}
 use Rattle.zeb_change.proofs.Settling.{WritesNoted, at_id, begun, ended, ended_fold, refused_fold, settled_due, settled_fold, settled_holds, worked, write_honest, write_refused}
 use Rattle.zeb_change.proofs.FoldRoom.{room_begun, write_caused}
 use Rattle.zeb_change.proofs.RecordRoom.{not_refused, one_refusal, only_store}
+use Rattle.zeb_change.specs.Elders.{FirstFindsWhole}
+use Rattle.zeb_change.proofs.ElderSteps.{files_find}
 use Rattle.zeb_change.proofs.files.fold_files.Given as given
 use Rattle.zeb_change.proofs.files.fold_files.Goals.{After-fold_readers, After-write_pending}
 use Rattle.zeb_change.proofs.files.fold_files.Goals as goal
@@ -184,3 +186,23 @@ returns-in_err-write_pending-clause-room g c clean mode texts told records_of so
 
 pub returns-clause-room : goal.returns-clause-room
 returns-clause-room g c clean mode texts told records_of some places rowids asks room rows few store = absurd (not_refused tt Store store)
+
+-- ---- what the first record finds kept under its identifier
+
+pub returns-in_err-fold_readers-clause-elder : goal.returns-in_err-fold_readers-clause-elder
+returns-in_err-fold_readers-clause-elder g c clean mode store below texts told fine =
+    let result : c.from_residual.result ≡ Err c.in_err-fold_readers.field-0.0 = search rules in
+    let same : c.fold_readers.result ≡ c.from_residual.result = c.in_err-fold_readers.was ∙ sym result in
+    subst (λ (r : Result (Unit {0}) Refusal). FirstFindsWhole c.args.setting.now.profile.now (state g.S.Store c.args.tx.now.conn.now).now.trees c.args.fold.now.progress.database.0 (splits_of texts) r) same
+    (c.fold_readers.ensures.elder clean mode store below texts told fine)
+
+pub returns-in_err-write_pending-clause-elder : goal.returns-in_err-write_pending-clause-elder
+returns-in_err-write_pending-clause-elder g c clean mode store below texts told fine =
+    let was : HasCleanDisk (state g.S.Store c.fold_readers.new.tx.conn.now) = omega (arith, c.write_pending.ensures.call.crash.clean) in
+    files_find c.args.setting.now.profile.now (state g.S.Store c.args.tx.now.conn.now).now.trees c.args.fold.now.progress.database.0 c.from_residual-in_err-write_pending.result (splits_of texts)
+    (c.in_ok-fold_readers.ensures.elder was mode store below texts told fine)
+
+pub returns-clause-elder : goal.returns-clause-elder
+returns-clause-elder g c clean mode store below texts told fine =
+    let was : HasCleanDisk (state g.S.Store c.fold_readers.new.tx.conn.now) = omega (arith, c.write_pending.ensures.call.crash.clean) in
+    c.in_ok-fold_readers.ensures.elder was mode store below texts told fine

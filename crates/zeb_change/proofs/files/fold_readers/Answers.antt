@@ -21,6 +21,10 @@ use Rattle.zeb_change.specs.Base.{Kept}
 use Rattle.zeb_change.specs.PrivateAsked.{HasRoomAt}
 use Rattle.zeb_change.proofs.FoldRoom.{NextFileRoom, next_file_room}
 use Rattle.zeb_change.proofs.RecordRoom.{not_refused, refused_for, room_enough}
+use Rattle.zeb_register.specs.Store.{IsStore}
+use Rattle.zeb_change.specs.declared.files.Fold.{Fold}
+use Rattle.zeb_change.specs.Elders.{FindsWhole, OfFirst}
+use Rattle.zeb_change.proofs.ElderSteps.{file_same, files_find, fine_set, first_file, no_files}
 use Rattle.zeb_change.proofs.files.fold_readers.Given as given
 use Rattle.zeb_change.proofs.files.fold_readers.Goals.{After-fold_file}
 use Rattle.zeb_change.proofs.files.fold_readers.Goals as goal
@@ -32,7 +36,9 @@ loop-index-init g c = record {
   on = record { crash = search rules; stays = search rules; database = refl; honest = λ clean mode records_of some. some };
   unread = λ j d behind. refl;
   fine = λ j none d. absurd (omega (arith, none));
+  no_work = λ none. refl;
   room = λ clean mode texts told records_of some most places rowids asks spare more has. record { places = places; rowids = rowids; asks = asks; room = has };
+  elder = λ clean mode store below texts told. inl (store, refl, refl, refl);
   over = λ clean mode texts told version records_of p stands under_way. (
     before_files g.L.Layout.format (conditions_of version c.args.setting.now) c.args.setting.now.kind texts c.args.fold.now.progress.database.0 records_of (standing (state g.S.Store c.args.tx.now.conn.now) c.args.pending.now) c.args.fold.now p stands under_way,
     none_spent g.L.Layout.row_work (IsFilesCost (conditions_of version c.args.setting.now) c.args.setting.now.kind 1 (splits_of texts) p) c.args.fold.now.progress.work c.args.pending.now,
@@ -136,6 +142,23 @@ returns-in_err-fold_file-clause-room g c clean mode texts told records_of some m
     refused_for _ _ c.from_residual.result c.in_err-fold_file.field-0.0 result (λ store.
     may_after old now next on.crash (on.stays was mode).stays_open (λ _. took.0 (c.in_err-fold_file.was ∙ ap Err store)))
 
+-- ---- the first file
+
+-- it is folded in on the tables as they were at first
+first_found : (g : given.Over) (c : After-fold_file g) → HasCleanDisk (state g.S.Store c.fold_file.new.tx.conn.now) → IsTrue (state g.S.Store c.args.tx.now.conn.now).in_transaction
+    → c.args.fold.now.tally.records < c.args.setting.now.limits.records
+    → IsStore (state g.S.Store c.loop-index.tx.conn.now) → (state g.S.Store c.loop-index.tx.conn.now).now ≡ (state g.S.Store c.args.tx.now.conn.now).now → c.loop-index.fold ≡ c.args.fold.now
+    → (text : List ℕ) → g.R.Source.remaining (get_or c.loop-index.readers c.loop-index.index c.index-readers-index.result) ≡ Some text → g.R.Source.has_failed c.fold_file.new.reader ≡ false
+    → OfFirst (λ slice. FindsWhole c.args.setting.now.profile.now (state g.S.Store c.args.tx.now.conn.now).now.trees c.args.fold.now.progress.database.0 slice c.fold_file.result) (split_of text).slices
+first_found g c clean mode below store at is text told fine =
+    let profile = c.args.setting.now.profile.now in
+    let old = state g.S.Store c.args.tx.now.conn.now in
+    let now = state g.S.Store c.loop-index.tx.conn.now in
+    let was : HasCleanDisk now = omega (arith, c.fold_file.ensures.inside.crash.clean) in
+    let few = subst (λ (f : Fold). f.tally.records < c.args.setting.now.limits.records) (sym is) below in
+    file_same profile old now c.args.fold.now c.loop-index.fold c.fold_file.result (split_of text).slices at is
+    (c.fold_file.ensures.elder clean (c.loop-index.invariant.on.stays was mode).mode store few text told fine)
+
 pub loop-index-preserved : goal.loop-index-preserved
 loop-index-preserved g c =
     let setting = c.args.setting.now in
@@ -154,6 +177,7 @@ loop-index-preserved g c =
       fine =
           let sound_one : g.R.Source.has_failed c.fold_file.new.reader ≡ false = sound (g.R.Source.has_failed c.fold_file.new.reader) (λ failed. let no = c.in_ok-fold_file.ensures.failed failed in absurd (cc)) in
           fine_more g.R.Source.has_failed readers index c.loop-index.invariant.fine c.fold_file.new.reader (omega (arith, c.loop-index-test.true, c.loop-index.auto.readers)) sound_one;
+      no_work = λ none. c.fold_file.ensures.no_work none ∙ c.loop-index.invariant.no_work none;
       room = λ clean mode texts told records_of some most places rowids asks spare more has.
           let at = (goal.at.loop-index-preserved g c).After-fold_file in
           let was : HasCleanDisk now.tables = omega (arith, c.fold_file.ensures.inside.crash.clean) in
@@ -171,7 +195,7 @@ loop-index-preserved g c =
           let took = c.in_ok-fold_file.ensures.folded clean (c.loop-index.invariant.on.stays was mode).mode text.0 text.1 fine version records_of over.progress over.is_folded.stands way in
           let said = files_folded conditions setting.kind 1 (splits_of texts) p in
           let further = file_taken g.L.Layout.format conditions setting.kind index texts id records_of said old now c.loop-index.fold over text.0 text.2 next c.fold_file.new.fold
-          (subst (λ i. Meets {A = Progress} {X = Unit {0}} (λ q _. WillBeFolded g.L.Layout.format setting.profile.now i records_of now next c.fold_file.new.fold q) (file_folded conditions setting.kind (index + 1) (split_of text.0) over.progress) (Ok tt))
+          (subst (λ i. Meets {A = Progress} {X = Unit {0}} (λ q _. WillBeFolded g.L.Layout.format setting.profile.now i records_of now next c.fold_file.new.fold q) (file_folded conditions setting.kind (index + 1) (split_of text.0) over.progress) (Ok (tt {0})))
           (same_id c.loop-index.invariant.on) took) in
           let worked = c.in_ok-fold_file.ensures.work clean (c.loop-index.invariant.on.stays was mode).mode text.0 text.1 version records_of over.progress over.is_folded.stands way in (
             further.0,
@@ -179,6 +203,18 @@ loop-index-preserved g c =
                 c.args.fold.now.progress.work c.loop-index.fold.progress.work c.fold_file.new.fold.progress.work c.args.pending.now c.loop-index.pending c.fold_file.new.pending c.counts_are_numbers.ensures so_far.1 worked.2
                 (λ m more. file_cost conditions setting.kind index texts over.progress text.0 further.0.progress worked.0 m text.2 worked.1 further.1 more),
           );
+      elder = λ clean mode store below texts told.
+          let was : HasCleanDisk now.tables = omega (arith, c.fold_file.ensures.inside.crash.clean) in
+          let at = (goal.at.loop-index-preserved g c).After-fold_file in
+          let fine : g.R.Source.has_failed c.fold_file.new.reader ≡ false = sound (g.R.Source.has_failed c.fold_file.new.reader) (λ failed. let no = c.in_ok-fold_file.ensures.failed failed in absurd (cc)) in
+          inr (elim (c.loop-index.invariant.elder was mode store below texts told) [
+            | inl begun ↦
+                let text = text_here g at texts told in
+                first_file _ index texts text.0 (drop (suc index) texts) begun.3 text.2 (subst (λ (r : Result (Unit {0}) Refusal).
+                OfFirst (λ slice. FindsWhole setting.profile.now old.tables.now.trees id slice r) (split_of text.0).slices) c.in_ok-fold_file.was
+                (first_found g at clean mode below begun.0 begun.1 begun.2 text.0 text.1 fine))
+            | inr found ↦ found
+          ]);
     }
 
 pub returns-clause-failed : goal.returns-clause-failed
@@ -222,3 +258,36 @@ returns-in_err-fold_file-clause-honest g c clean mode records_of some =
     let sound = (c.in_err-fold_file.ensures.honest clean (on.stays was mode).mode records_of (still_some on was mode records_of some)).0 in
     let result : c.from_residual.result ≡ Err c.in_err-fold_file.field-0.0 = search rules in
     rw result (λ is. sound cc, tt)
+
+-- ---- what the first record finds kept under its identifier
+
+pub returns-clause-elder : goal.returns-clause-elder
+returns-clause-elder g c clean mode store below texts told fine =
+    let trees = (state g.S.Store c.args.tx.now.conn.now).now.trees in
+    let many = as_many g.R.Source.remaining c.args.readers.now texts told in
+    elim (c.loop-index.invariant.elder clean mode store below texts told) [
+      | inl begun ↦ no_files _ texts (omega (arith, c.loop-index-test.false, c.loop-index.auto.readers, many, begun.3))
+      | inr found ↦ files_find c.args.setting.now.profile.now trees c.args.fold.now.progress.database.0 (Ok (tt {0})) (splits_of texts) found
+    ]
+
+pub returns-in_err-fold_file-clause-elder : goal.returns-in_err-fold_file-clause-elder
+returns-in_err-fold_file-clause-elder g c clean mode store below texts told fine =
+    let profile = c.args.setting.now.profile.now in
+    let trees = (state g.S.Store c.args.tx.now.conn.now).now.trees in
+    let id = c.args.fold.now.progress.database.0 in
+    let index = c.loop-index.index in
+    let readers = c.loop-index.readers in
+    let at = (goal.at.returns-in_err-fold_file-clause-elder g c).After-fold_file in
+    let was : HasCleanDisk (state g.S.Store c.loop-index.tx.conn.now) = omega (arith, c.fold_file.ensures.inside.crash.clean) in
+    let result : c.from_residual.result ≡ Err c.in_err-fold_file.field-0.0 = search rules in
+    let same : c.fold_file.result ≡ c.from_residual.result = c.in_err-fold_file.was ∙ sym result in
+    let within : index < length readers = omega (arith, c.loop-index-test.true, c.loop-index.auto.readers) in
+    let sound_one : g.R.Source.has_failed c.fold_file.new.reader ≡ false = fine_set g.R.Source.has_failed readers index c.fold_file.new.reader within fine in
+    elim (c.loop-index.invariant.elder was mode store below texts told) [
+      | inl begun ↦
+          let text = text_here g at texts told in
+          first_file _ index texts text.0 (drop (suc index) texts) begun.3 text.2 (subst (λ (r : Result (Unit {0}) Refusal).
+          OfFirst (λ slice. FindsWhole profile trees id slice r) (split_of text.0).slices) same
+          (first_found g at clean mode below begun.0 begun.1 begun.2 text.0 text.1 sound_one))
+      | inr found ↦ files_find profile trees id c.from_residual.result (splits_of texts) found
+    ]

@@ -7,6 +7,8 @@ use Rattle.zeb_change.specs.PrivateStanding.{WillBe, standing}
 use Rattle.zeb_change.specs.UnderWay.{StandsFor, conditions_of}
 use Rattle.zeb_change.specs.Costs.{IsFilesCost}
 use Rattle.zeb_change.specs.Asked.{AskFiles}
+use Rattle.zeb_register.specs.Store.{IsStore}
+use Rattle.zeb_change.proofs.ElderSteps.{FilesBegun}
 use Rattle.zeb_change.proofs.FoldAll.{Over}
 use Rattle.zeb_change.proofs.FoldRoom.{FilesRoom, LeavesRoom}
 use Rattle.zeb_change.proofs.FoldsOn.{FoldsOn}
@@ -27,7 +29,11 @@ invariant-loop-index g l =
           → (over : Over g.L.Layout.format (conditions_of version l.setting) l.setting.kind l.index texts l.fn.fold.progress.database.0 records_of (files_folded (conditions_of version l.setting) l.setting.kind 1 (splits_of texts) p) old now l.fold)
           × Spent g.L.Layout.row_work (RestCost (conditions_of version l.setting) l.setting.kind l.index texts over.progress) (IsFilesCost (conditions_of version l.setting) l.setting.kind 1 (splits_of texts) p)
           l.fn.fold.progress.work l.fold.progress.work l.fn.pending l.pending;
+      no_work : g.L.Layout.row_work ≡ 0 → l.fold.progress.work ≡ l.fn.fold.progress.work;
       room : HasCleanDisk now.tables → IsTrue old.tables.in_transaction → (texts : List (List ℕ)) → map g.R.Source.remaining l.fn.readers ≡ map Some texts
           → LeavesRoom g.L.Layout.format l.setting.profile.now l.fn.fold old (λ most. AskFiles l.setting.profile.now l.setting.kind most (splits_of texts))
           (FilesRoom g.L.Layout.format l.setting.profile.now l.setting.kind l.index texts now);
+      elder : HasCleanDisk now.tables → IsTrue old.tables.in_transaction → IsStore old.tables → l.fn.fold.tally.records < l.setting.limits.records
+          → (texts : List (List ℕ)) → map g.R.Source.remaining l.fn.readers ≡ map Some texts
+          → FilesBegun l.setting.profile.now old.tables now.tables l.fn.fold l.fold l.index (splits_of texts);
     }

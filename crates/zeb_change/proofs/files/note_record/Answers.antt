@@ -10,6 +10,7 @@ use Rattle.zeb_change.specs.Refused.{Meets}
 use Rattle.zeb_change.proofs.FoldSteps.{too_many, folded_err, one_folded}
 use Rattle.zeb_change.proofs.NoDamage.{record_tells, refused_honest, taken_holds}
 use Rattle.zeb_change.proofs.RecordRoom.{refused_for}
+use Rattle.zeb_change.proofs.Elders.{passed_error}
 use Rattle.zeb_change.proofs.files.note_record.Goals as goal
 
 pub returns-then-fold-setting-clause-folded : goal.returns-then-fold-setting-clause-folded
@@ -74,3 +75,16 @@ returns-in_err-fate-clause-room g c clean mode format records_of some most place
 pub returns-clause-room : goal.returns-clause-room
 returns-clause-room g c clean mode format records_of some most places rowids asks spare more has =
     (λ store. absurd (cc), (c.in_ok-fate.ensures.room clean mode format records_of some.0 some.2 tt most places rowids asks spare more has).1)
+
+-- ---- what is kept under the record's identifier
+
+pub returns-then-fold-setting-clause-elder : goal.returns-then-fold-setting-clause-elder
+returns-then-fold-setting-clause-elder g c clean mode store below = absurd (omega (arith, below, c.if-fold-setting.true))
+
+pub returns-in_err-fate-clause-elder : goal.returns-in_err-fate-clause-elder
+returns-in_err-fate-clause-elder g c clean mode store below ident whole named =
+    let told : c.from_residual.result ≡ Err c.in_err-fate.field-0.0 = search rules in
+    passed_error _ c.in_err-fate.field-0.0 c.from_residual.result told (c.in_err-fate.ensures.elder clean mode store ident whole named).0
+
+pub returns-clause-elder : goal.returns-clause-elder
+returns-clause-elder g c clean mode store below ident whole named = (c.in_ok-fate.ensures.elder clean mode store ident whole named).0

@@ -1,4 +1,4 @@
-use Rattle.std.proofs.Common.{◌≡◌, ◌∙◌, ℤ, List, IsTrue, rules, arith, Err, ap, subst, sym}
+use Rattle.std.proofs.Common.{◌≡◌, ◌∙◌, ℤ, List, IsTrue, rules, arith, Result, Err, ap, subst, sym}
 use Rattle.sqlite.specs.Held.{state}
 use Rattle.sqlite.specs.State.{HasCleanDisk}
 use Rattle.zeb_register.specs.declared.registers.Work.{Work}
@@ -17,6 +17,9 @@ use Rattle.zeb_change.proofs.FoldRoom.{write_caused, write_left}
 use Rattle.zeb_change.proofs.RecordRoom.{not_refused, only_store, refused_for}
 use Rattle.zeb_change.proofs.Settling.{WritesNoted, at_id, settled_due, settled_fold, settled_holds, worked, write_honest, write_refused}
 use Rattle.zeb_change.proofs.TransactionLemmas.{continues_then}
+use Rattle.zeb_change.specs.declared.refusals.Refusal.{Refusal}
+use Rattle.zeb_change.specs.Elders.{FindsWhole}
+use Rattle.zeb_change.proofs.Elders.{is_so}
 use Rattle.zeb_change.proofs.files.take_record.Given as given
 use Rattle.zeb_change.proofs.files.take_record.Goals.{After-write_where_full}
 use Rattle.zeb_change.proofs.files.take_record.Goals as goal
@@ -151,3 +154,22 @@ returns-clause-room g c clean mode records_of some most places rowids asks spare
     let write = written g at clean mode records_of some in
     let left = (c.in_ok-note_record.ensures.room write.was mode g.L.Layout.format records_of some most places rowids asks spare more has).1 in
     (λ store. absurd (not_refused tt Store store), write_left write (writes_in_room g at) most spare more left c.in_ok-write_where_full.was)
+
+-- ---- what is kept under the record's identifier
+
+pub returns-in_err-note_record-clause-elder : goal.returns-in_err-note_record-clause-elder
+returns-in_err-note_record-clause-elder g c clean mode store below =
+    let result : c.from_residual.result ≡ Err c.in_err-note_record.field-0.0 = search rules in
+    let same : c.note_record.result ≡ c.from_residual.result = c.in_err-note_record.was ∙ sym result in
+    subst (λ (r : Result (Unit {0}) Refusal). FindsWhole c.args.setting.now.profile.now (state g.S.Store c.args.tx.now.conn.now).now.trees c.args.fold.now.progress.database.0 c.args.incoming.bytes.now r) same
+    (c.note_record.ensures.elder clean mode store below)
+
+pub returns-in_err-write_where_full-clause-elder : goal.returns-in_err-write_where_full-clause-elder
+returns-in_err-write_where_full-clause-elder g c clean mode store below ident whole named =
+    let was : HasCleanDisk (state g.S.Store c.note_record.new.tx.conn.now) = omega (arith, c.write_where_full.ensures.call.crash.clean) in
+    is_so _ c.from_residual-in_err-write_where_full.result (c.in_ok-note_record.ensures.elder was mode store below ident whole named)
+
+pub returns-clause-elder : goal.returns-clause-elder
+returns-clause-elder g c clean mode store below =
+    let was : HasCleanDisk (state g.S.Store c.note_record.new.tx.conn.now) = omega (arith, c.write_where_full.ensures.call.crash.clean) in
+    c.in_ok-note_record.ensures.elder was mode store below

@@ -1,4 +1,4 @@
-use Rattle.std.proofs.Common.{◌≡◌, ◌≢◌, ◌↔◌, ◌+◌, ◌∙◌, rules, arith, ℕ, ℤ, IsTrue, List, Option, Some, None, Result, Ok, Err, OnOk, inr, refl, ap, sym, subst}
+use Rattle.std.proofs.Common.{◌≡◌, ◌≢◌, ◌↔◌, ◌+◌, ◌∙◌, rules, arith, ℕ, ℤ, IsTrue, List, [], Option, Some, None, Result, Ok, Err, OnOk, inl, inr, refl, ap, sym, subst}
 use Rattle.std.specs.List.{Contains}
 use Rattle.sqlite.specs.Held.{state}
 use Rattle.sqlite.specs.State.{HasCleanDisk}
@@ -20,7 +20,7 @@ use Rattle.zeb_change.specs.declared.refusals.Refusal.{Refusal}
 use Rattle.zeb_change.specs.Folding.{Changed, changed_by, changed_record, deleted, ident_in, updated}
 use Rattle.zeb_change.specs.Base.{Base, Kept, kept_as}
 use Rattle.zeb_change.specs.Outcomes.{register_refusal}
-use Rattle.zeb_change.specs.PrivateRecords.{IsNewer, IsElderAs, NotesAs, Takes, elder_bytes}
+use Rattle.zeb_change.specs.PrivateRecords.{GoesBy, IsNewer, IsElderAs, IsWholeElder, NotesAs, Takes, elder_bytes}
 use Rattle.zeb_change.specs.PrivateStanding.{Standing, WillBe, WillBeTaken, standing}
 use Rattle.zeb_change.specs.UnderWay.{conditions_of}
 use Rattle.zeb_change.specs.Costs.{IsCostIn, IsRecordCost, newer_of, occurs_by}
@@ -35,6 +35,10 @@ use Rattle.zeb_change.proofs.RecordRoom.{only_store, refused_for, room_after_rea
 use Rattle.zeb_change.proofs.StoredLemmas.{elder_is, are_numbered}
 use Rattle.zeb_change.proofs.TurnLemmas.{passed_on, turned_so, passed_over}
 use Rattle.zeb_change.proofs.UnderWay.{fault_fails, same_way}
+use Rattle.zeb_register.specs.Store.{IsStore}
+use Rattle.zeb_change.specs.declared.refusals.Refusal.TheVariants.{Memory, Unknown}
+use Rattle.zeb_change.specs.Elders.{KeepsWhole}
+use Rattle.zeb_change.proofs.Elders.{alike_whole, by_name, failed_so, fault_so, kept_numbered, never_refused, no_base, so_undamaged}
 use Rattle.zeb_change.proofs.records.change_record.Given as given
 use Rattle.zeb_change.proofs.records.change_record.Goals.{In_ok-elder}
 use Rattle.zeb_change.proofs.records.change_record.Goals as goal
@@ -337,3 +341,61 @@ returns-in-Adelete-Some-clause-room g c clean mode format records_of base under 
     turned_room g (goal.at.returns-in-Adelete-Some-clause-room g c).In_ok-elder clean_mid mode format records_of base under (Some c.in-Adelete-Some.elder) c.in-Adelete-Some.is-1 None
     (ap (λ (k : Kind). newer_of k c.args.incoming.bytes.now) c.in-Adelete-Some.is-0) (standing (state g.S.Store c.withdraw-in-Adelete-Some.new.tx.conn.now) c.withdraw-in-Adelete-Some.new.pending)
     c.withdraw-in-Adelete-Some.result (λ on. c.withdraw-in-Adelete-Some.ensures.room clean on)
+
+-- ---- what is kept under the record's identifier, whatever the tables' rows are
+
+pub returns-in_err-record-clause-elder : goal.returns-in_err-record-clause-elder
+returns-in_err-record-clause-elder g c clean mode store ident whole named =
+    let told : c.from_residual.result ≡ Err c.in_err-record.field-0.0 = search rules in
+    elim (c.in_err-record.ensures.refused [] Adelete no_base) [
+      | inl failing ↦ failed_so _ c.from_residual.result c.in_err-record.field-0.0 told failing
+      | inr why ↦ absurd (never_refused (conditions_of [] c.args.setting.now) c.args.incoming.file c.args.incoming.nth c.args.incoming.bytes.now ident whole named no_base _ why)
+    ]
+
+pub returns-in_err-elder-clause-elder : goal.returns-in_err-elder-clause-elder
+returns-in_err-elder-clause-elder g c clean mode store ident whole named_so =
+    let fault = c.in_err-elder.field-0.0 in
+    let told : c.from_residual-in_err-elder.result ≡ Err (register_refusal fault) = search rules in
+    fault_so _ fault c.from_residual-in_err-elder.result told (λ is kept. c.in_err-elder.ensures.honest clean mode store (ap Err is)
+    (kept_numbered c.args.setting.now.profile.now (state g.S.Store c.args.tx.now.conn.now).now.trees c.args.progress.now.database.0 c.args.incoming.bytes.now c.as_str-ident.result.now ident (c.in_ok-record.ensures.named ∙ ap Ok (sym c.as_str-ident.ensures.value)) named_so kept))
+
+-- what is done goes by the elder, and so by what is kept
+goes_by : (g : given.Over) (c : In_ok-elder g) → HasCleanDisk (state g.S.Store c.record_of_ident.new.tx.conn.now) → IsTrue (state g.S.Store c.args.tx.now.conn.now).in_transaction
+    → IsStore (state g.S.Store c.args.tx.now.conn.now) → (ident : List ℕ) → ident_in c.args.setting.now.profile.now c.args.incoming.bytes.now ≡ Ok ident
+    → (found : Option Elder) → c.in_ok-elder.elder ≡ found → (result : Result Fate Refusal) → GoesBy (IsWholeElder c.args.setting.now.profile.now c.as_str-ident.result.now found) result
+    → GoesBy (KeepsWhole c.args.setting.now.profile.now (state g.S.Store c.args.tx.now.conn.now).now.trees c.args.progress.now.database.0 ident) result
+goes_by g c clean mode store ident named_so found is result goes =
+    by_name c.args.setting.now.profile.now (state g.S.Store c.args.tx.now.conn.now) store c.args.progress.now.database.0 c.args.incoming.bytes.now c.as_str-ident.result.now ident
+    (named g c) named_so c.in_ok-elder.elder found is (c.in_ok-elder.ensures.value clean mode store) result goes
+
+pub returns-then-has_bytes-clause-elder : goal.returns-then-has_bytes-clause-elder
+returns-then-has_bytes-clause-elder g c clean mode store ident whole named_so =
+    let found = (goal.at.returns-then-has_bytes-clause-elder g c).In_ok-elder in
+    let same = alike_whole c.args.setting.now.profile.now c.as_str-ident.result.now c.args.incoming.bytes.now c.in_ok-elder.elder whole (named g found) c.as_str-ident.utf8 (c.if-has_bytes.ensures.0 refl) in
+    goes_by g found clean mode store ident named_so c.in_ok-elder.elder refl (Ok Updated) (so_undamaged _ _ same (λ is. cc))
+
+pub returns-in_err-occurrences-in-Update-default-clause-elder : goal.returns-in_err-occurrences-in-Update-default-clause-elder
+returns-in_err-occurrences-in-Update-default-clause-elder g c clean mode store ident whole named_so =
+    let told : c.from_residual-in_err-occurrences-in-Update-default.result ≡ Err Memory = search rules in
+    failed_so _ c.from_residual-in_err-occurrences-in-Update-default.result Memory told (inr refl)
+
+pub returns-in-Update-default-clause-elder : goal.returns-in-Update-default-clause-elder
+returns-in-Update-default-clause-elder g c clean mode store ident whole named_so =
+    goes_by g (goal.at.returns-in-Update-default-clause-elder g c).In_ok-elder (omega (arith, c.keep.ensures.inside.crash.clean)) mode store ident named_so c.in_ok-elder.elder refl c.keep.result c.keep.ensures.elder
+
+pub returns-in-Delete-Some-clause-elder : goal.returns-in-Delete-Some-clause-elder
+returns-in-Delete-Some-clause-elder g c clean mode store ident whole named_so =
+    goes_by g (goal.at.returns-in-Delete-Some-clause-elder g c).In_ok-elder (omega (arith, c.withdraw.ensures.inside.crash.clean)) mode store ident named_so (Some c.in-Delete-Some.elder) c.in-Delete-Some.is-1 c.withdraw.result c.withdraw.ensures.elder
+
+pub returns-in-Adelete-Some-clause-elder : goal.returns-in-Adelete-Some-clause-elder
+returns-in-Adelete-Some-clause-elder g c clean mode store ident whole named_so =
+    goes_by g (goal.at.returns-in-Adelete-Some-clause-elder g c).In_ok-elder (omega (arith, c.withdraw-in-Adelete-Some.ensures.inside.crash.clean)) mode store ident named_so (Some c.in-Adelete-Some.elder) c.in-Adelete-Some.is-1 c.withdraw-in-Adelete-Some.result c.withdraw-in-Adelete-Some.ensures.elder
+
+pub returns-in-Delete-None-clause-elder : goal.returns-in-Delete-None-clause-elder
+returns-in-Delete-None-clause-elder g c clean mode store ident whole named_so =
+    goes_by g (goal.at.returns-in-Delete-None-clause-elder g c).In_ok-elder clean mode store ident named_so None c.in-Delete-None.is-1 (Err (Unknown c.args.incoming.file c.args.incoming.nth))
+    (so_undamaged (Unit {0}) _ tt (λ is. cc))
+
+pub returns-clause-elder : goal.returns-clause-elder
+returns-clause-elder g c clean mode store ident whole named_so =
+    goes_by g (goal.at.returns-clause-elder g c).In_ok-elder clean mode store ident named_so None c.in-Adelete-None.is-1 (Ok PassedOver) (so_undamaged (Unit {0}) _ tt (λ is. cc))

@@ -1,6 +1,7 @@
 use Rattle.std.proofs.Common.{Option, Some, OnOk, sym, subst}
 use Rattle.zeb_register.specs.declared.kept.Elder.{Elder}
-use Rattle.zeb_change.specs.PrivateRecords.{IsElderAs, NotesAs, elder_bytes}
+use Rattle.zeb_change.specs.PrivateRecords.{GoesBy, IsElderAs, IsWholeElder, NotesAs, elder_bytes}
+use Rattle.zeb_change.proofs.Elders.{so_undamaged}
 use Rattle.zeb_change.proofs.records.keep.Goals as goal
 
 pub returns-in-Some-clause-taken : goal.returns-in-Some-clause-taken
@@ -28,3 +29,12 @@ returns-in-Some-clause-room g c clean mode is format records_of base under there
 pub returns-in-None-clause-room : goal.returns-in-None-clause-room
 returns-in-None-clause-room g c clean mode is format records_of base under there =
     c.insert.ensures.room clean mode is format records_of base under (subst (λ (found : Option Elder). IsElderAs c.args.newer.now.ident.now base found) c.in-None.is there)
+
+pub returns-in-Some-clause-elder : goal.returns-in-Some-clause-elder
+returns-in-Some-clause-elder g c =
+    subst (λ (found : Option Elder). GoesBy (IsWholeElder c.args.setting.now.profile.now c.args.newer.now.ident.now found) c.replace.result) (sym c.in-Some.is) c.replace.ensures.elder
+
+pub returns-in-None-clause-elder : goal.returns-in-None-clause-elder
+returns-in-None-clause-elder g c =
+    subst (λ (found : Option Elder). GoesBy (IsWholeElder c.args.setting.now.profile.now c.args.newer.now.ident.now found) c.insert.result) (sym c.in-None.is)
+    (so_undamaged (Unit {0}) c.insert.result tt c.insert.ensures.honest)

@@ -1,16 +1,19 @@
-use Rattle.std.proofs.Common.{◌≡◌, ◌+◌, arith, rules, Err, inl, inr, length, pos, ap, sym, subst}
+use Rattle.std.proofs.Common.{◌≡◌, ◌+◌, arith, rules, Err, inl, inr, length, pos, refl, ap, sym, subst}
 use Rattle.sqlite.specs.Held.{state}
 use Rattle.zeb_change.specs.Outcomes.{register_refusal}
 use Rattle.zeb_change.specs.Refused.{why_of}
 use Rattle.zeb_change.specs.Folding.{Changed, updated}
 use Rattle.zeb_change.specs.Base.{kept_as}
 use Rattle.zeb_change.specs.UnderWay.{conditions_of}
-use Rattle.zeb_change.specs.PrivateRecords.{AreOccurrencesOf, IsNewer}
+use Rattle.zeb_change.specs.PrivateRecords.{IsNewer}
+use Rattle.zeb_change.specs.Occurs.{AreOccurrencesOf}
 use Rattle.zeb_change.specs.PrivateStanding.{WillBeTaken, standing}
 use Rattle.zeb_change.proofs.TurnLemmas.{passed_on, elder_kept, replaced}
 use Rattle.zeb_change.proofs.CostLemmas.{put_cost}
 use Rattle.zeb_change.proofs.RecordRoom.{elder_numbered, found_fits, newer_few, newer_fits, newer_storable, only_store, put_served, refused_for, room_after}
 use Rattle.zeb_change.proofs.UnderWay.{registers_still}
+use Rattle.zeb_change.specs.declared.refusals.Refusal.TheVariants.{Memory}
+use Rattle.zeb_change.proofs.Elders.{error_so, failed_so, fault_so}
 use Rattle.zeb_change.proofs.records.replace.Goals as goal
 use Rattle.zeb_register.proofs.FormatLemmas.{registers_stay}
 
@@ -91,3 +94,24 @@ returns-clause-room g c clean mode is format records_of base under there most pl
           (registers_still old mid _ ((c.in_ok-record_put.ensures.call.ok clean mode).rows under.0)) (c.in_ok-record_put.ensures.rowids clean mode under.0) (omega (arith, asks.put))
           (newer_few profile most newer.bytes.now places rowids asks c.deref-2.result.now are.found) noted,
     )
+
+-- ---- whatever the elder is
+
+pub returns-in_err-old-clause-elder : goal.returns-in_err-old-clause-elder
+returns-in_err-old-clause-elder g c =
+    let told : c.from_residual.result ≡ Err c.in_err-old.field-0.0 = search rules in
+    error_so _ c.in_err-old.field-0.0 c.from_residual.result told c.in_err-old.ensures.elder.0 (λ is. c.in_err-old.ensures.elder.1 (ap Err is))
+
+pub returns-in_err-record_put-clause-elder : goal.returns-in_err-record_put-clause-elder
+returns-in_err-record_put-clause-elder g c =
+    let fault = c.in_err-record_put.field-0.0 in
+    let told : c.from_residual-in_err-record_put.result ≡ Err (register_refusal fault) = search rules in
+    fault_so _ fault c.from_residual-in_err-record_put.result told (λ is. absurd (c.in_err-record_put.ensures.honest (ap Err is)))
+
+pub returns-in_err-note_keys-clause-elder : goal.returns-in_err-note_keys-clause-elder
+returns-in_err-note_keys-clause-elder g c =
+    let told : c.from_residual-in_err-note_keys.result ≡ Err Memory = search rules in
+    failed_so _ c.from_residual-in_err-note_keys.result Memory told (inr refl)
+
+pub returns-clause-elder : goal.returns-clause-elder
+returns-clause-elder g c = (c.in_ok-old.ensures.elder.0, λ is. absurd (cc))

@@ -1,16 +1,18 @@
-use Rattle.std.proofs.Common.{◌≡◌, ◌+◌, arith, rules, Err, [], inl, inr, ap, sym, subst}
+use Rattle.std.proofs.Common.{◌≡◌, ◌+◌, arith, rules, Err, [], inl, inr, refl, ap, sym, subst}
 use Rattle.sqlite.specs.Held.{state}
 use Rattle.sqlite_rules.proofs.ListLemmas.{has_contained}
 use Rattle.zeb_change.specs.Outcomes.{register_refusal}
 use Rattle.zeb_change.specs.Refused.{why_of}
 use Rattle.zeb_change.specs.Folding.{Changed, deleted}
 use Rattle.zeb_change.specs.Base.{kept_as}
-use Rattle.zeb_change.specs.PrivateRecords.{AreOccurrencesOf}
+use Rattle.zeb_change.specs.Occurs.{AreOccurrencesOf}
 use Rattle.zeb_change.specs.PrivateStanding.{WillBeTaken, standing}
 use Rattle.zeb_change.proofs.TurnLemmas.{passed_on, elder_kept, none_rise, withdrawn}
 use Rattle.zeb_change.proofs.CostLemmas.{old_cost}
 use Rattle.zeb_change.proofs.RecordRoom.{elder_numbered, found_fits, only_store, refused_for, room_after}
 use Rattle.zeb_change.proofs.UnderWay.{registers_still}
+use Rattle.zeb_change.specs.declared.refusals.Refusal.TheVariants.{Memory}
+use Rattle.zeb_change.proofs.Elders.{error_so, failed_so, fault_so}
 use Rattle.zeb_change.proofs.records.withdraw.Goals as goal
 use Rattle.zeb_register.proofs.FormatLemmas.{registers_stay}
 
@@ -77,3 +79,24 @@ returns-clause-room g c clean mode format records_of base under there most place
       room_after format most old mid c.args.pending.now c.note_keys.new.pending places rowids spare more 0 0 has
           (registers_still old mid _ ((c.in_ok-record_take.ensures.call.ok clean mode).rows under.0)) (c.in_ok-record_take.ensures.rowids clean mode under.0) (omega arith) (omega arith) noted,
     )
+
+-- ---- whatever the elder is
+
+pub returns-in_err-old-clause-elder : goal.returns-in_err-old-clause-elder
+returns-in_err-old-clause-elder g c =
+    let told : c.from_residual.result ≡ Err c.in_err-old.field-0.0 = search rules in
+    error_so _ c.in_err-old.field-0.0 c.from_residual.result told c.in_err-old.ensures.elder.0 (λ is. c.in_err-old.ensures.elder.1 (ap Err is))
+
+pub returns-in_err-record_take-clause-elder : goal.returns-in_err-record_take-clause-elder
+returns-in_err-record_take-clause-elder g c =
+    let fault = c.in_err-record_take.field-0.0 in
+    let told : c.from_residual-in_err-record_take.result ≡ Err (register_refusal fault) = search rules in
+    fault_so _ fault c.from_residual-in_err-record_take.result told (λ is. absurd (c.in_err-record_take.ensures.honest (ap Err is)))
+
+pub returns-in_err-note_keys-clause-elder : goal.returns-in_err-note_keys-clause-elder
+returns-in_err-note_keys-clause-elder g c =
+    let told : c.from_residual-in_err-note_keys.result ≡ Err Memory = search rules in
+    failed_so _ c.from_residual-in_err-note_keys.result Memory told (inr refl)
+
+pub returns-clause-elder : goal.returns-clause-elder
+returns-clause-elder g c = (c.in_ok-old.ensures.elder.0, λ is. absurd (cc))

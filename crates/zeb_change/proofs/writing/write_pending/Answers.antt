@@ -22,6 +22,7 @@ loop-key-init g c = record {
   crash = search rules;
   stays = search rules;
   written = λ clean mode store. still_settled g.L.Layout.format g.L.Layout.row_work c.args.db.0 (state g.S.Store c.args.tx.now.conn.now) c.args.pending.now c.args.work.now store;
+  no_work = λ none. refl;
   room = λ clean mode store ahead most spare storable holds has. has;
 }
 
@@ -53,6 +54,7 @@ loop-key-preserved g c =
                       c.args.pending.now c.loop-key.pending c.take_first.new.self c.counts_are_numbers.ensures held.1 worked out.count,
                 ),
           );
+      no_work = λ none. c.write_key.ensures.no_work none ∙ c.loop-key.invariant.no_work none;
       room = λ clean mode store ahead most spare storable holds has.
           let was : HasCleanDisk now = omega (arith, c.write_key.ensures.call.crash.clean) in
           let stays = c.loop-key.invariant.stays was mode in

@@ -1,8 +1,11 @@
-use Rattle.std.proofs.Common.{[], IsTrue, inl, inr}
+use Rattle.std.proofs.Common.{[], IsTrue, codes, inl, inr}
 use Rattle.sqlite.specs.Held.{state}
-use Rattle.zeb_register.specs.Store.{IsStore}
+use Rattle.zeb_profile.specs.Canonical.{canonical_text}
+use Rattle.zeb_register.specs.Hindrances.{IsTooLarge}
+use Rattle.zeb_register.specs.Store.{IsStore, entry}
 use Rattle.zeb_change.specs.Conditions.{Conditions}
 use Rattle.zeb_image.specs.Image.{IsImage}
+use Rattle.zeb_engine.specs.Causes.{HasRoomToRenew}
 use Rattle.zeb_engine.specs.Checking.{IsRemade}
 use Rattle.zeb_engine.specs.Steps.{holding}
 use Rattle.zeb_engine.specs.PrivateWriting.{AreOf}
@@ -99,3 +102,24 @@ returns-in-Reindex-clause-refused g c clean inside store is = rw c.in-Reindex.is
 
 pub returns-in-Upgrade-clause-refused : goal.returns-in-Upgrade-clause-refused
 returns-in-Upgrade-clause-refused g c clean inside store is = rw c.in-Upgrade.is (inr tt)
+
+pub returns-in-Init-clause-room : goal.returns-in-Init-clause-room
+returns-in-Init-clause-room g c clean inside store room failed = let none : ⊥ = rw c.in-Init.is at room in absurd none
+
+pub returns-in-Create-clause-room : goal.returns-in-Create-clause-room
+returns-in-Create-clause-room g c clean inside store room failed = let none : ⊥ = rw c.in-Create.is at room in absurd none
+
+pub returns-in-Drop-clause-room : goal.returns-in-Drop-clause-room
+returns-in-Drop-clause-room g c clean inside store room failed = let none : ⊥ = rw c.in-Drop.is at room in absurd none
+
+pub returns-in-Reindex-clause-room : goal.returns-in-Reindex-clause-room
+returns-in-Reindex-clause-room g c clean inside store room failed =
+    let trees = (state g.S.Store c.args.tx.now.conn.now).now.trees in
+    let profile = c.in-Reindex.profile.now in
+    let has : HasRoomToRenew profile trees × ¬ IsTooLarge (entry (codes "profile") (canonical_text profile)) = rw c.in-Reindex.is at room in
+    c.reindex.ensures.room has.1 clean inside store has.0 failed
+
+pub returns-in-Upgrade-clause-room : goal.returns-in-Upgrade-clause-room
+returns-in-Upgrade-clause-room g c clean inside store room failed =
+    let has : HasRoomToRenew c.in-Upgrade.profile.now (state g.S.Store c.args.tx.now.conn.now).now.trees = rw c.in-Upgrade.is at room in
+    c.upgrade.ensures.room clean inside store has failed

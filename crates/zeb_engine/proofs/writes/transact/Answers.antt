@@ -1,8 +1,8 @@
 use Rattle.std.proofs.Common.{◌≡◌, Ok, Err, inl, rules, arith, refl, sym, subst, subst₂}
 use Rattle.sqlite.specs.State.{HasCleanDisk}
 use Rattle.sqlite.specs.Held.{state}
-use Rattle.zeb_register.specs.Calls.{ChangesNothing}
-use Rattle.zeb_change.specs.declared.refusals.Refusal.TheVariants.{Commit}
+use Rattle.zeb_register.specs.Calls.{ChangesNothing, MayRefuse}
+use Rattle.zeb_change.specs.declared.refusals.Refusal.TheVariants.{Commit, Store}
 use Rattle.zeb_change.specs.Outcomes.{register_refusal}
 use Rattle.zeb_engine.specs.declared.replies.Reply.{Reply}
 use Rattle.zeb_engine.specs.declared.replies.Reply.TheVariants.{Done}
@@ -15,7 +15,8 @@ use Rattle.zeb_engine.proofs.writes.transact.Goals as goal
 use Rattle.zeb_register.specs.Formats.{version_of}
 use Rattle.zeb_engine.specs.Causes.{HasCauseOver}
 use Rattle.zeb_engine.specs.PrivateWriting.{HindersWrite}
-use Rattle.zeb_engine.proofs.WriteCauses.{write_caused}
+use Rattle.zeb_change.proofs.RecordRoom.{one_refusal}
+use Rattle.zeb_engine.proofs.WriteCauses.{write_caused, write_room}
 
 pub returns-in_err-apply-clause-serves : goal.returns-in_err-apply-clause-serves
 returns-in_err-apply-clause-serves g c clean k reached =
@@ -137,3 +138,23 @@ pub returns-in_err-commit-clause-caused : goal.returns-in_err-commit-clause-caus
 returns-in_err-commit-clause-caused g c clean store =
     let told : c.from_residual-in_err-commit.result ≡ Err Commit = search rules in
     rw told (λ is. absurd cc)
+
+pub returns-in_err-apply-clause-room : goal.returns-in_err-apply-clause-room
+returns-in_err-apply-clause-room g c clean store room failed =
+    let begun = c.transaction-tx.ensures.begun in
+    let write = c.args.write.now in
+    let old = c.args.connection.now in
+    let fault = c.in_err-apply.field-0.0 in
+    let end = c.drop-tx.new.self.0 in
+    let late : HasCleanDisk (state g.S.Store end) = search rules in
+    let same : end ≡ c.connection-1.given.0 = search rules in
+    let told : c.from_residual.result ≡ Err (register_refusal fault) = search rules in
+    subst (λ h. MayRefuse (state g.S.Store old) (state g.S.Store h)) same
+    (write_room (Unit {0}) g.S.Store write old c.transaction-tx.result.conn.now (state g.S.Store c.apply.new.tx.conn.now) (state g.S.Store end) fault begun
+    (omega (arith, c.drop-tx.ensures.survives.clean)) c.drop-tx.ensures.survives.counts c.in_err-apply.ensures.room store room (one_refusal c.from_residual.result (register_refusal fault) Store told failed))
+
+pub returns-in_err-commit-clause-room : goal.returns-in_err-commit-clause-room
+returns-in_err-commit-clause-room g c clean store room failed =
+    let told : c.from_residual-in_err-commit.result ≡ Err Commit = search rules in
+    let other = one_refusal c.from_residual-in_err-commit.result Commit Store told failed in
+    absurd (cc)

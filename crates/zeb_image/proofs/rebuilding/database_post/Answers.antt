@@ -1,21 +1,34 @@
-use Rattle.std.proofs.Common.{◌≡◌, IsTrue, pos, Some, None, Result, Ok, Err, OnOk, refl, sym, subst, arith, rules, string_bytes}
+use Rattle.std.proofs.Common.{◌≡◌, ◌+◌, ◌≤◌, ℕ, IsTrue, pos, List, Some, None, Result, Ok, Err, OnOk, refl, sym, subst, arith, rules, string_bytes}
 use Rattle.sqlite.specs.Effect.{Database}
 use Rattle.sqlite.specs.Held.{state}
 use Rattle.sqlite.specs.State.{HasCleanDisk, State, Survives}
 use Rattle.sqlite.specs.Tree.{Trees}
-use Rattle.zeb_register.specs.Calls.{OnlyReads}
+use Rattle.zeb_register.specs.Calls.{MayRefuse, OnlyReads}
+use Rattle.zeb_register.specs.Content.{Content, IsStorable}
+use Rattle.zeb_register.specs.Formats.{holds_in}
 use Rattle.zeb_register.specs.Kept.{IsFirstFrom}
-use Rattle.zeb_register.specs.Store.{KeepsLists}
-use Rattle.zeb_register.specs.declared.faults.RegFault.TheVariants.{Damaged}
+use Rattle.zeb_register.specs.Room.{HasRoom}
+use Rattle.zeb_register.specs.Store.{IsStore, KeepsLists, KeepsRegisters}
+use Rattle.zeb_register.specs.declared.faults.RegFault.{RegFault}
+use Rattle.zeb_register.specs.declared.faults.RegFault.TheVariants.{Damaged, Store}
 use Rattle.zeb_register.proofs.Calls.{store_same}
+use Rattle.zeb_register.proofs.Causes.{may_after}
 use Rattle.zeb_register.proofs.RowsAreLists.{one_number}
+use Rattle.zeb_change.specs.Asked.{HasRoomFor}
+use Rattle.zeb_change.specs.Base.{Kept}
 use Rattle.zeb_change.specs.Inside.{Continues, Stays}
 use Rattle.zeb_change.specs.Noted.{WillHold}
 use Rattle.zeb_change.proofs.ChangeKeysContent.{keeps_then}
 use Rattle.zeb_change.proofs.CostLemmas.{ok_so}
 use Rattle.zeb_change.proofs.Leading.{held_whole, will_begin}
+use Rattle.zeb_change.proofs.RecordRoom.{room_noted}
 use Rattle.zeb_change.proofs.TransactionLemmas.{continues_then, kept_then}
+use Rattle.zeb_image.specs.PrivateRebuilding.{AreAmong, LacksDatabase}
+use Rattle.zeb_image.specs.Rebuilding.{AskKept}
 use Rattle.zeb_image.proofs.RebuiltPostings.{all_posted, all_sound, first_lacks, first_still, next_posted, next_sound, none_posted, readable_still}
+use Rattle.zeb_image.proofs.RebuiltRoom.{NextRecordRoom, failed_for, next_record, records_begun, records_ended}
+use Rattle.zeb_image.proofs.rebuilding.database_post.Given as given
+use Rattle.zeb_image.proofs.rebuilding.database_post.Goals.{After-write_where_full}
 use Rattle.zeb_image.proofs.rebuilding.database_post.Goals as goal
 
 read_on : (old new : State) → OnlyReads old new → Continues old new
@@ -51,17 +64,61 @@ stays_then old mid new (Err fault) one two = kept_then old mid new one two
 same_lists : (lists : Trees) (old new : State) → new.now ≡ old.now → KeepsLists lists old.now.trees → KeepsLists lists new.now.trees
 same_lists lists old new same keeps = subst (λ (db : Database). KeepsLists lists db.trees) (sym same) keeps
 
+registers_seen : (old new : State) → new.now ≡ old.now → KeepsRegisters old.now.trees new.now.trees
+registers_seen old new same = subst (λ (db : Database). KeepsRegisters old.now.trees db.trees) (sym same) (refl, refl, refl)
+
 pub loop-turn-init : goal.loop-turn-init
 loop-turn-init g c = record {
   same = refl;
   crash = search rules;
   stays = search rules;
   small = omega arith;
+  turns = λ clean mode store. omega arith;
   kept = λ clean mode store. (store, (refl, refl, refl));
   checked = λ clean mode store n ident bytes low there. absurd (omega (arith, low));
   posted = λ clean mode store before had storable lacks.
       record { content = before; held = will_begin g.L.Layout.format _ c.args.db.0 c.new-pending.result before c.new-pending.ensures had storable; storable = storable; is = none_posted c.args.profile.now _ c.args.db.0 before lacks };
+  room = λ clean mode store records most places rowids spare asks few among has before had storable lacks.
+      records_begun g.L.Layout.format c.args.profile.now _ c.args.db.0 c.new-pending.result records most places rowids spare c.new-pending.ensures asks few among has;
 }
+
+-- ---- where there is room
+
+-- the record that was read is noted, and what is noted may be written
+wrote : (g : given.Over) (c : After-write_where_full g) → HasCleanDisk (state g.S.Store c.write_where_full.new.tx.conn.now) → IsTrue (state g.S.Store c.args.tx.now.conn.now).in_transaction
+    → IsStore (state g.S.Store c.args.tx.now.conn.now)
+    → (records : List Kept) (most places rowids spare : ℕ) → AskKept c.args.profile.now most records places rowids → places + spare ≤ most
+    → AreAmong (state g.S.Store c.args.tx.now.conn.now).now.trees c.args.db.0 records → HasRoom g.L.Layout.format (places + spare) (state g.S.Store c.args.tx.now.conn.now).now.trees
+    → (before : Content) → holds_in g.L.Layout.format (state g.S.Store c.args.tx.now.conn.now).now.trees before → IsStorable before → LacksDatabase c.args.db.0 before
+    → (next : NextRecordRoom g.L.Layout.format c.args.profile.now (state g.S.Store c.args.tx.now.conn.now).now.trees c.args.db.0 c.in-Some.record (state g.S.Store c.loop-turn.tx.conn.now).now.trees c.loop-turn.pending most spare)
+    × (c.write_where_full.result ≡ Err Store → MayRefuse (state g.S.Store c.args.tx.now.conn.now) (state g.S.Store c.write_where_full.new.tx.conn.now))
+    × OnOk c.write_where_full.result (HasRoomFor g.L.Layout.format most (state g.S.Store c.write_where_full.new.tx.conn.now).now.trees c.write_where_full.new.pending (next.others + spare))
+wrote g c clean mode store records most places rowids spare asks few among has before had storable lacks =
+    let old = state g.S.Store c.args.tx.now.conn.now in
+    let now = state g.S.Store c.loop-turn.tx.conn.now in
+    let mid = state g.S.Store c.record_from_inside.new.tx.conn.now in
+    let new = state g.S.Store c.write_where_full.new.tx.conn.now in
+    let format = g.L.Layout.format in
+    let id = c.args.db.0 in
+    let profile = c.args.profile.now in
+    let found = c.in-Some.record in
+    let clean_mid : HasCleanDisk mid = omega (arith, c.write_where_full.ensures.call.crash.clean) in
+    let at = asked old now mid clean_mid c.record_from_inside.ensures.call.crash (λ clean_now. c.loop-turn.invariant.stays clean_now mode) c.in_ok-record.ensures.call.ok in
+    let kept = c.loop-turn.invariant.kept at.clean mode store in
+    let value = subst (IsFirstFrom now.now.trees id c.loop-turn.next) c.in-Some.is (c.in_ok-record.ensures.value clean_mid at.was.mode kept.0 (omega (arith, c.loop-turn.invariant.small))) in
+    let first = first_still old.now.trees now.now.trees kept.1 id c.loop-turn.next (Some found) value in
+    let such = c.loop-turn.invariant.posted at.clean mode store before had storable lacks in
+    let held = subst (λ (db : Database). WillHold format db.trees id c.loop-turn.pending such.content) (sym at.on.now_is) such.held in
+    let noted = c.in_ok-record_note.ensures.posted format mid.now.trees id such.content held such.storable
+    (first_lacks profile old.now.trees id c.loop-turn.next before such.content such.is found first) in
+    let rest = c.loop-turn.invariant.room at.clean mode store records most places rowids spare asks few among has before had storable lacks in
+    let next = next_record format profile old.now.trees id c.loop-turn.next now.now.trees c.loop-turn.pending most spare rest found first in
+    let within = next.room.few in
+    let more = c.in_ok-record_note.ensures.room most next.place next.rowid (next.room.noted + (next.place + (next.others + spare))) next.room.noted next.asks within next.room.among in
+    let room = room_noted format most now.now.trees mid.now.trees c.loop-turn.pending c.record_note.new.pending next.place (next.others + spare) more.0 next.room (registers_seen now mid at.on.now_is) more.1 more.2 in
+    let done = c.write_where_full.ensures.room noted.content most (next.others + spare) noted.storable clean at.on.mode (store_same now mid at.on.now_is kept.0) noted.held room in
+    let crash : Survives old mid (λ _. ⊥) = search rules in
+    (next, λ failed. may_after old mid new crash at.goes.stays_open (λ _. done.0 failed), done.1)
 
 pub loop-turn-preserved : goal.loop-turn-preserved
 loop-turn-preserved g c =
@@ -82,6 +139,15 @@ loop-turn-preserved g c =
           let at = here clean mode in
           continues_then old mid new at.goes (c.in_ok-write_where_full.ensures.call.stays clean at.goes.mode);
       small = omega (arith, c.in_ok-record_note.ensures.number);
+      turns = λ clean mode store.
+          let at = here clean mode in
+          let kept = c.loop-turn.invariant.kept at.clean mode store in
+          let value = subst (IsFirstFrom now.now.trees id c.loop-turn.next) c.in-Some.is (c.in_ok-record.ensures.value (clean_mid clean) at.was.mode kept.0 (omega (arith, c.loop-turn.invariant.small))) in
+          let so_far = c.loop-turn.invariant.turns at.clean mode store in
+          omega (arith, so_far, value.1);
+      room = λ clean mode store records most places rowids spare asks few among has before had storable lacks.
+          let done = wrote g (goal.at.loop-turn-preserved g c).After-write_where_full clean mode store records most places rowids spare asks few among has before had storable lacks in
+          done.0.leaves new.now.trees c.write_where_full.new.pending (subst (λ (r : Result (Unit {0}) RegFault). OnOk r (HasRoomFor format most new.now.trees c.write_where_full.new.pending (done.0.others + spare))) c.in_ok-write_where_full.was done.2);
       kept = λ clean mode store.
           let at = here clean mode in
           let kept = c.loop-turn.invariant.kept at.clean mode store in
@@ -233,3 +299,58 @@ returns-in_err-write_where_full-clause-damaged g c = λ clean mode store told be
     (first_lacks profile old.now.trees id c.loop-turn.next before such.content such.is found first) in
     let fault : c.write_where_full.result ≡ Err Damaged = search rules in
     c.write_where_full.ensures.call.honest clean at.on.mode (store_same now mid at.on.now_is kept.0) fault noted.content noted.storable noted.held
+
+-- ---- a failed store, where there is room
+
+pub returns-in_default-clause-room : goal.returns-in_default-clause-room
+returns-in_default-clause-room g c records most places rowids spare asks few clean mode store among has before had storable lacks =
+    let old = state g.S.Store c.args.tx.now.conn.now in
+    let now = state g.S.Store c.loop-turn.tx.conn.now in
+    let mid = state g.S.Store c.record_from_inside.new.tx.conn.now in
+    let new = state g.S.Store c.write_pending.new.tx.conn.now in
+    let format = g.L.Layout.format in
+    let at = asked old now mid (omega (arith, c.write_pending.ensures.call.crash.clean)) c.record_from_inside.ensures.call.crash (λ clean_now. c.loop-turn.invariant.stays clean_now mode) c.in_ok-record.ensures.call.ok in
+    let kept = c.loop-turn.invariant.kept at.clean mode store in
+    let such = c.loop-turn.invariant.posted at.clean mode store before had storable lacks in
+    let rest = c.loop-turn.invariant.room at.clean mode store records most places rowids spare asks few among has before had storable lacks in
+    let held = subst (λ (db : Database). WillHold format db.trees c.args.db.0 c.loop-turn.pending such.content) (sym at.on.now_is) such.held in
+    let room = subst (λ (db : Database). HasRoomFor format most db.trees c.loop-turn.pending (rest.places + spare)) (sym at.on.now_is) rest.room in
+    let done = c.write_pending.ensures.room such.content most (rest.places + spare) such.storable clean at.on.mode (store_same now mid at.on.now_is kept.0) held room in
+    let crash : Survives old mid (λ _. ⊥) = search rules in (
+      λ failed. may_after old mid new crash at.goes.stays_open (λ _. done.0 failed),
+      ok_both c.write_pending.result _ _ _ (λ all there. records_ended format new.now.trees c.write_pending.new.pending most rest.places spare all there) c.write_pending.ensures.all done.1,
+    )
+
+pub returns-in_err-record-clause-room : goal.returns-in_err-record-clause-room
+returns-in_err-record-clause-room g c records most places rowids spare asks few clean mode store among has before had storable lacks =
+    let old = state g.S.Store c.args.tx.now.conn.now in
+    let now = state g.S.Store c.loop-turn.tx.conn.now in
+    let new = state g.S.Store c.record_from_inside.new.tx.conn.now in
+    let clean_now : HasCleanDisk now = omega (arith, c.record_from_inside.ensures.call.crash.clean) in
+    let was = c.loop-turn.invariant.stays clean_now mode in
+    let kept = c.loop-turn.invariant.kept clean_now mode store in
+    let told : c.from_residual.result ≡ Err c.in_err-record.field-0.0 = search rules in
+    failed_for _ _ c.from_residual.result c.in_err-record.field-0.0 told (λ failed.
+    let fault : c.record_from_inside.result ≡ Err Store = search rules in
+    may_after old now new c.loop-turn.invariant.crash was.stays_open (λ _. c.record_from_inside.ensures.refused clean was.mode kept.0 fault))
+
+pub returns-in_err-record_note-clause-room : goal.returns-in_err-record_note-clause-room
+returns-in_err-record_note-clause-room g c records most places rowids spare asks few clean mode store among has before had storable lacks =
+    let told : c.from_residual-in_err-record_note.result ≡ Err c.in_err-record_note.field-0.0 = search rules in
+    failed_for _ _ c.from_residual-in_err-record_note.result c.in_err-record_note.field-0.0 told (λ failed.
+    let fault : c.record_note.result ≡ Err Store = search rules in
+    absurd (c.record_note.ensures.unstored fault))
+
+pub returns-in_err-write_where_full-clause-room : goal.returns-in_err-write_where_full-clause-room
+returns-in_err-write_where_full-clause-room g c records most places rowids spare asks few clean mode store among has before had storable lacks =
+    let done = wrote g (goal.at.returns-in_err-write_where_full-clause-room g c).After-write_where_full clean mode store records most places rowids spare asks few among has before had storable lacks in
+    let told : c.from_residual-in_err-write_where_full.result ≡ Err c.in_err-write_where_full.field-0.0 = search rules in
+    failed_for _ _ c.from_residual-in_err-write_where_full.result c.in_err-write_where_full.field-0.0 told (λ failed.
+    let fault : c.write_where_full.result ≡ Err Store = search rules in
+    done.1 fault)
+
+-- numbers that rise to no more than a milliard end before as many turns
+pub returns-clause-room : goal.returns-clause-room
+returns-clause-room g c records most places rowids spare asks few clean mode store among has before had storable lacks =
+    let turns = c.loop-turn.invariant.turns clean mode store in
+    (λ failed. absurd (omega (arith, turns, c.loop-turn.invariant.small, c.loop-turn-test.false)), tt)

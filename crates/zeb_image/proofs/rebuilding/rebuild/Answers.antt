@@ -1,4 +1,4 @@
-use Rattle.std.proofs.Common.{◌≡◌, ◌∙◌, ◌+◌, ◌++◌, ◌∷◌, [], pos, Err, map, take, drop, suc, inl, inr, refl, sym, ap, subst, arith, rules, string_bytes}
+use Rattle.std.proofs.Common.{◌≡◌, ◌∙◌, ◌+◌, ◌++◌, ◌∷◌, ℕ, [], pos, IsTrue, List, Result, Err, OnOk, map, take, drop, suc, inl, inr, refl, sym, ap, subst, arith, rules, string_bytes}
 use Rattle.std.proofs.lemmas.List.{map-append, take_more, take_all}
 use Rattle.std.proofs.Math.Seq.{split_at}
 use Rattle.sqlite.specs.Effect.{Database}
@@ -7,19 +7,28 @@ use Rattle.sqlite.specs.State.{HasCleanDisk, State}
 use Rattle.sqlite_rules.specs.Lists.{Has}
 use Rattle.sqlite_rules.proofs.ListLemmas.{has_either, has_right}
 use Rattle.zeb_register.specs.declared.catalog.ListedDatabase.{ListedDatabase}
-use Rattle.zeb_register.specs.declared.faults.RegFault.TheVariants.{Damaged}
-use Rattle.zeb_register.specs.Calls.{GoesOn, OnlyReads}
+use Rattle.zeb_register.specs.declared.faults.RegFault.{RegFault}
+use Rattle.zeb_register.specs.declared.faults.RegFault.TheVariants.{Damaged, Store}
+use Rattle.zeb_register.specs.Calls.{GoesOn, MayRefuse, OnlyReads}
 use Rattle.zeb_register.specs.Catalog.{AreDatabases}
 use Rattle.zeb_register.specs.Formats.{holds_in}
-use Rattle.zeb_register.specs.Store.{KeepsLists}
+use Rattle.zeb_register.specs.Room.{HasRoom}
+use Rattle.zeb_register.specs.Store.{IsStore, KeepsLists, LacksRegisters}
 use Rattle.zeb_register.proofs.Calls.{store_same}
+use Rattle.zeb_register.proofs.Causes.{may_after}
 use Rattle.zeb_register.proofs.FormatLemmas.{registers_empty}
+use Rattle.zeb_register.proofs.Room.{room_empty}
+use Rattle.zeb_change.specs.Base.{Base}
 use Rattle.zeb_change.specs.Inside.{Continues}
 use Rattle.zeb_change.proofs.ChangeKeysContent.{keeps_then}
 use Rattle.zeb_change.proofs.TransactionLemmas.{goes_on, kept_then}
-use Rattle.zeb_image.specs.Rebuilding.{AreSoundIn}
+use Rattle.zeb_image.specs.Image.{AreListsOf}
+use Rattle.zeb_image.specs.Rebuilding.{AreSoundIn, AskBases}
 use Rattle.zeb_image.proofs.RebuiltImages.{id_in, listed_id, listed_there, lists_readable, lists_sound, new_id, readable_databases, rebuilt, same_databases}
 use Rattle.zeb_image.proofs.RebuiltPostings.{ArePostedIn, more_posted, new_lacks, nothing_posted, posted_still, readable_still, sound_still, sound_then}
+use Rattle.zeb_image.proofs.RebuiltRoom.{BasesRoom, NextBaseRoom, among_still, asked_few, bases_begun, next_base}
+use Rattle.zeb_image.proofs.rebuilding.rebuild.Given as given
+use Rattle.zeb_image.proofs.rebuilding.rebuild.Goals.{After-database_post}
 use Rattle.zeb_image.proofs.rebuilding.rebuild.Goals as goal
 
 read_then : (old mid new : State) → GoesOn old mid → OnlyReads mid new → GoesOn old new
@@ -59,7 +68,47 @@ loop-database-init g c =
             storable = λ db key p there. absurd there;
             is = nothing_posted c.args.profile.now old.now.trees;
           };
+      room = λ clean mode store bases most rowids asks these.
+          let done = c.in_ok-registers_wipe.ensures.call.ok (clean_wiped clean) mode in
+          let read = c.in_ok-databases.ensures.call.ok clean done.0.mode in
+          let none = subst (λ (db : Database). LacksRegisters db.trees) (sym read.now_is) (done.1 store).1 in
+          bases_begun g.L.Layout.format c.args.profile.now old.now.trees bases these new.now.trees most rowids asks
+          (room_empty g.L.Layout.format most (λ _. most) new.now.trees (asked_few c.args.profile.now bases most rowids asks) none);
     }
+
+-- ---- where there is room
+
+-- the records of the next database are posted
+posted_room : (g : given.Over) (c : After-database_post g) → HasCleanDisk (state g.S.Store c.database_post.new.tx.conn.now) → IsTrue (state g.S.Store c.args.tx.now.conn.now).in_transaction
+    → IsStore (state g.S.Store c.args.tx.now.conn.now)
+    → (bases : List Base) (most rowids : ℕ) → AskBases c.args.profile.now most bases most rowids → (these : AreListsOf (state g.S.Store c.args.tx.now.conn.now).now.trees bases)
+    → (next : NextBaseRoom g.L.Layout.format c.args.profile.now (state g.S.Store c.args.tx.now.conn.now).now.trees bases these (map id_in (take c.loop-database.database-index c.deref-database-items.result.now))
+    c.database-item.result.id.0 (state g.S.Store c.loop-database.tx.conn.now).now.trees most)
+    × (c.database_post.result ≡ Err Store → MayRefuse (state g.S.Store c.args.tx.now.conn.now) (state g.S.Store c.database_post.new.tx.conn.now))
+    × OnOk c.database_post.result (HasRoom g.L.Layout.format next.others (state g.S.Store c.database_post.new.tx.conn.now).now.trees)
+posted_room g c clean mode store bases most rowids asks these =
+    let old = state g.S.Store c.args.tx.now.conn.now in
+    let now = state g.S.Store c.loop-database.tx.conn.now in
+    let new = state g.S.Store c.database_post.new.tx.conn.now in
+    let profile = c.args.profile.now in
+    let items = c.deref-database-items.result.now in
+    let index = c.loop-database.database-index in
+    let item = c.database-item.result in
+    let done = take index items in
+    let clean_now : HasCleanDisk now = omega (arith, c.database_post.ensures.crash.clean) in
+    let on = c.loop-database.invariant.goes_on clean_now mode in
+    let kept = c.loop-database.invariant.kept clean_now mode store in
+    let are = c.loop-database.invariant.listed clean_now mode store in
+    let such = c.loop-database.invariant.posted clean_now mode store in
+    let split : items ≡ done ++ item ∷ drop (suc index) items = split_at items index item c.loop-database-test.true ∙ ap (λ x. done ++ x ∷ drop (suc index) items) (sym c.database-item.is) in
+    let here : Has items item = subst (λ l. Has l item) (sym split) (has_right done (item ∷ drop (suc index) items) item (inl refl)) in
+    let fresh = new_id old store items are done (drop (suc index) items) item split in
+    let lacks = new_lacks profile old.now.trees (map id_in done) such.content such.is item.id.0 fresh in
+    let rest = c.loop-database.invariant.room clean_now mode store bases most rowids asks these in
+    let next = next_base g.L.Layout.format profile old.now.trees bases these (map id_in done) now.now.trees most rest item.id.0 (string_bytes item.name) (pos item.last) (listed_there old store items are item here) fresh in
+    let posted = c.database_post.ensures.room next.records most next.place next.rowid next.others next.asks next.few clean on.mode kept.0
+    (among_still old.now.trees now.now.trees kept.1 item.id.0 next.records next.among) next.room such.content such.held such.storable lacks in
+    (next, λ failed. may_after old now new c.loop-database.invariant.crash (λ _. on.is_open) (λ _. posted.0 failed), posted.1)
 
 pub loop-database-preserved : goal.loop-database-preserved
 loop-database-preserved g c =
@@ -111,6 +160,11 @@ loop-database-preserved g c =
                 (more_posted profile old.now.trees (map id_in done) such.content such.is item.id.0 fresh then_such.content
                 (posted_still old.now.trees now.now.trees kept.1 profile item.id.0 such.content then_such.content then_such.is));
           };
+      room = λ clean mode store bases most rowids asks these.
+          let after = posted_room g (goal.at.loop-database-preserved g c).After-database_post clean mode store bases most rowids asks these in
+          let ids : map id_in (take (index + 1) items) ≡ map id_in done ++ item.id.0 ∷ [] = ap (map id_in) more ∙ map-append id_in done (item ∷ []) in
+          subst (λ l. BasesRoom g.L.Layout.format profile old.now.trees bases these l new.now.trees most) (sym ids)
+          (after.0.leaves new.now.trees (subst (λ (r : Result (Unit {0}) RegFault). OnOk r (HasRoom g.L.Layout.format after.0.others new.now.trees)) c.in_ok-database_post.was after.2));
     }
 
 pub returns-clause-built : goal.returns-clause-built
@@ -199,3 +253,26 @@ returns-in_err-database_post-clause-call g c =
           rw told (kept_then old now new (goes_on old now on) (c.in_err-database_post.ensures.stays clean on.mode));
       crash = search rules;
     }
+
+-- ---- a failed store, where there is room
+
+pub returns-in_err-registers_wipe-clause-room : goal.returns-in_err-registers_wipe-clause-room
+returns-in_err-registers_wipe-clause-room g c bases places rowids asks clean mode store these failed =
+    let fault : c.registers_wipe.result ≡ Err Store = search rules in
+    c.registers_wipe.ensures.refused clean mode store fault
+
+pub returns-in_err-databases-clause-room : goal.returns-in_err-databases-clause-room
+returns-in_err-databases-clause-room g c bases places rowids asks clean mode store these failed =
+    let old = state g.S.Store c.args.tx.now.conn.now in
+    let wiped = state g.S.Store c.registers_wipe.new.tx.conn.now in
+    let new = state g.S.Store c.databases_inside.new.tx.conn.now in
+    let clean_wiped : HasCleanDisk wiped = omega (arith, c.databases_inside.ensures.call.crash.clean) in
+    let done = c.in_ok-registers_wipe.ensures.call.ok clean_wiped mode in
+    let fault : c.databases_inside.result ≡ Err Store = search rules in
+    may_after old wiped new c.registers_wipe.ensures.call.crash (λ _. done.0.is_open) (λ _. c.databases_inside.ensures.refused clean done.0.mode (done.1 store).0 fault)
+
+pub returns-in_err-database_post-clause-room : goal.returns-in_err-database_post-clause-room
+returns-in_err-database_post-clause-room g c bases places rowids asks clean mode store these failed =
+    let after = posted_room g (goal.at.returns-in_err-database_post-clause-room g c).After-database_post clean mode store bases places rowids asks these in
+    let fault : c.database_post.result ≡ Err Store = search rules in
+    after.1 fault

@@ -10,6 +10,7 @@ use Rattle.zeb_register.specs.Sql.{IsListOf}
 use Rattle.zeb_register.specs.Store.{blocks_tree}
 use Rattle.zeb_register.specs.Tallies.{Rises}
 use Rattle.zeb_register.proofs.BetweenLemmas.{blocks_many, blocks_read, blocks_spelled}
+use Rattle.zeb_packed.proofs.PackedSound.{all_between, between_spelled}
 use Rattle.zeb_packed.proofs.packed_between.blocks_between.Goals as goal
 
 pub returns-clause-value : goal.returns-clause-value
@@ -40,4 +41,21 @@ returns-in_err-list-clause-honest g c clean store is content holds =
     let items = c.in_ok-rows.rows.items in
     let are = subst (λ end. IsListOf (IsRestBetween blocks_tree (register_columns c.args.at) c.args.first.now end trees) items) (c.as_str.ensures.value ∙ c.in_ok-end.ensures) ((c.in_ok-rows.ensures.call.ok clean).1 store) in
     let spelled = blocks_spelled trees content c.args.at holds c.args.first.now c.args.last.now items are in
+    c.in_err-list.ensures.honest (search rules) spelled.0 (subst (λ (rows : List Row). AreSpelled (map two_behind rows) spelled.0) (sym c.deref.ensures.value) spelled.1)
+
+pub returns-clause-spelled : goal.returns-clause-spelled
+returns-clause-spelled g c clean store =
+    let trees = (state g.S.Store c.args.conn.now).now.trees in
+    let items = c.in_ok-rows.rows.items in
+    let list = c.in_ok-list.list.items in
+    let are = subst (λ end. IsListOf (IsRestBetween blocks_tree (register_columns c.args.at) c.args.first.now end trees) items) (c.as_str.ensures.value ∙ c.in_ok-end.ensures) ((c.in_ok-rows.ensures.call.ok clean).1 store) in
+    let spelled : AreSpelled (map two_behind items) list = subst (λ (rows : List Row). AreSpelled (map two_behind rows) list) c.deref.ensures.value c.in_ok-list.ensures.ok in
+    between_spelled trees c.args.at c.args.first.now c.args.last.now items are list spelled
+
+pub returns-in_err-list-clause-damaged : goal.returns-in_err-list-clause-damaged
+returns-in_err-list-clause-damaged g c clean store is all =
+    let trees = (state g.S.Store c.args.conn.now).now.trees in
+    let items = c.in_ok-rows.rows.items in
+    let are = subst (λ end. IsListOf (IsRestBetween blocks_tree (register_columns c.args.at) c.args.first.now end trees) items) (c.as_str.ensures.value ∙ c.in_ok-end.ensures) ((c.in_ok-rows.ensures.call.ok clean).1 store) in
+    let spelled = all_between trees c.args.at c.args.first.now c.args.last.now items are all in
     c.in_err-list.ensures.honest (search rules) spelled.0 (subst (λ (rows : List Row). AreSpelled (map two_behind rows) spelled.0) (sym c.deref.ensures.value) spelled.1)

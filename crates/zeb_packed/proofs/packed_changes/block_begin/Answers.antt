@@ -16,10 +16,12 @@ use Rattle.zeb_packed.specs.PackedHindrances.{new_rows}
 use Rattle.zeb_register.specs.PlainRows.{key_row}
 use Rattle.zeb_register.specs.RowStatements.{Gains}
 use Rattle.zeb_register.specs.Store.{blocks_tree}
-use Rattle.zeb_register.proofs.Calls.{goes_keeps, on_err, reads_goes, store_same}
+use Rattle.zeb_packed.specs.PackedSound.{IsBlockSpelled}
+use Rattle.zeb_register.proofs.Calls.{goes_keeps, on_err, on_ok_both, reads_goes, store_same}
 use Rattle.zeb_register.proofs.Causes.{may_after}
 use Rattle.zeb_register.proofs.Columns.{column_is}
 use Rattle.zeb_packed.proofs.PackedHindrances.{absent_told, add_hinders, gained_spells, list_one, may_before, no_clash, spells_none}
+use Rattle.zeb_packed.proofs.PackedSound.{absent_spelled, gained_sound}
 use Rattle.zeb_packed.proofs.PackedWrites.{none_of, puts_inserted, puts_nothing, told_later}
 use Rattle.zeb_register.proofs.TakenRowids.{takes_more, takes_none}
 use Rattle.zeb_packed.proofs.packed_changes.block_begin.Goals as goal
@@ -154,3 +156,25 @@ returns-in-Ok-clause-rowids g c clean inside store =
     let second = state g.S.Store c.block_add.new.tx.conn.now in
     let one = list_one false c.args.list.now refl c.in_ok-bytes.ensures.some in
     subst (λ n. TakesRowids n blocks_tree first.now.trees second.now.trees) (sym one) (c.in-Ok.ensures.rowids clean inside store)
+
+pub returns-then-is_empty-clause-sound : goal.returns-then-is_empty-clause-sound
+returns-then-is_empty-clause-sound g c clean inside store =
+    let first = state g.S.Store c.args.tx.now.conn.now in
+    let db = c.args.db.0 in
+    let key = c.args.key.now in
+    let number = column_is c.in_ok-number.ensures.ok.1 c.in_ok-number.ensures.ok.0 in
+    on_ok_both c.block_absent.result _ _ _ (λ reads told. (
+      absent_spelled first.now.trees db key c.args.block (absent_told db key c.args.block _ first.now first.now number refl told),
+      λ block all. subst (λ (d : Database). IsBlockSpelled d.trees db key block) reads.now_is all,
+    )) (c.block_absent.ensures.call.ok clean inside) (c.block_absent.ensures.absent clean inside store)
+
+pub returns-in-Ok-clause-sound : goal.returns-in-Ok-clause-sound
+returns-in-Ok-clause-sound g c clean inside store =
+    let first = state g.S.Store c.args.tx.now.conn.now in
+    let second = state g.S.Store c.block_add.new.tx.conn.now in
+    let key = c.args.key.now in
+    let bytes = c.deref.result.now in
+    let spells = subst (BlockSpells c.args.block c.args.list.now) (sym c.deref.ensures.value) c.in_ok-bytes.ensures in
+    let done = (c.in-Ok.ensures.call.ok clean inside).rows store in
+    let gained = subst (λ n. Gains (key_row c.args.db.0 key ++ Int n ∷ Blob bytes ∷ []) blocks_tree first.now.trees second.now.trees) (column_is c.in_ok-number.ensures.ok.1 c.in_ok-number.ensures.ok.0) done.rows in
+    gained_sound second done.layout c.args.db.0 key c.args.block c.args.list.now bytes first.now.trees spells gained

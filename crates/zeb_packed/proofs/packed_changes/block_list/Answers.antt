@@ -1,4 +1,4 @@
-use Rattle.std.proofs.Common.{◌≡◌, ◌∙◌, Some, None, ap, slice_get, subst, sym}
+use Rattle.std.proofs.Common.{◌≡◌, ◌∙◌, [], Some, None, ap, refl, slice_get, subst, sym}
 use Rattle.std.proofs.lemmas.Result.{IfOk-weaker}
 use Rattle.std.specs.Option.{option_copied}
 use Rattle.sqlite.specs.Held.{state}
@@ -9,6 +9,7 @@ use Rattle.zeb_blocks.specs.Blocks.{LiesIn}
 use Rattle.zeb_register.proofs.LookUps.{first_is}
 use Rattle.zeb_packed.proofs.PackedHindrances.{none_told, shown_spelled, shown_told}
 use Rattle.zeb_packed.proofs.PackedReads.{block_front, empty_lies, no_block, one_in, row_spells}
+use Rattle.zeb_packed.proofs.PackedSound.{absent_spelled, shown_sound}
 use Rattle.zeb_register.proofs.Columns.{column_is, numbered_rows}
 use Rattle.zeb_packed.proofs.packed_changes.block_list.Goals as goal
 
@@ -73,3 +74,22 @@ returns-clause-told g c clean inside store =
 
 pub returns-clause-spelled : goal.returns-clause-spelled
 returns-clause-spelled g c clean inside store p here = absurd (subst (λ l. Has l p) c.new.ensures.items here)
+
+pub returns-in-Some-clause-sound : goal.returns-in-Some-clause-sound
+returns-in-Some-clause-sound g c clean inside store =
+    let old = state g.S.Store c.args.tx.now.conn.now in
+    let trees = old.now.trees in
+    let items = c.in_ok-rows.rows.items in
+    let key = c.args.key.now in
+    let got : slice_get items 0 ≡ Some c.in-Some.row.now = sym (c.first.ensures.value ∙ ap (λ l. slice_get l 0) c.deref.ensures.value) ∙ ap option_copied c.in-Some.is in
+    let held : IsListOf (IsRest blocks_tree (block_front c.args.db.0 key c.args.block) trees) items = numbered_rows trees blocks_tree c.args.db.0 key _ c.args.block (column_is c.in_ok-number.ensures.ok.1 c.in_ok-number.ensures.ok.0) items ((c.in_ok-rows.ensures.call.ok clean inside).1 store) in
+    IfOk-weaker c.spelled_list.result _ _ (λ list spells. shown_sound old store c.args.db.0 key c.args.block c.in-Some.row.now list.items (first_is _ items c.in-Some.row.now held got) spells) c.spelled_list.ensures.ok
+
+pub returns-clause-sound : goal.returns-clause-sound
+returns-clause-sound g c clean inside store =
+    let trees = (state g.S.Store c.args.tx.now.conn.now).now.trees in
+    let items = c.in_ok-rows.rows.items in
+    let key = c.args.key.now in
+    let none : slice_get items 0 ≡ None = sym (c.first.ensures.value ∙ ap (λ l. slice_get l 0) c.deref.ensures.value) ∙ ap option_copied c.in-None.is in
+    let held : IsListOf (IsRest blocks_tree (block_front c.args.db.0 key c.args.block) trees) items = numbered_rows trees blocks_tree c.args.db.0 key _ c.args.block (column_is c.in_ok-number.ensures.ok.1 c.in_ok-number.ensures.ok.0) items ((c.in_ok-rows.ensures.call.ok clean inside).1 store) in
+    absent_spelled trees c.args.db.0 key c.args.block (none_told c.args.db.0 key c.args.block items [] trees refl held none)

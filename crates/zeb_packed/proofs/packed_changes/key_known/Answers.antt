@@ -9,10 +9,11 @@ use Rattle.zeb_register.specs.RowTerms.{IsInRecord}
 use Rattle.zeb_register.specs.Sql.{IsListOf}
 use Rattle.zeb_register.specs.Store.{IsRest, dict_tree}
 use Rattle.zeb_register.proofs.CountLemmas.{count_so}
-use Rattle.zeb_register.proofs.LookUps.{first_is}
+use Rattle.zeb_register.proofs.LookUps.{first_is, none_is}
 use Rattle.zeb_register.proofs.OccurringLemmas.{key_posted}
 use Rattle.zeb_packed.proofs.PackedHindrances.{count_told, no_count_told}
 use Rattle.zeb_packed.proofs.PackedReads.{no_row, row_counts, row_number}
+use Rattle.zeb_packed.proofs.PackedSound.{counted_sound}
 use Rattle.zeb_packed.proofs.PackedWrites.{known_none, known_some}
 use Rattle.zeb_packed.proofs.packed_changes.key_known.Goals as goal
 
@@ -67,3 +68,21 @@ returns-clause-told g c clean inside store =
     let none : slice_get items 0 ≡ None = sym (c.first.ensures.value ∙ ap (λ l. slice_get l 0) c.deref.ensures.value) ∙ ap option_copied c.in-None.is in
     let held : IsListOf (IsRest dict_tree (key_row c.args.db.0 key) trees) items = (c.in_ok-rows.ensures.call.ok clean inside).1 store in
     no_count_told c.args.db.0 key items trees held none
+
+pub returns-in-Some-clause-sound : goal.returns-in-Some-clause-sound
+returns-in-Some-clause-sound g c clean inside store =
+    let old = state g.S.Store c.args.tx.now.conn.now in
+    let key = c.args.key.now in
+    let items = c.in_ok-rows.rows.items in
+    let got : slice_get items 0 ≡ Some c.in-Some.row.now = sym (c.first.ensures.value ∙ ap (λ l. slice_get l 0) c.deref.ensures.value) ∙ ap option_copied c.in-Some.is in
+    let held : IsListOf (IsRest dict_tree (key_row c.args.db.0 key) old.now.trees) items = (c.in_ok-rows.ensures.call.ok clean inside).1 store in
+    IfOk-weaker c.known_at.result _ _ (λ _ number. counted_sound old store c.args.db.0 key c.in-Some.row.now (first_is _ items c.in-Some.row.now held got) number) c.known_at.ensures.sound
+
+pub returns-clause-sound : goal.returns-clause-sound
+returns-clause-sound g c clean inside store row there =
+    let trees = (state g.S.Store c.args.tx.now.conn.now).now.trees in
+    let key = c.args.key.now in
+    let items = c.in_ok-rows.rows.items in
+    let none : slice_get items 0 ≡ None = sym (c.first.ensures.value ∙ ap (λ l. slice_get l 0) c.deref.ensures.value) ∙ ap option_copied c.in-None.is in
+    let held : IsListOf (IsRest dict_tree (key_row c.args.db.0 key) trees) items = (c.in_ok-rows.ensures.call.ok clean inside).1 store in
+    absurd (none_is (IsRest dict_tree (key_row c.args.db.0 key) trees) items row held none there)

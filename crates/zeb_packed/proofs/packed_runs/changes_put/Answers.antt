@@ -3,17 +3,20 @@ use Rattle.std.proofs.lemmas.Result.{IfOk-weaker}
 use Rattle.sqlite.specs.Effect.{Database}
 use Rattle.sqlite.specs.Held.{state}
 use Rattle.sqlite.specs.State.{HasCleanDisk}
+use Rattle.zeb_packed.specs.PackedSound.{AreKeyRowsSound}
+use Rattle.zeb_register.specs.declared.registers.RecordChange.{RecordChange}
 use Rattle.zeb_register.specs.Calls.{GoesOn}
 use Rattle.zeb_register.specs.PackedBlocks.{HoldsBlocks}
 use Rattle.zeb_packed.specs.PackedChanges.{IsCounted, IsKnown, PutsChanges}
 use Rattle.zeb_register.specs.Hindrances.{TakesRowids, placed, rows_of}
-use Rattle.zeb_packed.specs.PackedHindrances.{HindersChanges, new_rows}
+use Rattle.zeb_packed.specs.PackedHindrances.{AreRunsSpelled, HindersChanges, new_rows}
 use Rattle.zeb_register.specs.Store.{blocks_tree, dict_tree, postings_tree}
 use Rattle.zeb_register.proofs.Calls.{changes_after, goes_keeps, goes_then, on_err, on_err_so, on_ok_both, reads_goes, store_same}
 use Rattle.zeb_register.proofs.Causes.{hindered_after, may_after}
 use Rattle.zeb_register.proofs.CallsInTurn.{quiet_then}
 use Rattle.zeb_packed.proofs.PackedCauses.{blocks_hinder, count_hinders, new_counts}
 use Rattle.zeb_register.proofs.PackedLemmas.{block_rows}
+use Rattle.zeb_packed.proofs.PackedSound.{numbers_sound}
 use Rattle.zeb_packed.proofs.PackedWrites.{all_lists, all_put, dict_told}
 use Rattle.zeb_register.proofs.TakenRowids.{takes_more, takes_none, takes_then}
 use Rattle.zeb_packed.proofs.packed_runs.changes_put.Goals as goal
@@ -153,3 +156,20 @@ returns-in_err-after-clause-call g c = record {
       on_err c.from_residual-in_err-after.result _ (goes_keeps first second third (reads_goes first second reads) (c.in_err-after.ensures.call.err clean reads.mode));
   crash = quiet_then _ _ _ c.key_known.ensures.call.crash c.runs_put.ensures.call.crash;
 }
+
+pub returns-clause-sound : goal.returns-clause-sound
+returns-clause-sound g c clean inside store =
+    let first = state g.S.Store c.args.tx.now.conn.now in
+    let second = state g.S.Store c.key_known.new.tx.conn.now in
+    let third = state g.S.Store c.runs_put.new.tx.conn.now in
+    let clean2 : HasCleanDisk third = omega (arith, c.dict_write.ensures.call.crash.clean) in
+    let clean1 : HasCleanDisk second = omega (arith, c.dict_write.ensures.call.crash.clean, c.runs_put.ensures.call.crash.clean) in
+    let reads = c.in_ok-known.ensures.call.ok clean1 inside in
+    let goes = goes_then first second third (reads_goes first second reads) (c.in_ok-after.ensures.call.ok clean2 reads.mode reads.is_open) in
+    let db = c.args.db.0 in
+    let key = c.args.key.now in
+    let xs = c.args.changes.now in
+    let runs = subst (λ (d : Database). AreRunsSpelled db key xs d.trees) reads.now_is (c.in_ok-after.ensures.sound clean2 reads.mode (store_same first second reads.now_is store)) in
+    let sound : AreKeyRowsSound first.now.trees db key (map (λ (x : RecordChange). x.sysno) xs) =
+    record { dict = c.in_ok-known.ensures.sound clean1 inside store; blocks = numbers_sound db key xs first.now.trees runs } in
+    IfOk-weaker c.dict_write.result _ _ (λ _ _. sound) (c.dict_write.ensures.call.ok clean goes.mode)

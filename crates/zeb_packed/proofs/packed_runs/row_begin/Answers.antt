@@ -83,3 +83,6 @@ returns-clause-rowids g c clean inside store =
     takes_more (new_rows false (length list)) (rows_of (map placed c.args.run.now)) blocks_tree first second
     (new_within true c.new.result.items list c.args.run.now (ap (λ (l : List Posting). length l == 0) c.new.ensures.items) c.in_ok-after.ensures.made)
     (subst (λ (l : List Posting). TakesRowids (new_rows false (length l)) blocks_tree first second) c.deref.ensures.value (c.in_ok-block_begin.ensures.rowids clean inside store))
+
+pub returns-clause-sound : goal.returns-clause-sound
+returns-clause-sound g c clean inside store = c.in_ok-block_begin.ensures.sound clean inside store

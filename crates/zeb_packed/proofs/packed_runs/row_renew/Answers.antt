@@ -13,6 +13,7 @@ use Rattle.zeb_register.proofs.Calls.{changes_after, changes_so, goes_then, read
 use Rattle.zeb_register.proofs.Causes.{hindered_after}
 use Rattle.zeb_packed.proofs.PackedCauses.{new_within, row_hinders}
 use Rattle.zeb_packed.proofs.PackedHindrances.{not_mistold, put_spells, spells_so}
+use Rattle.zeb_packed.proofs.PackedSound.{put_sound}
 use Rattle.zeb_packed.proofs.PackedWrites.{block_told, puts_run}
 use Rattle.zeb_register.proofs.TakenRowids.{takes_more}
 use Rattle.zeb_packed.proofs.packed_runs.row_renew.Goals as goal
@@ -117,3 +118,24 @@ returns-clause-spelled g c clean inside store =
     let put = subst (λ l. IfTold there P (PutsBlock db key block l) blocks_tree first.now.trees third.now.trees) c.deref.ensures.value
     (subst (λ (d : Database). IfTold there P (PutsBlock db key block c.deref.result.now) blocks_tree d.trees third.now.trees) reads.now_is done.rows) in
     spells_so db key (Has list) (IsPut c.args.run.now) first.now.trees third.now.trees made (put_spells db key block list first.now.trees third.now.trees (put is_told))
+
+pub returns-clause-sound : goal.returns-clause-sound
+returns-clause-sound g c clean inside store =
+    let first = state g.S.Store c.args.tx.now.conn.now in
+    let second = state g.S.Store c.block_list.new.tx.conn.now in
+    let third = state g.S.Store c.block_write.new.tx.conn.now in
+    let clean1 : HasCleanDisk second = omega (arith, c.block_write.ensures.call.crash.clean) in
+    let reads = c.in_ok-list.ensures.call.ok clean1 inside in
+    let db = c.args.db.0 in
+    let key = c.args.key.now in
+    let block = c.args.block in
+    let list = c.in_ok-after.after.list.items in
+    let there = not c.is_empty-is_there.result in
+    let P = IsBlockIn db key block in
+    let empty : (length c.in_ok-list.list.items == 0) ≡ c.is_empty-is_there.result = ap (λ n. n == 0) (sym c.in_ok-list.list.ok.0) ∙ sym c.is_empty-is_there.ensures in
+    let is_told = subst (λ b. IsTold (not b) P blocks_tree first.now.trees) empty (c.in_ok-list.ensures.told clean1 inside store) in
+    let done = (c.in_ok-block_write.ensures.call.ok clean reads.mode).rows (store_same first second reads.now_is store) in
+    let put = subst (λ l. IfTold there P (PutsBlock db key block l) blocks_tree first.now.trees third.now.trees) c.deref.ensures.value
+    (subst (λ (d : Database). IfTold there P (PutsBlock db key block c.deref.result.now) blocks_tree d.trees third.now.trees) reads.now_is done.rows) in
+    let spelled = c.in_ok-list.ensures.sound clean1 inside store in
+    (spelled, put_sound db key block list first.now.trees third.now.trees (put is_told) spelled)

@@ -12,6 +12,8 @@ use Rattle.zeb_register.proofs.Causes.{may_after}
 use Rattle.zeb_packed.proofs.PackedCauses.{rows_run, run_hinders, spells_run}
 use Rattle.zeb_register.proofs.RowCounts.{rows_taken}
 use Rattle.zeb_register.proofs.TakenRowids.{takes_more, takes_then}
+use Rattle.zeb_packed.specs.PackedHindrances.{AreRunsSpelled}
+use Rattle.zeb_packed.proofs.PackedSound.{run_sound}
 use Rattle.zeb_packed.proofs.PackedWrites.{puts_behind, puts_so, puts_then}
 use Rattle.zeb_packed.proofs.packed_runs.runs_put.Goals as goal
 
@@ -67,6 +69,11 @@ loop-done-preserved g c =
           let was : HasCleanDisk mid = omega (arith, c.run_put.ensures.call.crash.clean) in
           let next = it.spelled clean (so_far.stays was inside).inside (so_far.put was inside store).layout in
           spells_run db key xs done n first.now.trees mid.now.trees last.now.trees (done + length (run xs done n)) (run_more xs done n) (so_far.spells was inside store) next;
+      sound = λ clean inside store.
+          let was : HasCleanDisk mid = omega (arith, c.run_put.ensures.call.crash.clean) in
+          let next = it.sound clean (so_far.stays was inside).inside (so_far.put was inside store).layout in
+          run_sound db key xs done n ((get_or xs done no_change).sysno / 256) (done + length (run xs done n)) first.now.trees mid.now.trees last.now.trees (run_more xs done n) c.run_length.ensures.inside
+          (so_far.sound was inside store) next;
       grows = let rows = rows_run xs done n in omega (arith, c.behind-known.ensures.records, it.grows, so_far.grows, rows);
     }
 
@@ -126,3 +133,8 @@ pub returns-clause-grows : goal.returns-clause-grows
 returns-clause-grows g c =
     let so_far = rows_taken c.loop-done.done c.args.changes.now in
     omega (arith, so_far, c.loop-done.invariant.grows)
+
+pub returns-clause-sound : goal.returns-clause-sound
+returns-clause-sound g c clean inside store =
+    let xs = c.args.changes.now in
+    subst (λ l. AreRunsSpelled c.args.db.0 c.args.key.now l (state g.S.Store c.args.tx.now.conn.now).now.trees) (take_all c.loop-done.done xs c.loop-done-test.false) (c.loop-done.invariant.sound clean inside store).1

@@ -3,7 +3,7 @@ use Rattle.sqlite.specs.Held.{state}
 use Rattle.sqlite.specs.State.{HasCleanDisk, Survives}
 use Rattle.zeb_register.specs.Hindrances.{TakesRowids, placed, rows_of}
 use Rattle.zeb_packed.specs.PackedChanges.{IsKnown, PutsChanges}
-use Rattle.zeb_packed.specs.PackedHindrances.{IsPut, SpellsMore}
+use Rattle.zeb_packed.specs.PackedHindrances.{AreRunsSpelled, IsPut, SpellsMore, WereSpelled}
 use Rattle.zeb_register.specs.Store.{Changes, IsStore, blocks_tree}
 use Rattle.zeb_register.proofs.Calls.{Stays}
 use Rattle.zeb_packed.proofs.packed_runs.runs_put.Given as goal
@@ -20,6 +20,7 @@ invariant-loop-done g l =
       put : HasCleanDisk now → IsTrue old.in_transaction → IsStore old → Changes blocks_tree (PutsChanges l.db.0 l.key (take l.done l.changes) (IsKnown l.fn.known) (IsKnown l.known)) old now;
       takes : HasCleanDisk now → IsTrue old.in_transaction → IsStore old → TakesRowids (rows_of (map placed (take l.done l.changes))) blocks_tree old.now.trees now.now.trees;
       spells : HasCleanDisk now → IsTrue old.in_transaction → IsStore old → SpellsMore l.db.0 l.key (IsPut (take l.done l.changes)) old.now.trees now.now.trees;
+      sound : HasCleanDisk now → IsTrue old.in_transaction → IsStore old → WereSpelled l.db.0 l.key old.now.trees now.now.trees × AreRunsSpelled l.db.0 l.key (take l.done l.changes) old.now.trees;
       grows : l.known.records ≤ l.fn.known.records + rows_of (map placed (take l.done l.changes));
     }
 

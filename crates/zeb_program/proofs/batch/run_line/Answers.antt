@@ -3,7 +3,9 @@ use Rattle.sqlite.specs.Held.{state}
 use Rattle.sqlite.specs.State.{HasCleanDisk}
 use Rattle.zeb_change.specs.Conditions.{conditions}
 use Rattle.zeb_program.specs.Says.{SaysText}
+use Rattle.zeb_program.specs.declared.lines.Line.TheVariants.{Remark, Bad}
 use Rattle.zeb_program.specs.PathChanges.{IsLineTold}
+use Rattle.zeb_program.proofs.OverLemmas.{ordered_over, path_over}
 use Rattle.zeb_program.proofs.PathLemmas.{path_line}
 use Rattle.zeb_program.proofs.ServingLemmas.{bad_line_answer, ordered_line, remark_line}
 use Rattle.zeb_program.proofs.batch.run_line.Goals as goal
@@ -37,3 +39,21 @@ returns-in-Bad-clause-answer g c =
     let old = state g.S.Store c.args.session.now.connection in
     λ sound _ _. bad_line_answer (g.P.Paths.tells c.args.paths.now) k c.args.number c.args.line.now old (g.W.Write.contents c.args.output.now.writer) (g.W.Write.contents c.refuse_line.new.output.writer)
     c.refuse_line.result (inl (c.utf8.line, subst (SaysText c.args.line.now) c.in-Bad.is c.in_ok-read.ensures)) c.refuse_line.ensures.status (c.refuse_line.ensures.line sound)
+
+pub returns-in-Remark-clause-over : goal.returns-in-Remark-clause-over
+returns-in-Remark-clause-over g c = λ _ _. (Remark, inl (c.utf8.line, subst (SaysText c.args.line.now) c.in-Remark.is c.in_ok-read.ensures), tt)
+
+pub returns-in-Command-clause-over : goal.returns-in-Command-clause-over
+returns-in-Command-clause-over g c =
+    let new = state g.S.Store c.run_command.new.session.connection in
+    ordered_over g.L.Layout.format c.args.session.now.profile c.in-Command.command (state g.S.Store c.args.session.now.connection) (g.W.Write.contents c.args.output.now.writer) (g.W.Write.contents c.run_command.new.output.writer)
+    c.run_command.new.output.failed (HasCleanDisk new) c.args.line.now c.run_command.result (inl (c.utf8.line, subst (SaysText c.args.line.now) c.in-Command.is c.in_ok-read.ensures)) c.run_command.ensures.over
+
+pub returns-in-Path-clause-over : goal.returns-in-Path-clause-over
+returns-in-Path-clause-over g c =
+    let new = state g.S.Store c.run_path_change.new.session.connection in
+    path_over g.L.Layout.format c.args.session.now.profile c.in-Path.change (state g.S.Store c.args.session.now.connection) (g.W.Write.contents c.args.output.now.writer) (g.W.Write.contents c.run_path_change.new.output.writer)
+    c.run_path_change.new.output.failed (HasCleanDisk new) c.args.line.now c.run_path_change.result (inl (c.utf8.line, subst (SaysText c.args.line.now) c.in-Path.is c.in_ok-read.ensures))
+
+pub returns-in-Bad-clause-over : goal.returns-in-Bad-clause-over
+returns-in-Bad-clause-over g c = λ _ _. (Bad, inl (c.utf8.line, subst (SaysText c.args.line.now) c.in-Bad.is c.in_ok-read.ensures), tt)

@@ -6,3 +6,9 @@ returns-in-Ok-clause-answer g c = λ clean. replied_command _ _ _ _ c.in-Ok.repl
 
 pub returns-in-Err-clause-answer : goal.returns-in-Err-clause-answer
 returns-in-Err-clause-answer g c = λ clean. refused_command _ _ _ _ c.in-Err.refusal (c.in-Err.ensures.serves clean)
+
+pub returns-in-Ok-clause-over : goal.returns-in-Ok-clause-over
+returns-in-Ok-clause-over g c = λ clean. c.in-Ok.ensures.over clean
+
+pub returns-in-Err-clause-over : goal.returns-in-Err-clause-over
+returns-in-Err-clause-over g c = λ clean. c.in-Err.ensures.over clean

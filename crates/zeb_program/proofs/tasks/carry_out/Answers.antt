@@ -2,6 +2,7 @@ use Rattle.std.proofs.Common.{subst, sym}
 use Rattle.sqlite.specs.Held.{state}
 use Rattle.zeb_change.specs.Conditions.{conditions}
 use Rattle.zeb_register.specs.Formats.{version_of}
+use Rattle.zeb_program.specs.OverTables.{TaskOver}
 use Rattle.zeb_program.specs.Serving.{ServesTask, replied}
 use Rattle.zeb_program.proofs.TaskLemmas.{analysed_task, asked_task, changed_task}
 use Rattle.zeb_program.proofs.tasks.carry_out.Goals as goal
@@ -30,3 +31,19 @@ returns-in-Analyse-clause-answer g c = λ clean.
     let k = conditions (version_of g.L.Layout.format) c.args.session.now.profile c.args.session.now.limits in
     analysed_task (g.P.Paths.tells c.args.paths.now) k c.args.task.now _ _ (replied c.analyse_paths.result) c.in-Analyse.named c.deref-in-Analyse.result.now
     c.in-Analyse.is c.deref-in-Analyse.ensures.value (c.analyse_paths.ensures.told clean)
+
+pub returns-in-Ask-clause-over : goal.returns-in-Ask-clause-over
+returns-in-Ask-clause-over g c = λ clean.
+    let format = g.L.Layout.format in
+    let profile = c.args.session.now.profile in
+    let old = state g.S.Store c.args.session.now.connection in
+    subst (TaskOver format profile c.args.task.now old) (sym c.to_serve.ensures.reply)
+    (subst (λ task. TaskOver format profile task old c.ask.result) (sym c.in-Ask.is) (c.ask.ensures.over clean))
+
+pub returns-in-Change-clause-over : goal.returns-in-Change-clause-over
+returns-in-Change-clause-over g c = λ clean.
+    subst (λ task. TaskOver g.L.Layout.format c.args.session.now.profile task (state g.S.Store c.args.session.now.connection) (replied c.to_serve-in-Change.result)) (sym c.in-Change.is) tt
+
+pub returns-in-Analyse-clause-over : goal.returns-in-Analyse-clause-over
+returns-in-Analyse-clause-over g c = λ clean.
+    subst (λ task. TaskOver g.L.Layout.format c.args.session.now.profile task (state g.S.Store c.args.session.now.connection) (replied c.analyse_paths.result)) (sym c.in-Analyse.is) tt

@@ -10,7 +10,6 @@ use Rattle.zeb_engine.specs.Crashes.{Commits, CommitsBy}
 use Rattle.zeb_image.specs.Image.{IsImage}
 use Rattle.zeb_image.specs.NameOf.{name_bytes}
 use Rattle.zeb_engine.specs.Steps.{OnlyAsks, turned, TakesFiles, created, dropped, dumped_by, holding, checked, Step, initialised, reindexed, upgraded, ready, CountedFrom}
-use Rattle.zeb_engine.specs.PrivateChanging.{IsNoChange}
 use Rattle.zeb_engine.specs.Readiness.{LooksFirst}
 use Rattle.zeb_engine.specs.Works.{Always, Asks, Serves, ServesBy}
 use Rattle.zeb_engine.proofs.Commanding.{analysis_answers, analysis_serves, asks_serve, each_so, ends_serve, find_alone, find_serves, find_tables, scan_alone, scan_serves, scan_tables}
@@ -27,9 +26,8 @@ use Rattle.zeb_register.specs.Formats.{version_of}
 
 pub returns-in-Init-clause-serves : goal.returns-in-Init-clause-serves
 returns-in-Init-clause-serves g c clean =
-    let limits = c.args.self.now.limits in
-    let k = conditions (version_of g.L.Layout.format) c.args.self.now.profile limits in
-    rw c.in-Init.is (ends_serve (initialised k) (state g.S.Store c.args.self.now.connection) (state g.S.Store c.init_register.new.connection) c.init_register.result (λ before fits keeps. c.init_register.ensures.serves clean limits before (λ _. tt) keeps))
+    let k = conditions (version_of g.L.Layout.format) c.args.self.now.profile c.args.self.now.limits in
+    rw c.in-Init.is (ends_serve (initialised k) (state g.S.Store c.args.self.now.connection) (state g.S.Store c.init_register.new.connection) c.init_register.result (λ before fits keeps. c.init_register.ensures.serves clean c.args.self.now.limits before (λ _. tt) keeps))
 
 pub returns-in-Create-clause-serves : goal.returns-in-Create-clause-serves
 returns-in-Create-clause-serves g c clean =
@@ -52,11 +50,9 @@ returns-in-Drop-clause-serves g c clean =
 pub returns-in-Change-clause-serves : goal.returns-in-Change-clause-serves
 returns-in-Change-clause-serves g c clean =
     let k = conditions (version_of g.L.Layout.format) c.args.self.now.profile c.args.self.now.limits in
-    let old = state g.S.Store c.args.self.now.connection in
-    let new = state g.S.Store c.change.new.self.connection in
     rw c.in-Change.is (each_so
     c.in-Change.kind-1-own.given.0.0 c.in-Change.kind c.in-Change.database-1-own.given.0.1.0 c.in-Change.database c.deref.result.now c.in-Change.files.items (search rules) (search rules) (search rules)
-    (λ kind named files. ServesBy (TakesFiles k kind (name_bytes named) (map (λ file. file.items) files)) old new c.change.result) (c.change.ensures.serves clean))
+    (λ kind named files. ServesBy (TakesFiles k kind (name_bytes named) (map (λ file. file.items) files)) (state g.S.Store c.args.self.now.connection) (state g.S.Store c.change.new.self.connection) c.change.result) (c.change.ensures.serves clean))
 
 pub returns-in-Find-clause-serves : goal.returns-in-Find-clause-serves
 returns-in-Find-clause-serves g c clean =
@@ -78,32 +74,28 @@ returns-in-Check-clause-serves g c clean =
 
 pub returns-in-Upgrade-clause-serves : goal.returns-in-Upgrade-clause-serves
 returns-in-Upgrade-clause-serves g c clean =
-    let limits = c.args.self.now.limits in
-    let k = conditions (version_of g.L.Layout.format) c.args.self.now.profile limits in
-    rw c.in-Upgrade.is (ends_serve (upgraded k) (state g.S.Store c.args.self.now.connection) (state g.S.Store c.upgrade.new.connection) c.upgrade.result (c.upgrade.ensures.serves clean limits))
+    let k = conditions (version_of g.L.Layout.format) c.args.self.now.profile c.args.self.now.limits in
+    rw c.in-Upgrade.is (ends_serve (upgraded k) (state g.S.Store c.args.self.now.connection) (state g.S.Store c.upgrade.new.connection) c.upgrade.result (c.upgrade.ensures.serves clean c.args.self.now.limits))
 
 pub returns-in-Reindex-clause-serves : goal.returns-in-Reindex-clause-serves
 returns-in-Reindex-clause-serves g c clean =
-    let limits = c.args.self.now.limits in
-    let k = conditions (version_of g.L.Layout.format) c.args.self.now.profile limits in
-    rw c.in-Reindex.is (ends_serve (reindexed k) (state g.S.Store c.args.self.now.connection) (state g.S.Store c.reindex.new.connection) c.reindex.result (c.reindex.ensures.serves clean limits))
+    let k = conditions (version_of g.L.Layout.format) c.args.self.now.profile c.args.self.now.limits in
+    rw c.in-Reindex.is (ends_serve (reindexed k) (state g.S.Store c.args.self.now.connection) (state g.S.Store c.reindex.new.connection) c.reindex.result (c.reindex.ensures.serves clean c.args.self.now.limits))
 
 pub returns-in-Stat-clause-serves : goal.returns-in-Stat-clause-serves
 returns-in-Stat-clause-serves g c clean =
-    let limits = c.args.self.now.limits in
-    let k = conditions (version_of g.L.Layout.format) c.args.self.now.profile limits in
+    let k = conditions (version_of g.L.Layout.format) c.args.self.now.profile c.args.self.now.limits in
     let old = state g.S.Store c.args.self.now.connection in
     let new = state g.S.Store c.stat.new.connection in
-    let asks : Asks (λ before answer. CountedFrom k (name_bytes c.in-Stat.name) (ready k before) answer) old new c.stat.result = c.stat.ensures.serves clean limits in
+    let asks : Asks (λ before answer. CountedFrom k (name_bytes c.in-Stat.name) (ready k before) answer) old new c.stat.result = c.stat.ensures.serves clean c.args.self.now.limits in
     rw c.in-Stat.is (asks_serve (λ before. CountedFrom k (name_bytes c.in-Stat.name) (ready k before)) old new c.stat.result asks)
 
 pub returns-in-Dump-clause-serves : goal.returns-in-Dump-clause-serves
 returns-in-Dump-clause-serves g c clean =
-    let limits = c.args.self.now.limits in
-    let k = conditions (version_of g.L.Layout.format) c.args.self.now.profile limits in
+    let k = conditions (version_of g.L.Layout.format) c.args.self.now.profile c.args.self.now.limits in
     let old = state g.S.Store c.args.self.now.connection in
     let new = state g.S.Store c.dump.new.connection in
-    let serves : Serves Always (dumped_by k (name_bytes c.in-Dump.name)) old new c.dump.result = c.dump.ensures.serves clean limits in
+    let serves : Serves Always (dumped_by k (name_bytes c.in-Dump.name)) old new c.dump.result = c.dump.ensures.serves clean c.args.self.now.limits in
     rw c.in-Dump.is (ends_serve (dumped_by k (name_bytes c.in-Dump.name)) old new c.dump.result serves)
 
 pub returns-in-Scan-clause-serves : goal.returns-in-Scan-clause-serves
@@ -448,7 +440,9 @@ pub returns-in-Analyse-clause-read_work : goal.returns-in-Analyse-clause-read_wo
 returns-in-Analyse-clause-read_work g c clean = rw c.in-Analyse.is tt
 
 pub returns-in-Change-clause-no_work : goal.returns-in-Change-clause-no_work
-returns-in-Change-clause-no_work g c none is = absurd (subst IsNoChange c.in-Change.is is)
+returns-in-Change-clause-no_work g c none =
+    let fresh : c.default-self.result ≡ no_work = search rules in
+    c.change.ensures.no_work none fresh
 
 pub returns-in-Init-clause-caused : goal.returns-in-Init-clause-caused
 returns-in-Init-clause-caused g c clean = rw c.in-Init.is (c.init_register.ensures.caused clean)
@@ -497,3 +491,9 @@ returns-in-Change-clause-room g c clean =
     rw c.in-Change.is (each_so
     c.in-Change.kind-1-own.given.0.0 c.in-Change.kind c.in-Change.database-1-own.given.0.1.0 c.in-Change.database c.deref.result.now c.in-Change.files.items (search rules) (search rules) (search rules)
     (λ kind named files. ChangesInRoom g.L.Layout.format profile kind (map (λ file. file.items) files) Always old (state g.S.Store c.change.new.self.connection) c.change.result) (c.change.ensures.room clean))
+
+pub returns-in-Reindex-clause-room : goal.returns-in-Reindex-clause-room
+returns-in-Reindex-clause-room g c clean = rw c.in-Reindex.is (c.reindex.ensures.room clean)
+
+pub returns-in-Upgrade-clause-room : goal.returns-in-Upgrade-clause-room
+returns-in-Upgrade-clause-room g c clean = rw c.in-Upgrade.is (c.upgrade.ensures.room clean)

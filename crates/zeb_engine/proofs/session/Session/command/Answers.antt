@@ -9,7 +9,6 @@ use Rattle.zeb_engine.proofs.Remaking.{leaves_settled}
 use Rattle.zeb_engine.proofs.RunCrashes.{did_endures}
 use Rattle.zeb_engine.proofs.Unasked.{did}
 use Rattle.zeb_engine.proofs.Honest.{command_honest}
-use Rattle.zeb_engine.proofs.NoWork.{command_counts_nothing}
 use Rattle.zeb_engine.proofs.Serving.{on_ok}
 use Rattle.zeb_engine.proofs.session.Session.command.Goals as goal
 use Rattle.zeb_register.specs.Formats.{version_of}
@@ -48,15 +47,24 @@ returns-clause-remade g c clean is =
     let idle : IsTrue c.is_autocommit-settled.result = search rules in
     leaves_settled g.L.Layout.format c.args.self.now.profile c.carry_out-answer.result old new (λ is_open. sym (c.is_autocommit-settled.ensures.settled idle is_open)) (c.carry_out-answer.ensures.remade clean is)
 
-pub returns-clause-no_work : goal.returns-clause-no_work
-returns-clause-no_work g c clean none =
-    let k = conditions (version_of g.L.Layout.format) c.args.self.now.profile c.args.self.now.limits in
-    let old = state g.S.Store c.args.self.now.connection in
-    command_counts_nothing g.L.Layout.row_work k old c.carry_out-answer.result c.carry_out-answer.new.self.work none c.args.command.now
-    (c.carry_out-answer.ensures.work clean) (c.carry_out-answer.ensures.no_work none)
-
 pub returns-clause-alone : goal.returns-clause-alone
 returns-clause-alone g c clean = (c.carry_out-answer.ensures.asked clean).0
 
 pub returns-clause-tables : goal.returns-clause-tables
 returns-clause-tables g c clean = (c.carry_out-answer.ensures.asked clean).1
+
+pub returns-clause-over : goal.returns-clause-over
+returns-clause-over g c clean =
+    let k = conditions (version_of g.L.Layout.format) c.args.self.now.profile c.args.self.now.limits in
+    let old = state g.S.Store c.args.self.now.connection in
+    let new = state g.S.Store c.carry_out-answer.new.self.connection in
+    let done = c.carry_out-answer.ensures in
+    record {
+      ready = done.ready clean;
+      checked = done.checked clean;
+      reindexes = done.reindexes clean;
+      upgrades = done.upgrades clean;
+      alone = (done.asked clean).0;
+      tables = (done.asked clean).1;
+      honest = λ is before keeps. command_honest k old new c.carry_out-answer.result is before keeps c.args.command.now (done.serves clean);
+    }

@@ -23,3 +23,6 @@ returns-clause-damaged g c clean inside store is rises content storable holds ha
     let change : RecordChange = record { sysno = c.args.sysno; old = c.args.old; new = c.args.new } in
     let after = change_alone c.args.db.0 c.args.key.now change content holds.rising had in
     c.key_changes.ensures.damaged clean inside store is (rises, tt) content storable holds after.0 after.1
+
+pub returns-clause-sound : goal.returns-clause-sound
+returns-clause-sound g c clean inside store = on_ok_so c.key_changes.result _ _ (λ sound. sound (λ none. cc)) (c.key_changes.ensures.sound clean inside store)

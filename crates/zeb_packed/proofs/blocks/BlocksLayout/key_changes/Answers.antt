@@ -65,3 +65,9 @@ returns-then-is_empty-clause-rowids g c clean inside store =
 
 pub returns-in_err-changes_put-clause-refused : goal.returns-in_err-changes_put-clause-refused
 returns-in_err-changes_put-clause-refused g c clean inside store told = c.in_err-changes_put.ensures.refused clean inside store (search rules)
+
+pub returns-then-is_empty-clause-sound : goal.returns-then-is_empty-clause-sound
+returns-then-is_empty-clause-sound g c clean inside store some = absurd (some (none_of c.args.changes.now (sym c.is_empty.ensures ∙ c.if-is_empty.true)))
+
+pub returns-clause-sound : goal.returns-clause-sound
+returns-clause-sound g c clean inside store some = c.in_ok-changes_put.ensures.sound clean inside store

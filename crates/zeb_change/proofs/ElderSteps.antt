@@ -1,0 +1,105 @@
+-- What the first record of a fold found kept under its identifier.
+use Rattle.std.proofs.Common.{◌≡◌, ◌⊎◌, ◌∙◌, ◌≤◌, ◌<◌, ℕ, zero, suc, ℤ, List, [], ◌∷◌, Option, None, Some, Result, Ok, Err, Bool, true, false, drop, length, set, length-set, get_or-set_same, inl, inr, arith, refl, ap, sym, subst}
+use Rattle.sqlite.specs.State.{State}
+use Rattle.sqlite.specs.Effect.{Database}
+use Rattle.sqlite.specs.Tree.{Trees}
+use Rattle.zeb_marc.specs.Records.{first_fault}
+use Rattle.zeb_marc.specs.Splits.{Next, Split, at_end, a_slice, a_fault, next_of, split_of}
+use Rattle.zeb_marc.proofs.SplitLaws.{split_of-next}
+use Rattle.zeb_profile.specs.declared.directives.Directive.{Directive}
+use Rattle.zeb_register.specs.Store.{IsStore}
+use Rattle.zeb_change.specs.declared.files.Fold.{Fold}
+use Rattle.zeb_change.specs.declared.refusals.Refusal.{Refusal}
+use Rattle.zeb_change.specs.Elders.{FindsWhole, FirstFindsWhole, IsSoOrDamaged, KeepsWhole, OfFirst}
+use Rattle.zeb_change.specs.Folding.{ident_in, splits_of}
+use Rattle.zeb_change.specs.Reading.{NoneFailed, ReadsNext}
+use Rattle.zeb_change.proofs.Elders.{is_so}
+use Rattle.zeb_change.proofs.FoldAll.{fine_at}
+use Rattle.zeb_change.proofs.FoldFiles.{told_end, told_fault, told_slice}
+
+-- ---- of the first
+
+first_more : {A : Type 0} (P Q : A → Type 0) (xs : List A) → ((x : A) → P x → Q x) → OfFirst P xs → OfFirst Q xs
+first_more P Q [] more is = tt
+first_more P Q (x ∷ xs) more is = more x is
+
+-- ---- what a record found
+
+module _ (profile : List Directive) (trees : Trees) (db : ℤ) where
+  -- what is kept under its identifier is whole
+  abbrev pub FoundWhole : List ℕ → Type 0
+  FoundWhole bytes = (ident : List ℕ) → first_fault bytes ≡ None → ident_in profile bytes ≡ Ok ident → KeepsWhole profile trees db ident
+
+  finds : {T : Type 0} (result : Result T Refusal) (bytes : List ℕ) → FoundWhole bytes → FindsWhole profile trees db bytes result
+  finds result bytes found ident whole named = is_so _ result (found ident whole named)
+
+  -- it did, so whatever comes is an answer that goes by it
+  pub file_finds : {T : Type 0} (result : Result T Refusal) (slices : List (List ℕ)) → OfFirst FoundWhole slices → OfFirst (λ slice. FindsWhole profile trees db slice result) slices
+  file_finds result slices = first_more _ _ slices (finds result)
+
+  pub files_find : {T : Type 0} (result : Result T Refusal) (splits : List Split) → OfFirst (λ split. OfFirst FoundWhole split.slices) splits → FirstFindsWhole profile trees db splits result
+  files_find result splits = first_more _ _ splits (λ split found. file_finds result split.slices found)
+
+-- it is said of tables, of a fold and of bytes that are the same ones
+pub found_same : {T : Type 0} (profile : List Directive) (old now : State) (first fold : Fold) (one two : List ℕ) (result : Result T Refusal) → now.now ≡ old.now → fold ≡ first → one ≡ two
+    → FindsWhole profile now.now.trees fold.progress.database.0 one result → FindsWhole profile old.now.trees first.progress.database.0 two result
+found_same profile old now first fold one two result at is same finds =
+    subst (λ (db : Database). FindsWhole profile db.trees first.progress.database.0 two result) at
+    (subst (λ (f : Fold). FindsWhole profile now.now.trees f.progress.database.0 two result) is
+    (subst (λ (bytes : List ℕ). FindsWhole profile now.now.trees fold.progress.database.0 bytes result) same finds))
+
+-- the same of the first record of a file
+pub file_same : {T : Type 0} (profile : List Directive) (old now : State) (first fold : Fold) (result : Result T Refusal) (slices : List (List ℕ)) → now.now ≡ old.now → fold ≡ first
+    → OfFirst (λ slice. FindsWhole profile now.now.trees fold.progress.database.0 slice result) slices → OfFirst (λ slice. FindsWhole profile old.now.trees first.progress.database.0 slice result) slices
+file_same profile old now first fold result slices at is = first_more _ _ slices (λ slice. found_same profile old now first fold slice slice result at is refl)
+
+-- ---- a file
+
+module _ (P : List ℕ → Type 0) (text : List ℕ) where
+  at_slice : (slice rest : List ℕ) → next_of text ≡ a_slice slice rest → P slice → OfFirst P (split_of text).slices
+  at_slice slice rest is so = rw (split_of-next text, is) so
+
+  module _ (file nth : ℕ) (kept : List ℕ) (left : Option (List ℕ)) where
+    -- its first record is read
+    pub first_read : ReadsNext file nth (next_of text) (Ok true) kept left → P kept → OfFirst P (split_of text).slices
+    first_read read so = let it = told_slice file nth (next_of text) kept left read in at_slice kept it.0 it.1 so
+
+    -- it has none
+    pub none_read : ReadsNext file nth (next_of text) (Ok false) kept left → OfFirst P (split_of text).slices
+    none_read read = rw (split_of-next text, told_end file nth (next_of text) kept left read) tt
+
+    -- a fault stands in its place
+    pub fault_read : (refusal : Refusal) → ReadsNext file nth (next_of text) (Err refusal) kept left → OfFirst P (split_of text).slices
+    fault_read refusal read = let it = told_fault file nth (next_of text) refusal kept left read in rw (split_of-next text, it.1) tt
+
+-- no record of a file is read so far, and nothing is changed; or the first one found what is whole
+abbrev pub FileBegun : List Directive → (old now : State) → (first fold : Fold) → Option (List ℕ) → (text : List ℕ) → Type 0
+FileBegun profile old now first fold remaining text =
+    (IsStore now × (now.now ≡ old.now) × (fold ≡ first) × (remaining ≡ Some text))
+    ⊎ OfFirst (FoundWhole profile old.now.trees first.progress.database.0) (split_of text).slices
+
+-- ---- files
+
+module _ (P : Split → Type 0) where
+  -- the first file is read
+  pub first_file : (index : ℕ) (texts : List (List ℕ)) (text : List ℕ) (rest : List (List ℕ)) → index ≡ 0 → drop index texts ≡ text ∷ rest → P (split_of text) → OfFirst P (splits_of texts)
+  first_file (suc n) texts text rest none behind so = absurd (omega (arith, none))
+  first_file zero [] text rest none behind so = tt
+  first_file zero (t ∷ ts) text rest none behind so = let same : text ≡ t = cc in subst (λ t. P (split_of t)) same so
+
+  -- there is none
+  pub no_files : (texts : List (List ℕ)) → length texts ≤ 0 → OfFirst P (splits_of texts)
+  no_files [] none = tt
+  no_files (t ∷ ts) none = absurd (omega (arith, none))
+
+-- a reader that is put among others hasn't failed where none of them has
+pub fine_set : {R : Type 0} (failed : R → Bool) (readers : List R) (index : ℕ) (reader : R) → index < length readers → NoneFailed failed (set readers index reader) → failed reader ≡ false
+fine_set failed readers index reader within fine =
+    ap failed (sym (get_or-set_same readers index reader reader within))
+    ∙ fine_at failed (set readers index reader) index reader fine (subst (λ n. index < n) (sym (length-set readers index reader)) within)
+
+-- the same of files, of which so many are read
+abbrev pub FilesBegun : List Directive → (old now : State) → (first fold : Fold) → ℕ → List Split → Type 0
+FilesBegun profile old now first fold index splits =
+    (IsStore now × (now.now ≡ old.now) × (fold ≡ first) × (index ≡ 0))
+    ⊎ OfFirst (λ split. OfFirst (FoundWhole profile old.now.trees first.progress.database.0) split.slices) splits

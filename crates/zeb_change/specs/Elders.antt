@@ -1,0 +1,38 @@
+-- What a change finds kept under a record's identifier, whatever rows the tables of the store have.
+use Rattle.std.specs.Prelude.{◌≡◌, ◌⊎◌, ℕ, ℤ, pos, List, [], ◌∷◌, None, Result, Ok, Err}
+use Rattle.sqlite.specs.Tree.{Trees}
+use Rattle.zeb_marc.specs.Records.{first_fault}
+use Rattle.zeb_marc.specs.Splits.{Split}
+use Rattle.zeb_profile.specs.declared.directives.Directive.{Directive}
+use Rattle.zeb_register.specs.Store.{HasRecord}
+use Rattle.zeb_change.specs.declared.refusals.Refusal.{Refusal}
+use Rattle.zeb_change.specs.declared.refusals.Refusal.TheVariants.{Damaged}
+use Rattle.zeb_change.specs.Refused.{why_of, IsFailing}
+use Rattle.zeb_change.specs.Folding.{ident_in}
+use Rattle.zeb_change.specs.Stored.{IsKept}
+
+-- What the database keeps under this identifier, if it keeps anything, has a number of 0 or more, and is a record of ISO 2709 in which the
+-- profile finds that identifier.
+abbrev pub KeepsWhole : List Directive → Trees → ℤ → List ℕ → Type 0
+KeepsWhole profile trees db ident = (sysno : ℤ) (bytes : List ℕ) → HasRecord trees db sysno ident bytes
+    → (n : ℕ) × (sysno ≡ pos n) × IsKept profile (record { sysno = n; ident = ident; bytes = bytes })
+
+-- this is so, or the change is refused: as damage, or because the store or the memory failed
+abbrev pub IsSoOrDamaged : {T : Type 0} → Type 0 → Result T Refusal → Type 0
+IsSoOrDamaged Said (Ok x) = Said
+IsSoOrDamaged Said (Err refusal) = Said ⊎ ((refusal ≡ Damaged) ⊎ IsFailing (why_of refusal))
+
+-- what the database keeps under the identifier of this record is whole, or the change is refused so
+abbrev pub FindsWhole : {T : Type 0} → List Directive → Trees → ℤ → List ℕ → Result T Refusal → Type 0
+FindsWhole profile trees db bytes result = (ident : List ℕ) → first_fault bytes ≡ None → ident_in profile bytes ≡ Ok ident
+    → IsSoOrDamaged (KeepsWhole profile trees db ident) result
+
+-- this holds of the first, where there is one
+abbrev pub OfFirst : {A : Type 0} → (A → Type 0) → List A → Type 0
+OfFirst P [] = Unit {0}
+OfFirst P (x ∷ xs) = P x
+
+-- what the database keeps under the identifier of the first record of the first file is whole, or the change is refused so
+abbrev pub FirstFindsWhole : {T : Type 0} → List Directive → Trees → ℤ → List Split → Result T Refusal → Type 0
+FirstFindsWhole profile trees db splits result =
+    OfFirst (λ split. OfFirst (λ slice. FindsWhole profile trees db slice result) split.slices) splits
